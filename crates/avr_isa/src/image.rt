@@ -1,0 +1,48 @@
+// What stands in the flash.
+ghost use Rattle.std.specs.Prelude.{◌≡◌, ◌≤◌, ℕ, List, length, Some};
+
+use std::marker::Model;
+
+/// The bytes of the flash, in an image: 131,072 (ATmega128 datasheet, "In-System Reprogrammable Flash Program Memory").
+pub const FLASH_BYTES: usize = 131_072;
+
+/// The bytes of the flash from byte address 0 on, at most 131,072. The flash behind them reads as 0xFF.
+///
+/// Contracts see the list of the bytes.
+#[derive(Drop)]
+pub struct Image {
+    bytes: Vec<u8>,
+}
+
+impl Model for Image {
+    ghost Value = { List ℕ };
+
+    ghost view = { λ image. image.bytes.items };
+
+    ghost invariant = { λ image. length image.bytes.items ≤ 131072 };
+}
+
+impl Image {
+    /// The image of these bytes. It takes no memory.
+    pub fn from_vec(bytes: Vec<u8>) -> Self
+        requires { length bytes.items ≤ FLASH_BYTES }
+        ensures { result ≡ bytes.items }
+    {
+        Image { bytes }
+    }
+
+    /// The bytes of the image. It takes no memory.
+    pub fn into_vec(self) -> Vec<u8>
+        ensures { result.items ≡ self }
+    {
+        self.bytes
+    }
+
+    /// The bytes of the image.
+    pub fn as_slice(&self) -> &[u8]
+        ensures bytes { result.now ≡ self.now }
+        ensures within { length self.now ≤ FLASH_BYTES }
+    {
+        self.bytes.as_slice()
+    }
+}

@@ -1,0 +1,8 @@
+//! The source language: its tokens, its grammar and its meaning, as definitions, with the types that they speak of.
+#![tactic(auto)]
+
+pub mod kind;
+pub mod token;
+
+pub use kind::Kind;
+pub use token::Token;
