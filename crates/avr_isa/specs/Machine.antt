@@ -1,0 +1,112 @@
+-- The machine: a processor with a flash that runs against an outside.
+use Rattle.std.specs.Prelude.{ℕ, zero, suc, ◌+◌, ◌*◌, ◌%◌, ◌==◌, nat_le, min, List, [], ◌∷◌, Option, Some, None, if◌then◌else◌}
+use Rattle.vg_base.specs.declared.event.Event.TheVariants.{Read, Write, Enter}
+use Rattle.vg_base.specs.Outside.{Outside, before, with_event}
+use Rattle.vg_base.specs.Outcome.{Ending, Idle, Stop, Wants}
+use Rattle.avr_isa.specs.declared.instr.Instr.{Instr}
+use Rattle.avr_isa.specs.declared.instr.Instr.TheVariants.{Out, Sts}
+use Rattle.avr_isa.specs.declared.effect.Effect.{Effect}
+use Rattle.avr_isa.specs.declared.effect.Effect.TheVariants.{Next, ReadDevice, WriteDevice, Sleep, Halt, Outside as Forbidden}
+use Rattle.avr_isa.specs.Cpu.{CpuState, at_reset, flash_word, forward, disabled}
+use Rattle.avr_isa.specs.Decoded.{decoded}
+use Rattle.avr_isa.specs.Effect.{change, register_of, with_register, can_push_two, with_pushed}
+
+-- how a run of the machine ends: as a session ends, or at a word that is no instruction or touches an address that it must not
+pub data MachineEnd : Type 0 where
+  Ends : (ending : Ending) → MachineEnd
+  Bad : (pc word : ℕ) → MachineEnd
+
+-- the machine: its processor, its outside, the lowest data address that its stack has reached, and how its run has ended
+pub record State : Type 0 where
+  pub cpu : CpuState
+  pub outside : Outside
+  pub lowest : ℕ
+  pub ended : Option MachineEnd
+
+abbrev pub ending_with : State → MachineEnd → State
+ending_with s end = record s { ended = Some end }
+
+-- the lowest address once two bytes were pushed at SP, or were not because they must not go there
+abbrev pub lowest_by_push_two : (sp lowest : ℕ) → ℕ
+lowest_by_push_two sp lowest = min (min lowest sp) ((sp + 65535) % 65536)
+
+-- the lowest address once SPL was written: the byte above SP counts, and a pointer above SRAM counts as the least
+abbrev pub lowest_by_store : (address sp lowest : ℕ) → ℕ
+lowest_by_store address sp lowest =
+    if address == 0x5D then min lowest (if nat_le sp 0x10FF then sp + 1 else 0) else lowest
+
+-- the lowest address behind an instruction
+abbrev pub lowest_behind : Instr → (old new : CpuState) → ℕ → ℕ
+lowest_behind (Out a r) old new lowest = lowest_by_store (a + 0x20) new.sp lowest
+lowest_behind (Sts k r) old new lowest = lowest_by_store k new.sp lowest
+lowest_behind _ old new lowest = lowest
+
+-- the next read goes into the waiting register
+abbrev pub answered : List ℕ → (address register : ℕ) → State → State → State
+answered [] address register old new = ending_with old (Ends (Wants address))
+answered (value ∷ values) address register old new = record new {
+  cpu = with_register new.cpu register value;
+  outside = with_event (record new.outside { reads = values }) (Read address value);
+}
+
+-- the next interrupt is taken: the address behind the SLEEP is pushed, I is cleared, and the vector's slot of two words follows
+abbrev pub entered : CpuState → ℕ → CpuState
+entered cpu vector = record (with_pushed cpu (forward 1 cpu.pc)) { pc = 2 * vector; sreg = disabled cpu.sreg }
+
+-- a SLEEP with the I flag set; with no interrupt left the run is idle
+abbrev pub woken : List ℕ → (word : ℕ) → State → State
+woken [] word s = ending_with s (Ends Idle)
+woken (vector ∷ vectors) word s =
+    let lowest = lowest_by_push_two s.cpu.sp s.lowest in
+    if can_push_two s.cpu.sp
+    then record s {
+      cpu = entered s.cpu vector;
+      outside = with_event (record s.outside { interrupts = vectors }) (Enter vector);
+      lowest = lowest;
+    }
+    else record s { lowest = lowest; ended = Some (Bad s.cpu.pc word) }
+
+-- what is left to be done outside the processor is done: old is the state before the instruction, new the one that it made
+abbrev pub done : Effect → (word : ℕ) → (old new : State) → State
+done Next word old new = new
+done (ReadDevice address register) word old new = answered new.outside.reads address register old new
+done (WriteDevice address value) word old new = record new { outside = with_event new.outside (Write address value) }
+done Sleep word old new = woken new.outside.interrupts word new
+done Halt word old new = ending_with new (Ends (Stop (register_of old.cpu 24)))
+done Forbidden word old new = ending_with new (Bad old.cpu.pc word)
+
+-- one instruction
+abbrev pub performed : List ℕ → Option Instr → (word : ℕ) → State → State
+performed flash None word s = ending_with s (Bad s.cpu.pc word)
+performed flash (Some i) word s =
+    let made = change flash i s.cpu in
+    done made.effect word s (record s { cpu = made.cpu; lowest = lowest_behind i s.cpu made.cpu s.lowest })
+
+-- the word at PC
+abbrev pub word_here : List ℕ → CpuState → ℕ
+word_here flash cpu = flash_word flash cpu.pc
+
+-- the instruction at PC
+abbrev pub instr_here : List ℕ → CpuState → Option Instr
+instr_here flash cpu = decoded (word_here flash cpu) (flash_word flash (forward 1 cpu.pc))
+
+abbrev pub next_by : Option MachineEnd → List ℕ → State → State
+next_by (Some end) flash s = s
+next_by None flash s = performed flash (instr_here flash s.cpu) (word_here flash s.cpu) s
+
+-- one step; a machine that has ended stays as it is
+abbrev pub next_state : List ℕ → State → State
+next_state flash s = next_by s.ended flash s
+
+-- at most so many steps from a state
+abbrev pub run_from : List ℕ → ℕ → State → State
+run_from flash zero s = s
+run_from flash (suc n) s = run_from flash n (next_state flash s)
+
+-- the machine at reset; no byte of its stack is in use
+abbrev pub started : (reads interrupts : List ℕ) → State
+started reads interrupts = record { cpu = at_reset; outside = before reads interrupts; lowest = 0x1100; ended = None }
+
+-- the machine on this flash after at most so many instructions from reset
+abbrev pub machine : (flash reads interrupts : List ℕ) → ℕ → State
+machine flash reads interrupts instructions = run_from flash instructions (started reads interrupts)
