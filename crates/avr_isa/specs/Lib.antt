@@ -5,3 +5,4 @@ pub mod Effect
 pub mod Machine
 pub mod Leads
 pub mod Agrees
+pub mod Standing
