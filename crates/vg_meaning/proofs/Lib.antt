@@ -1,0 +1,4 @@
+pub mod Same
+pub mod Told
+pub mod Longer
+pub mod Spent

@@ -1,0 +1,13 @@
+pub mod History
+pub mod World
+pub mod Answer
+pub mod Clock
+pub mod Calls
+pub mod Loops
+pub mod Devices
+pub mod Interrupts
+pub mod Code
+pub mod Same
+pub mod Told
+pub mod Longer
+pub mod Spent
