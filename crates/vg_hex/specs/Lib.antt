@@ -1,0 +1,3 @@
+pub mod HexText
+pub mod Rows
+pub mod HexImage

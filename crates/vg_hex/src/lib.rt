@@ -1,0 +1,13 @@
+//! Intel HEX: the image of a flash goes in and its text comes out, and a text goes in and the image that it spells comes out.
+#![tactic(auto)]
+
+pub mod fault;
+pub mod laws;
+pub mod row;
+#[cfg(test)]
+mod tests;
+pub mod writer;
+
+pub use fault::{HexFault, HexRefusal};
+pub use laws::{one_image, read_again};
+pub use writer::write;
