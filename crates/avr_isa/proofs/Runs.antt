@@ -49,9 +49,9 @@ behind_below Cli old new lowest = omega arith
 behind_below SleepInstr old new lowest = omega arith
 behind_below Reti old new lowest = omega arith
 
-answered_below : (reads : List ℕ) (address register : ℕ) (old new : State) → new.lowest ≤ old.lowest → (answered reads address register old new).lowest ≤ old.lowest
-answered_below [] address register old new h = omega arith
-answered_below (value ∷ values) address register old new h = h
+answered_below : (reads : List ℕ) (address register : ℕ) (s : State) (l : ℕ) → s.lowest ≤ l → (answered reads address register s).lowest ≤ l
+answered_below [] address register s l h = h
+answered_below (value ∷ values) address register s l h = h
 
 either_below : (b : Bool) (t u : State) (l : ℕ) → t.lowest ≤ l → u.lowest ≤ l → (if b then t else u).lowest ≤ l
 either_below true t u l h k = h
@@ -63,7 +63,7 @@ woken_below (v ∷ vs) word s = either_below (can_push_two s.cpu.sp) _ _ s.lowes
 
 done_below : (e : Effect) (word : ℕ) (old new : State) → new.lowest ≤ old.lowest → (done e word old new).lowest ≤ old.lowest
 done_below Next word old new h = h
-done_below (ReadDevice address register) word old new h = answered_below new.outside.reads address register old new h
+done_below (ReadDevice address register) word old new h = answered_below new.outside.reads address register new old.lowest h
 done_below (WriteDevice address value) word old new h = h
 done_below Sleep word old new h = omega (arith, woken_below new.outside.interrupts word new)
 done_below Halt word old new h = h

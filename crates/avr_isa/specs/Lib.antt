@@ -3,6 +3,7 @@ pub mod Spelled
 pub mod Decoded
 pub mod Effect
 pub mod Machine
+pub mod RunEnd
 pub mod Leads
 pub mod Agrees
 pub mod Standing

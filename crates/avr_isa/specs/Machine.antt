@@ -41,12 +41,12 @@ lowest_behind (Out a r) old new lowest = lowest_by_store (a + 0x20) new.sp lowes
 lowest_behind (Sts k r) old new lowest = lowest_by_store k new.sp lowest
 lowest_behind _ old new lowest = lowest
 
--- the next read goes into the waiting register
-abbrev pub answered : List ℕ → (address register : ℕ) → State → State → State
-answered [] address register old new = ending_with old (Ends (Wants address))
-answered (value ∷ values) address register old new = record new {
-  cpu = with_register new.cpu register value;
-  outside = with_event (record new.outside { reads = values }) (Read address value);
+-- the next read goes into the waiting register; with none left the run ends, and the register waits on
+abbrev pub answered : List ℕ → (address register : ℕ) → State → State
+answered [] address register s = ending_with s (Ends (Wants address))
+answered (value ∷ values) address register s = record s {
+  cpu = with_register s.cpu register value;
+  outside = with_event (record s.outside { reads = values }) (Read address value);
 }
 
 -- the next interrupt is taken: the address behind the SLEEP is pushed, I is cleared, and the vector's slot of two words follows
@@ -69,7 +69,7 @@ woken (vector ∷ vectors) word s =
 -- what is left to be done outside the processor is done: old is the state before the instruction, new the one that it made
 abbrev pub done : Effect → (word : ℕ) → (old new : State) → State
 done Next word old new = new
-done (ReadDevice address register) word old new = answered new.outside.reads address register old new
+done (ReadDevice address register) word old new = answered new.outside.reads address register new
 done (WriteDevice address value) word old new = record new { outside = with_event new.outside (Write address value) }
 done Sleep word old new = woken new.outside.interrupts word new
 done Halt word old new = ending_with new (Ends (Stop (register_of old.cpu 24)))
