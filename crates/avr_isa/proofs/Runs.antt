@@ -2,12 +2,14 @@
 use Rattle.std.proofs.Common.{◌≡◌, ℕ, zero, suc, ◌+◌, ◌-◌, ◌≤◌, ◌⊎◌, inl, inr, Bool, true, false, List, [], ◌∷◌, Option, Some, None, refl, ap, ◌∙◌, arith, min, if◌then◌else◌, ◌==◌, nat_le}
 use Rattle.vg_base.specs.Outside.{Outside}
 use Rattle.avr_isa.specs.declared.instr.Instr.{Instr}
-use Rattle.avr_isa.specs.declared.instr.Instr.TheVariants.{Ldi, Out, Sts, Jmp, Rjmp, Sei, Cli, Sleep as SleepInstr, Reti}
+use Rattle.avr_isa.specs.declared.stack.StackUse.{StackUse}
+use Rattle.avr_isa.specs.declared.stack.StackUse.TheVariants.{Nothing, PushesByte, PushesWord, Stores}
 use Rattle.avr_isa.specs.declared.effect.Effect.{Effect}
 use Rattle.avr_isa.specs.declared.effect.Effect.TheVariants.{Next, ReadDevice, WriteDevice, Sleep, Halt, Outside as Forbidden}
 use Rattle.avr_isa.specs.Cpu.{CpuState}
 use Rattle.avr_isa.specs.Effect.{change, can_push_two}
-use Rattle.avr_isa.specs.Machine.{State, MachineEnd, lowest_by_push_two, lowest_by_store, lowest_behind, answered, woken, done, performed, word_here, instr_here, next_by, next_state, run_from}
+use Rattle.avr_isa.specs.Machine.{State, MachineEnd, answered, woken, done, performed, word_here, instr_here, next_by, next_state, run_from}
+use Rattle.avr_isa.specs.Stack.{stack_use, lowest_by, lowest_by_push_two, lowest_by_store, lowest_behind}
 use Rattle.avr_isa.specs.Leads.{Leads}
 use Rattle.avr_isa.specs.Standing.{StandsAt}
 
@@ -38,16 +40,14 @@ store_below address sp lowest = of_spl (address == 0x5D)
     of_spl true = omega arith
     of_spl false = omega arith
 
+by_below : (u : StackUse) (sp lowest : ℕ) → lowest_by u sp lowest ≤ lowest
+by_below Nothing sp lowest = omega arith
+by_below (PushesByte address) sp lowest = omega arith
+by_below (PushesWord address) sp lowest = push_below address lowest
+by_below (Stores address) sp lowest = store_below address sp lowest
+
 behind_below : (i : Instr) (old new : CpuState) (lowest : ℕ) → lowest_behind i old new lowest ≤ lowest
-behind_below (Out a r) old new lowest = store_below (a + 0x20) new.sp lowest
-behind_below (Sts a r) old new lowest = store_below a new.sp lowest
-behind_below (Ldi d k) old new lowest = omega arith
-behind_below (Jmp k) old new lowest = omega arith
-behind_below (Rjmp k) old new lowest = omega arith
-behind_below Sei old new lowest = omega arith
-behind_below Cli old new lowest = omega arith
-behind_below SleepInstr old new lowest = omega arith
-behind_below Reti old new lowest = omega arith
+behind_below i old new lowest = by_below (stack_use i old) new.sp lowest
 
 answered_below : (reads : List ℕ) (address register : ℕ) (s : State) (l : ℕ) → s.lowest ≤ l → (answered reads address register s).lowest ≤ l
 answered_below [] address register s l h = h

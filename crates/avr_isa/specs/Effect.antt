@@ -1,9 +1,9 @@
 -- What each instruction makes of the processor, by the AVR Instruction Set Manual and the data addresses of the ATmega128.
-use Rattle.std.specs.Prelude.{ℕ, ◌+◌, ◌-◌, ◌*◌, ◌/◌, ◌%◌, Bool, not, ◌&&◌, ◌==◌, nat_lt, nat_le, List, if◌then◌else◌, slice_index, slice_set}
+use Rattle.std.specs.Prelude.{ℕ, ◌+◌, ◌-◌, ◌*◌, ◌/◌, ◌%◌, ◌<◌, Bool, not, ◌&&◌, ◌==◌, nat_lt, nat_le, List, if◌then◌else◌, slice_index, slice_set}
 use Rattle.avr_isa.specs.declared.instr.Instr.{Instr}
 use Rattle.avr_isa.specs.declared.instr.Instr.TheVariants.{Ldi, Out, Sts, Jmp, Rjmp, Sei, Cli, Sleep as SleepInstr, Reti}
 use Rattle.avr_isa.specs.declared.effect.Effect.{Effect}
-use Rattle.avr_isa.specs.declared.effect.Effect.TheVariants.{Next, WriteDevice, Sleep, Halt, Outside}
+use Rattle.avr_isa.specs.declared.effect.Effect.TheVariants.{Next, ReadDevice, WriteDevice, Sleep, Halt, Outside}
 use Rattle.avr_isa.specs.Cpu.{CpuState, forward, is_enabled, enabled, disabled}
 
 -- what an instruction leaves: the processor, and what is to be done outside it
@@ -97,3 +97,8 @@ change flash Cli cpu = going (with_sreg (moved 1 cpu) (disabled cpu.sreg))
 change flash SleepInstr cpu = if is_enabled cpu.sreg then staying cpu Sleep else going (moved 1 cpu)
 -- PC ← (stack), I ← 1
 change flash Reti cpu = if can_pop_two cpu.sp then going (with_sreg (with_popped cpu) (enabled cpu.sreg)) else staying cpu Outside
+
+-- a register that waits for a read is one of r0 to r31
+abbrev pub WaitsInRegister : Effect → Type 0
+WaitsInRegister (ReadDevice address register) = register < 32
+WaitsInRegister _ = Unit {0}

@@ -2,6 +2,7 @@ pub mod Cpu
 pub mod Spelled
 pub mod Decoded
 pub mod Effect
+pub mod Stack
 pub mod Machine
 pub mod RunEnd
 pub mod Leads

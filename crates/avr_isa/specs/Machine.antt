@@ -1,15 +1,15 @@
 -- The machine: a processor with a flash that runs against an outside.
-use Rattle.std.specs.Prelude.{ℕ, zero, suc, ◌+◌, ◌*◌, ◌%◌, ◌==◌, nat_le, min, List, [], ◌∷◌, Option, Some, None, if◌then◌else◌}
+use Rattle.std.specs.Prelude.{ℕ, zero, suc, ◌*◌, List, [], ◌∷◌, Option, Some, None, if◌then◌else◌}
 use Rattle.vg_base.specs.declared.event.Event.TheVariants.{Read, Write, Enter}
 use Rattle.vg_base.specs.Outside.{Outside, before, with_event}
 use Rattle.vg_base.specs.Outcome.{Ending, Idle, Stop, Wants}
 use Rattle.avr_isa.specs.declared.instr.Instr.{Instr}
-use Rattle.avr_isa.specs.declared.instr.Instr.TheVariants.{Out, Sts}
 use Rattle.avr_isa.specs.declared.effect.Effect.{Effect}
 use Rattle.avr_isa.specs.declared.effect.Effect.TheVariants.{Next, ReadDevice, WriteDevice, Sleep, Halt, Outside as Forbidden}
 use Rattle.avr_isa.specs.Cpu.{CpuState, at_reset, flash_word, forward, disabled}
 use Rattle.avr_isa.specs.Decoded.{decoded}
 use Rattle.avr_isa.specs.Effect.{change, register_of, with_register, can_push_two, with_pushed}
+use Rattle.avr_isa.specs.Stack.{lowest_behind, lowest_by_push_two}
 
 -- how a run of the machine ends: as a session ends, or at a word that is no instruction or touches an address that it must not
 pub data MachineEnd : Type 0 where
@@ -25,21 +25,6 @@ pub record State : Type 0 where
 
 abbrev pub ending_with : State → MachineEnd → State
 ending_with s end = record s { ended = Some end }
-
--- the lowest address once two bytes were pushed at SP, or were not because they must not go there
-abbrev pub lowest_by_push_two : (sp lowest : ℕ) → ℕ
-lowest_by_push_two sp lowest = min (min lowest sp) ((sp + 65535) % 65536)
-
--- the lowest address once SPL was written: the byte above SP counts, and a pointer above SRAM counts as the least
-abbrev pub lowest_by_store : (address sp lowest : ℕ) → ℕ
-lowest_by_store address sp lowest =
-    if address == 0x5D then min lowest (if nat_le sp 0x10FF then sp + 1 else 0) else lowest
-
--- the lowest address behind an instruction
-abbrev pub lowest_behind : Instr → (old new : CpuState) → ℕ → ℕ
-lowest_behind (Out a r) old new lowest = lowest_by_store (a + 0x20) new.sp lowest
-lowest_behind (Sts k r) old new lowest = lowest_by_store k new.sp lowest
-lowest_behind _ old new lowest = lowest
 
 -- the next read goes into the waiting register; with none left the run ends, and the register waits on
 abbrev pub answered : List ℕ → (address register : ℕ) → State → State

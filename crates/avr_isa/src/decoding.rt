@@ -24,7 +24,10 @@ fn decode_row(word: u16, next: u16) -> Option<Instr>
     }
     if word / 2048 == 23 {
         let address = (word / 512 % 4) as u8 * 16 + (word % 16) as u8;
-        return Some(Instr::Out(IoAddress::new(address), Register::new((word / 16 % 32) as u8)));
+        return Some(Instr::Out(
+            IoAddress::new(address),
+            Register::new((word / 16 % 32) as u8),
+        ));
     }
     if word / 512 == 73 && word % 16 == 0 {
         return Some(Instr::Sts(next, Register::new((word / 16 % 32) as u8)));

@@ -1,5 +1,6 @@
 // What stands in the flash.
-ghost use Rattle.std.specs.Prelude.{◌≡◌, ◌≤◌, ℕ, List, length, Some};
+ghost use Rattle.std.specs.Prelude.{◌≡◌, ◌≤◌, ℕ, List, length};
+ghost use Rattle.avr_isa.specs.Cpu.{flash_byte, flash_word};
 
 use std::marker::Model;
 
@@ -44,5 +45,23 @@ impl Image {
         ensures within { length self.now ≤ FLASH_BYTES }
     {
         self.bytes.as_slice()
+    }
+
+    /// The byte of the flash at this byte address; 0xFF behind the image.
+    pub fn byte(&self, address: usize) -> u8
+        ensures { result ≡ flash_byte self.now address }
+    {
+        match self.bytes.get(address) {
+            Some(byte) => *byte,
+            None => 0xFF,
+        }
+    }
+
+    /// The word of the flash at this word address, its low byte first.
+    pub fn word(&self, address: u16) -> u16
+        ensures { result ≡ flash_word self.now address }
+    {
+        let at = address as usize * 2;
+        u16::from(self.byte(at)) + 256 * u16::from(self.byte(at + 1))
     }
 }

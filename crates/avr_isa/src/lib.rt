@@ -11,6 +11,7 @@ pub mod instr;
 pub mod operand;
 pub mod plain;
 pub mod spelling;
+pub mod stack;
 pub mod stepping;
 mod store;
 

@@ -1,8 +1,9 @@
 // A plain machine: slow, and close to its definition.
-ghost use Rattle.std.specs.Prelude.{◌≡◌, ◌+◌, ◌*◌, ◌/◌, ◌%◌, ◌<◌, ◌≤◌, ℕ, List, option_map, OnOk, IfOk, length};
+ghost use Rattle.std.specs.Prelude.{◌≡◌, ◌+◌, ◌*◌, ◌/◌, ◌%◌, ◌<◌, ◌≤◌, ℕ, List, option_map, OnOk, IfOk, length, Some, None};
 ghost use Rattle.vg_base.specs.Outside.{Outside};
-ghost use Rattle.avr_isa.specs.Cpu.{flash_byte, flash_word, forward};
-ghost use Rattle.avr_isa.specs.Machine.{State, answered, woken, done, performed, lowest_behind, lowest_by_store, lowest_by_push_two, next_state, run_from, started, machine, ending_with, entered, Ends, Bad};
+ghost use Rattle.avr_isa.specs.Cpu.{CpuState};
+ghost use Rattle.avr_isa.specs.Effect.{WaitsInRegister};
+ghost use Rattle.avr_isa.specs.Machine.{State, answered, woken, done, performed, next_state, run_from, started, machine, ending_with, entered, Ends, Bad};
 ghost use Rattle.avr_isa.specs.RunEnd.{end_of};
 
 use crate::cpu::Cpu;
@@ -10,8 +11,9 @@ use crate::decoding::decode;
 use crate::effect::Effect;
 use crate::image::Image;
 use crate::instr::Instr;
-use crate::store;
+use crate::stack::{StackUse, lowest_by, stack_use};
 use crate::stepping::step;
+use crate::store;
 use std::alloc::Global;
 use std::marker::Model;
 use vg_base::{Event, NoMemory};
@@ -83,4 +85,102 @@ impl<'a> PlainMachine<'a> {
     {
         self.lowest
     }
+
+    /// One step: the instruction at PC, unless the run has ended.
+    pub fn step(&mut self, flash: &Image) -> Result<(), NoMemory>
+        ensures { OnOk result (self.new ≡ next_state flash.now self.old) }
+    {
+        if self.ended.is_some() {
+            return Ok(());
+        }
+        let pc = self.cpu.pc();
+        let word = flash.word(pc);
+        match decode(word, flash.word(pc.wrapping_add(1))) {
+            Some(instr) => self.perform(flash, instr, word),
+            None => {
+                self.ended = Some(RunEnd::Bad(pc, word));
+                Ok(())
+            }
+        }
+    }
+
+    /// At most this many steps.
+    pub fn run(&mut self, flash: &Image, steps: u32) -> Result<(), NoMemory>
+        ensures { OnOk result (self.new ≡ run_from flash.now steps self.old) }
+    {
+        for _step in 0..steps {
+            self.step(flash)?;
+        }
+        Ok(())
+    }
+
+    // The instruction whose first word is this.
+    fn perform(&mut self, flash: &Image, instr: Instr, word: u16) -> Result<(), NoMemory>
+        requires { self.old.ended ≡ None }
+        ensures { OnOk result (self.new ≡ performed flash.now (Some instr) word self.old) }
+    {
+        let stack = stack_use(&instr, &self.cpu);
+        let effect = step(&mut self.cpu, flash, instr);
+        self.lowest = lowest_by(stack, self.cpu.sp(), self.lowest);
+        self.finish(effect, word)
+    }
+
+    // What is left to be done behind the instruction whose first word is this.
+    fn finish(&mut self, effect: Effect, word: u16) -> Result<(), NoMemory>
+        requires { WaitsInRegister effect }
+        ensures { OnOk result (self.new ≡ done effect word self.old self.old) }
+    {
+        match effect {
+            Effect::Next => {}
+            Effect::ReadDevice(address, register) => return self.answer(address, register),
+            Effect::WriteDevice(address, value) => self.trace.push(Event::Write(address, value))?,
+            Effect::Sleep => return self.wake(word),
+            Effect::Halt => self.ended = Some(RunEnd::Stop(self.cpu.register(24))),
+            Effect::Outside => self.ended = Some(RunEnd::Bad(self.cpu.pc(), word)),
+        }
+        Ok(())
+    }
+
+    // Takes the next read into a register.
+    fn answer(&mut self, address: u8, register: u8) -> Result<(), NoMemory>
+        requires { register < 32 }
+        ensures { OnOk result (self.new ≡ answered self.old.outside.reads address register self.old) }
+    {
+        match self.reads.split_first() {
+            None => self.ended = Some(RunEnd::Wants(address)),
+            Some((value, rest)) => {
+                self.cpu.set_register(register, *value);
+                self.trace.push(Event::Read(address, *value))?;
+                self.reads = rest;
+            }
+        }
+        Ok(())
+    }
+
+    // Takes the next interrupt.
+    fn wake(&mut self, word: u16) -> Result<(), NoMemory>
+        ensures { OnOk result (self.new ≡ woken self.old.outside.interrupts word self.old) }
+    {
+        match self.interrupts.split_first() {
+            None => self.ended = Some(RunEnd::Idle),
+            Some((vector, rest)) => {
+                let sp = self.cpu.sp();
+                self.lowest = lowest_by(StackUse::PushesWord(sp), sp, self.lowest);
+                if !store::can_push_two(&self.cpu) {
+                    self.ended = Some(RunEnd::Bad(self.cpu.pc(), word));
+                    return Ok(());
+                }
+                let behind = self.cpu.pc().wrapping_add(1);
+                store::push_two(&mut self.cpu, behind);
+                self.cpu.set_pc(2 * u16::from(*vector));
+                self.cpu.disable();
+                self.trace.push(Event::Enter(*vector))?;
+                self.interrupts = rest;
+            }
+        }
+        Ok(())
+    }
 }
+
+#[cfg(test)]
+mod tests;

@@ -1,7 +1,6 @@
 // One instruction.
 ghost use Rattle.std.specs.Prelude.{◌≡◌, ◌+◌, ◌-◌, ◌*◌, ◌/◌, ◌%◌, ◌<◌, ◌≤◌, ℕ, IsTrue, []};
-ghost use Rattle.avr_isa.specs.Effect.{change, jumped, far_from, can_pop_two};
-
+ghost use Rattle.avr_isa.specs.Effect.{WaitsInRegister, change, jumped, far_from, can_pop_two};
 ghost use Rattle.avr_isa.specs.declared.instr.Instr.TheVariants.{Sleep as SleepInstr, Reti};
 
 use crate::cpu::Cpu;
@@ -16,6 +15,7 @@ use crate::store;
 pub fn step(cpu: &mut Cpu, flash: &Image, instr: Instr) -> Effect
     ensures cpu { cpu.new ≡ (change flash.now instr cpu.old).cpu }
     ensures effect { result ≡ (change flash.now instr cpu.old).effect }
+    ensures waiting { WaitsInRegister result }
 {
     match instr {
         Instr::Ldi(d, k) => {
@@ -55,6 +55,7 @@ pub fn step(cpu: &mut Cpu, flash: &Image, instr: Instr) -> Effect
 fn jump(cpu: &mut Cpu, to: u16) -> Effect
     ensures cpu { cpu.new ≡ (jumped cpu.old to).cpu }
     ensures effect { result ≡ (jumped cpu.old to).effect }
+    ensures waiting { WaitsInRegister result }
 {
     if to == cpu.pc() && !cpu.is_enabled() {
         return Effect::Halt;
@@ -68,13 +69,18 @@ fn far_from(pc: u16, offset: u16) -> u16
     requires { offset < 4096 }
     ensures { result ≡ far_from pc offset }
 {
-    let extended = if offset < 0x800 { offset } else { offset + 0xF000 };
+    let extended = if offset < 0x800 {
+        offset
+    } else {
+        offset + 0xF000
+    };
     pc.wrapping_add(1).wrapping_add(extended)
 }
 
 fn sleep(cpu: &mut Cpu) -> Effect
     ensures cpu { cpu.new ≡ (change [] SleepInstr cpu.old).cpu }
     ensures effect { result ≡ (change [] SleepInstr cpu.old).effect }
+    ensures waiting { WaitsInRegister result }
 {
     if cpu.is_enabled() {
         return Effect::Sleep;
@@ -86,6 +92,7 @@ fn sleep(cpu: &mut Cpu) -> Effect
 fn return_from_interrupt(cpu: &mut Cpu) -> Effect
     ensures cpu { cpu.new ≡ (change [] Reti cpu.old).cpu }
     ensures effect { result ≡ (change [] Reti cpu.old).effect }
+    ensures waiting { WaitsInRegister result }
 {
     if cpu.sp() < 0xFF || cpu.sp() >= 0x10FE {
         return Effect::Outside;

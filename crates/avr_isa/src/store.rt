@@ -1,6 +1,6 @@
 // Stores at data addresses, and what calls and returns do to the stack.
 ghost use Rattle.std.specs.Prelude.{◌≡◌, ◌+◌, ◌-◌, ◌*◌, ◌/◌, ◌%◌, ◌<◌, ◌≤◌, ℕ, IsTrue};
-ghost use Rattle.avr_isa.specs.Effect.{going, stored, moved, can_push_two, can_pop_two, with_pushed, with_popped};
+ghost use Rattle.avr_isa.specs.Effect.{WaitsInRegister, going, stored, moved, can_push_two, can_pop_two, with_pushed, with_popped};
 
 use crate::cpu::Cpu;
 use crate::effect::Effect;
@@ -9,6 +9,7 @@ use crate::effect::Effect;
 pub(crate) fn store(cpu: &mut Cpu, words: u16, address: u16, value: u8) -> Effect
     ensures cpu { cpu.new ≡ (stored cpu.old (moved words cpu.old) address value).cpu }
     ensures effect { result ≡ (stored cpu.old (moved words cpu.old) address value).effect }
+    ensures waiting { WaitsInRegister result }
 {
     if address >= 0x1100 {
         return Effect::Outside;
@@ -22,6 +23,7 @@ fn put(cpu: &mut Cpu, address: u16, value: u8) -> Effect
     requires { address < 0x1100 }
     ensures cpu { cpu.new ≡ (stored cpu.old cpu.old address value).cpu }
     ensures effect { result ≡ (stored cpu.old cpu.old address value).effect }
+    ensures waiting { WaitsInRegister result }
 {
     match address {
         0..=0x1F => cpu.set_register(address as u8, value),

@@ -1,5 +1,5 @@
-use Rattle.std.proofs.Common.{◌≡◌, ℕ, List, replicate, refl, ap, ◌∙◌, sym}
-use Rattle.avr_isa.specs.Cpu.{CpuState, power_on, at_reset}
+use Rattle.std.proofs.Common.{◌≡◌, ℕ, List, replicate, refl, ap, ◌∙◌}
+use Rattle.avr_isa.specs.Cpu.{CpuState, power_on}
 use Rattle.avr_isa.proofs.cpu.Cpu.at_reset.Goals as goal
 
 power_on-is : (n : ℕ) → replicate n 0xA5 ≡ power_on n
