@@ -1,0 +1,5 @@
+pub mod Count
+pub mod Files
+pub mod Fetch
+pub mod Piece
+pub mod InMemory
