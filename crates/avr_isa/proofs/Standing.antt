@@ -4,10 +4,10 @@ use Rattle.std.specs.Prelude.{slice_get, unwrap_or}
 use Rattle.std.specs.List.{flat_map, AllByRecursion}
 use Rattle.std.proofs.Math.Seq.{get_or-append_seam}
 use Rattle.std.proofs.lemmas.Option.{slice_get-get_or}
-use Rattle.avr_isa.specs.declared.instr.Instr.{Instr}
-use Rattle.avr_isa.specs.declared.instr.Instr.TheVariants.{Ldi, Out, Sts, Jmp, Rjmp, Sei, Cli, Sleep, Reti}
-use Rattle.avr_isa.specs.Spelled.{InRange, first_word, second_word, IsNext}
-use Rattle.avr_isa.specs.Decoded.{decoded}
+use Rattle.avr_instr.specs.declared.instr.Instr.{Instr}
+use Rattle.avr_instr.specs.declared.instr.Instr.TheVariants.{Ldi, Out, Sts, Jmp, Rjmp, Sei, Cli, Sleep, Reti}
+use Rattle.avr_instr.specs.Spelled.{InRange, first_word, second_word, IsNext}
+use Rattle.avr_instr.specs.Decoded.{decoded}
 use Rattle.avr_isa.specs.Cpu.{flash_byte, flash_word, forward}
 use Rattle.avr_isa.specs.Standing.{word_bytes, second_bytes, instr_bytes, words_with, width, widths, StandsAt, AllStandAt}
 

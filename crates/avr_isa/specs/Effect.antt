@@ -1,7 +1,7 @@
 -- What each instruction makes of the processor, by the AVR Instruction Set Manual and the data addresses of the ATmega128.
 use Rattle.std.specs.Prelude.{ℕ, ◌+◌, ◌-◌, ◌*◌, ◌/◌, ◌%◌, ◌<◌, Bool, not, ◌&&◌, ◌==◌, nat_lt, nat_le, List, if◌then◌else◌, slice_index, slice_set}
-use Rattle.avr_isa.specs.declared.instr.Instr.{Instr}
-use Rattle.avr_isa.specs.declared.instr.Instr.TheVariants.{Ldi, Out, Sts, Jmp, Rjmp, Sei, Cli, Sleep as SleepInstr, Reti}
+use Rattle.avr_instr.specs.declared.instr.Instr.{Instr}
+use Rattle.avr_instr.specs.declared.instr.Instr.TheVariants.{Ldi, Out, Sts, Jmp, Rjmp, Sei, Cli, Sleep as SleepInstr, Reti}
 use Rattle.avr_isa.specs.declared.effect.Effect.{Effect}
 use Rattle.avr_isa.specs.declared.effect.Effect.TheVariants.{Next, ReadDevice, WriteDevice, Sleep, Halt, Outside}
 use Rattle.avr_isa.specs.Cpu.{CpuState, forward, is_enabled, enabled, disabled}

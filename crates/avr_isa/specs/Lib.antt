@@ -1,6 +1,4 @@
 pub mod Cpu
-pub mod Spelled
-pub mod Decoded
 pub mod Effect
 pub mod Stack
 pub mod Machine

@@ -3,11 +3,11 @@ use Rattle.std.specs.Prelude.{ℕ, zero, suc, ◌*◌, List, [], ◌∷◌, Opti
 use Rattle.vg_base.specs.declared.event.Event.TheVariants.{Read, Write, Enter}
 use Rattle.vg_base.specs.Outside.{Outside, before, with_event}
 use Rattle.vg_base.specs.Outcome.{Ending, Idle, Stop, Wants}
-use Rattle.avr_isa.specs.declared.instr.Instr.{Instr}
+use Rattle.avr_instr.specs.declared.instr.Instr.{Instr}
 use Rattle.avr_isa.specs.declared.effect.Effect.{Effect}
 use Rattle.avr_isa.specs.declared.effect.Effect.TheVariants.{Next, ReadDevice, WriteDevice, Sleep, Halt, Outside as Forbidden}
 use Rattle.avr_isa.specs.Cpu.{CpuState, at_reset, flash_word, forward, disabled}
-use Rattle.avr_isa.specs.Decoded.{decoded}
+use Rattle.avr_instr.specs.Decoded.{decoded}
 use Rattle.avr_isa.specs.Effect.{change, register_of, with_register, can_push_two, with_pushed}
 use Rattle.avr_isa.specs.Stack.{lowest_behind, lowest_by_push_two}
 

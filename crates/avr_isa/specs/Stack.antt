@@ -1,7 +1,7 @@
 -- How deep a run goes with the stack: a history that the machine keeps.
 use Rattle.std.specs.Prelude.{ℕ, ◌+◌, ◌%◌, ◌==◌, nat_le, min, if◌then◌else◌}
-use Rattle.avr_isa.specs.declared.instr.Instr.{Instr}
-use Rattle.avr_isa.specs.declared.instr.Instr.TheVariants.{Out, Sts}
+use Rattle.avr_instr.specs.declared.instr.Instr.{Instr}
+use Rattle.avr_instr.specs.declared.instr.Instr.TheVariants.{Out, Sts}
 use Rattle.avr_isa.specs.declared.stack.StackUse.{StackUse}
 use Rattle.avr_isa.specs.declared.stack.StackUse.TheVariants.{Nothing, PushesByte, PushesWord, Stores}
 use Rattle.avr_isa.specs.Cpu.{CpuState}

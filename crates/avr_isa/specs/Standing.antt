@@ -1,8 +1,8 @@
 -- How a list of instructions stands in the flash.
 use Rattle.std.specs.Prelude.{ℕ, ◌≡◌, ◌+◌, ◌/◌, ◌%◌, List, [], ◌∷◌, ◌++◌, Option, Some, None}
-use Rattle.avr_isa.specs.declared.instr.Instr.{Instr}
-use Rattle.avr_isa.specs.Spelled.{first_word, second_word}
-use Rattle.avr_isa.specs.Decoded.{decoded}
+use Rattle.avr_instr.specs.declared.instr.Instr.{Instr}
+use Rattle.avr_instr.specs.Spelled.{first_word, second_word}
+use Rattle.avr_instr.specs.Decoded.{decoded}
 use Rattle.avr_isa.specs.Cpu.{flash_word, forward}
 
 -- the bytes of a word: the low one first

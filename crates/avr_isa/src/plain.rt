@@ -7,13 +7,12 @@ ghost use Rattle.avr_isa.specs.Machine.{State, answered, woken, done, performed,
 ghost use Rattle.avr_isa.specs.RunEnd.{end_of};
 
 use crate::cpu::Cpu;
-use crate::decoding::decode;
 use crate::effect::Effect;
 use crate::image::Image;
-use crate::instr::Instr;
 use crate::stack::{StackUse, lowest_by, stack_use};
 use crate::stepping::step;
 use crate::store;
+use avr_instr::{Instr, decode};
 use std::alloc::Global;
 use std::marker::Model;
 use vg_base::{Event, NoMemory};

@@ -3,7 +3,7 @@ ghost use Rattle.std.specs.Prelude.{◌≡◌, ◌≤◌, ◌+◌};
 ghost use Rattle.avr_isa.specs.Stack.{stack_use, lowest_by};
 
 use crate::cpu::Cpu;
-use crate::instr::Instr;
+use avr_instr::Instr;
 
 /// What an instruction does that tells how deep the stack is.
 #[derive(Clone, Copy, Debug, PartialEq, Eq)]

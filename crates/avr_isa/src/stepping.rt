@@ -1,13 +1,13 @@
 // One instruction.
 ghost use Rattle.std.specs.Prelude.{◌≡◌, ◌+◌, ◌-◌, ◌*◌, ◌/◌, ◌%◌, ◌<◌, ◌≤◌, ℕ, IsTrue, []};
 ghost use Rattle.avr_isa.specs.Effect.{WaitsInRegister, change, jumped, far_from, can_pop_two};
-ghost use Rattle.avr_isa.specs.declared.instr.Instr.TheVariants.{Sleep as SleepInstr, Reti};
+ghost use Rattle.avr_instr.specs.declared.instr.Instr.TheVariants.{Sleep as SleepInstr, Reti};
 
 use crate::cpu::Cpu;
 use crate::effect::Effect;
 use crate::image::Image;
-use crate::instr::Instr;
 use crate::store;
+use avr_instr::Instr;
 
 /// Changes the processor as the instruction says, and tells what is left to be done outside it.
 ///

@@ -1,6 +1,6 @@
 // The words of an instruction.
 ghost use Rattle.std.specs.Prelude.{◌≡◌};
-ghost use Rattle.avr_isa.specs.Spelled.{InRange, first_word, second_word};
+ghost use Rattle.avr_instr.specs.Spelled.{InRange, first_word, second_word};
 
 use crate::instr::Instr;
 

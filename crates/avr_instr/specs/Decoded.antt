@@ -1,7 +1,7 @@
 -- The instruction that two words spell, as a function: it is the one that Spelled names, and None where Spelled names none.
 use Rattle.std.specs.Prelude.{ℕ, ◌+◌, ◌*◌, ◌/◌, ◌%◌, ◌&&◌, ◌==◌, Option, Some, None, if◌then◌else◌}
-use Rattle.avr_isa.specs.declared.instr.Instr.{Instr}
-use Rattle.avr_isa.specs.declared.instr.Instr.TheVariants.{Ldi, Out, Sts, Jmp, Rjmp, Sei, Cli, Sleep, Reti}
+use Rattle.avr_instr.specs.declared.instr.Instr.{Instr}
+use Rattle.avr_instr.specs.declared.instr.Instr.TheVariants.{Ldi, Out, Sts, Jmp, Rjmp, Sei, Cli, Sleep, Reti}
 
 abbrev pub decoded : ℕ → ℕ → Option Instr
 decoded w next =

@@ -1,7 +1,7 @@
 // The instruction that words spell.
 ghost use Rattle.std.specs.Prelude.{◌≡◌, ◌<◌, ◌^◌, ℕ, Some, IfSome, IsNone};
-ghost use Rattle.avr_isa.specs.Spelled.{Spelled};
-ghost use Rattle.avr_isa.specs.Decoded.{decoded};
+ghost use Rattle.avr_instr.specs.Spelled.{Spelled};
+ghost use Rattle.avr_instr.specs.Decoded.{decoded};
 
 use crate::instr::Instr;
 use crate::operand::{FarOffset, IoAddress, Register, UpperRegister};

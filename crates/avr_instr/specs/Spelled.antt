@@ -1,7 +1,7 @@
 -- How words spell instructions, as the AVR Instruction Set Manual prints their bits.
 use Rattle.std.specs.Prelude.{ℕ, ◌≡◌, ◌+◌, ◌-◌, ◌*◌, ◌/◌, ◌%◌, ◌<◌, ◌≤◌, Option, Some, None}
-use Rattle.avr_isa.specs.declared.instr.Instr.{Instr}
-use Rattle.avr_isa.specs.declared.instr.Instr.TheVariants.{Ldi, Out, Sts, Jmp, Rjmp, Sei, Cli, Sleep, Reti}
+use Rattle.avr_instr.specs.declared.instr.Instr.{Instr}
+use Rattle.avr_instr.specs.declared.instr.Instr.TheVariants.{Ldi, Out, Sts, Jmp, Rjmp, Sei, Cli, Sleep, Reti}
 
 -- one of r0 to r31
 abbrev pub IsRegister : ℕ → Type 0

@@ -1,0 +1,12 @@
+//! The instructions of the AVR ATmega128, and the words that spell them, both ways.
+#![tactic(auto)]
+
+pub mod decoding;
+pub mod instr;
+pub mod operand;
+pub mod spelling;
+
+pub use decoding::{decode, spelling_both_ways};
+pub use instr::Instr;
+pub use operand::{FarOffset, IoAddress, Register, UpperRegister};
+pub use spelling::encode;
