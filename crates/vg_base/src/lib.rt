@@ -3,10 +3,12 @@
 
 pub mod event;
 pub mod memory;
+pub mod names;
 pub mod place;
 pub mod text;
 
 pub use event::Event;
 pub use memory::NoMemory;
+pub use names::{Name, Names};
 pub use place::{NodeId, Place};
 pub use text::Text;

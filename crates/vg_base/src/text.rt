@@ -89,3 +89,25 @@ impl Text {
         Ok(())
     }
 }
+
+#[cfg(test)]
+mod tests {
+    use super::*;
+
+    #[test]
+    fn bytes_go_behind_a_text(rt: HostRuntime) {
+        let held = Text::from_slice(rt.alloc(), b"ab").and_then(|mut text| {
+            text.push(b'c')?;
+            text.append(b"de")?;
+            Ok(text)
+        });
+        match held {
+            Ok(text) => {
+                assert!(rt; text.as_slice() == b"abcde".as_slice());
+                assert!(rt; text.len() == 5 && !text.is_empty());
+            }
+            Err(_) => assert!(rt; false),
+        }
+        assert!(rt; Text::new(rt.alloc()).is_empty());
+    }
+}
