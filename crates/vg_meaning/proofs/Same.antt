@@ -87,7 +87,7 @@ same_choose (Tested true s1) (Tested false t1) f f' g g' h k k' s t w = absurd h
 same_choose (Tested false s1) (Tested true t1) f f' g g' h k k' s t w = absurd h
 same_choose (Tested true s1) Untested f f' g g' h k k' s t w = absurd h
 same_choose (Tested false s1) Untested f f' g g' h k k' s t w = absurd h
-same_choose Untested y f f' g g' h k k' s t w = absurd h
+same_choose Untested y f f' g g' h k k' s t w = wrong
 
 pub same_turned : {S T K : Type 0} {I : S → T → Type 0} {L : Signal → S → T → Type 0} {a : Answer S K} {b : Answer T K} (f : Piece S K) (g : Piece T K)
     → Same I (Inside I L) a b → SamePiece I I L f g → Same I L (turned a f) (turned b g)

@@ -2,7 +2,7 @@
 use Rattle.std.specs.Prelude.{◌≡◌, true, false}
 use Rattle.vg_meaning.specs.World.{World}
 use Rattle.vg_meaning.specs.Answer.{End, Wrong, Signal, Breaks, Continues, Returns, Over, Answer, Gives, Ends, Piece}
-use Rattle.vg_meaning.specs.Loops.{Test, Tested}
+use Rattle.vg_meaning.specs.Loops.{Test, Tested, Untested}
 use Rattle.vg_meaning.specs.Code.{Code, Nothing, Then, Do, If, Loop, Break, Continue, Return}
 
 -- G relates the states where the code goes on, L those where it leaves. Where the whole run is over the states are past,
@@ -40,10 +40,11 @@ Inside I L (Over why) = L (Over why)
 abbrev pub SameCondition : {S T : Type 0} (K : Type 0) → (S → T → Type 0) → (Signal → S → T → Type 0) → (Piece S K → Piece S K) → (Piece T K → Piece T K) → Type 0
 SameCondition {S} {T} K I L c d = (f : Piece S K) (g : Piece T K) → SamePiece I I L f g → SamePiece I I L (c f) (d g)
 
--- Two tests take the same truth value, and leave related states.
+-- Two tests take the same truth value, and leave related states; a test that takes none owes nothing.
 abbrev pub SameTest : {S T : Type 0} → (S → T → Type 0) → Test S → Test T → Type 0
 SameTest H (Tested true s) (Tested true t) = H s t
 SameTest H (Tested false s) (Tested false t) = H s t
+SameTest H Untested _ = Unit {0}
 SameTest H _ _ = ⊥
 
 -- What is known of code before it runs. A shape is what is known of a state, as the types of the values that wait.

@@ -1,0 +1,5 @@
+pub mod Language
+pub mod Session
+pub mod Example
+pub mod Renaming
+pub mod Plain
