@@ -1,3 +1,10 @@
+pub mod Bytes
+pub mod Places
+pub mod Spellings
+pub mod Lexemes
+pub mod Tokens
+pub mod Tables
+pub mod Walk
 pub mod Grammar
 pub mod Parses
 pub mod Tree

@@ -11,7 +11,7 @@ pub enum Kind {
     CharLiteral,
     /// Any number of elements between double quotes.
     StringLiteral,
-    /// Bytes that begin no token, or a run that is none: no text has a tree behind it.
+    /// What begins no token, from there to the end of the text: a byte, a run that is no number, an open or wrong literal.
     Unknown,
 
     // The reserved words.

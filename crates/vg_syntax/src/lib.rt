@@ -1,10 +1,15 @@
 //! The source language: its tokens, its grammar and its meaning, as definitions, with the types that they speak of.
 #![tactic(auto)]
 
+pub mod gap;
 pub mod grammar;
 pub mod kind;
+pub mod lexeme;
+pub mod scanner;
+mod spelling;
 pub mod token;
 
 pub use grammar::{Part, Symbol};
 pub use kind::Kind;
+pub use scanner::scan;
 pub use token::Token;
