@@ -1,3 +1,4 @@
 pub mod Outside
 pub mod Outcome
 pub mod Names
+pub mod Device

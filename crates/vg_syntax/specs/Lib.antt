@@ -8,3 +8,4 @@ pub mod Walk
 pub mod Grammar
 pub mod Parses
 pub mod Tree
+pub mod FirstSession

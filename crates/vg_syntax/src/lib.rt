@@ -1,6 +1,7 @@
 //! The source language: its tokens, its grammar and its meaning, as definitions, with the types that they speak of.
 #![tactic(auto)]
 
+pub mod device_write;
 pub mod gap;
 pub mod grammar;
 pub mod kind;
@@ -9,6 +10,7 @@ pub mod scanner;
 mod spelling;
 pub mod token;
 
+pub use device_write::DeviceWrite;
 pub use grammar::{Part, Symbol};
 pub use kind::Kind;
 pub use scanner::scan;
