@@ -1,0 +1,12 @@
+pub mod Numbers
+pub mod Checks
+pub mod Checked
+pub mod Ranked
+pub mod Rows
+pub mod Theory
+pub mod Completions
+pub mod Runs
+pub mod Room
+pub mod Steps
+pub mod Search
+pub mod Ends

@@ -1,0 +1,132 @@
+// Whether tokens are a whole text, and where they cease to be one.
+ghost use Rattle.std.specs.Prelude.{◌≡◌, ◌≤◌};
+ghost use Rattle.vg_syntax.specs.Parses.{opened, is_open, is_close};
+ghost use Rattle.vg_grammar.specs.Looks.{kind_at, is_at};
+ghost use Rattle.vg_grammar.specs.Judged.{Judged};
+
+use crate::choice::chosen;
+use crate::number::number;
+use crate::stack::Stack;
+use std::alloc::{AllocFailed, Global};
+use vg_base::NoMemory;
+use vg_syntax::{Kind, Part, Symbol, Token};
+
+/// How many brackets may be open at one place of a text.
+pub const MOST_OPEN: u8 = 64;
+
+/// Why and where tokens cease to be a text. A number is that of a token, from 0, or the count of all tokens for their end.
+#[derive(Clone, Copy, Debug, PartialEq, Eq)]
+pub enum Stop {
+    /// Some text begins with the tokens before this one, and none goes on with this one.
+    NoTree(usize),
+    /// This token opens a 65th bracket, and some text begins with it and the tokens before it.
+    TooDeep(usize),
+    /// Want of memory, free of any cause.
+    NoMemory,
+}
+
+impl From<NoMemory> for Stop {
+    ghost use Rattle.std.specs.Prelude.{◌≡◌};
+    ghost use Rattle.vg_grammar.specs.declared.recogniser.Stop.TheVariants.{NoMemory as Memory};
+
+    ghost from_gives = { λ _ e. e ≡ Memory };
+
+    fn from(_: NoMemory) -> Self {
+        Stop::NoMemory
+    }
+}
+
+/// Whether the tokens are a whole text of the language with at most 64 open brackets at each place.
+///
+/// Its time is linear in the number of tokens. It does not recurse: its memory is a stack of symbols, at most a constant number for each token.
+pub fn recognise(alloc: Global, tokens: &[Token]) -> Result<(), Stop>
+    ensures { Judged tokens.now result }
+{
+    let mut stack = Stack::new(alloc);
+    stack.push_all(&[Symbol::Use(Part::Text)])?;
+    let mut at = 0;
+    let mut deep = 0u8;
+    while let Some(symbol) = stack.pop() {
+        match symbol {
+            Symbol::Use(part) => match chosen(part, kind_at(tokens, at)) {
+                None => return Err(Stop::NoTree(at)),
+                Some(symbols) => stack.push_all(symbols)?,
+            },
+            Symbol::Sign(kind) => {
+                if !is_at(tokens, at, kind) {
+                    return Err(Stop::NoTree(at));
+                }
+                match opened(deep, kind) {
+                    None => return Err(Stop::TooDeep(at)),
+                    Some(now) => deep = now,
+                }
+                at += 1;
+            }
+        }
+    }
+    if at == tokens.len() {
+        Ok(())
+    } else {
+        Err(Stop::NoTree(at))
+    }
+}
+
+/// The kind of the token of a number, `Unknown` at the end.
+pub fn kind_at(tokens: &[Token], at: usize) -> Kind
+    ensures { result ≡ kind_at tokens.now at }
+{
+    match tokens.get(at) {
+        None => Kind::Unknown,
+        Some(token) => token.kind,
+    }
+}
+
+// Whether the token of a number is of a kind.
+fn is_at(tokens: &[Token], at: usize, kind: Kind) -> bool
+    ensures { result ≡ is_at tokens.now at kind }
+{
+    match tokens.get(at) {
+        None => false,
+        Some(token) => number(token.kind) == number(kind),
+    }
+}
+
+/// How many brackets are open behind a token of a kind: None where it opens a 65th.
+pub fn opened(deep: u8, kind: Kind) -> Option<u8>
+    requires { deep ≤ MOST_OPEN }
+    ensures { result ≡ opened deep kind }
+{
+    if is_open(kind) {
+        if deep == MOST_OPEN {
+            None
+        } else {
+            Some(deep + 1)
+        }
+    } else if is_close(kind) {
+        Some(deep.saturating_sub(1))
+    } else {
+        Some(deep)
+    }
+}
+
+fn is_open(kind: Kind) -> bool
+    ensures { result ≡ is_open kind }
+{
+    match kind {
+        Kind::LeftParen => true,
+        Kind::LeftBracket => true,
+        Kind::LeftBrace => true,
+        _ => false,
+    }
+}
+
+fn is_close(kind: Kind) -> bool
+    ensures { result ≡ is_close kind }
+{
+    match kind {
+        Kind::RightParen => true,
+        Kind::RightBracket => true,
+        Kind::RightBrace => true,
+        _ => false,
+    }
+}
