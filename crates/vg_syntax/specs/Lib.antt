@@ -9,3 +9,4 @@ pub mod Grammar
 pub mod Parses
 pub mod Tree
 pub mod FirstSession
+pub mod Faults

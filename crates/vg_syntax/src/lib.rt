@@ -13,5 +13,5 @@ pub mod token;
 pub use device_write::DeviceWrite;
 pub use grammar::{Part, Symbol};
 pub use kind::Kind;
-pub use scanner::scan;
+pub use scanner::{end_place, scan};
 pub use token::Token;

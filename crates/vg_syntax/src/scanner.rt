@@ -36,6 +36,14 @@ pub fn scan(alloc: Global, bytes: &[u8]) -> Result<Vec<Token>, NoMemory>
     }
 }
 
+/// The place behind the last byte of a text of at most 262,144 bytes.
+pub fn end_place(bytes: &[u8]) -> Place
+    requires { length bytes.now ≤ 262144 }
+    ensures { result ≡ place_behind bytes.now }
+{
+    walked(Place { line: 1, col: 1 }, bytes)
+}
+
 /// A law: every text has exactly one list of tokens.
 pub fn exactly_one_token_list()
     ensures some { (bytes : List ℕ) → (ts : List Token) × IsTokens bytes ts }

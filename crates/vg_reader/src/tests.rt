@@ -1,0 +1,51 @@
+// Texts and their answers. Each place is worked by hand from the grammar.
+use crate::reader::{ReadFault, judge};
+use vg_base::Place;
+
+fn no_tree(line: u32, col: u32) -> Result<(), ReadFault> {
+    Err(ReadFault::NoTree(Place { line, col }))
+}
+
+fn too_deep(line: u32, col: u32) -> Result<(), ReadFault> {
+    Err(ReadFault::TooDeep(Place { line, col }))
+}
+
+#[test]
+fn texts(rt: HostRuntime) {
+    let alloc = rt.alloc();
+    let rows = [
+        ("device M { register PORTB = 0x38; }\n", Ok(())),
+        ("", no_tree(1, 1)),
+        (" \n\t// a comment", no_tree(2, 14)),
+        ("component", no_tree(1, 10)),
+        (
+            "component Main { method main() { M.PORTB = 0x05% } }",
+            no_tree(1, 50),
+        ),
+        ("class A {\n  field idle: int;\n}", no_tree(2, 9)),
+        ("class A { field x: int = 0x; }", no_tree(1, 26)),
+        ("class A { field x: char = 'ab'; }", no_tree(1, 27)),
+        ("class A { field x: int = 12ab; }", no_tree(1, 26)),
+        ("class A { field x: char[] = \"\\x0g\"; }", no_tree(1, 29)),
+        ("class A { constructor() { a[0] = 'x'; } }", Ok(())),
+        (
+            "class A { constructor() { if (a) { } else if (b) { } else { } else { } } }",
+            no_tree(1, 63),
+        ),
+        (
+            "class A { constructor() { x = a >= b; y = a > = b; } }",
+            no_tree(1, 47),
+        ),
+        (
+            "component Main { method main() { ((((((((((((((((((((((((((((((((((((((((((((((((((((((((((((((",
+            no_tree(1, 96),
+        ),
+        (
+            "component Main { method main() { (((((((((((((((((((((((((((((((((((((((((((((((((((((((((((((((",
+            too_deep(1, 96),
+        ),
+    ];
+    for (text, answer) in rows.iter() {
+        assert_eq!(rt; judge(alloc, text.as_bytes()), *answer);
+    }
+}
