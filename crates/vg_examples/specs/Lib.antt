@@ -1,0 +1,15 @@
+pub mod Writing
+pub mod TwoReads
+pub mod StoreToNull
+pub mod Delegate
+pub mod LeastInt
+pub mod Bounds
+pub mod ClassCasts
+pub mod InitClock
+pub mod InitTouch
+pub mod Recursion
+pub mod Handlers
+pub mod Shifts
+pub mod NegativeLength
+pub mod NodeList
+pub mod Firmware

@@ -1,0 +1,137 @@
+-- The declarations of a text, by name. Where two have one name, the first is meant.
+use Rattle.std.specs.Prelude.{ℕ, zero, suc, List, [], ◌∷◌, ◌++◌, Option, Some, None, if◌then◌else◌}
+use Rattle.vg_syntax.specs.Tree.{TypeTree, Param, Node, Nothing, Then, ClassDecl, ComponentDecl, DeviceDecl, RegisterDecl, FieldDecl, MethodDecl, ConstructorDecl}
+use Rattle.vg_syntax.specs.Tree as tree
+use Rattle.vg_source.specs.Names.{Name, same_name}
+use Rattle.vg_source.specs.Types.{StaticType, IntType, BoolType, CharType, RawType, ClassType, ArrayType, FunctionType, NoType, MoreTypes}
+use Rattle.vg_source.specs.Values.{Named, default}
+use Rattle.vg_source.specs.Literals.{number_of}
+
+-- The type that is written.
+abbrev pub type_of : TypeTree → StaticType
+type_of tree.IntType = IntType
+type_of tree.BoolType = BoolType
+type_of tree.CharType = CharType
+type_of (tree.RawType width) = RawType (number_of width)
+type_of (tree.ClassType name) = ClassType name
+type_of (tree.ArrayType element) = ArrayType (type_of element)
+type_of (tree.FunctionType params result) = FunctionType (type_of params) (type_of result)
+type_of tree.NoType = NoType
+type_of (tree.MoreTypes first rest) = MoreTypes (type_of first) (type_of rest)
+
+-- The types of parameters as a row.
+abbrev pub row_of : List Param → StaticType
+row_of [] = NoType
+row_of (p ∷ ps) = MoreTypes (type_of p.type) (row_of ps)
+
+-- The names of parameters.
+abbrev pub param_names : List Param → List Name
+param_names [] = []
+param_names (p ∷ ps) = p.name ∷ param_names ps
+
+-- What a member is.
+pub data Member : Type 0 where
+  AField : (type : StaticType) → Member
+  AMethod : (params result : StaticType) → Member
+
+-- The first of two that is there.
+abbrev pub or_else : {A : Type 0} → Option A → Option A → Option A
+or_else (Some a) b = Some a
+or_else None b = b
+
+-- A member declaration of this name.
+abbrev pub as_member : Node → Name → Option Member
+as_member (FieldDecl at n t value) x = if same_name n x then Some (AField (type_of t)) else None
+as_member (MethodDecl at n ps t body) x = if same_name n x then Some (AMethod (row_of ps) (type_of t)) else None
+as_member _ x = None
+
+-- The member of this name among these.
+abbrev pub member_in : Node → Name → Option Member
+member_in (Then m rest) x = or_else (as_member m x) (member_in rest x)
+member_in _ x = None
+
+-- A class: the name of its superclass, if it has one, and its members.
+pub record ClassParts : Type 0 where
+  pub above : Option Name
+  pub members : Node
+
+abbrev pub as_class : Node → Name → Option ClassParts
+as_class (ClassDecl at n above members) c = if same_name n c then Some (record { above = above; members = members }) else None
+as_class _ c = None
+
+-- The class of this name.
+abbrev pub class_named : Node → Name → Option ClassParts
+class_named (Then d rest) c = or_else (as_class d c) (class_named rest c)
+class_named _ c = None
+
+abbrev pub as_component : Node → Name → Option Node
+as_component (ComponentDecl at n members) c = if same_name n c then Some members else None
+as_component _ c = None
+
+-- The members of the component of this name.
+abbrev pub component_named : Node → Name → Option Node
+component_named (Then d rest) c = or_else (as_component d c) (component_named rest c)
+component_named _ c = None
+
+abbrev pub as_device : Node → Name → Option Node
+as_device (DeviceDecl at n registers) d = if same_name n d then Some registers else None
+as_device _ d = None
+
+-- The registers of the device of this name.
+abbrev pub device_named : Node → Name → Option Node
+device_named (Then d rest) x = or_else (as_device d x) (device_named rest x)
+device_named _ x = None
+
+abbrev pub as_register : Node → Name → Option ℕ
+as_register (RegisterDecl at n number) x = if same_name n x then Some (number_of number) else None
+as_register _ x = None
+
+-- The address of the register of this name among these.
+abbrev pub register_in : Node → Name → Option ℕ
+register_in (Then r rest) x = or_else (as_register r x) (register_in rest x)
+register_in _ x = None
+
+-- How many nodes stand in a row.
+abbrev pub length_of : Node → ℕ
+length_of (Then a rest) = suc (length_of rest)
+length_of _ = zero
+
+-- A class and those above it, the nearest first: at most n of them.
+abbrev pub chain_from : ℕ → Node → Name → List Name
+chain_from zero ds c = []
+chain_from (suc n) ds c = c ∷ elim (class_named ds c) [ Some k ↦ elim (k.above) [ Some above ↦ chain_from n ds above | None ↦ [] ] | None ↦ [] ]
+
+-- A class and all above it, the nearest first: there are no more of them than declarations.
+abbrev pub chain_of : Node → Name → List Name
+chain_of ds c = chain_from (length_of ds) ds c
+
+-- The members of a class.
+abbrev pub members_of : Node → Name → Node
+members_of ds c = elim (class_named ds c) [ Some k ↦ k.members | None ↦ Nothing ]
+
+-- The first member of this name on a chain.
+abbrev pub member_on : Node → List Name → Name → Option Member
+member_on ds [] x = None
+member_on ds (c ∷ cs) x = or_else (member_in (members_of ds c) x) (member_on ds cs x)
+
+-- The member of this name of a class or of those above it.
+abbrev pub class_member : Node → Name → Name → Option Member
+class_member ds c x = member_on ds (chain_of ds c) x
+
+-- The member of this name of a component.
+abbrev pub component_member : Node → Name → Name → Option Member
+component_member ds c x = elim (component_named ds c) [ Some members ↦ member_in members x | None ↦ None ]
+
+-- The fields among members, with their defaults.
+abbrev pub field_at : Node → List Named
+field_at (FieldDecl at n t value) = record { name = n; value = default (type_of t) } ∷ []
+field_at _ = []
+
+abbrev pub fields_in : Node → List Named
+fields_in (Then m rest) = field_at m ++ fields_in rest
+fields_in _ = []
+
+-- The fields of the classes of a chain, those of the highest class first.
+abbrev pub fields_on : Node → List Name → List Named
+fields_on ds [] = []
+fields_on ds (c ∷ cs) = fields_on ds cs ++ fields_in (members_of ds c)

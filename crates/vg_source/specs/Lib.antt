@@ -1,0 +1,14 @@
+pub mod Names
+pub mod Types
+pub mod Values
+pub mod Operators
+pub mod Steps
+pub mod State
+pub mod Meaning
+pub mod Session
+pub mod Literals
+pub mod Nodes
+pub mod Declared
+pub mod Meant
+pub mod Program
+pub mod Peak

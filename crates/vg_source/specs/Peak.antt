@@ -1,0 +1,55 @@
+-- What the active calls of a session cost at most, counted in the source's own calls.
+use Rattle.std.specs.Prelude.{ℕ, zero, suc, ◌+◌, ◌*◌, max, List, [], ◌∷◌, ◌++◌, length}
+use Rattle.vg_syntax.specs.Tree.{Node, Then, ClassDecl, ComponentDecl, MethodDecl}
+use Rattle.vg_meaning.specs.History.{Active, Calling, Making}
+use Rattle.vg_source.specs.Nodes.{count_nodes, count_locals}
+use Rattle.vg_source.specs.Program.{declarations_of}
+use Rattle.vg_source.specs.Session.{Session}
+
+-- The cost of a method: 32, and 4 for each parameter, each local and each node of its body.
+abbrev pub cost_at : Node → List ℕ
+cost_at (MethodDecl at n ps t body) = (32 + 4 * (length ps + count_locals body + count_nodes body)) ∷ []
+cost_at _ = []
+
+abbrev pub costs_of : Node → List ℕ
+costs_of (Then m rest) = cost_at m ++ costs_of rest
+costs_of _ = []
+
+-- The costs of the methods of a declaration.
+abbrev pub member_costs : Node → List ℕ
+member_costs (ClassDecl at c above members) = costs_of members
+member_costs (ComponentDecl at c members) = costs_of members
+member_costs _ = []
+
+-- The costs of all methods, in order of the text.
+abbrev pub costs_in : Node → List ℕ
+costs_in (Then d rest) = member_costs d ++ costs_in rest
+costs_in _ = []
+
+abbrev pub costs : Node → List ℕ
+costs text = costs_in (declarations_of text)
+
+-- The cost of the method of this number.
+abbrev pub cost_of : List ℕ → ℕ → ℕ
+cost_of [] n = 0
+cost_of (c ∷ cs) zero = c
+cost_of (c ∷ cs) (suc n) = cost_of cs n
+
+-- The cost of an active call: making costs nothing, as only methods are called in a run.
+abbrev pub call_cost : List ℕ → Active → ℕ
+call_cost cs (Calling method) = cost_of cs method
+call_cost cs Making = 0
+
+-- The cost of the calls that are active at one time.
+abbrev pub total_cost : List ℕ → List Active → ℕ
+total_cost cs [] = 0
+total_cost cs (call ∷ calls) = call_cost cs call + total_cost cs calls
+
+-- The largest of such costs.
+abbrev pub most : List ℕ → List (List Active) → ℕ
+most cs [] = 0
+most cs (calls ∷ rest) = max (total_cost cs calls) (most cs rest)
+
+-- The peak of a session: 4, and the largest cost of calls that were active behind a tick.
+abbrev pub peak : Node → Session → ℕ
+peak text s = 4 + most (costs text) s.history.behind_ticks

@@ -1,0 +1,190 @@
+-- From the tree of a text to its source program: classes, methods, constructors, initialisers, components and entries.
+use Rattle.std.specs.Prelude.{ℕ, suc, List, [], ◌∷◌, ◌++◌, codes, Option, Some, None, if◌then◌else◌}
+use Rattle.vg_syntax.specs.Tree.{Param, Node, Nothing, Then, ClassDecl, ComponentDecl, ProgramDecl, EntryDecl, FieldDecl, MethodDecl, ConstructorDecl, Text}
+use Rattle.vg_meaning.specs.Code as code
+use Rattle.vg_source.specs.Names.{Name, same_name}
+use Rattle.vg_source.specs.Values.{Null, Named, Global, default}
+use Rattle.vg_source.specs.Steps.{Step, This, SetField, SetComponentField, Super, Target, Method, Construct, Start, Routine, Class, Handler, Source}
+use Rattle.vg_source.specs.Literals.{number_of}
+use Rattle.vg_source.specs.Nodes.{literals}
+use Rattle.vg_source.specs.Declared.{type_of, param_names, chain_of, fields_in, fields_on, length_of}
+use Rattle.vg_source.specs.Meant.{Owner, InClass, InComponent, NoOwner, Typed, Fresh, settled, meant}
+
+-- ---- methods and constructors
+
+-- Parameters in scope.
+abbrev pub scope_of : List Param → List Typed
+scope_of [] = []
+scope_of (p ∷ ps) = record { name = p.name; type = type_of p.type } ∷ scope_of ps
+
+-- A method of this owner.
+abbrev pub method_at : Node → Owner → Name → Node → List Routine
+method_at ds o c (MethodDecl at n ps t body) =
+    record { target = Method c n; number = 0; params = param_names ps; missing = default (type_of t); body = (meant ds o body Fresh (scope_of ps)).does } ∷ []
+method_at ds o c _ = []
+
+abbrev pub methods_in : Node → Owner → Name → Node → List Routine
+methods_in ds o c (Then m rest) = method_at ds o c m ++ methods_in ds o c rest
+methods_in ds o c _ = []
+
+-- A constructor: its parameters, the arguments for the superclass, and its body. Where none is written there is one without any of these.
+pub record Constructor : Type 0 where
+  pub params : List Param
+  pub arguments : Node
+  pub body : Node
+
+abbrev pub constructor_in : Node → Constructor
+constructor_in (Then (ConstructorDecl at ps calls arguments body) rest) = record { params = ps; arguments = arguments; body = body }
+constructor_in (Then _ rest) = constructor_in rest
+constructor_in _ = record { params = []; arguments = Nothing; body = Nothing }
+
+-- ---- initialisers
+
+-- The value of an initialiser, which sees no members of its own.
+abbrev pub initial : Node → Node → code.Code Step
+initial ds e = (settled (meant ds NoOwner e Fresh [])).does
+
+-- A field's initialiser, where one is written, and the store of its value.
+abbrev pub unless_missing : Node → code.Code Step → code.Code Step
+unless_missing Nothing c = code.Nothing
+unless_missing _ c = c
+
+abbrev pub own_initialiser : Node → Node → code.Code Step
+own_initialiser ds (FieldDecl at n t e) =
+    unless_missing e (code.Then (code.Do This) (code.Then (initial ds e) (code.Do (SetField at.id n))))
+own_initialiser ds _ = code.Nothing
+
+abbrev pub its_initialiser : Node → Name → Node → code.Code Step
+its_initialiser ds c (FieldDecl at n t e) = unless_missing e (code.Then (initial ds e) (code.Do (SetComponentField c n)))
+its_initialiser ds c _ = code.Nothing
+
+-- The initialisers of members, in order of the text.
+abbrev pub initialisers : (Node → code.Code Step) → Node → code.Code Step
+initialisers one (Then m rest) = code.Then (one m) (initialisers one rest)
+initialisers one _ = code.Nothing
+
+-- ---- making
+
+-- The construction of the superclass, where there is one, with the arguments of the constructor.
+abbrev pub super_of : Node → Option Name → Constructor → code.Code Step
+super_of ds None k = code.Nothing
+super_of ds (Some above) k =
+    code.Then (meant ds NoOwner k.arguments Fresh (scope_of k.params)).does (code.Do (Super above (length_of k.arguments)))
+
+-- The construction of a class: the superclass, the field initialisers, then the constructor's body.
+abbrev pub construction : Node → Name → Option Name → Node → Constructor → Routine
+construction ds c above members k = record {
+  target = Construct c;
+  number = 0;
+  params = param_names k.params;
+  missing = Null;
+  body = code.Then (super_of ds above k)
+      (code.Then (initialisers (own_initialiser ds) members) (meant ds (InClass c) k.body Fresh (scope_of k.params)).does);
+}
+
+-- The initialisation of a component: the field initialisers, then the constructor's body.
+abbrev pub initialisation : Node → Name → Node → Constructor → Routine
+initialisation ds c members k = record {
+  target = Start c;
+  number = 0;
+  params = [];
+  missing = Null;
+  body = code.Then (initialisers (its_initialiser ds c) members) (meant ds (InComponent c) k.body Fresh []).does;
+}
+
+-- ---- the whole text
+
+-- What runs for a declaration.
+abbrev pub routines_at : Node → Node → List Routine
+routines_at ds (ClassDecl at c above members) =
+    construction ds c above members (constructor_in members) ∷ methods_in ds (InClass c) c members
+routines_at ds (ComponentDecl at c members) =
+    initialisation ds c members (constructor_in members) ∷ methods_in ds (InComponent c) c members
+routines_at ds _ = []
+
+abbrev pub routines_in : Node → Node → List Routine
+routines_in ds (Then d rest) = routines_at ds d ++ routines_in ds rest
+routines_in ds _ = []
+
+-- The methods have numbers from 0, in order of the text; what is no method takes none.
+abbrev pub next_number : ℕ → Target → ℕ
+next_number n (Method c m) = suc n
+next_number n _ = n
+
+abbrev pub numbered : ℕ → List Routine → List Routine
+numbered n [] = []
+numbered n (r ∷ rs) = record r { number = n } ∷ numbered (next_number n r.target) rs
+
+-- A class with its chain and its fields.
+abbrev pub class_at : Node → Node → List Class
+class_at ds (ClassDecl at c above members) =
+    record { name = c; above = chain_of ds c; fields = fields_on ds (chain_of ds c) } ∷ []
+class_at ds _ = []
+
+abbrev pub classes_in : Node → Node → List Class
+classes_in ds (Then d rest) = class_at ds d ++ classes_in ds rest
+classes_in ds _ = []
+
+-- The components, in order of the text.
+abbrev pub component_at : Node → List Name
+component_at (ComponentDecl at c members) = c ∷ []
+component_at _ = []
+
+abbrev pub components_in : Node → List Name
+components_in (Then d rest) = component_at d ++ components_in rest
+components_in _ = []
+
+-- The component fields with their defaults, in order of the text.
+abbrev pub globals_of : Name → List Named → List Global
+globals_of c [] = []
+globals_of c (n ∷ ns) = record { component = c; name = n.name; value = n.value } ∷ globals_of c ns
+
+abbrev pub globals_at : Node → List Global
+globals_at (ComponentDecl at c members) = globals_of c (fields_in members)
+globals_at _ = []
+
+abbrev pub globals_in : Node → List Global
+globals_in (Then d rest) = globals_at d ++ globals_in rest
+globals_in _ = []
+
+-- The entries of the program declaration.
+abbrev pub entries_in : Node → Node
+entries_in (Then (ProgramDecl at n entries) rest) = entries
+entries_in (Then _ rest) = entries_in rest
+entries_in _ = Nothing
+
+-- The method of the entry `main`.
+abbrev pub main_of : Node → Target
+main_of (Then (EntryDecl at key c m) rest) = if same_name key (codes "main") then Method c m else main_of rest
+main_of (Then _ rest) = main_of rest
+main_of _ = Method [] []
+
+-- The numbered entries: the key of such an entry is a number.
+abbrev pub handler_at : Node → List Handler
+handler_at (EntryDecl at key c m) = if same_name key (codes "main") then [] else record { vector = number_of key; target = Method c m } ∷ []
+handler_at _ = []
+
+abbrev pub handlers_in : Node → List Handler
+handlers_in (Then e rest) = handler_at e ++ handlers_in rest
+handlers_in _ = []
+
+-- The program of these declarations.
+abbrev pub program_of : Node → Source
+program_of ds = record {
+  classes = classes_in ds ds;
+  routines = numbered 0 (routines_in ds ds);
+  components = components_in ds;
+  globals = globals_in ds;
+  literals = literals ds;
+  main = main_of (entries_in ds);
+  handlers = handlers_in (entries_in ds);
+}
+
+-- The declarations of a text.
+abbrev pub declarations_of : Node → Node
+declarations_of (Text at ds) = ds
+declarations_of _ = Nothing
+
+-- The program of a text.
+abbrev pub source_of : Node → Source
+source_of text = program_of (declarations_of text)

@@ -1,0 +1,5 @@
+//! What a program of the source language means: its values and operators, the steps that its tree stands for, its
+//! initialisation and its sessions, as definitions with their laws.
+#![tactic(auto)]
+
+pub mod casts;
