@@ -1,5 +1,5 @@
 -- The written text is read as its image, and each text as one image.
-use Rattle.std.proofs.Common.{◌≡◌, ℕ, zero, suc, ◌+◌, ◌-◌, ◌*◌, ◌/◌, ◌%◌, ◌<◌, ◌≤◌, Bool, true, false, List, [], ◌∷◌, ◌++◌, length, take, drop, sum, Some, None, refl, sym, ap, ◌∙◌, subst, arith, append_assoc, append-nil, ◌⊎◌, inl, inr, length-append, length-drop, ◌==◌, get_or, ext_get_or}
+use Rattle.std.proofs.Common.{◌≡◌, ℕ, zero, suc, ◌+◌, ◌-◌, ◌*◌, ◌/◌, ◌%◌, ◌<◌, ◌≤◌, Bool, true, false, List, [], ◌∷◌, ◌++◌, length, take, drop, sum, Some, None, refl, sym, ap, ◌∙◌, subst, arith, append_assoc, append-nil, ◌⊎◌, inl, inr, length-append, length-take, length-drop, ◌==◌, get_or, ext_get_or}
 use Rattle.std.proofs.Math.Seq.{take-append_seam}
 use Rattle.std.proofs.lemmas.List.Sums.{sum_by-append}
 use Rattle.std.specs.Prelude.{if◌then◌else◌, ◌&&◌, ◌||◌, nat_le}
@@ -10,10 +10,11 @@ use Rattle.vg_lines.specs.Lines.{lines, with_first, begins_lf}
 use Rattle.vg_hex.specs.declared.row.Base.{Base}
 use Rattle.vg_hex.specs.declared.row.Base.TheVariants.{Unset, Linear}
 use Rattle.vg_hex.specs.declared.row.Row.TheVariants.{Data, NoForm}
+use Rattle.vg_hex.specs.declared.fault.HexFault.{HexFault}
 use Rattle.vg_hex.specs.declared.fault.HexFault.TheVariants.{Beyond, Twice}
 use Rattle.vg_hex.specs.HexText.{check_of, record_line, data_line, base_line, records, end_line, hex_text}
 use Rattle.vg_hex.specs.Rows.{typed, summed, record_of, row_from, row_of}
-use Rattle.vg_hex.specs.HexImage.{Named, Byte, address_of, bytes_named, row_named, lines_named, behind_end, named, is_among, first_fault, byte_at, reach, HexImage}
+use Rattle.vg_hex.specs.HexImage.{Named, Byte, address_of, bytes_named, row_named, lines_named, behind_end, named, is_among, first_fault, fault_in, byte_at, reach, HexImage}
 
 abbrev IsByte : ℕ → Type 0
 IsByte b = b < 256
@@ -283,3 +284,46 @@ written_read text image bytes front start s f e same h b =
     let whole : text ≡ hex_text bytes =
     e ∙ ap (λ l. l ++ (end_line ++ 10 ∷ [])) (f ∙ ap (λ l. l ++ records ((length bytes + 15) / 16) 0 bytes) s) in
     subst (λ t. HexImage t image) (sym (whole ∙ ap hex_text same)) (read_again image h (subst (AllByRecursion (λ b. b < 256)) same b))
+
+-- a record takes at most 60 bytes of text, its base line with it
+length_pairs : (bs : List ℕ) → length (flat_map upper_pair bs) ≡ 2 * length bs
+length_pairs [] = refl
+length_pairs (b ∷ bs) = let h = length_pairs bs in omega (arith, h)
+
+length_data : (at : ℕ) (bytes : List ℕ) → length (data_line at bytes) ≡ 11 + 2 * length bytes
+length_data at bytes =
+    let body = length bytes ∷ at / 256 ∷ at % 256 ∷ 0 ∷ bytes in
+    let e = length_pairs (body ++ check_of body ∷ []) in
+    let f = length-append body (check_of body ∷ []) in
+    omega (arith, e, f)
+
+length_base : (t : Bool) → length (if t then base_line ++ 10 ∷ [] else []) ≤ 16
+length_base true = omega arith
+length_base false = omega arith
+
+length_records : (n at : ℕ) (bytes : List ℕ) → length (records n at bytes) ≤ 60 * n
+length_records zero at bytes = omega arith
+length_records (suc n) at bytes =
+    let base = if at == 65536 then base_line ++ 10 ∷ [] else [] in
+    let line = data_line (at % 65536) (take 16 bytes) in
+    let rest = records n (at + 16) (drop 16 bytes) in
+    let h = length_records n (at + 16) (drop 16 bytes) in
+    let a = length-append base (line ++ 10 ∷ rest) in
+    let b = length-append line (10 ∷ rest) in
+    let c = length_base (at == 65536) in
+    let d = length_data (at % 65536) (take 16 bytes) in
+    let e = length-take 16 bytes in
+    omega (arith, h, a, b, c, d, e)
+
+pub written_short : (text bytes front start : List ℕ) → start ≡ [] → front ≡ start ++ records ((length bytes + 15) / 16) 0 bytes → text ≡ front ++ (end_line ++ 10 ∷ []) → length bytes ≤ 131072 → length text ≤ 1048576
+written_short text bytes front start s f e h =
+    let all = records ((length bytes + 15) / 16) 0 bytes in
+    let whole : text ≡ all ++ (end_line ++ 10 ∷ []) = e ∙ ap (λ l. l ++ (end_line ++ 10 ∷ [])) (f ∙ ap (λ l. l ++ all) s) in
+    let a = ap length whole in
+    let b = length-append all (end_line ++ 10 ∷ []) in
+    let c = length_records ((length bytes + 15) / 16) 0 bytes in
+    omega (arith, a, b, c, h)
+
+-- what has an image has no fault
+pub no_fault : (text image : List ℕ) (f : HexFault) → HexImage text image → fault_in text ≡ Some f → ⊥
+no_fault text image f h e = let g : None ≡ Some f = sym h.faultless ∙ e in cc

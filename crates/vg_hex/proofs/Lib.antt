@@ -1,2 +1,4 @@
 pub mod Records
 pub mod Again
+pub mod Spelling
+pub mod Placing

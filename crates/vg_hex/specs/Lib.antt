@@ -1,3 +1,4 @@
 pub mod HexText
 pub mod Rows
 pub mod HexImage
+pub mod Walk

@@ -1,4 +1,5 @@
 // Why a text is no HEX text of an image.
+use vg_base::NoMemory;
 
 /// The first fault of a HEX text, in the order of its lines.
 #[derive(Clone, Copy, Debug, PartialEq, Eq)]
@@ -22,4 +23,15 @@ pub enum HexRefusal {
     Fault(HexFault),
     /// Want of memory.
     NoMemory,
+}
+
+impl From<NoMemory> for HexRefusal {
+    ghost use Rattle.std.specs.Prelude.{◌≡◌};
+    ghost use Rattle.vg_hex.specs.declared.fault.HexRefusal.TheVariants.{NoMemory as Memory};
+
+    ghost from_gives = { λ _ e. e ≡ Memory };
+
+    fn from(_: NoMemory) -> Self {
+        HexRefusal::NoMemory
+    }
 }

@@ -3,11 +3,14 @@
 
 pub mod fault;
 pub mod laws;
+pub mod reader;
 pub mod row;
+mod slots;
 #[cfg(test)]
 mod tests;
 pub mod writer;
 
 pub use fault::{HexFault, HexRefusal};
-pub use laws::{one_image, read_again};
+pub use laws::{one_image, read_again, write_and_read};
+pub use reader::read;
 pub use writer::write;

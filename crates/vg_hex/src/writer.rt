@@ -19,6 +19,7 @@ const RECORD_BYTES: usize = 16;
 pub fn write(alloc: Global, image: &Image) -> Result<Text, NoMemory>
     ensures text { IfOk result (λ text. text ≡ hex_text image.now) }
     ensures read { IfOk result (λ text. HexImage text image.now) }
+    ensures short { IfOk result (λ text. length text ≤ 1048576) }
 {
     let mut text = Text::new(alloc);
     let bytes = image.as_slice();

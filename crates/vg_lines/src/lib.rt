@@ -2,5 +2,7 @@
 #![tactic(auto)]
 
 pub mod digit;
+pub mod line;
 
 pub use digit::{digit_value, lower_digit, pair_value, upper_digit};
+pub use line::{Line, first_line};
