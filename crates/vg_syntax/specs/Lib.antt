@@ -10,3 +10,6 @@ pub mod Parses
 pub mod Tree
 pub mod FirstSession
 pub mod Faults
+pub mod Made
+pub mod Numbering
+pub mod Reads
