@@ -1,4 +1,5 @@
 pub mod Same
 pub mod Told
+pub mod Grows
 pub mod Longer
 pub mod Spent

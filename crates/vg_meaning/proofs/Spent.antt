@@ -12,7 +12,7 @@ use Rattle.vg_meaning.specs.Interrupts.{interrupt_from, take_interrupt, idles}
 use Rattle.vg_meaning.specs.Code.{Code, Nothing, Then, Do, If, Loop, Break, Continue, Return, performed}
 use Rattle.vg_meaning.specs.Spent.{Spent, gives, ends, Spends}
 
-abbrev is_clock : Signal → Bool
+abbrev pub is_clock : Signal → Bool
 is_clock (Over OutOfClock) = true
 is_clock _ = false
 

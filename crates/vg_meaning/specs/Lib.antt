@@ -9,5 +9,6 @@ pub mod Interrupts
 pub mod Code
 pub mod Same
 pub mod Told
+pub mod Grows
 pub mod Longer
 pub mod Spent

@@ -6,3 +6,4 @@ pub mod equivalence;
 pub mod history;
 pub mod more_clock;
 pub mod spent_clock;
+pub mod traces;

@@ -33,10 +33,14 @@ take_from (v ∷ vs) go s w = go v (record s { values = vs }) w
 abbrev pub taking : {H : Type 0} → (Value → Piece State H) → Piece State H
 taking go s w = take_from s.values go s w
 
+-- What was found, where it was.
+abbrev pub with_found : {H : Type 0} {A : Type 0} → Option A → (A → Piece State H) → Piece State H
+with_found (Some a) go s w = go a s w
+with_found None go s w = over Wrong s w
+
 -- The value that waits below so many arguments is taken away from there.
 abbrev pub from_below : {H : Type 0} → ℕ → (Value → Piece State H) → Piece State H
-from_below count go s w = elim (slice_get s.values count)
-    [ Some v ↦ go v (record s { values = take count s.values ++ drop (count + 1) s.values }) w | None ↦ over Wrong s w ]
+from_below count go s w = with_found (slice_get s.values count) go (record s { values = take count s.values ++ drop (count + 1) s.values }) w
 
 -- What an operator made is put in front, or is an exception at the node.
 abbrev pub computed : {H : Type 0} → ℕ → Computed → Piece State H
@@ -45,11 +49,6 @@ computed at (Fails code) s w = stops code at s w
 computed at Unfit s w = over Wrong s w
 
 -- ---- checks
-
--- What was found, where it was.
-abbrev pub with_found : {H : Type 0} {A : Type 0} → Option A → (A → Piece State H) → Piece State H
-with_found (Some a) go s w = go a s w
-with_found None go s w = over Wrong s w
 
 -- An int.
 abbrev pub with_int : {H : Type 0} → (ℤ → Piece State H) → Value → Piece State H
@@ -180,11 +179,15 @@ adding size cell go s w =
     unless (passes w.largest (stored_values s.heap + 1 + size)) OutOfRoom
     (λ s1. go (length s1.heap.cells) (record s1 { heap = record s1.heap { cells = s1.heap.cells ++ cell ∷ [] } })) s w
 
+-- An object is constructed, and is then the value.
+abbrev pub constructing : {H : Type 0} → Caller H → Name → ℕ → ℕ → Piece State H
+constructing call c count o s w = and_then (call (Construct c) count (Obj o) s w) (taking (λ v. put (Obj o)))
+
 -- new C(args): the room, the object of default values, then its construction.
 abbrev pub make_object : {H : Type 0} → Source → Caller H → ℕ → Name → ℕ → Piece State H
 make_object p call at c count s w =
-    at_start w.phase at (with_found (find_class p.classes c) (λ k. adding (length k.fields) (Object c k.fields)
-    (λ o s1 w1. and_then (call (Construct c) count (Obj o) s1 w1) (taking (λ v. put (Obj o)))))) s w
+    at_start w.phase at
+    (with_found (find_class p.classes c) (λ k. adding (length k.fields) (Object c k.fields) (constructing call c count))) s w
 
 -- new T[e]: a negative length is the exception 5; then the room, then the array of default values.
 abbrev pub make_array : {H : Type 0} → ℕ → StaticType → ℤ → Piece State H

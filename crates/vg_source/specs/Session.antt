@@ -90,8 +90,12 @@ started p clock = start_of (starting full no_history p clock)
 -- ---- runs
 
 -- The handler of an interrupt is called, where there is one.
+abbrev pub handled : {H : Type 0} → Recorder H → Source → Option Target → Piece State H
+handled r p (Some t) s w = call_alone r p t s w
+handled r p None s w = Gives s w
+
 abbrev pub handle : {H : Type 0} → Recorder H → Source → ℕ → Piece State H
-handle r p vector s w = elim (handler_of p.handlers vector) [ Some t ↦ call_alone r p t s w | None ↦ Gives s w ]
+handle r p vector s w = handled r p (handler_of p.handlers vector) s w
 
 -- The world of a run.
 abbrev pub running_world : {H : Type 0} → H → (deepest : Option ℕ) → (reads interrupts : List ℕ) → (clock : ℕ) → World H

@@ -3,3 +3,4 @@
 #![tactic(auto)]
 
 pub mod casts;
+pub mod clock;

@@ -2,7 +2,7 @@ use Rattle.vg_meaning.proofs.Longer.{longer_then, longer_read, longer_write, lon
 use Rattle.vg_meaning.proofs.more_clock.longer_pieces.Goals as goal
 
 pub returns-clause-sequence : goal.returns-clause-sequence
-returns-clause-sequence g c = λ d a b p q h k. longer_then d a b p q h k
+returns-clause-sequence g c = λ d a b p q h k e. longer_then d a b p q h k e
 
 pub returns-clause-read : goal.returns-clause-read
 returns-clause-read g c = λ d address p q k. longer_read d address p q k
@@ -11,4 +11,4 @@ pub returns-clause-write : goal.returns-clause-write
 returns-clause-write g c = λ d address value. longer_write d address value
 
 pub returns-clause-idle : goal.returns-clause-idle
-returns-clause-idle g c = λ d n p q k. longer_idles d n p q k
+returns-clause-idle g c = λ d n p q k e. longer_idles d n p q k e

@@ -1,0 +1,178 @@
+-- A law that holds of the plain pieces of a run, and of those built of them, holds of every step.
+use Rattle.std.specs.Prelude.{ℕ, ◌+◌, Bool, true, false, List, [], ◌∷◌, length, replicate, Option, Some, None, slice_get, ℤ, pos, negsuc, nat_lt}
+use Rattle.std.proofs.Common.{◌≡◌, refl}
+use Rattle.vg_meaning.specs.World.{World, Phase, Starting, Running}
+use Rattle.vg_meaning.specs.Answer.{End, Stops, OutOfRoom, Wrong, Over, Answer, Gives, Piece, go_on, over, and_then, passes, kept, unless, stops}
+use Rattle.vg_meaning.specs.Devices.{read_device, write_device}
+use Rattle.vg_meaning.specs.Grows.{Grows}
+use Rattle.vg_meaning.proofs.Grows.{extends_itself}
+use Rattle.vg_meaning.proofs.Spent.{is_clock}
+use Rattle.vg_source.specs.Names.{Name}
+use Rattle.vg_source.specs.Types.{StaticType, ClassType}
+use Rattle.vg_source.specs.Values.{Value, Int, Raw, Null, Obj, Arr, Bound, default, Cell, Object, Array, stored_values}
+use Rattle.vg_source.specs.Operators.{Computed, Is, Fails, Unfit, binary, prefixed, bits_of}
+use Rattle.vg_source.specs.Steps.{Step, Put, Literal, This, Local, ComponentField, Register, ComponentMethod, Apply, Operate, CastTo, IsBelow, Field, Item, Length, MethodOf, CallMethod, CallValue, CallComponent, NewObject, NewArray, SetLocal, SetComponentField, SetRegister, SetField, SetItem, Forget, Super, Target, Method, Construct, Source}
+use Rattle.vg_source.specs.State.{State, find_named, find_global, find_class, owner_of, class_at, field_at, items_at}
+use Rattle.vg_source.specs.Meaning.{Caller, put, put_found, take_from, taking, with_found, from_below, computed, with_int, with_cell, stop_unless, with_index, with_item_of, is_object_of, cast_to_class, do_cast, call_method, receiver_of, call_bound, forgetting, at_start, adding, constructing, make_object, make_array, step}
+
+-- the world with another clock
+abbrev pub at_clock : {H : Type 0} → (ℕ → ℕ) → World H → World H
+at_clock g w = record w { clock = g w.clock }
+
+-- two pieces are related from the worlds that are in question, the second with another clock
+abbrev pub Related : {H : Type 0} → (World H → Type 0) → (ℕ → ℕ) → (World H → Answer State H → Answer State H → Type 0) → Piece State H → Piece State H → Type 0
+Related {H} Ok g A p q = (s : State) (w : World H) → Ok w → A w (p s w) (q s (at_clock g w))
+
+pub grows_put : {H : Type 0} (v : Value) → Grows {H = H} (put v)
+grows_put v s w = extends_itself w.outside.trace
+
+-- taking a value and doing what only adds to the trace
+grows_take_from : {H : Type 0} (vs : List Value) (p : Piece State H) → Grows p → Grows (take_from vs (λ v. p))
+grows_take_from [] p k s w = extends_itself w.outside.trace
+grows_take_from (v ∷ vs) p k s w = k (record s { values = vs }) w
+
+pub grows_taking : {H : Type 0} (p : Piece State H) → Grows p → Grows (taking (λ v. p))
+grows_taking p k s w = grows_take_from s.values p k s w
+
+module _ {H : Type 0} (Ok : World H → Type 0) (g : ℕ → ℕ) (A : World H → Answer State H → Answer State H → Type 0)
+    (a_gives : (s : State) (w : World H) → Ok w → A w (Gives s w) (Gives s (at_clock g w)))
+    (a_over : (why : End) → is_clock (Over why) ≡ false → (s : State) (w : World H) → Ok w → A w (over why s w) (over why s (at_clock g w)))
+    (a_then : (w : World H) (a b : Answer State H) (p : Piece State H) → Ok w → A w a b → Related Ok g A p p → Grows p → A w (and_then a p) (and_then b p))
+    (a_read : (address : ℕ) (p q : ℕ → Piece State H) → ((v : ℕ) → Related Ok g A (p v) (q v)) → Related Ok g A (read_device address p) (read_device address q))
+    (a_write : (address value : ℕ) → Related Ok g A (write_device address value) (write_device address value)) where
+  abbrev R : Piece State H → Piece State H → Type 0
+  R p q = Related Ok g A p q
+
+  on_stops : (code at : ℕ) → R (stops code at) (stops code at)
+  on_stops code at s w h = a_over (Stops code (kept w.phase at)) refl s w h
+
+  on_wrong : R (over Wrong) (over Wrong)
+  on_wrong s w h = a_over Wrong refl s w h
+
+  on_put : (v : Value) → R (put v) (put v)
+  on_put v s w h = a_gives (record s { values = v ∷ s.values }) w h
+
+  on_put_found : (o : Option Value) → R (put_found o) (put_found o)
+  on_put_found (Some v) = on_put v
+  on_put_found None = on_wrong
+
+  on_found : {B : Type 0} (o : Option B) (p q : B → Piece State H) → ((b : B) → R (p b) (q b)) → R (with_found o p) (with_found o q)
+  on_found (Some b) p q k = k b
+  on_found None p q k = on_wrong
+
+  on_take_from : (vs : List Value) (p q : Value → Piece State H) → ((v : Value) → R (p v) (q v)) → R (take_from vs p) (take_from vs q)
+  on_take_from [] p q k s w h = on_wrong s w h
+  on_take_from (v ∷ vs) p q k s w h = k v (record s { values = vs }) w h
+
+  on_taking : (p q : Value → Piece State H) → ((v : Value) → R (p v) (q v)) → R (taking p) (taking q)
+  on_taking p q k s w h = on_take_from s.values p q k s w h
+
+  on_below : (count : ℕ) (p q : Value → Piece State H) → ((v : Value) → R (p v) (q v)) → R (from_below count p) (from_below count q)
+  on_below count p q k s w h = on_found (slice_get s.values count) p q k _ w h
+
+  on_computed : (at : ℕ) (c : Computed) → R (computed at c) (computed at c)
+  on_computed at (Is v) = on_put v
+  on_computed at (Fails code) = on_stops code at
+  on_computed at Unfit = on_wrong
+
+  on_int : (p q : ℤ → Piece State H) → ((n : ℤ) → R (p n) (q n)) → (v : Value) → R (with_int p v) (with_int q v)
+  on_int p q k (Int n) = k n
+  on_int p q k _ = on_wrong
+
+  on_cell : (at : ℕ) (p q : ℕ → Piece State H) → ((k : ℕ) → R (p k) (q k)) → (v : Value) → R (with_cell at p v) (with_cell at q v)
+  on_cell at p q k (Obj c) = k c
+  on_cell at p q k (Arr c) = k c
+  on_cell at p q k Null = on_stops 1 at
+  on_cell at p q k _ = on_wrong
+
+  on_stop_unless : (b : Bool) (code at : ℕ) (p q : Piece State H) → R p q → R (stop_unless b code at p) (stop_unless b code at q)
+  on_stop_unless true code at p q k = k
+  on_stop_unless false code at p q k = on_stops code at
+
+  on_index : (at size : ℕ) (i : ℤ) (p q : ℕ → Piece State H) → ((k : ℕ) → R (p k) (q k)) → R (with_index at size i p) (with_index at size i q)
+  on_index at size (pos i) p q k = on_stop_unless (nat_lt i size) 2 at (p i) (q i) (k i)
+  on_index at size (negsuc i) p q k = on_stops 2 at
+
+  on_item_of : (at : ℕ) (p q : ℕ → ℕ → List Value → Piece State H) → ((k i : ℕ) (vs : List Value) → R (p k i vs) (q k i vs))
+      → (array index : Value) → R (with_item_of at p array index) (with_item_of at q array index)
+  on_item_of at p q h array index =
+      on_cell at _ _ (λ k s w. on_found (items_at s.heap k) _ _ (λ vs. on_int _ _ (λ n. on_index at (length vs) n _ _ (λ i. h k i vs)) index) s w) array
+
+  on_class_cast : (p : Source) (at : ℕ) (d : Name) (v : Value) → R (cast_to_class p at d v) (cast_to_class p at d v)
+  on_class_cast p at d Null = on_put Null
+  on_class_cast p at d v = λ s w. on_stop_unless (is_object_of p s.heap d v) 4 at (put v) (put v) (on_put v) s w
+
+  on_phase : (phase : Phase) (at : ℕ) (p q : Piece State H) → R p q → R (at_start phase at p) (at_start phase at q)
+  on_phase Starting at p q k = k
+  on_phase Running at p q k = on_stops 5 at
+
+  on_room : (b : Bool) (p q : Piece State H) → R p q → R (unless b OutOfRoom p) (unless b OutOfRoom q)
+  on_room true p q k s w h = a_over OutOfRoom refl s w h
+  on_room false p q k s w h = k s w h
+
+  on_adding : (size : ℕ) (cell : Cell) (p q : ℕ → Piece State H) → ((k : ℕ) → R (p k) (q k)) → R (adding size cell p) (adding size cell q)
+  on_adding size cell p q k s w h = on_room (passes w.largest (stored_values s.heap + 1 + size)) _ _ (λ s1. k (length s1.heap.cells) _) s w h
+
+  -- callers are related where all their calls are
+  abbrev Callers : Caller H → Caller H → Type 0
+  Callers call call' = (t : Target) (count : ℕ) (self : Value) → R (call t count self) (call' t count self)
+
+  pub on_forgetting : (p q : Piece State H) → R p q → R (forgetting p) (forgetting q)
+  on_forgetting p q k s w h = a_then w _ _ _ h (k s w h) (on_taking _ _ (λ v. a_gives)) (grows_taking go_on (λ s1 w1. extends_itself w1.outside.trace))
+
+  on_cast : (p : Source) (at : ℕ) (t : StaticType) (v : Value) → R (do_cast p at t v) (do_cast p at t v)
+  on_cast p at (ClassType d) v = on_class_cast p at d v
+  on_cast p at t v = λ s w h. a_gives _ w h
+
+  on_bound : (call call' : Caller H) → Callers call call' → (at count : ℕ) (v : Value) → R (call_bound call at count v) (call_bound call' at count v)
+  on_bound call call' k at count (Bound receiver d m) = k (Method d m) count (receiver_of receiver)
+  on_bound call call' k at count Null = on_stops 1 at
+  on_bound call call' k at count _ = on_wrong
+
+  on_method : (p : Source) (call call' : Caller H) → Callers call call' → (at : ℕ) (m : Name) (count : ℕ) → R (call_method p call at m count) (call_method p call' at m count)
+  on_method p call call' k at m count =
+      on_below count _ _ (on_cell at _ _ (λ c s w. on_found (class_at s.heap c) _ _ (λ d. on_found (owner_of p d m) _ _ (λ o. k (Method o m) count (Obj c))) s w))
+
+  on_constructing : (call call' : Caller H) → Callers call call' → (c : Name) (count o : ℕ) → R (constructing call c count o) (constructing call' c count o)
+  on_constructing call call' k c count o s w h =
+      a_then w _ _ _ h (k (Construct c) count (Obj o) s w h) (on_taking _ _ (λ v. on_put (Obj o))) (grows_taking (put (Obj o)) (grows_put (Obj o)))
+
+  on_object : (p : Source) (call call' : Caller H) → Callers call call' → (at : ℕ) (c : Name) (count : ℕ) → R (make_object p call at c count) (make_object p call' at c count)
+  on_object p call call' k at c count s w =
+      on_phase w.phase at _ _ (on_found (find_class p.classes c) _ _
+      (λ d. on_adding (length d.fields) (Object c d.fields) (constructing call c count) (constructing call' c count) (on_constructing call call' k c count))) s w
+
+  on_array : (at : ℕ) (t : StaticType) (n : ℤ) → R (make_array at t n) (make_array at t n)
+  on_array at t (negsuc n) = on_stops 5 at
+  on_array at t (pos n) = on_adding n (Array t (replicate n (default t))) (λ a. put (Arr a)) (λ a. put (Arr a)) (λ a. on_put (Arr a))
+
+  -- what holds of the calls holds of every step
+  pub on_step : (p : Source) (call call' : Caller H) → Callers call call' → (q : Step) → R (step p call q) (step p call' q)
+  on_step p call call' k (Put v) = on_put v
+  on_step p call call' k (Literal n) = on_put (Arr n)
+  on_step p call call' k This = λ s. on_put s.self s
+  on_step p call call' k (Local x) = λ s. on_put_found (find_named s.locals x) s
+  on_step p call call' k (ComponentField c f) = λ s. on_put_found (find_global s.heap.globals c f) s
+  on_step p call call' k (Register a) = a_read a _ _ (λ v. on_put (Raw 8 v))
+  on_step p call call' k (ComponentMethod c m) = on_put (Bound None c m)
+  on_step p call call' k (Apply op) = on_taking _ _ (λ x. on_computed 0 (prefixed op x))
+  on_step p call call' k (Operate at op) = on_taking _ _ (λ y. on_taking _ _ (λ x. on_computed at (binary op x y)))
+  on_step p call call' k (CastTo at t) = on_taking _ _ (on_cast p at t)
+  on_step p call call' k (IsBelow c) = on_taking _ _ (λ v s w h. a_gives _ w h)
+  on_step p call call' k (Field at f) = on_taking _ _ (on_cell at _ _ (λ c s. on_put_found (field_at s.heap c f) s))
+  on_step p call call' k (Item at) = on_taking _ _ (λ i. on_taking _ _ (λ a. on_item_of at _ _ (λ c j vs. on_put_found (slice_get vs j)) a i))
+  on_step p call call' k (Length at) = on_taking _ _ (on_cell at _ _ (λ c s. on_found (items_at s.heap c) _ _ (λ vs. on_put (Int (pos (length vs)))) s))
+  on_step p call call' k (MethodOf at m) =
+      on_taking _ _ (on_cell at _ _ (λ c s. on_found (class_at s.heap c) _ _ (λ d. on_found (owner_of p d m) _ _ (λ o. on_put (Bound (Some c) o m))) s))
+  on_step p call call' k (CallMethod at m count) = on_method p call call' k at m count
+  on_step p call call' k (CallValue at count) = on_below count _ _ (on_bound call call' k at count)
+  on_step p call call' k (CallComponent c m count) = k (Method c m) count Null
+  on_step p call call' k (NewObject at c count) = on_object p call call' k at c count
+  on_step p call call' k (NewArray at t) = λ s w. on_phase w.phase at _ _ (on_taking _ _ (on_int _ _ (on_array at t))) s w
+  on_step p call call' k (SetLocal x) = on_taking _ _ (λ v s w h. a_gives _ w h)
+  on_step p call call' k (SetComponentField c f) = on_taking _ _ (λ v s w h. a_gives _ w h)
+  on_step p call call' k (SetRegister a) = on_taking _ _ (λ v. a_write a (bits_of v))
+  on_step p call call' k (SetField at f) = on_taking _ _ (λ v. on_taking _ _ (on_cell at _ _ (λ c s w h. a_gives _ w h)))
+  on_step p call call' k (SetItem at) = on_taking _ _ (λ v. on_taking _ _ (λ i. on_taking _ _ (λ a. on_item_of at _ _ (λ c j vs s w h. a_gives _ w h) a i)))
+  on_step p call call' k Forget = on_taking _ _ (λ v. a_gives)
+  on_step p call call' k (Super c count) = λ s. on_forgetting (call (Construct c) count s.self) (call' (Construct c) count s.self) (k (Construct c) count s.self) s
