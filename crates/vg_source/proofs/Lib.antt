@@ -1,3 +1,5 @@
 pub mod Steps
 pub mod Traces
 pub mod MoreClock
+pub mod Histories
+pub mod SpentClock

@@ -26,10 +26,10 @@ module _ {H : Type 0} (d : ℕ) where
 
   pub longer_step : (p : Source) (call call' : Caller H) → LongerCaller call call' → (q : Step) → LongerPiece d (step p call q) (step p call' q)
   longer_step p call call' k q s w =
-      on_step (λ w. Unit {0}) (λ c. c + d) (λ w a b. Longer d a b)
+      on_step (λ w. Unit {0}) (λ c. c + d) (λ h. h) (λ w a b. Longer d a b)
       (λ s w h. gives)
       (λ why e s w h. ends)
-      (λ w a b go h e r more. longer_then d a b go go e (λ s1 w1. r s1 w1 tt) more)
+      (λ w a b f go h e k more. longer_then d a b f go e (λ s1 w1. k s1 w1 tt) more)
       (λ address f go h s w u. longer_read d address f go (λ v s1 w1. h v s1 w1 tt) s w)
       (λ address value s w h. longer_write d address value s w)
       p call call' (λ t count self s w h. k t count self s w) q s w tt

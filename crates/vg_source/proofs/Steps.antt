@@ -15,13 +15,15 @@ use Rattle.vg_source.specs.Steps.{Step, Put, Literal, This, Local, ComponentFiel
 use Rattle.vg_source.specs.State.{State, find_named, find_global, find_class, owner_of, class_at, field_at, items_at}
 use Rattle.vg_source.specs.Meaning.{Caller, put, put_found, take_from, taking, with_found, from_below, computed, with_int, with_cell, stop_unless, with_index, with_item_of, is_object_of, cast_to_class, do_cast, call_method, receiver_of, call_bound, forgetting, at_start, adding, constructing, make_object, make_array, step}
 
--- the world with another clock
-abbrev pub at_clock : {H : Type 0} → (ℕ → ℕ) → World H → World H
-at_clock g w = record w { clock = g w.clock }
+-- the world with another clock and another history
+abbrev pub changed : {H K : Type 0} → (ℕ → ℕ) → (H → K) → World H → World K
+changed g f w =
+    record { phase = w.phase; deepest = w.deepest; largest = w.largest; clock = g w.clock; outside = w.outside; history = f w.history }
 
--- two pieces are related from the worlds that are in question, the second with another clock
-abbrev pub Related : {H : Type 0} → (World H → Type 0) → (ℕ → ℕ) → (World H → Answer State H → Answer State H → Type 0) → Piece State H → Piece State H → Type 0
-Related {H} Ok g A p q = (s : State) (w : World H) → Ok w → A w (p s w) (q s (at_clock g w))
+-- two pieces are related from the worlds that are in question, the second with another clock and another history
+abbrev pub Related : {H K : Type 0} → (World H → Type 0) → (ℕ → ℕ) → (H → K) → (World H → Answer State H → Answer State K → Type 0)
+    → Piece State H → Piece State K → Type 0
+Related {H} {K} Ok g f A p q = (s : State) (w : World H) → Ok w → A w (p s w) (q s (changed g f w))
 
 pub grows_put : {H : Type 0} (v : Value) → Grows {H = H} (put v)
 grows_put v s w = extends_itself w.outside.trace
@@ -34,14 +36,16 @@ grows_take_from (v ∷ vs) p k s w = k (record s { values = vs }) w
 pub grows_taking : {H : Type 0} (p : Piece State H) → Grows p → Grows (taking (λ v. p))
 grows_taking p k s w = grows_take_from s.values p k s w
 
-module _ {H : Type 0} (Ok : World H → Type 0) (g : ℕ → ℕ) (A : World H → Answer State H → Answer State H → Type 0)
-    (a_gives : (s : State) (w : World H) → Ok w → A w (Gives s w) (Gives s (at_clock g w)))
-    (a_over : (why : End) → is_clock (Over why) ≡ false → (s : State) (w : World H) → Ok w → A w (over why s w) (over why s (at_clock g w)))
-    (a_then : (w : World H) (a b : Answer State H) (p : Piece State H) → Ok w → A w a b → Related Ok g A p p → Grows p → A w (and_then a p) (and_then b p))
-    (a_read : (address : ℕ) (p q : ℕ → Piece State H) → ((v : ℕ) → Related Ok g A (p v) (q v)) → Related Ok g A (read_device address p) (read_device address q))
-    (a_write : (address value : ℕ) → Related Ok g A (write_device address value) (write_device address value)) where
-  abbrev R : Piece State H → Piece State H → Type 0
-  R p q = Related Ok g A p q
+module _ {H K : Type 0} (Ok : World H → Type 0) (g : ℕ → ℕ) (f : H → K) (A : World H → Answer State H → Answer State K → Type 0)
+    (a_gives : (s : State) (w : World H) → Ok w → A w (Gives s w) (Gives s (changed g f w)))
+    (a_over : (why : End) → is_clock (Over why) ≡ false → (s : State) (w : World H) → Ok w → A w (over why s w) (over why s (changed g f w)))
+    (a_then : (w : World H) (a : Answer State H) (b : Answer State K) (p : Piece State H) (q : Piece State K)
+    → Ok w → A w a b → Related Ok g f A p q → Grows q → A w (and_then a p) (and_then b q))
+    (a_read : (address : ℕ) (p : ℕ → Piece State H) (q : ℕ → Piece State K)
+    → ((v : ℕ) → Related Ok g f A (p v) (q v)) → Related Ok g f A (read_device address p) (read_device address q))
+    (a_write : (address value : ℕ) → Related Ok g f A (write_device address value) (write_device address value)) where
+  abbrev R : Piece State H → Piece State K → Type 0
+  R p q = Related Ok g f A p q
 
   on_stops : (code at : ℕ) → R (stops code at) (stops code at)
   on_stops code at s w h = a_over (Stops code (kept w.phase at)) refl s w h
@@ -56,18 +60,18 @@ module _ {H : Type 0} (Ok : World H → Type 0) (g : ℕ → ℕ) (A : World H �
   on_put_found (Some v) = on_put v
   on_put_found None = on_wrong
 
-  on_found : {B : Type 0} (o : Option B) (p q : B → Piece State H) → ((b : B) → R (p b) (q b)) → R (with_found o p) (with_found o q)
+  on_found : {B : Type 0} (o : Option B) (p : B → Piece State H) (q : B → Piece State K) → ((b : B) → R (p b) (q b)) → R (with_found o p) (with_found o q)
   on_found (Some b) p q k = k b
   on_found None p q k = on_wrong
 
-  on_take_from : (vs : List Value) (p q : Value → Piece State H) → ((v : Value) → R (p v) (q v)) → R (take_from vs p) (take_from vs q)
+  on_take_from : (vs : List Value) (p : Value → Piece State H) (q : Value → Piece State K) → ((v : Value) → R (p v) (q v)) → R (take_from vs p) (take_from vs q)
   on_take_from [] p q k s w h = on_wrong s w h
   on_take_from (v ∷ vs) p q k s w h = k v (record s { values = vs }) w h
 
-  on_taking : (p q : Value → Piece State H) → ((v : Value) → R (p v) (q v)) → R (taking p) (taking q)
+  on_taking : (p : Value → Piece State H) (q : Value → Piece State K) → ((v : Value) → R (p v) (q v)) → R (taking p) (taking q)
   on_taking p q k s w h = on_take_from s.values p q k s w h
 
-  on_below : (count : ℕ) (p q : Value → Piece State H) → ((v : Value) → R (p v) (q v)) → R (from_below count p) (from_below count q)
+  on_below : (count : ℕ) (p : Value → Piece State H) (q : Value → Piece State K) → ((v : Value) → R (p v) (q v)) → R (from_below count p) (from_below count q)
   on_below count p q k s w h = on_found (slice_get s.values count) p q k _ w h
 
   on_computed : (at : ℕ) (c : Computed) → R (computed at c) (computed at c)
@@ -75,25 +79,25 @@ module _ {H : Type 0} (Ok : World H → Type 0) (g : ℕ → ℕ) (A : World H �
   on_computed at (Fails code) = on_stops code at
   on_computed at Unfit = on_wrong
 
-  on_int : (p q : ℤ → Piece State H) → ((n : ℤ) → R (p n) (q n)) → (v : Value) → R (with_int p v) (with_int q v)
+  on_int : (p : ℤ → Piece State H) (q : ℤ → Piece State K) → ((n : ℤ) → R (p n) (q n)) → (v : Value) → R (with_int p v) (with_int q v)
   on_int p q k (Int n) = k n
   on_int p q k _ = on_wrong
 
-  on_cell : (at : ℕ) (p q : ℕ → Piece State H) → ((k : ℕ) → R (p k) (q k)) → (v : Value) → R (with_cell at p v) (with_cell at q v)
+  on_cell : (at : ℕ) (p : ℕ → Piece State H) (q : ℕ → Piece State K) → ((k : ℕ) → R (p k) (q k)) → (v : Value) → R (with_cell at p v) (with_cell at q v)
   on_cell at p q k (Obj c) = k c
   on_cell at p q k (Arr c) = k c
   on_cell at p q k Null = on_stops 1 at
   on_cell at p q k _ = on_wrong
 
-  on_stop_unless : (b : Bool) (code at : ℕ) (p q : Piece State H) → R p q → R (stop_unless b code at p) (stop_unless b code at q)
+  on_stop_unless : (b : Bool) (code at : ℕ) (p : Piece State H) (q : Piece State K) → R p q → R (stop_unless b code at p) (stop_unless b code at q)
   on_stop_unless true code at p q k = k
   on_stop_unless false code at p q k = on_stops code at
 
-  on_index : (at size : ℕ) (i : ℤ) (p q : ℕ → Piece State H) → ((k : ℕ) → R (p k) (q k)) → R (with_index at size i p) (with_index at size i q)
+  on_index : (at size : ℕ) (i : ℤ) (p : ℕ → Piece State H) (q : ℕ → Piece State K) → ((k : ℕ) → R (p k) (q k)) → R (with_index at size i p) (with_index at size i q)
   on_index at size (pos i) p q k = on_stop_unless (nat_lt i size) 2 at (p i) (q i) (k i)
   on_index at size (negsuc i) p q k = on_stops 2 at
 
-  on_item_of : (at : ℕ) (p q : ℕ → ℕ → List Value → Piece State H) → ((k i : ℕ) (vs : List Value) → R (p k i vs) (q k i vs))
+  on_item_of : (at : ℕ) (p : ℕ → ℕ → List Value → Piece State H) (q : ℕ → ℕ → List Value → Piece State K) → ((k i : ℕ) (vs : List Value) → R (p k i vs) (q k i vs))
       → (array index : Value) → R (with_item_of at p array index) (with_item_of at q array index)
   on_item_of at p q h array index =
       on_cell at _ _ (λ k s w. on_found (items_at s.heap k) _ _ (λ vs. on_int _ _ (λ n. on_index at (length vs) n _ _ (λ i. h k i vs)) index) s w) array
@@ -102,42 +106,42 @@ module _ {H : Type 0} (Ok : World H → Type 0) (g : ℕ → ℕ) (A : World H �
   on_class_cast p at d Null = on_put Null
   on_class_cast p at d v = λ s w. on_stop_unless (is_object_of p s.heap d v) 4 at (put v) (put v) (on_put v) s w
 
-  on_phase : (phase : Phase) (at : ℕ) (p q : Piece State H) → R p q → R (at_start phase at p) (at_start phase at q)
+  on_phase : (phase : Phase) (at : ℕ) (p : Piece State H) (q : Piece State K) → R p q → R (at_start phase at p) (at_start phase at q)
   on_phase Starting at p q k = k
   on_phase Running at p q k = on_stops 5 at
 
-  on_room : (b : Bool) (p q : Piece State H) → R p q → R (unless b OutOfRoom p) (unless b OutOfRoom q)
+  on_room : (b : Bool) (p : Piece State H) (q : Piece State K) → R p q → R (unless b OutOfRoom p) (unless b OutOfRoom q)
   on_room true p q k s w h = a_over OutOfRoom refl s w h
   on_room false p q k s w h = k s w h
 
-  on_adding : (size : ℕ) (cell : Cell) (p q : ℕ → Piece State H) → ((k : ℕ) → R (p k) (q k)) → R (adding size cell p) (adding size cell q)
+  on_adding : (size : ℕ) (cell : Cell) (p : ℕ → Piece State H) (q : ℕ → Piece State K) → ((k : ℕ) → R (p k) (q k)) → R (adding size cell p) (adding size cell q)
   on_adding size cell p q k s w h = on_room (passes w.largest (stored_values s.heap + 1 + size)) _ _ (λ s1. k (length s1.heap.cells) _) s w h
 
   -- callers are related where all their calls are
-  abbrev Callers : Caller H → Caller H → Type 0
+  abbrev Callers : Caller H → Caller K → Type 0
   Callers call call' = (t : Target) (count : ℕ) (self : Value) → R (call t count self) (call' t count self)
 
-  pub on_forgetting : (p q : Piece State H) → R p q → R (forgetting p) (forgetting q)
-  on_forgetting p q k s w h = a_then w _ _ _ h (k s w h) (on_taking _ _ (λ v. a_gives)) (grows_taking go_on (λ s1 w1. extends_itself w1.outside.trace))
+  pub on_forgetting : (p : Piece State H) (q : Piece State K) → R p q → R (forgetting p) (forgetting q)
+  on_forgetting p q k s w h = a_then w _ _ _ _ h (k s w h) (on_taking _ _ (λ v. a_gives)) (grows_taking go_on (λ s1 w1. extends_itself w1.outside.trace))
 
   on_cast : (p : Source) (at : ℕ) (t : StaticType) (v : Value) → R (do_cast p at t v) (do_cast p at t v)
   on_cast p at (ClassType d) v = on_class_cast p at d v
   on_cast p at t v = λ s w h. a_gives _ w h
 
-  on_bound : (call call' : Caller H) → Callers call call' → (at count : ℕ) (v : Value) → R (call_bound call at count v) (call_bound call' at count v)
+  on_bound : (call : Caller H) (call' : Caller K) → Callers call call' → (at count : ℕ) (v : Value) → R (call_bound call at count v) (call_bound call' at count v)
   on_bound call call' k at count (Bound receiver d m) = k (Method d m) count (receiver_of receiver)
   on_bound call call' k at count Null = on_stops 1 at
   on_bound call call' k at count _ = on_wrong
 
-  on_method : (p : Source) (call call' : Caller H) → Callers call call' → (at : ℕ) (m : Name) (count : ℕ) → R (call_method p call at m count) (call_method p call' at m count)
+  on_method : (p : Source) (call : Caller H) (call' : Caller K) → Callers call call' → (at : ℕ) (m : Name) (count : ℕ) → R (call_method p call at m count) (call_method p call' at m count)
   on_method p call call' k at m count =
       on_below count _ _ (on_cell at _ _ (λ c s w. on_found (class_at s.heap c) _ _ (λ d. on_found (owner_of p d m) _ _ (λ o. k (Method o m) count (Obj c))) s w))
 
-  on_constructing : (call call' : Caller H) → Callers call call' → (c : Name) (count o : ℕ) → R (constructing call c count o) (constructing call' c count o)
+  on_constructing : (call : Caller H) (call' : Caller K) → Callers call call' → (c : Name) (count o : ℕ) → R (constructing call c count o) (constructing call' c count o)
   on_constructing call call' k c count o s w h =
-      a_then w _ _ _ h (k (Construct c) count (Obj o) s w h) (on_taking _ _ (λ v. on_put (Obj o))) (grows_taking (put (Obj o)) (grows_put (Obj o)))
+      a_then w _ _ _ _ h (k (Construct c) count (Obj o) s w h) (on_taking _ _ (λ v. on_put (Obj o))) (grows_taking (put (Obj o)) (grows_put (Obj o)))
 
-  on_object : (p : Source) (call call' : Caller H) → Callers call call' → (at : ℕ) (c : Name) (count : ℕ) → R (make_object p call at c count) (make_object p call' at c count)
+  on_object : (p : Source) (call : Caller H) (call' : Caller K) → Callers call call' → (at : ℕ) (c : Name) (count : ℕ) → R (make_object p call at c count) (make_object p call' at c count)
   on_object p call call' k at c count s w =
       on_phase w.phase at _ _ (on_found (find_class p.classes c) _ _
       (λ d. on_adding (length d.fields) (Object c d.fields) (constructing call c count) (constructing call' c count) (on_constructing call call' k c count))) s w
@@ -147,7 +151,7 @@ module _ {H : Type 0} (Ok : World H → Type 0) (g : ℕ → ℕ) (A : World H �
   on_array at t (pos n) = on_adding n (Array t (replicate n (default t))) (λ a. put (Arr a)) (λ a. put (Arr a)) (λ a. on_put (Arr a))
 
   -- what holds of the calls holds of every step
-  pub on_step : (p : Source) (call call' : Caller H) → Callers call call' → (q : Step) → R (step p call q) (step p call' q)
+  pub on_step : (p : Source) (call : Caller H) (call' : Caller K) → Callers call call' → (q : Step) → R (step p call q) (step p call' q)
   on_step p call call' k (Put v) = on_put v
   on_step p call call' k (Literal n) = on_put (Arr n)
   on_step p call call' k This = λ s. on_put s.self s

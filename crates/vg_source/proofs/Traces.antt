@@ -20,10 +20,10 @@ GrowingCaller call = (t : Target) (count : ℕ) (self : Value) → Grows (call t
 module _ {H : Type 0} where
   pub grows_step : (p : Source) (call : Caller H) → GrowingCaller call → (q : Step) → Grows (step p call q)
   grows_step p call k q s w =
-      on_step (λ w. Unit {0}) (λ c. c) (λ w a b. Extends w.outside.trace (trace_of b))
+      on_step (λ w. Unit {0}) (λ c. c) (λ h. h) (λ w a b. Extends w.outside.trace (trace_of b))
       (λ s w h. extends_itself w.outside.trace)
       (λ why e s w h. extends_itself w.outside.trace)
-      (λ w a b go h e r more. grows_then w.outside.trace b go e more)
+      (λ w a b f go h e k more. grows_then w.outside.trace b go e more)
       (λ address f go h s w u. grows_read address go (λ v s1 w1. h v s1 w1 tt) s w)
       (λ address value s w h. grows_write address value s w)
       p call call (λ t count self s w h. k t count self s w) q s w tt

@@ -1,10 +1,12 @@
 // Laws of the clock.
 ghost use Rattle.std.specs.Prelude.{◌≡◌, ◌≢◌, ℕ, ◌+◌, List, Option, Some};
 ghost use Rattle.vg_base.specs.Outcome.{Beyond};
+ghost use Rattle.vg_meaning.specs.History.{Recorder};
 ghost use Rattle.vg_meaning.specs.Grows.{Extends};
+ghost use Rattle.vg_meaning.specs.Spent.{Spent};
 ghost use Rattle.vg_source.specs.Values.{Heap};
 ghost use Rattle.vg_source.specs.Steps.{Source};
-ghost use Rattle.vg_source.specs.Session.{Started, started, session};
+ghost use Rattle.vg_source.specs.Session.{Started, started, session, starting, running};
 
 /// Two clocks that both give a heap give the same heap, and with more clock than one that gives a heap there is that heap.
 pub fn one_heap()
@@ -20,4 +22,11 @@ pub fn more_clock()
     ensures same { (p : Source) (heap : Heap) (deepest : Option ℕ) (reads interrupts : List ℕ) (clock d : ℕ)
         → (session p heap deepest reads interrupts clock).ending ≢ Some Beyond
         → session p heap deepest reads interrupts (clock + d) ≡ session p heap deepest reads interrupts clock }
+{}
+
+/// The clock never rises, and a session or an initialisation that is out of clock has spent it all.
+pub fn spent_clock<H>()
+    ensures starting { (r : Recorder H) (history : H) (p : Source) (clock : ℕ) → Spent clock (starting r history p clock) }
+    ensures running { (r : Recorder H) (history : H) (p : Source) (heap : Heap) (deepest : Option ℕ) (reads interrupts : List ℕ) (clock : ℕ)
+        → Spent clock (running r history p heap deepest reads interrupts clock) }
 {}

@@ -4,3 +4,4 @@
 
 pub mod casts;
 pub mod clock;
+pub mod recorders;
