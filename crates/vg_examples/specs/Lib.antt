@@ -13,3 +13,15 @@ pub mod Shifts
 pub mod NegativeLength
 pub mod NodeList
 pub mod Firmware
+pub mod Arrays
+pub mod Parentheses
+pub mod Casts
+pub mod Division
+pub mod Ticks
+pub mod StartOrder
+pub mod Room
+pub mod Scopes
+pub mod LeadingZeros
+pub mod Literals
+pub mod Control
+pub mod Dispatch
