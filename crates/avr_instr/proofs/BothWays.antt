@@ -1,5 +1,5 @@
 -- What is spelled is decoded, and what is decoded is spelled.
-use Rattle.std.proofs.Common.{◌≡◌, ℕ, ◌+◌, ◌*◌, ◌/◌, ◌%◌, ◌<◌, ◌≤◌, Option, Some, None, Bool, true, false, ap, sym, ◌∙◌, zero, suc, subst, arith}
+use Rattle.std.proofs.Common.{◌≡◌, ℕ, ◌+◌, ◌*◌, ◌/◌, ◌%◌, ◌<◌, ◌≤◌, Option, Some, false, ap, sym, ◌∙◌, zero, suc, subst, arith}
 use Rattle.std.specs.Prelude.{IfSome, ◌==◌, nat_lt, if◌then◌else◌}
 use Rattle.avr_instr.specs.declared.operand.Base.TheVariants.{Y, Z}
 use Rattle.avr_instr.specs.declared.instr.Instr.{Instr}
@@ -93,120 +93,178 @@ seventh w a b c d e f g o h = grind arith
 -- what is spelled is decoded, group by group
 adc_in : (w n d r : ℕ) → InRange (Adc d r) → w ≡ first_word (Adc d r) → IsNext (second_word (Adc d r)) n → in_nibbles_1_2 w ≡ Some (Adc d r)
 adc_in w n d r h e x = grind arith
+
 add_in : (w n d r : ℕ) → InRange (Add d r) → w ≡ first_word (Add d r) → IsNext (second_word (Add d r)) n → in_nibble_0 w ≡ Some (Add d r)
 add_in w n d r h e x = grind arith
+
 adiw_in : (w n d k : ℕ) → InRange (Adiw d k) → w ≡ first_word (Adiw d k) → IsNext (second_word (Adiw d k)) n → in_pairs w ≡ Some (Adiw d k)
 adiw_in w n d k h e x = grind arith
+
 and_in : (w n d r : ℕ) → InRange (And d r) → w ≡ first_word (And d r) → IsNext (second_word (And d r)) n → in_nibbles_1_2 w ≡ Some (And d r)
 and_in w n d r h e x = grind arith
+
 andi_in : (w n d k : ℕ) → InRange (Andi d k) → w ≡ first_word (Andi d k) → IsNext (second_word (Andi d k)) n → in_nibbles_3_7 w ≡ Some (Andi d k)
 andi_in w n d k h e x = grind arith
+
 asr_in : (w n d : ℕ) → InRange (Asr d) → w ≡ first_word (Asr d) → IsNext (second_word (Asr d)) n → in_one_register w n ≡ Some (Asr d)
 asr_in w n d h e x = grind arith
+
 brbc_in : (w n s k : ℕ) → InRange (Brbc s k) → w ≡ first_word (Brbc s k) → IsNext (second_word (Brbc s k)) n → in_nibbles_11_15 w ≡ Some (Brbc s k)
 brbc_in w n s k h e x = grind arith
+
 brbs_in : (w n s k : ℕ) → InRange (Brbs s k) → w ≡ first_word (Brbs s k) → IsNext (second_word (Brbs s k)) n → in_nibbles_11_15 w ≡ Some (Brbs s k)
 brbs_in w n s k h e x = grind arith
+
 call_in : (w n k : ℕ) → InRange (Call k) → w ≡ first_word (Call k) → IsNext (second_word (Call k)) n → in_fixed w n ≡ Some (Call k)
 call_in w n k h e x = grind arith
+
 cli_in : (w n : ℕ) → InRange Cli → w ≡ first_word Cli → IsNext (second_word Cli) n → in_fixed w n ≡ Some Cli
 cli_in w n h e x = grind arith
+
 com_in : (w n d : ℕ) → InRange (Com d) → w ≡ first_word (Com d) → IsNext (second_word (Com d)) n → in_one_register w n ≡ Some (Com d)
 com_in w n d h e x = grind arith
+
 cp_in : (w n d r : ℕ) → InRange (Cp d r) → w ≡ first_word (Cp d r) → IsNext (second_word (Cp d r)) n → in_nibbles_1_2 w ≡ Some (Cp d r)
 cp_in w n d r h e x = grind arith
+
 cpc_in : (w n d r : ℕ) → InRange (Cpc d r) → w ≡ first_word (Cpc d r) → IsNext (second_word (Cpc d r)) n → in_nibble_0 w ≡ Some (Cpc d r)
 cpc_in w n d r h e x = grind arith
+
 cpi_in : (w n d k : ℕ) → InRange (Cpi d k) → w ≡ first_word (Cpi d k) → IsNext (second_word (Cpi d k)) n → in_nibbles_3_7 w ≡ Some (Cpi d k)
 cpi_in w n d k h e x = grind arith
+
 dec_in : (w n d : ℕ) → InRange (Dec d) → w ≡ first_word (Dec d) → IsNext (second_word (Dec d)) n → in_one_register w n ≡ Some (Dec d)
 dec_in w n d h e x = let same : d_of w ≡ d = omega arith in seventh w (Some (Com (d_of w))) (Some (Neg (d_of w))) (Some (Inc (d_of w))) (Some (Asr (d_of w))) (Some (Lsr (d_of w))) (Some (Ror (d_of w))) (Some (Dec (d_of w))) (in_fixed w n) (omega arith) ∙ ap (λ m. Some (Dec m)) same
+
 eor_in : (w n d r : ℕ) → InRange (Eor d r) → w ≡ first_word (Eor d r) → IsNext (second_word (Eor d r)) n → in_nibbles_1_2 w ≡ Some (Eor d r)
 eor_in w n d r h e x = grind arith
+
 icall_in : (w n : ℕ) → InRange Icall → w ≡ first_word Icall → IsNext (second_word Icall) n → in_fixed w n ≡ Some Icall
 icall_in w n h e x = grind arith
+
 ijmp_in : (w n : ℕ) → InRange Ijmp → w ≡ first_word Ijmp → IsNext (second_word Ijmp) n → in_fixed w n ≡ Some Ijmp
 ijmp_in w n h e x = grind arith
+
 in_in : (w n d a : ℕ) → InRange (In d a) → w ≡ first_word (In d a) → IsNext (second_word (In d a)) n → in_nibbles_11_15 w ≡ Some (In d a)
 in_in w n d a h e x = grind arith
+
 inc_in : (w n d : ℕ) → InRange (Inc d) → w ≡ first_word (Inc d) → IsNext (second_word (Inc d)) n → in_one_register w n ≡ Some (Inc d)
 inc_in w n d h e x = grind arith
+
 jmp_in : (w n k : ℕ) → InRange (Jmp k) → w ≡ first_word (Jmp k) → IsNext (second_word (Jmp k)) n → in_fixed w n ≡ Some (Jmp k)
 jmp_in w n k h e x = grind arith
+
 ldx_in : (w n d : ℕ) → InRange (LdX d) → w ≡ first_word (LdX d) → IsNext (second_word (LdX d)) n → in_loads w n ≡ Some (LdX d)
 ldx_in w n d h e x = grind arith
+
 ldxplus_in : (w n d : ℕ) → InRange (LdXPlus d) → w ≡ first_word (LdXPlus d) → IsNext (second_word (LdXPlus d)) n → in_loads w n ≡ Some (LdXPlus d)
 ldxplus_in w n d h e x = grind arith
+
 ldminusx_in : (w n d : ℕ) → InRange (LdMinusX d) → w ≡ first_word (LdMinusX d) → IsNext (second_word (LdMinusX d)) n → in_loads w n ≡ Some (LdMinusX d)
 ldminusx_in w n d h e x = grind arith
+
 ldd_y_in : (w n d q : ℕ) → InRange (Ldd d Y q) → w ≡ first_word (Ldd d Y q) → IsNext (second_word (Ldd d Y q)) n → in_nibbles_8_10 w ≡ Some (Ldd d Y q)
 ldd_y_in w n d q h e x = grind arith
+
 ldd_z_in : (w n d q : ℕ) → InRange (Ldd d Z q) → w ≡ first_word (Ldd d Z q) → IsNext (second_word (Ldd d Z q)) n → in_nibbles_8_10 w ≡ Some (Ldd d Z q)
 ldd_z_in w n d q h e x = grind arith
+
 ldi_in : (w n d k : ℕ) → InRange (Ldi d k) → w ≡ first_word (Ldi d k) → IsNext (second_word (Ldi d k)) n → in_nibbles_11_15 w ≡ Some (Ldi d k)
 ldi_in w n d k h e x = grind arith
+
 lds_in : (w n d k : ℕ) → InRange (Lds d k) → w ≡ first_word (Lds d k) → IsNext (second_word (Lds d k)) n → in_loads w n ≡ Some (Lds d k)
 lds_in w n d k h e x = grind arith
+
 lpmz_in : (w n d : ℕ) → InRange (LpmZ d) → w ≡ first_word (LpmZ d) → IsNext (second_word (LpmZ d)) n → in_loads w n ≡ Some (LpmZ d)
 lpmz_in w n d h e x = grind arith
+
 lpmzplus_in : (w n d : ℕ) → InRange (LpmZPlus d) → w ≡ first_word (LpmZPlus d) → IsNext (second_word (LpmZPlus d)) n → in_loads w n ≡ Some (LpmZPlus d)
 lpmzplus_in w n d h e x = grind arith
+
 lsr_in : (w n d : ℕ) → InRange (Lsr d) → w ≡ first_word (Lsr d) → IsNext (second_word (Lsr d)) n → in_one_register w n ≡ Some (Lsr d)
 lsr_in w n d h e x = grind arith
+
 mov_in : (w n d r : ℕ) → InRange (Mov d r) → w ≡ first_word (Mov d r) → IsNext (second_word (Mov d r)) n → in_nibbles_1_2 w ≡ Some (Mov d r)
 mov_in w n d r h e x = grind arith
+
 movw_in : (w n d r : ℕ) → InRange (Movw d r) → w ≡ first_word (Movw d r) → IsNext (second_word (Movw d r)) n → in_nibble_0 w ≡ Some (Movw d r)
 movw_in w n d r h e x = grind arith
+
 mul_in : (w n d r : ℕ) → InRange (Mul d r) → w ≡ first_word (Mul d r) → IsNext (second_word (Mul d r)) n → in_pairs w ≡ Some (Mul d r)
 mul_in w n d r h e x = grind arith
+
 neg_in : (w n d : ℕ) → InRange (Neg d) → w ≡ first_word (Neg d) → IsNext (second_word (Neg d)) n → in_one_register w n ≡ Some (Neg d)
 neg_in w n d h e x = grind arith
+
 nop_in : (w n : ℕ) → InRange Nop → w ≡ first_word Nop → IsNext (second_word Nop) n → in_nibble_0 w ≡ Some Nop
 nop_in w n h e x = grind arith
+
 or_in : (w n d r : ℕ) → InRange (Or d r) → w ≡ first_word (Or d r) → IsNext (second_word (Or d r)) n → in_nibbles_1_2 w ≡ Some (Or d r)
 or_in w n d r h e x = grind arith
+
 ori_in : (w n d k : ℕ) → InRange (Ori d k) → w ≡ first_word (Ori d k) → IsNext (second_word (Ori d k)) n → in_nibbles_3_7 w ≡ Some (Ori d k)
 ori_in w n d k h e x = grind arith
+
 out_in : (w n a r : ℕ) → InRange (Out a r) → w ≡ first_word (Out a r) → IsNext (second_word (Out a r)) n → in_nibbles_11_15 w ≡ Some (Out a r)
 out_in w n a r h e x = grind arith
+
 pop_in : (w n d : ℕ) → InRange (Pop d) → w ≡ first_word (Pop d) → IsNext (second_word (Pop d)) n → in_loads w n ≡ Some (Pop d)
 pop_in w n d h e x = grind arith
+
 push_in : (w n r : ℕ) → InRange (Push r) → w ≡ first_word (Push r) → IsNext (second_word (Push r)) n → in_stores w n ≡ Some (Push r)
 push_in w n r h e x = grind arith
+
 rcall_in : (w n k : ℕ) → InRange (Rcall k) → w ≡ first_word (Rcall k) → IsNext (second_word (Rcall k)) n → in_nibbles_11_15 w ≡ Some (Rcall k)
 rcall_in w n k h e x = grind arith
+
 ret_in : (w n : ℕ) → InRange Ret → w ≡ first_word Ret → IsNext (second_word Ret) n → in_fixed w n ≡ Some Ret
 ret_in w n h e x = grind arith
+
 reti_in : (w n : ℕ) → InRange Reti → w ≡ first_word Reti → IsNext (second_word Reti) n → in_fixed w n ≡ Some Reti
 reti_in w n h e x = grind arith
+
 rjmp_in : (w n k : ℕ) → InRange (Rjmp k) → w ≡ first_word (Rjmp k) → IsNext (second_word (Rjmp k)) n → in_nibbles_11_15 w ≡ Some (Rjmp k)
 rjmp_in w n k h e x = grind arith
+
 ror_in : (w n d : ℕ) → InRange (Ror d) → w ≡ first_word (Ror d) → IsNext (second_word (Ror d)) n → in_one_register w n ≡ Some (Ror d)
 ror_in w n d h e x = grind arith
+
 sbc_in : (w n d r : ℕ) → InRange (Sbc d r) → w ≡ first_word (Sbc d r) → IsNext (second_word (Sbc d r)) n → in_nibble_0 w ≡ Some (Sbc d r)
 sbc_in w n d r h e x = grind arith
+
 sbci_in : (w n d k : ℕ) → InRange (Sbci d k) → w ≡ first_word (Sbci d k) → IsNext (second_word (Sbci d k)) n → in_nibbles_3_7 w ≡ Some (Sbci d k)
 sbci_in w n d k h e x = grind arith
+
 sbiw_in : (w n d k : ℕ) → InRange (Sbiw d k) → w ≡ first_word (Sbiw d k) → IsNext (second_word (Sbiw d k)) n → in_pairs w ≡ Some (Sbiw d k)
 sbiw_in w n d k h e x = grind arith
+
 sei_in : (w n : ℕ) → InRange Sei → w ≡ first_word Sei → IsNext (second_word Sei) n → in_fixed w n ≡ Some Sei
 sei_in w n h e x = grind arith
+
 sleep_in : (w n : ℕ) → InRange Sleep → w ≡ first_word Sleep → IsNext (second_word Sleep) n → in_fixed w n ≡ Some Sleep
 sleep_in w n h e x = grind arith
+
 stx_in : (w n r : ℕ) → InRange (StX r) → w ≡ first_word (StX r) → IsNext (second_word (StX r)) n → in_stores w n ≡ Some (StX r)
 stx_in w n r h e x = grind arith
+
 stxplus_in : (w n r : ℕ) → InRange (StXPlus r) → w ≡ first_word (StXPlus r) → IsNext (second_word (StXPlus r)) n → in_stores w n ≡ Some (StXPlus r)
 stxplus_in w n r h e x = grind arith
+
 stminusx_in : (w n r : ℕ) → InRange (StMinusX r) → w ≡ first_word (StMinusX r) → IsNext (second_word (StMinusX r)) n → in_stores w n ≡ Some (StMinusX r)
 stminusx_in w n r h e x = grind arith
+
 std_y_in : (w n q r : ℕ) → InRange (Std Y q r) → w ≡ first_word (Std Y q r) → IsNext (second_word (Std Y q r)) n → in_nibbles_8_10 w ≡ Some (Std Y q r)
 std_y_in w n q r h e x = grind arith
+
 std_z_in : (w n q r : ℕ) → InRange (Std Z q r) → w ≡ first_word (Std Z q r) → IsNext (second_word (Std Z q r)) n → in_nibbles_8_10 w ≡ Some (Std Z q r)
 std_z_in w n q r h e x = grind arith
+
 sts_in : (w n k r : ℕ) → InRange (Sts k r) → w ≡ first_word (Sts k r) → IsNext (second_word (Sts k r)) n → in_stores w n ≡ Some (Sts k r)
 sts_in w n k r h e x = grind arith
+
 sub_in : (w n d r : ℕ) → InRange (Sub d r) → w ≡ first_word (Sub d r) → IsNext (second_word (Sub d r)) n → in_nibbles_1_2 w ≡ Some (Sub d r)
 sub_in w n d r h e x = grind arith
+
 subi_in : (w n d k : ℕ) → InRange (Subi d k) → w ≡ first_word (Subi d k) → IsNext (second_word (Subi d k)) n → in_nibbles_3_7 w ≡ Some (Subi d k)
 subi_in w n d k h e x = grind arith
 

@@ -38,8 +38,11 @@ abbrev pub IsSixBits : ℕ → Type 0
 IsSixBits a = a < 64
 
 -- one of r16 to r31, and a constant
+abbrev pub IsUpper : ℕ → Type 0
+IsUpper d = (16 ≤ d) × (d < 32)
+
 abbrev pub AreUpperAndByte : ℕ → ℕ → Type 0
-AreUpperAndByte d k = (16 ≤ d) × (d < 32) × IsByte k
+AreUpperAndByte d k = IsUpper d × IsByte k
 
 -- a bit of SREG, and the seven bits of a branch's offset
 abbrev pub AreFlagAndOffset : ℕ → ℕ → Type 0

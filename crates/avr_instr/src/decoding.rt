@@ -4,7 +4,10 @@ ghost use Rattle.avr_instr.specs.Spelled.{Spelled};
 ghost use Rattle.avr_instr.specs.Decoded.{decoded, d_of, r_of, upper_of, constant_of, pair_of, small_of, address_of, base_of, displacement_of, is_beside_x, in_nibble_0, in_nibbles_1_2, in_nibbles_3_7, in_nibbles_8_10, in_loads, in_stores, in_fixed, in_one_register, in_pairs, in_nibble_9, in_nibbles_11_15};
 
 use crate::instr::Instr;
-use crate::operand::{Base, FarOffset, FlagBit, IoAddress, NearOffset, Register, RegisterBesideX, RegisterBesideZ, RegisterPair, SixBits, UpperRegister, WidePair};
+use crate::operand::{
+    Base, FarOffset, FlagBit, IoAddress, NearOffset, Register, RegisterBesideX, RegisterBesideZ,
+    RegisterPair, SixBits, UpperRegister, WidePair,
+};
 
 /// The instruction that a word spells with the one that follows it, and None exactly where they spell none.
 pub fn decode(word: u16, next: u16) -> Option<Instr>

@@ -1,5 +1,8 @@
 // Instructions.
-use crate::operand::{Base, FarOffset, FlagBit, IoAddress, NearOffset, Register, RegisterBesideX, RegisterBesideZ, RegisterPair, SixBits, UpperRegister, WidePair};
+use crate::operand::{
+    Base, FarOffset, FlagBit, IoAddress, NearOffset, Register, RegisterBesideX, RegisterBesideZ,
+    RegisterPair, SixBits, UpperRegister, WidePair,
+};
 
 /// An instruction of the AVR, with its operands in the order of the assembler.
 ///

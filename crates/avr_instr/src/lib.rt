@@ -8,5 +8,8 @@ pub mod spelling;
 
 pub use decoding::{decode, spelling_both_ways};
 pub use instr::Instr;
-pub use operand::{Base, FarOffset, FlagBit, IoAddress, NearOffset, Register, RegisterBesideX, RegisterBesideZ, RegisterPair, SixBits, UpperRegister, WidePair};
+pub use operand::{
+    Base, FarOffset, FlagBit, IoAddress, NearOffset, Register, RegisterBesideX, RegisterBesideZ,
+    RegisterPair, SixBits, UpperRegister, WidePair,
+};
 pub use spelling::encode;

@@ -1,11 +1,13 @@
 // The words of an instruction.
 ghost use Rattle.std.specs.Prelude.{◌≡◌, ◌≤◌, ◌<◌, ◌+◌, ◌*◌, ℕ};
 ghost use Rattle.avr_instr.specs.Spelled.{InRange, first_word, second_word, AreRegisters, AreUpperAndByte, IsRegister, IsWidePair, IsPair, IsBesideX, IsBesideZ, IsSixBits, AreFlagAndOffset, two_registers, with_constant, with_pair, with_address, with_displacement, base_bit};
-
 ghost use Rattle.avr_instr.specs.declared.instr.Instr.TheVariants.{Movw};
 
 use crate::instr::Instr;
-use crate::operand::{Base, FlagBit, IoAddress, NearOffset, Register, RegisterBesideX, RegisterPair, SixBits, UpperRegister, WidePair};
+use crate::operand::{
+    Base, FlagBit, IoAddress, NearOffset, Register, RegisterBesideX, RegisterPair, SixBits,
+    UpperRegister, WidePair,
+};
 
 /// The words that spell the instruction: the first, and the second where the instruction has two.
 pub fn encode(instr: Instr) -> (u16, Option<u16>)

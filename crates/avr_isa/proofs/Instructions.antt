@@ -8,7 +8,10 @@ use Rattle.avr_instr.specs.declared.instr.Instr.{Instr}
 use Rattle.avr_instr.specs.declared.instr.Instr.TheVariants.{Ldi, Out, Sts, Jmp, Rjmp, Sei, Cli, Sleep as SleepInstr, Reti}
 use Rattle.avr_isa.specs.declared.effect.Effect.TheVariants.{WriteDevice, Sleep, Halt, Outside as Forbidden}
 use Rattle.avr_isa.specs.Cpu.{CpuState, forward, is_enabled, enabled, disabled}
-use Rattle.avr_isa.specs.Effect.{Change, change, going, staying, moved, register_of, with_sreg, stored, jumped, far_from, can_push_two, can_pop_two, with_popped}
+use Rattle.avr_isa.specs.Change.{Change, going, staying, moved, register_of, with_sreg}
+use Rattle.avr_isa.specs.Access.{stored, can_push_two, can_pop_two, with_popped}
+use Rattle.avr_isa.specs.Flow.{jumped, far_from}
+use Rattle.avr_isa.specs.Effect.{change}
 use Rattle.avr_isa.specs.Machine.{State, Ends, Bad, entered, woken, done, word_here}
 use Rattle.avr_isa.specs.Stack.{lowest_by_push_two, lowest_by_store, lowest_behind}
 use Rattle.avr_isa.specs.Leads.{Leads}
@@ -20,9 +23,9 @@ pub forward-below : (words pc : ℕ) → pc + words < 65536 → forward words pc
 forward-below words pc h = omega arith
 
 -- one instruction whose change is known
-pub change_leads : (flash : List ℕ) (cpu : CpuState) (o : Outside) (l : ℕ) (i : Instr) (made : Change) (t : State) → StandsAt flash cpu.pc i → change flash i cpu ≡ made → done made.effect (word_here flash cpu) (going_on cpu o l) (going_on made.cpu o (lowest_behind i cpu made.cpu l)) ≡ t → Leads flash (going_on cpu o l) t
+pub change_leads : (flash : List ℕ) (cpu : CpuState) (o : Outside) (l : ℕ) (i : Instr) (made : Change) (t : State) → StandsAt flash cpu.pc i → change flash i cpu ≡ made → done made.effect (word_here flash cpu) (going_on made.cpu o (lowest_behind i cpu made.cpu l)) ≡ t → Leads flash (going_on cpu o l) t
 change_leads flash cpu o l i made t at e d =
-    one_leads flash cpu o l i t at (ap (λ m. done m.effect (word_here flash cpu) (going_on cpu o l) (going_on m.cpu o (lowest_behind i cpu m.cpu l))) e ∙ d)
+    one_leads flash cpu o l i t at (ap (λ m. done m.effect (word_here flash cpu) (going_on m.cpu o (lowest_behind i cpu m.cpu l))) e ∙ d)
 
 -- LDI
 pub ldi_leads : (flash : List ℕ) (cpu : CpuState) (o : Outside) (l d k : ℕ) → StandsAt flash cpu.pc (Ldi d k) → cpu.pc + 1 < 65536 → Leads flash (going_on cpu o l) (going_on (record cpu { registers = slice_set cpu.registers d k; pc = cpu.pc + 1 }) o l)

@@ -1,3 +1,4 @@
+pub mod PlainSteps
 pub mod Standing
 pub mod Runs
 pub mod Instructions

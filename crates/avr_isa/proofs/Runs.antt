@@ -7,7 +7,8 @@ use Rattle.avr_isa.specs.declared.stack.StackUse.TheVariants.{Nothing, PushesByt
 use Rattle.avr_isa.specs.declared.effect.Effect.{Effect}
 use Rattle.avr_isa.specs.declared.effect.Effect.TheVariants.{Next, ReadDevice, WriteDevice, Sleep, Halt, Outside as Forbidden}
 use Rattle.avr_isa.specs.Cpu.{CpuState}
-use Rattle.avr_isa.specs.Effect.{change, can_push_two}
+use Rattle.avr_isa.specs.Access.{can_push_two}
+use Rattle.avr_isa.specs.Effect.{change}
 use Rattle.avr_isa.specs.Machine.{State, MachineEnd, answered, woken, done, performed, word_here, instr_here, next_by, next_state, run_from}
 use Rattle.avr_isa.specs.Stack.{stack_use, lowest_by, lowest_by_push_two, lowest_by_store, lowest_behind}
 use Rattle.avr_isa.specs.Leads.{Leads}
@@ -61,19 +62,19 @@ woken_below : (interrupts : List ℕ) (word : ℕ) (s : State) → (woken interr
 woken_below [] word s = omega arith
 woken_below (v ∷ vs) word s = either_below (can_push_two s.cpu.sp) _ _ s.lowest (push_below s.cpu.sp s.lowest) (push_below s.cpu.sp s.lowest)
 
-done_below : (e : Effect) (word : ℕ) (old new : State) → new.lowest ≤ old.lowest → (done e word old new).lowest ≤ old.lowest
-done_below Next word old new h = h
-done_below (ReadDevice address register) word old new h = answered_below new.outside.reads address register new old.lowest h
-done_below (WriteDevice address value) word old new h = h
-done_below Sleep word old new h = omega (arith, woken_below new.outside.interrupts word new)
-done_below Halt word old new h = h
-done_below Forbidden word old new h = h
+done_below : (e : Effect) (word : ℕ) (s : State) (l : ℕ) → s.lowest ≤ l → (done e word s).lowest ≤ l
+done_below Next word s l h = h
+done_below (ReadDevice address register) word s l h = answered_below s.outside.reads address register s l h
+done_below (WriteDevice address value) word s l h = h
+done_below Sleep word s l h = omega (arith, woken_below s.outside.interrupts word s)
+done_below Halt word s l h = h
+done_below Forbidden word s l h = h
 
 performed_below : (flash : List ℕ) (o : Option Instr) (word : ℕ) (s : State) → (performed flash o word s).lowest ≤ s.lowest
 performed_below flash None word s = omega arith
 performed_below flash (Some i) word s =
     let made = change flash i s.cpu in
-    done_below made.effect word s (record s { cpu = made.cpu; lowest = lowest_behind i s.cpu made.cpu s.lowest }) (behind_below i s.cpu made.cpu s.lowest)
+    done_below made.effect word (record s { cpu = made.cpu; lowest = lowest_behind i s.cpu made.cpu s.lowest }) s.lowest (behind_below i s.cpu made.cpu s.lowest)
 
 next_below : (o : Option MachineEnd) (flash : List ℕ) (s : State) → (next_by o flash s).lowest ≤ s.lowest
 next_below (Some e) flash s = omega arith

@@ -5,23 +5,10 @@ use Rattle.std.specs.List.{flat_map, AllByRecursion}
 use Rattle.std.proofs.Math.Seq.{get_or-append_seam}
 use Rattle.std.proofs.lemmas.Option.{slice_get-get_or}
 use Rattle.avr_instr.specs.declared.instr.Instr.{Instr}
-use Rattle.avr_instr.specs.declared.instr.Instr.TheVariants.{Ldi, Out, Sts, Jmp, Rjmp, Sei, Cli, Sleep, Reti}
 use Rattle.avr_instr.specs.Spelled.{InRange, first_word, second_word, IsNext}
-use Rattle.avr_instr.specs.Decoded.{decoded}
 use Rattle.avr_isa.specs.Cpu.{flash_byte, flash_word, forward}
+use Rattle.avr_instr.proofs.BothWays.{decodes}
 use Rattle.avr_isa.specs.Standing.{word_bytes, second_bytes, instr_bytes, words_with, width, widths, StandsAt, AllStandAt}
-
--- what is spelled is decoded
-decodes : (i : Instr) (w n : ℕ) → InRange i → w ≡ first_word i → IsNext (second_word i) n → decoded w n ≡ Some i
-decodes (Ldi d k) w n r e x = grind arith
-decodes (Out a s) w n r e x = grind arith
-decodes (Sts a s) w n r e x = grind arith
-decodes (Jmp to) w n r e x = grind arith
-decodes (Rjmp k) w n r e x = grind arith
-decodes Sei w n r e x = grind arith
-decodes Cli w n r e x = grind arith
-decodes Sleep w n r e x = grind arith
-decodes Reti w n r e x = grind arith
 
 -- no address behind the last word comes round
 no_wrap : (pc n : ℕ) → pc + n < 65536 → forward n pc ≡ pc + n

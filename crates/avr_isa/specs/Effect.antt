@@ -1,104 +1,173 @@
--- What each instruction makes of the processor, by the AVR Instruction Set Manual and the data addresses of the ATmega128.
-use Rattle.std.specs.Prelude.{ℕ, ◌+◌, ◌-◌, ◌*◌, ◌/◌, ◌%◌, ◌<◌, Bool, not, ◌&&◌, ◌==◌, nat_lt, nat_le, List, if◌then◌else◌, slice_index, slice_set}
+-- What each instruction makes of the processor, in the order of the AVR Instruction Set Manual.
+use Rattle.std.specs.Prelude.{ℕ, ◌+◌, ◌-◌, ◌*◌, ◌/◌, ◌%◌, not, List, if◌then◌else◌, bit_and, bit_or, bit_xor}
 use Rattle.avr_instr.specs.declared.instr.Instr.{Instr}
-use Rattle.avr_instr.specs.declared.instr.Instr.TheVariants.{Ldi, Out, Sts, Jmp, Rjmp, Sei, Cli, Sleep as SleepInstr, Reti}
-use Rattle.avr_isa.specs.declared.effect.Effect.{Effect}
-use Rattle.avr_isa.specs.declared.effect.Effect.TheVariants.{Next, ReadDevice, WriteDevice, Sleep, Halt, Outside}
-use Rattle.avr_isa.specs.Cpu.{CpuState, forward, is_enabled, enabled, disabled}
+use Rattle.avr_instr.specs.declared.instr.Instr.TheVariants.{Adc, Add, Adiw, And, Andi, Asr, Brbc, Brbs, Call, Cli, Com, Cp, Cpc, Cpi, Dec, Eor, Icall, Ijmp, In, Inc, Jmp, LdX, LdXPlus, LdMinusX, Ldd, Ldi, Lds, LpmZ, LpmZPlus, Lsr, Mov, Movw, Mul, Neg, Nop, Or, Ori, Out, Pop, Push, Rcall, Ret, Reti, Rjmp, Ror, Sbc, Sbci, Sbiw, Sei, Sleep as SleepInstr, StX, StXPlus, StMinusX, Std, Sts, Sub, Subi}
+use Rattle.avr_isa.specs.declared.flags.Flags.{Flags}
+use Rattle.avr_isa.specs.declared.effect.Effect.TheVariants.{Sleep, Outside}
+use Rattle.avr_isa.specs.Cpu.{CpuState, flash_byte, forward, is_enabled, enabled, disabled}
+use Rattle.avr_isa.specs.Change.{Change, going, staying, moved, register_of, with_register, with_sreg, pair_of, with_pair, with_next, previous}
+use Rattle.avr_isa.specs.Flags.{is_set, carry_of, with_flags, sum_of, flags_of_sum, difference_of, flags_of_difference, sticky, flags_of_logic, flags_of_complement, flags_of_count, flags_of_shift, flags_of_wide_sum, flags_of_wide_difference, sreg_of_product}
+use Rattle.avr_isa.specs.Access.{displaced, stored, loaded, then_next, pushed, popped, can_pop_two, with_popped}
+use Rattle.avr_isa.specs.Flow.{jumped, far_from, branched, called, returned}
 
--- what an instruction leaves: the processor, and what is to be done outside it
-pub record Change : Type 0 where
-  pub cpu : CpuState
-  pub effect : Effect
+-- an instruction of one word leaves these flags alone
+abbrev pub flagging : CpuState → Flags → Change
+flagging cpu flags = going (with_sreg (moved 1 cpu) (with_flags cpu.sreg flags))
 
--- nothing is left to be done
-abbrev pub going : CpuState → Change
-going cpu = record { cpu = cpu; effect = Next }
+-- an instruction of one word leaves this value in the register d, and these flags
+abbrev pub resulting : CpuState → (d value : ℕ) → Flags → Change
+resulting cpu d value flags = going (with_sreg (with_register (moved 1 cpu) d value) (with_flags cpu.sreg flags))
 
--- the processor stays as it was
-abbrev pub staying : CpuState → Effect → Change
-staying cpu effect = record { cpu = cpu; effect = effect }
+-- the same for two registers
+abbrev pub resulting_wide : CpuState → (d value : ℕ) → Flags → Change
+resulting_wide cpu d value flags = going (with_sreg (with_pair (moved 1 cpu) d value) (with_flags cpu.sreg flags))
 
--- the processor some words on
-abbrev pub moved : ℕ → CpuState → CpuState
-moved words cpu = record cpu { pc = forward words cpu.pc }
+-- Rd ← Rd + b + carry
+abbrev pub added : CpuState → (d b carry : ℕ) → Change
+added cpu d b carry =
+    let a = register_of cpu d in resulting cpu d (sum_of a b carry) (flags_of_sum a b carry)
 
-abbrev pub register_of : CpuState → ℕ → ℕ
-register_of cpu d = slice_index cpu.registers d
+-- Rd ← Rd - b
+abbrev pub subtracted : CpuState → (d b : ℕ) → Change
+subtracted cpu d b =
+    let a = register_of cpu d in resulting cpu d (difference_of a b 0) (flags_of_difference a b 0)
 
-abbrev pub with_register : CpuState → ℕ → ℕ → CpuState
-with_register cpu d value = record cpu { registers = slice_set cpu.registers d value }
+-- Rd ← Rd - b - C, where Z stays set only where it was set
+abbrev pub subtracted_on : CpuState → (d b : ℕ) → Change
+subtracted_on cpu d b =
+    let a = register_of cpu d in
+    let borrow = carry_of cpu.sreg in
+    resulting cpu d (difference_of a b borrow) (sticky cpu.sreg (flags_of_difference a b borrow))
 
-abbrev pub with_sreg : CpuState → ℕ → CpuState
-with_sreg cpu sreg = record cpu { sreg = sreg }
+-- Rd ← value, by a logical operation
+abbrev pub joined : CpuState → (d value : ℕ) → Change
+joined cpu d value = resulting cpu d value (flags_of_logic cpu.sreg value)
 
--- a store at a data address, from old, into what the instruction has made else
-abbrev pub stored : (old made : CpuState) (address value : ℕ) → Change
-stored old made address value =
-    if nat_lt address 0x20 then going (with_register made address value)
-    else if address == 0x5B then going (record made { rampz = value })
-    else if address == 0x5D then going (record made { sp = made.sp / 256 * 256 + value })
-    else if address == 0x5E then going (record made { sp = value * 256 + made.sp % 256 })
-    else if address == 0x5F then going (with_sreg made value)
-    else if nat_lt address 0x100 then record { cpu = made; effect = WriteDevice address value }
-    else if nat_lt address 0x1100 then going (record made { sram = slice_set made.sram (address - 0x100) value })
-    else staying old Outside
+-- Rd ← value, by a shift to the right
+abbrev pub shifted : CpuState → (d value : ℕ) → Change
+shifted cpu d value = resulting cpu d value (flags_of_shift cpu.sreg (register_of cpu d) value)
 
--- both bytes that a call or an interrupt pushes at SP lie in SRAM
-abbrev pub can_push_two : ℕ → Bool
-can_push_two sp = nat_lt 0x100 sp && nat_lt sp 0x1100
+-- Rd ← value, one more or one less
+abbrev pub counted : CpuState → (d value overflows_to : ℕ) → Change
+counted cpu d value overflows_to = resulting cpu d value (flags_of_count cpu.sreg value overflows_to)
 
--- both bytes that a return pops above SP lie in SRAM
-abbrev pub can_pop_two : ℕ → Bool
-can_pop_two sp = nat_le 0xFF sp && nat_lt (sp + 2) 0x1100
-
--- a word address is pushed, low byte first
-abbrev pub with_pushed : CpuState → ℕ → CpuState
-with_pushed cpu address = record cpu {
-  sram = slice_set (slice_set cpu.sram (cpu.sp - 0x100) (address % 256)) (cpu.sp - 1 - 0x100) (address / 256);
-  sp = cpu.sp - 2;
-}
-
--- a word address is popped, high byte first, and the processor goes there
-abbrev pub with_popped : CpuState → CpuState
-with_popped cpu = record cpu {
-  pc = slice_index cpu.sram (cpu.sp + 1 - 0x100) * 256 + slice_index cpu.sram (cpu.sp + 2 - 0x100);
-  sp = cpu.sp + 2;
-}
-
--- a jump; one to itself that no interrupt can end is a stop
-abbrev pub jumped : CpuState → ℕ → Change
-jumped cpu to =
-    if (to == cpu.pc) && not (is_enabled cpu.sreg)
-    then staying cpu Halt
-    else going (record cpu { pc = to })
-
--- the word address at a signed distance of twelve bits from the next instruction
-abbrev pub far_from : ℕ → ℕ → ℕ
-far_from pc k = (pc + 1 + k + (if nat_lt k 0x800 then 0 else 0xF000)) % 65536
+-- r1:r0 ← product
+abbrev pub multiplied : CpuState → ℕ → Change
+multiplied cpu product = going (with_sreg (with_pair (moved 1 cpu) 0 product) (sreg_of_product cpu.sreg product))
 
 -- what an instruction makes of the processor, on this flash
 abbrev pub change : List ℕ → Instr → CpuState → Change
--- Rd ← K
-change flash (Ldi d k) cpu = going (with_register (moved 1 cpu) d k)
--- I/O(A) ← Rr
-change flash (Out a r) cpu = stored cpu (moved 1 cpu) (a + 0x20) (register_of cpu r)
--- (k) ← Rr
-change flash (Sts k r) cpu = stored cpu (moved 2 cpu) k (register_of cpu r)
--- PC ← k
-change flash (Jmp k) cpu = jumped cpu k
--- PC ← PC + k + 1
-change flash (Rjmp k) cpu = jumped cpu (far_from cpu.pc k)
--- I ← 1
-change flash Sei cpu = going (with_sreg (moved 1 cpu) (enabled cpu.sreg))
--- I ← 0
+-- ADC: Rd ← Rd + Rr + C
+change flash (Adc d r) cpu = added cpu d (register_of cpu r) (carry_of cpu.sreg)
+-- ADD: Rd ← Rd + Rr
+change flash (Add d r) cpu = added cpu d (register_of cpu r) 0
+-- ADIW: Rd+1:Rd ← Rd+1:Rd + K
+change flash (Adiw d k) cpu = let a = pair_of cpu d in resulting_wide cpu d ((a + k) % 65536) (flags_of_wide_sum cpu.sreg a k)
+-- AND: Rd ← Rd · Rr
+change flash (And d r) cpu = joined cpu d (bit_and (register_of cpu d) (register_of cpu r))
+-- ANDI: Rd ← Rd · K
+change flash (Andi d k) cpu = joined cpu d (bit_and (register_of cpu d) k)
+-- ASR: Rd ← Rd / 2, bit 7 stays
+change flash (Asr d) cpu = let a = register_of cpu d in shifted cpu d (a / 2 + a / 128 * 128)
+-- BRBC: if the bit s of SREG is 0 then PC ← PC + k + 1
+change flash (Brbc s k) cpu = branched cpu (not (is_set s cpu.sreg)) k
+-- BRBS: if the bit s of SREG is 1 then PC ← PC + k + 1
+change flash (Brbs s k) cpu = branched cpu (is_set s cpu.sreg) k
+-- CALL: STACK ← PC + 2, PC ← k
+change flash (Call k) cpu = called cpu (forward 2 cpu.pc) k
+-- CLI: I ← 0
 change flash Cli cpu = going (with_sreg (moved 1 cpu) (disabled cpu.sreg))
--- with I set the processor waits here for an interrupt
-change flash SleepInstr cpu = if is_enabled cpu.sreg then staying cpu Sleep else going (moved 1 cpu)
--- PC ← (stack), I ← 1
+-- COM: Rd ← 0xFF - Rd
+change flash (Com d) cpu = let r = 255 - register_of cpu d in resulting cpu d r (flags_of_complement cpu.sreg r)
+-- CP: Rd - Rr
+change flash (Cp d r) cpu = flagging cpu (flags_of_difference (register_of cpu d) (register_of cpu r) 0)
+-- CPC: Rd - Rr - C
+change flash (Cpc d r) cpu = flagging cpu (sticky cpu.sreg (flags_of_difference (register_of cpu d) (register_of cpu r) (carry_of cpu.sreg)))
+-- CPI: Rd - K
+change flash (Cpi d k) cpu = flagging cpu (flags_of_difference (register_of cpu d) k 0)
+-- DEC: Rd ← Rd - 1
+change flash (Dec d) cpu = counted cpu d ((register_of cpu d + 255) % 256) 0x7F
+-- EOR: Rd ← Rd ⊕ Rr
+change flash (Eor d r) cpu = joined cpu d (bit_xor (register_of cpu d) (register_of cpu r))
+-- ICALL: STACK ← PC + 1, PC ← Z
+change flash Icall cpu = called cpu (forward 1 cpu.pc) (pair_of cpu 30)
+-- IJMP: PC ← Z
+change flash Ijmp cpu = going (record cpu { pc = pair_of cpu 30 })
+-- IN: Rd ← I/O(A)
+change flash (In d a) cpu = loaded cpu (moved 1 cpu) d (a + 0x20)
+-- INC: Rd ← Rd + 1
+change flash (Inc d) cpu = counted cpu d ((register_of cpu d + 1) % 256) 0x80
+-- JMP: PC ← k
+change flash (Jmp k) cpu = jumped cpu k
+-- LD: Rd ← (X)
+change flash (LdX d) cpu = loaded cpu (moved 1 cpu) d (pair_of cpu 26)
+-- LD: Rd ← (X), X ← X + 1
+change flash (LdXPlus d) cpu = then_next 26 (loaded cpu (moved 1 cpu) d (pair_of cpu 26))
+-- LD: X ← X - 1, Rd ← (X)
+change flash (LdMinusX d) cpu = let x = previous (pair_of cpu 26) in loaded cpu (with_pair (moved 1 cpu) 26 x) d x
+-- LDD: Rd ← (Y + q) or (Z + q)
+change flash (Ldd d b q) cpu = loaded cpu (moved 1 cpu) d (displaced cpu b q)
+-- LDI: Rd ← K
+change flash (Ldi d k) cpu = going (with_register (moved 1 cpu) d k)
+-- LDS: Rd ← (k)
+change flash (Lds d k) cpu = loaded cpu (moved 2 cpu) d k
+-- LPM: Rd ← flash(Z)
+change flash (LpmZ d) cpu = going (with_register (moved 1 cpu) d (flash_byte flash (pair_of cpu 30)))
+-- LPM: Rd ← flash(Z), Z ← Z + 1
+change flash (LpmZPlus d) cpu = going (with_next (with_register (moved 1 cpu) d (flash_byte flash (pair_of cpu 30))) 30)
+-- LSR: Rd ← Rd / 2, bit 7 is 0
+change flash (Lsr d) cpu = shifted cpu d (register_of cpu d / 2)
+-- MOV: Rd ← Rr
+change flash (Mov d r) cpu = going (with_register (moved 1 cpu) d (register_of cpu r))
+-- MOVW: Rd+1:Rd ← Rr+1:Rr
+change flash (Movw d r) cpu = going (with_register (with_register (moved 1 cpu) d (register_of cpu r)) (d + 1) (register_of cpu (r + 1)))
+-- MUL: R1:R0 ← Rd × Rr
+change flash (Mul d r) cpu = multiplied cpu (register_of cpu d * register_of cpu r)
+-- NEG: Rd ← 0 - Rd
+change flash (Neg d) cpu = let a = register_of cpu d in resulting cpu d (difference_of 0 a 0) (flags_of_difference 0 a 0)
+-- NOP
+change flash Nop cpu = going (moved 1 cpu)
+-- OR: Rd ← Rd v Rr
+change flash (Or d r) cpu = joined cpu d (bit_or (register_of cpu d) (register_of cpu r))
+-- ORI: Rd ← Rd v K
+change flash (Ori d k) cpu = joined cpu d (bit_or (register_of cpu d) k)
+-- OUT: I/O(A) ← Rr
+change flash (Out a r) cpu = stored cpu (moved 1 cpu) (a + 0x20) (register_of cpu r)
+-- POP: SP ← SP + 1, Rd ← STACK
+change flash (Pop d) cpu = popped cpu (moved 1 cpu) d
+-- PUSH: STACK ← Rr, SP ← SP - 1
+change flash (Push r) cpu = pushed cpu (moved 1 cpu) (register_of cpu r)
+-- RCALL: STACK ← PC + 1, PC ← PC + k + 1
+change flash (Rcall k) cpu = called cpu (forward 1 cpu.pc) (far_from cpu.pc k)
+-- RET: PC ← STACK
+change flash Ret cpu = returned cpu
+-- RETI: PC ← STACK, I ← 1
 change flash Reti cpu = if can_pop_two cpu.sp then going (with_sreg (with_popped cpu) (enabled cpu.sreg)) else staying cpu Outside
-
--- a register that waits for a read is one of r0 to r31
-abbrev pub WaitsInRegister : Effect → Type 0
-WaitsInRegister (ReadDevice address register) = register < 32
-WaitsInRegister _ = Unit {0}
+-- RJMP: PC ← PC + k + 1
+change flash (Rjmp k) cpu = jumped cpu (far_from cpu.pc k)
+-- ROR: Rd ← Rd / 2, bit 7 is C
+change flash (Ror d) cpu = shifted cpu d (register_of cpu d / 2 + carry_of cpu.sreg * 128)
+-- SBC: Rd ← Rd - Rr - C
+change flash (Sbc d r) cpu = subtracted_on cpu d (register_of cpu r)
+-- SBCI: Rd ← Rd - K - C
+change flash (Sbci d k) cpu = subtracted_on cpu d k
+-- SBIW: Rd+1:Rd ← Rd+1:Rd - K
+change flash (Sbiw d k) cpu = let a = pair_of cpu d in resulting_wide cpu d ((a + 65536 - k) % 65536) (flags_of_wide_difference cpu.sreg a k)
+-- SEI: I ← 1
+change flash Sei cpu = going (with_sreg (moved 1 cpu) (enabled cpu.sreg))
+-- SLEEP: with I set the processor waits here for an interrupt
+change flash SleepInstr cpu = if is_enabled cpu.sreg then staying cpu Sleep else going (moved 1 cpu)
+-- ST: (X) ← Rr
+change flash (StX r) cpu = stored cpu (moved 1 cpu) (pair_of cpu 26) (register_of cpu r)
+-- ST: (X) ← Rr, X ← X + 1
+change flash (StXPlus r) cpu = then_next 26 (stored cpu (moved 1 cpu) (pair_of cpu 26) (register_of cpu r))
+-- ST: X ← X - 1, (X) ← Rr
+change flash (StMinusX r) cpu = let x = previous (pair_of cpu 26) in stored cpu (with_pair (moved 1 cpu) 26 x) x (register_of cpu r)
+-- STD: (Y + q) or (Z + q) ← Rr
+change flash (Std b q r) cpu = stored cpu (moved 1 cpu) (displaced cpu b q) (register_of cpu r)
+-- STS: (k) ← Rr
+change flash (Sts k r) cpu = stored cpu (moved 2 cpu) k (register_of cpu r)
+-- SUB: Rd ← Rd - Rr
+change flash (Sub d r) cpu = subtracted cpu d (register_of cpu r)
+-- SUBI: Rd ← Rd - K
+change flash (Subi d k) cpu = subtracted cpu d k

@@ -1,4 +1,8 @@
 pub mod Cpu
+pub mod Change
+pub mod Flags
+pub mod Access
+pub mod Flow
 pub mod Effect
 pub mod Stack
 pub mod Machine

@@ -8,7 +8,9 @@ use Rattle.avr_isa.specs.declared.effect.Effect.{Effect}
 use Rattle.avr_isa.specs.declared.effect.Effect.TheVariants.{Next, ReadDevice, WriteDevice, Sleep, Halt, Outside as Forbidden}
 use Rattle.avr_isa.specs.Cpu.{CpuState, at_reset, flash_word, forward, disabled}
 use Rattle.avr_instr.specs.Decoded.{decoded}
-use Rattle.avr_isa.specs.Effect.{change, register_of, with_register, can_push_two, with_pushed}
+use Rattle.avr_isa.specs.Change.{register_of, with_register}
+use Rattle.avr_isa.specs.Access.{can_push_two, with_pushed}
+use Rattle.avr_isa.specs.Effect.{change}
 use Rattle.avr_isa.specs.Stack.{lowest_behind, lowest_by_push_two}
 
 -- how a run of the machine ends: as a session ends, or at a word that is no instruction or touches an address that it must not
@@ -51,21 +53,21 @@ woken (vector ∷ vectors) word s =
     }
     else record s { lowest = lowest; ended = Some (Bad s.cpu.pc word) }
 
--- what is left to be done outside the processor is done: old is the state before the instruction, new the one that it made
-abbrev pub done : Effect → (word : ℕ) → (old new : State) → State
-done Next word old new = new
-done (ReadDevice address register) word old new = answered new.outside.reads address register new
-done (WriteDevice address value) word old new = record new { outside = with_event new.outside (Write address value) }
-done Sleep word old new = woken new.outside.interrupts word new
-done Halt word old new = ending_with new (Ends (Stop (register_of old.cpu 24)))
-done Forbidden word old new = ending_with new (Bad old.cpu.pc word)
+-- what is left to be done outside the processor is done, once the instruction has changed it
+abbrev pub done : Effect → (word : ℕ) → State → State
+done Next word s = s
+done (ReadDevice address register) word s = answered s.outside.reads address register s
+done (WriteDevice address value) word s = record s { outside = with_event s.outside (Write address value) }
+done Sleep word s = woken s.outside.interrupts word s
+done Halt word s = ending_with s (Ends (Stop (register_of s.cpu 24)))
+done Forbidden word s = ending_with s (Bad s.cpu.pc word)
 
 -- one instruction
 abbrev pub performed : List ℕ → Option Instr → (word : ℕ) → State → State
 performed flash None word s = ending_with s (Bad s.cpu.pc word)
 performed flash (Some i) word s =
     let made = change flash i s.cpu in
-    done made.effect word s (record s { cpu = made.cpu; lowest = lowest_behind i s.cpu made.cpu s.lowest })
+    done made.effect word (record s { cpu = made.cpu; lowest = lowest_behind i s.cpu made.cpu s.lowest })
 
 -- the word at PC
 abbrev pub word_here : List ℕ → CpuState → ℕ

@@ -1,7 +1,7 @@
 // The processor.
 ghost use Rattle.std.specs.Prelude.{◌≡◌, ◌+◌, ◌-◌, ◌*◌, ◌/◌, ◌%◌, ◌<◌, ◌≤◌, ℕ, IfOk, IsTrue, ◌↔◌, length, slice_index, slice_set};
 ghost use Rattle.avr_isa.specs.Cpu.{CpuState, at_reset, forward, is_enabled, enabled, disabled};
-ghost use Rattle.avr_isa.specs.Effect.{register_of, with_register, with_sreg, moved};
+ghost use Rattle.avr_isa.specs.Change.{register_of, with_register, with_sreg, moved, pair_of, with_pair};
 
 use std::alloc::Global;
 use std::marker::Model;
@@ -162,5 +162,22 @@ impl Cpu {
         ensures { self.new ≡ moved words self.old }
     {
         self.pc = self.pc.wrapping_add(words);
+    }
+
+    /// Two registers as one number, the low byte in the first, whose number is 0 to 30.
+    pub fn pair(&self, number: u8) -> u16
+        requires { number < 31 }
+        ensures { result ≡ pair_of self.now number }
+    {
+        u16::from(self.register(number)) + 256 * u16::from(self.register(number + 1))
+    }
+
+    /// Writes two registers, the low byte in the first, whose number is 0 to 30.
+    pub fn set_pair(&mut self, number: u8, value: u16)
+        requires { number < 31 }
+        ensures { self.new ≡ with_pair self.old number value }
+    {
+        self.set_register(number, (value % 256) as u8);
+        self.set_register(number + 1, (value / 256) as u8);
     }
 }

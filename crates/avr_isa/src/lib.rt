@@ -1,18 +1,24 @@
 //! The machine: what each instruction of the AVR ATmega128 does, one step of the processor, and whole runs.
 #![tactic(auto)]
 
+mod arithmetic;
 pub mod code;
 pub mod cpu;
 pub mod effect;
+pub mod flags;
 pub mod floor;
+mod flow;
 pub mod image;
+mod memory;
 pub mod plain;
 pub mod stack;
 pub mod stepping;
-mod store;
+mod transfer;
 
 pub use avr_instr::{
-    FarOffset, Instr, IoAddress, Register, UpperRegister, decode, encode, spelling_both_ways,
+    Base, FarOffset, FlagBit, Instr, IoAddress, NearOffset, Register, RegisterBesideX,
+    RegisterBesideZ, RegisterPair, SixBits, UpperRegister, WidePair, decode, encode,
+    spelling_both_ways,
 };
 pub use code::code_stands;
 pub use cpu::Cpu;

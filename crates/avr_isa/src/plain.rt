@@ -2,16 +2,16 @@
 ghost use Rattle.std.specs.Prelude.{◌≡◌, ◌+◌, ◌*◌, ◌/◌, ◌%◌, ◌<◌, ◌≤◌, ℕ, List, option_map, OnOk, IfOk, length, Some, None};
 ghost use Rattle.vg_base.specs.Outside.{Outside};
 ghost use Rattle.avr_isa.specs.Cpu.{CpuState};
-ghost use Rattle.avr_isa.specs.Effect.{WaitsInRegister};
+ghost use Rattle.avr_isa.specs.Change.{WaitsInRegister};
 ghost use Rattle.avr_isa.specs.Machine.{State, answered, woken, done, performed, next_state, run_from, started, machine, ending_with, entered, Ends, Bad};
 ghost use Rattle.avr_isa.specs.RunEnd.{end_of};
 
 use crate::cpu::Cpu;
 use crate::effect::Effect;
 use crate::image::Image;
+use crate::memory;
 use crate::stack::{StackUse, lowest_by, stack_use};
 use crate::stepping::step;
-use crate::store;
 use avr_instr::{Instr, decode};
 use std::alloc::Global;
 use std::marker::Model;
@@ -127,7 +127,7 @@ impl<'a> PlainMachine<'a> {
     // What is left to be done behind the instruction whose first word is this.
     fn finish(&mut self, effect: Effect, word: u16) -> Result<(), NoMemory>
         requires { WaitsInRegister effect }
-        ensures { OnOk result (self.new ≡ done effect word self.old self.old) }
+        ensures { OnOk result (self.new ≡ done effect word self.old) }
     {
         match effect {
             Effect::Next => {}
@@ -165,12 +165,12 @@ impl<'a> PlainMachine<'a> {
             Some((vector, rest)) => {
                 let sp = self.cpu.sp();
                 self.lowest = lowest_by(StackUse::PushesWord(sp), sp, self.lowest);
-                if !store::can_push_two(&self.cpu) {
+                if !memory::can_push_two(&self.cpu) {
                     self.ended = Some(RunEnd::Bad(self.cpu.pc(), word));
                     return Ok(());
                 }
                 let behind = self.cpu.pc().wrapping_add(1);
-                store::push_two(&mut self.cpu, behind);
+                memory::push_two(&mut self.cpu, behind);
                 self.cpu.set_pc(2 * u16::from(*vector));
                 self.cpu.disable();
                 self.trace.push(Event::Enter(*vector))?;

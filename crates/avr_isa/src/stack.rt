@@ -3,6 +3,7 @@ ghost use Rattle.std.specs.Prelude.{◌≡◌, ◌≤◌, ◌+◌};
 ghost use Rattle.avr_isa.specs.Stack.{stack_use, lowest_by};
 
 use crate::cpu::Cpu;
+use crate::memory::displaced;
 use avr_instr::Instr;
 
 /// What an instruction does that tells how deep the stack is.
@@ -23,7 +24,12 @@ pub fn stack_use(instr: &Instr, cpu: &Cpu) -> StackUse
     ensures { result ≡ stack_use instr.now cpu.now }
 {
     match instr {
+        Instr::Call(_) | Instr::Icall | Instr::Rcall(_) => StackUse::PushesWord(cpu.sp()),
+        Instr::Push(_) => StackUse::PushesByte(cpu.sp()),
         Instr::Out(a, _) => StackUse::Stores(u16::from(a.number()) + 0x20),
+        Instr::StX(_) | Instr::StXPlus(_) => StackUse::Stores(cpu.pair(26)),
+        Instr::StMinusX(_) => StackUse::Stores(cpu.pair(26).wrapping_sub(1)),
+        Instr::Std(b, q, _) => StackUse::Stores(displaced(cpu, *b, q.number())),
         Instr::Sts(k, _) => StackUse::Stores(*k),
         _ => StackUse::Nothing,
     }

@@ -1,12 +1,12 @@
 // One instruction.
-ghost use Rattle.std.specs.Prelude.{◌≡◌, ◌+◌, ◌-◌, ◌*◌, ◌/◌, ◌%◌, ◌<◌, ◌≤◌, ℕ, IsTrue, []};
-ghost use Rattle.avr_isa.specs.Effect.{WaitsInRegister, change, jumped, far_from, can_pop_two};
-ghost use Rattle.avr_instr.specs.declared.instr.Instr.TheVariants.{Sleep as SleepInstr, Reti};
+ghost use Rattle.std.specs.Prelude.{◌≡◌, ◌+◌, ◌<◌};
+ghost use Rattle.avr_isa.specs.Change.{WaitsInRegister};
+ghost use Rattle.avr_isa.specs.Effect.{change};
 
 use crate::cpu::Cpu;
 use crate::effect::Effect;
 use crate::image::Image;
-use crate::store;
+use crate::{arithmetic, flags, flow, memory, transfer};
 use avr_instr::Instr;
 
 /// Changes the processor as the instruction says, and tells what is left to be done outside it.
@@ -18,86 +18,90 @@ pub fn step(cpu: &mut Cpu, flash: &Image, instr: Instr) -> Effect
     ensures waiting { WaitsInRegister result }
 {
     match instr {
-        Instr::Ldi(d, k) => {
-            cpu.advance(1);
-            cpu.set_register(d.number(), k);
-            Effect::Next
-        }
-        Instr::Out(a, r) => {
-            let value = cpu.register(r.number());
-            store::store(cpu, 1, u16::from(a.number()) + 0x20, value)
-        }
-        Instr::Sts(k, r) => {
-            let value = cpu.register(r.number());
-            store::store(cpu, 2, k, value)
-        }
-        Instr::Jmp(k) => jump(cpu, k),
-        Instr::Rjmp(k) => {
-            let to = far_from(cpu.pc(), k.bits());
-            jump(cpu, to)
-        }
-        Instr::Sei => {
-            cpu.advance(1);
-            cpu.enable();
-            Effect::Next
-        }
-        Instr::Cli => {
-            cpu.advance(1);
-            cpu.disable();
-            Effect::Next
-        }
-        Instr::Sleep => sleep(cpu),
-        Instr::Reti => return_from_interrupt(cpu),
+        Instr::Adc(d, r) => arithmetic::add(
+            cpu,
+            d.number(),
+            cpu.register(r.number()),
+            flags::carry_of(cpu.sreg()),
+        ),
+        Instr::Add(d, r) => arithmetic::add(cpu, d.number(), cpu.register(r.number()), 0),
+        Instr::Adiw(d, k) => arithmetic::add_wide(cpu, d.number(), k.number()),
+        Instr::And(d, r) => arithmetic::and(cpu, d.number(), cpu.register(r.number())),
+        Instr::Andi(d, k) => arithmetic::and(cpu, d.number(), k),
+        Instr::Asr(d) => arithmetic::shift_signed(cpu, d.number()),
+        Instr::Brbc(s, k) => flow::branch(cpu, !flags::is_set(s.number(), cpu.sreg()), k.bits()),
+        Instr::Brbs(s, k) => flow::branch(cpu, flags::is_set(s.number(), cpu.sreg()), k.bits()),
+        Instr::Call(k) => flow::call(cpu, cpu.pc().wrapping_add(2), k),
+        Instr::Cli => transfer::disable(cpu),
+        Instr::Com(d) => arithmetic::complement(cpu, d.number()),
+        Instr::Cp(d, r) => arithmetic::compare(cpu, d.number(), cpu.register(r.number())),
+        Instr::Cpc(d, r) => arithmetic::compare_on(cpu, d.number(), cpu.register(r.number())),
+        Instr::Cpi(d, k) => arithmetic::compare(cpu, d.number(), k),
+        Instr::Dec(d) => arithmetic::decrement(cpu, d.number()),
+        Instr::Eor(d, r) => arithmetic::exclusive_or(cpu, d.number(), cpu.register(r.number())),
+        Instr::Icall => flow::call(cpu, cpu.pc().wrapping_add(1), cpu.pair(30)),
+        Instr::Ijmp => flow::go(cpu, cpu.pair(30)),
+        Instr::In(d, a) => memory::load(cpu, 1, d.number(), u16::from(a.number()) + 0x20),
+        Instr::Inc(d) => arithmetic::increment(cpu, d.number()),
+        Instr::Jmp(k) => flow::jump(cpu, k),
+        Instr::LdX(d) => memory::load(cpu, 1, d.number(), cpu.pair(26)),
+        Instr::LdXPlus(d) => memory::load_then_next(cpu, d.number()),
+        Instr::LdMinusX(d) => memory::load_previous(cpu, d.number()),
+        Instr::Ldd(d, b, q) => memory::load(
+            cpu,
+            1,
+            d.number(),
+            memory::displaced(cpu, b, q.number()),
+        ),
+        Instr::Ldi(d, k) => transfer::put(cpu, d.number(), k),
+        Instr::Lds(d, k) => memory::load(cpu, 2, d.number(), k),
+        Instr::LpmZ(d) => transfer::load_flash(cpu, flash, d.number()),
+        Instr::LpmZPlus(d) => transfer::load_flash_then_next(cpu, flash, d.number()),
+        Instr::Lsr(d) => arithmetic::shift(cpu, d.number(), 0),
+        Instr::Mov(d, r) => transfer::copy(cpu, d.number(), r.number()),
+        Instr::Movw(d, r) => transfer::copy_pair(cpu, d.number(), r.number()),
+        Instr::Mul(d, r) => arithmetic::multiply(
+            cpu,
+            cpu.register(d.number()),
+            cpu.register(r.number()),
+        ),
+        Instr::Neg(d) => arithmetic::negate(cpu, d.number()),
+        Instr::Nop => transfer::pass(cpu),
+        Instr::Or(d, r) => arithmetic::or(cpu, d.number(), cpu.register(r.number())),
+        Instr::Ori(d, k) => arithmetic::or(cpu, d.number(), k),
+        Instr::Out(a, r) => memory::store(
+            cpu,
+            1,
+            u16::from(a.number()) + 0x20,
+            cpu.register(r.number()),
+        ),
+        Instr::Pop(d) => memory::pop(cpu, d.number()),
+        Instr::Push(r) => memory::push(cpu, cpu.register(r.number())),
+        Instr::Rcall(k) => flow::call(
+            cpu,
+            cpu.pc().wrapping_add(1),
+            flow::far_from(cpu.pc(), k.bits()),
+        ),
+        Instr::Ret => flow::return_(cpu),
+        Instr::Reti => flow::return_from_interrupt(cpu),
+        Instr::Rjmp(k) => flow::jump(cpu, flow::far_from(cpu.pc(), k.bits())),
+        Instr::Ror(d) => arithmetic::rotate(cpu, d.number()),
+        Instr::Sbc(d, r) => arithmetic::subtract_on(cpu, d.number(), cpu.register(r.number())),
+        Instr::Sbci(d, k) => arithmetic::subtract_on(cpu, d.number(), k),
+        Instr::Sbiw(d, k) => arithmetic::subtract_wide(cpu, d.number(), k.number()),
+        Instr::Sei => transfer::enable(cpu),
+        Instr::Sleep => flow::sleep(cpu),
+        Instr::StX(r) => memory::store(cpu, 1, cpu.pair(26), cpu.register(r.number())),
+        Instr::StXPlus(r) => memory::store_then_next(cpu, cpu.register(r.number())),
+        Instr::StMinusX(r) => memory::store_previous(cpu, cpu.register(r.number())),
+        Instr::Std(b, q, r) => memory::store(
+            cpu,
+            1,
+            memory::displaced(cpu, b, q.number()),
+            cpu.register(r.number()),
+        ),
+        Instr::Sts(k, r) => memory::store(cpu, 2, k, cpu.register(r.number())),
+        Instr::Sub(d, r) => arithmetic::subtract(cpu, d.number(), cpu.register(r.number())),
+        Instr::Subi(d, k) => arithmetic::subtract(cpu, d.number(), k),
     }
-}
-
-// Goes to a word address; a jump to itself that no interrupt can end is a stop.
-fn jump(cpu: &mut Cpu, to: u16) -> Effect
-    ensures cpu { cpu.new ≡ (jumped cpu.old to).cpu }
-    ensures effect { result ≡ (jumped cpu.old to).effect }
-    ensures waiting { WaitsInRegister result }
-{
-    if to == cpu.pc() && !cpu.is_enabled() {
-        return Effect::Halt;
-    }
-    cpu.set_pc(to);
-    Effect::Next
-}
-
-// The word address at a signed distance of twelve bits from the next instruction.
-fn far_from(pc: u16, offset: u16) -> u16
-    requires { offset < 4096 }
-    ensures { result ≡ far_from pc offset }
-{
-    let extended = if offset < 0x800 {
-        offset
-    } else {
-        offset + 0xF000
-    };
-    pc.wrapping_add(1).wrapping_add(extended)
-}
-
-fn sleep(cpu: &mut Cpu) -> Effect
-    ensures cpu { cpu.new ≡ (change [] SleepInstr cpu.old).cpu }
-    ensures effect { result ≡ (change [] SleepInstr cpu.old).effect }
-    ensures waiting { WaitsInRegister result }
-{
-    if cpu.is_enabled() {
-        return Effect::Sleep;
-    }
-    cpu.advance(1);
-    Effect::Next
-}
-
-fn return_from_interrupt(cpu: &mut Cpu) -> Effect
-    ensures cpu { cpu.new ≡ (change [] Reti cpu.old).cpu }
-    ensures effect { result ≡ (change [] Reti cpu.old).effect }
-    ensures waiting { WaitsInRegister result }
-{
-    if cpu.sp() < 0xFF || cpu.sp() >= 0x10FE {
-        return Effect::Outside;
-    }
-    store::pop_two(cpu);
-    cpu.enable();
-    Effect::Next
 }

@@ -10,7 +10,8 @@ use Rattle.vg_base.specs.Outcome.{Idle}
 use Rattle.avr_instr.specs.declared.instr.Instr.{Instr}
 use Rattle.avr_instr.specs.declared.instr.Instr.TheVariants.{Out, Sts, Rjmp, Cli, Reti}
 use Rattle.avr_isa.specs.Cpu.{CpuState, forward, enabled, disabled}
-use Rattle.avr_isa.specs.Effect.{register_of, far_from}
+use Rattle.avr_isa.specs.Change.{register_of}
+use Rattle.avr_isa.specs.Flow.{far_from}
 use Rattle.avr_isa.specs.Machine.{State, run_from}
 use Rattle.avr_isa.specs.Stack.{lowest_by_push_two, lowest_by_store}
 use Rattle.avr_isa.specs.Leads.{Leads}

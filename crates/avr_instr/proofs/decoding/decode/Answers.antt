@@ -1,8 +1,7 @@
-use Rattle.std.proofs.Common.{◌≡◌, ℕ, ◌<◌, Option, Some, None, sym, ◌∙◌, subst, arith}
+use Rattle.std.proofs.Common.{◌≡◌, Option, Some, sym, ◌∙◌, subst, arith}
 use Rattle.std.specs.Prelude.{IfSome, IsNone}
 use Rattle.avr_instr.specs.declared.instr.Instr.{Instr}
 use Rattle.avr_instr.specs.Spelled.{Spelled}
-use Rattle.avr_instr.specs.Decoded.{in_nibble_9}
 use Rattle.avr_instr.proofs.BothWays.{at_9, only_9, decoded_each}
 use Rattle.avr_instr.proofs.decoding.decode.Goals as goal
 
