@@ -6,7 +6,7 @@ use Rattle.vg_syntax.specs.Tree.{TypeTree, Param, Spot, Node, Nothing, Then}
 use Rattle.vg_meaning.specs.History.{no_history}
 use Rattle.vg_source.specs.Names.{Name}
 use Rattle.vg_source.specs.Steps.{Source}
-use Rattle.vg_source.specs.Session.{Start', Started, Failed, started, Session, session}
+use Rattle.vg_source.specs.Session.{Initialised, Started, Failed, started, Session, session}
 
 -- The node of this number, at this line and column.
 abbrev pub at : (id line col : ℕ) → Spot
@@ -22,7 +22,7 @@ abbrev pub param : Name → TypeTree → Param
 param name type = record { name = name; type = type }
 
 -- How many cells there are, where there is a heap.
-abbrev pub cells_of : Start' → ℕ
+abbrev pub cells_of : Initialised → ℕ
 cells_of (Started heap) = length heap.cells
 cells_of (Failed why) = 0
 
@@ -31,7 +31,7 @@ abbrev pub no_session : Session
 no_session = record { trace = []; ending = None; history = no_history }
 
 -- The session behind an initialisation, where there is a heap.
-abbrev pub session_behind : Source → Start' → Option ℕ → (reads interrupts : List ℕ) → (clock : ℕ) → Session
+abbrev pub session_behind : Source → Initialised → Option ℕ → (reads interrupts : List ℕ) → (clock : ℕ) → Session
 session_behind p (Started heap) deepest reads interrupts clock = session p heap deepest reads interrupts clock
 session_behind p (Failed why) deepest reads interrupts clock = no_session
 

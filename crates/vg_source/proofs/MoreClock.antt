@@ -15,7 +15,7 @@ use Rattle.vg_source.specs.Values.{Value, Null, Heap, stored_values}
 use Rattle.vg_source.specs.Steps.{Step, Target, Start, Routine, Source}
 use Rattle.vg_source.specs.State.{State, find_routine, handler_of, entered}
 use Rattle.vg_source.specs.Meaning.{Caller, put, take_from, taking, with_found, step, truth}
-use Rattle.vg_source.specs.Session.{activity, back_in, run_routine, called, call_alone, first_heap, start_all, with_heap, starting_world, starting, Start', Started, Failed, start_of, started, handled, handle, running_world, running, session_of, session}
+use Rattle.vg_source.specs.Session.{activity, back_in, run_routine, called, call_alone, first_heap, start_all, with_heap, starting_world, starting, Initialised, Started, Failed, start_of, started, handled, handle, running_world, running, session_of, session}
 use Rattle.vg_source.proofs.Steps.{grows_put, grows_taking, on_step}
 use Rattle.vg_source.proofs.Traces.{GrowingCaller, grows_step, grows_routine, grows_called, grows_start, grows_handle}
 
@@ -131,7 +131,7 @@ start_longer d _ b (out x) h e = absurd (cc e)
 pub longer_started : (p : Source) (clock d : ℕ) (h : Heap) → started p clock ≡ Started h → started p (clock + d) ≡ Started h
 longer_started p clock d = start_longer d _ _ (longer_starting d full no_history p clock)
 
-abbrev heap_or : Heap → Start' → Heap
+abbrev heap_or : Heap → Initialised → Heap
 heap_or k (Started h) = h
 heap_or k (Failed why) = k
 

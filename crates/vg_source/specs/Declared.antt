@@ -55,6 +55,7 @@ pub record ClassParts : Type 0 where
   pub above : Option Name
   pub members : Node
 
+-- A class declaration of this name.
 abbrev pub as_class : Node → Name → Option ClassParts
 as_class (ClassDecl at n above members) c = if same_name n c then Some (record { above = above; members = members }) else None
 as_class _ c = None
@@ -64,6 +65,7 @@ abbrev pub class_named : Node → Name → Option ClassParts
 class_named (Then d rest) c = or_else (as_class d c) (class_named rest c)
 class_named _ c = None
 
+-- The members of a component declaration of this name.
 abbrev pub as_component : Node → Name → Option Node
 as_component (ComponentDecl at n members) c = if same_name n c then Some members else None
 as_component _ c = None
@@ -73,6 +75,7 @@ abbrev pub component_named : Node → Name → Option Node
 component_named (Then d rest) c = or_else (as_component d c) (component_named rest c)
 component_named _ c = None
 
+-- The registers of a device declaration of this name.
 abbrev pub as_device : Node → Name → Option Node
 as_device (DeviceDecl at n registers) d = if same_name n d then Some registers else None
 as_device _ d = None
@@ -82,6 +85,7 @@ abbrev pub device_named : Node → Name → Option Node
 device_named (Then d rest) x = or_else (as_device d x) (device_named rest x)
 device_named _ x = None
 
+-- The address of a register declaration of this name.
 abbrev pub as_register : Node → Name → Option ℕ
 as_register (RegisterDecl at n number) x = if same_name n x then Some (number_of number) else None
 as_register _ x = None

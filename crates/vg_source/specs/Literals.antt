@@ -21,6 +21,7 @@ number_of bs = number_in 10 0 bs
 abbrev pub int_of : ℕ → Value
 int_of n = Int (if n == 2147483648 then negsuc 2147483647 else pos n)
 
+-- The value of a number token.
 abbrev pub number_value : List ℕ → Value
 number_value (a ∷ x ∷ bs) = if x == 120 then Raw (4 * length bs) (number_in 16 0 bs) else int_of (number_in 10 0 (a ∷ x ∷ bs))
 number_value bs = int_of (number_in 10 0 bs)

@@ -231,6 +231,7 @@ abbrev pub truth_in : List Value → State → Test State
 truth_in (Truth b ∷ vs) s = Tested b (record s { values = vs })
 truth_in _ s = Untested
 
+-- The test that a choice or a loop makes.
 abbrev pub truth : State → Test State
 truth s = truth_in s.values s
 

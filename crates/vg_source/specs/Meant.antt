@@ -81,6 +81,7 @@ settled_as m (OwnMethod at x ps r) = behind m (step.MethodOf at x) (IsValue (Fun
 settled_as m (ItsMethod c x ps r) = behind m (step.ComponentMethod c x) (IsValue (FunctionType ps r))
 settled_as m h = m
 
+-- What a node stands for where no suffix follows.
 abbrev pub settled : Meant → Meant
 settled m = settled_as m m.head
 
@@ -182,12 +183,13 @@ operator_of kind.Slash = Divide
 operator_of kind.Percent = Remainder
 operator_of _ = Plus
 
--- The operators of one operand, the one that is nearest to it first.
+-- The operator before an operand.
 abbrev pub prefix_of : Kind → Prefix
 prefix_of kind.Not = Not
 prefix_of kind.Complement = Complement
 prefix_of _ = Negative
 
+-- All operators before an operand: the one that is nearest to it comes first.
 abbrev pub apply_all : List Kind → code.Code Step
 apply_all [] = code.Nothing
 apply_all (k ∷ ks) = code.Then (apply_all ks) (code.Do (step.Apply (prefix_of k)))
@@ -231,10 +233,11 @@ abbrev pub last_target : Node → Meant → Meant → Meant
 last_target tree.Nothing a b = a
 last_target _ a b = b
 
--- A row: of statements or arguments, which stand for themselves, or of suffixes or parts, which go on with what is before them.
+-- A statement or argument, and then the others of its row.
 abbrev pub then_fresh : Meant → (List Typed → Meant) → Meant
 then_fresh m rest = before m.does (rest m.scope)
 
+-- A suffix or part, and then the others of its row.
 abbrev pub then_behind : Node → Meant → (Head → Meant) → Meant
 then_behind rest m go = last_target rest m (before m.does (go m.head))
 

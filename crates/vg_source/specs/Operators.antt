@@ -1,5 +1,6 @@
 -- The operators and casts on values.
 use Rattle.std.specs.Prelude.{ℕ, zero, ◌+◌, ◌-◌, ◌*◌, ◌/◌, ◌%◌, ◌^◌, Bool, true, false, not, ◌==◌, nat_lt, nat_le, bit_and, bit_or, bit_xor, ℤ, pos, negsuc, int_lt, int_le, int_rem, if◌then◌else◌}
+use Rattle.std.specs.Ordering.{int_eq}
 use Rattle.std.specs.Int.{w32, cast_unsigned, cast_signed, int_wrapping_add, int_wrapping_sub, int_wrapping_mul, int_wrapping_neg, int_wrapping_div}
 use Rattle.vg_source.specs.Types.{StaticType, IntType, CharType, RawType}
 use Rattle.vg_source.specs.Values.{Value, Int, Truth, Char, Raw, Null, Obj, Arr}
@@ -52,8 +53,8 @@ on_ints Less x y = Is (Truth (int_lt x y))
 on_ints AtMost x y = Is (Truth (int_le x y))
 on_ints Greater x y = Is (Truth (int_lt y x))
 on_ints AtLeast x y = Is (Truth (int_le y x))
-on_ints Equal x y = Is (Truth (cast_unsigned w32 x == cast_unsigned w32 y))
-on_ints Unequal x y = Is (Truth (not (cast_unsigned w32 x == cast_unsigned w32 y)))
+on_ints Equal x y = Is (Truth (int_eq x y))
+on_ints Unequal x y = Is (Truth (not (int_eq x y)))
 on_ints _ x y = Unfit
 
 -- On chars.

@@ -11,6 +11,7 @@ abbrev pub cost_at : Node → List ℕ
 cost_at (MethodDecl at n ps t body) = (32 + 4 * (length ps + count_locals body + count_nodes body)) ∷ []
 cost_at _ = []
 
+-- The costs of the methods among members, in order of the text.
 abbrev pub costs_of : Node → List ℕ
 costs_of (Then m rest) = cost_at m ++ costs_of rest
 costs_of _ = []
@@ -26,6 +27,7 @@ abbrev pub costs_in : Node → List ℕ
 costs_in (Then d rest) = member_costs d ++ costs_in rest
 costs_in _ = []
 
+-- The costs of all methods of a text.
 abbrev pub costs : Node → List ℕ
 costs text = costs_in (declarations_of text)
 

@@ -23,6 +23,7 @@ method_at ds o c (MethodDecl at n ps t body) =
     record { target = Method c n; number = 0; params = param_names ps; missing = default (type_of t); body = (meant ds o body Fresh (scope_of ps)).does } ∷ []
 method_at ds o c _ = []
 
+-- The methods among members, in order of the text.
 abbrev pub methods_in : Node → Owner → Name → Node → List Routine
 methods_in ds o c (Then m rest) = method_at ds o c m ++ methods_in ds o c rest
 methods_in ds o c _ = []
@@ -33,6 +34,7 @@ pub record Constructor : Type 0 where
   pub arguments : Node
   pub body : Node
 
+-- The constructor among members.
 abbrev pub constructor_in : Node → Constructor
 constructor_in (Then (ConstructorDecl at ps calls arguments body) rest) = record { params = ps; arguments = arguments; body = body }
 constructor_in (Then _ rest) = constructor_in rest
@@ -44,16 +46,18 @@ constructor_in _ = record { params = []; arguments = Nothing; body = Nothing }
 abbrev pub initial : Node → Node → code.Code Step
 initial ds e = (settled (meant ds NoOwner e Fresh [])).does
 
--- A field's initialiser, where one is written, and the store of its value.
+-- What is done for an initialiser, where one is written.
 abbrev pub unless_missing : Node → code.Code Step → code.Code Step
 unless_missing Nothing c = code.Nothing
 unless_missing _ c = c
 
+-- The initialiser of a class field, which sets the field of the object that is made.
 abbrev pub own_initialiser : Node → Node → code.Code Step
 own_initialiser ds (FieldDecl at n t e) =
     unless_missing e (code.Then (code.Do This) (code.Then (initial ds e) (code.Do (SetField at.id n))))
 own_initialiser ds _ = code.Nothing
 
+-- The initialiser of a component field.
 abbrev pub its_initialiser : Node → Name → Node → code.Code Step
 its_initialiser ds c (FieldDecl at n t e) = unless_missing e (code.Then (initial ds e) (code.Do (SetComponentField c n)))
 its_initialiser ds c _ = code.Nothing
@@ -102,6 +106,7 @@ routines_at ds (ComponentDecl at c members) =
     initialisation ds c members (constructor_in members) ∷ methods_in ds (InComponent c) c members
 routines_at ds _ = []
 
+-- What runs for the declarations, in order of the text.
 abbrev pub routines_in : Node → Node → List Routine
 routines_in ds (Then d rest) = routines_at ds d ++ routines_in ds rest
 routines_in ds _ = []
@@ -111,6 +116,7 @@ abbrev pub next_number : ℕ → Target → ℕ
 next_number n (Method c m) = suc n
 next_number n _ = n
 
+-- The routines with their numbers, from this one on.
 abbrev pub numbered : ℕ → List Routine → List Routine
 numbered n [] = []
 numbered n (r ∷ rs) = record r { number = n } ∷ numbered (next_number n r.target) rs
@@ -121,6 +127,7 @@ class_at ds (ClassDecl at c above members) =
     record { name = c; above = chain_of ds c; fields = fields_on ds (chain_of ds c) } ∷ []
 class_at ds _ = []
 
+-- The classes, in order of the text.
 abbrev pub classes_in : Node → Node → List Class
 classes_in ds (Then d rest) = class_at ds d ++ classes_in ds rest
 classes_in ds _ = []
@@ -130,19 +137,22 @@ abbrev pub component_at : Node → List Name
 component_at (ComponentDecl at c members) = c ∷ []
 component_at _ = []
 
+-- The names of all components.
 abbrev pub components_in : Node → List Name
 components_in (Then d rest) = component_at d ++ components_in rest
 components_in _ = []
 
--- The component fields with their defaults, in order of the text.
+-- Fields as those of a component.
 abbrev pub globals_of : Name → List Named → List Global
 globals_of c [] = []
 globals_of c (n ∷ ns) = record { component = c; name = n.name; value = n.value } ∷ globals_of c ns
 
+-- The fields of one component.
 abbrev pub globals_at : Node → List Global
 globals_at (ComponentDecl at c members) = globals_of c (fields_in members)
 globals_at _ = []
 
+-- The fields of all components.
 abbrev pub globals_in : Node → List Global
 globals_in (Then d rest) = globals_at d ++ globals_in rest
 globals_in _ = []
@@ -164,6 +174,7 @@ abbrev pub handler_at : Node → List Handler
 handler_at (EntryDecl at key c m) = if same_name key (codes "main") then [] else record { vector = number_of key; target = Method c m } ∷ []
 handler_at _ = []
 
+-- All numbered entries, in order of the text.
 abbrev pub handlers_in : Node → List Handler
 handlers_in (Then e rest) = handler_at e ++ handlers_in rest
 handlers_in _ = []

@@ -74,17 +74,18 @@ starting r history p clock =
     (with_heap (first_heap p)) (starting_world history clock)
 
 -- What initialisation gives: a heap, or why there is none.
-pub data Start' : Type 0 where
-  Started : (heap : Heap) → Start'
-  Failed : (why : End) → Start'
+pub data Initialised : Type 0 where
+  Started : (heap : Heap) → Initialised
+  Failed : (why : End) → Initialised
 
-abbrev pub start_of : {H : Type 0} → Answer State H → Start'
+-- What an answer of initialisation gives.
+abbrev pub start_of : {H : Type 0} → Answer State H → Initialised
 start_of (Gives s w) = Started s.heap
 start_of (Ends (Over why) s w) = Failed why
 start_of (Ends _ s w) = Failed Wrong
 
 -- The initialisation of a program with this clock.
-abbrev pub started : Source → ℕ → Start'
+abbrev pub started : Source → ℕ → Initialised
 started p clock = start_of (starting full no_history p clock)
 
 -- ---- runs
@@ -94,6 +95,7 @@ abbrev pub handled : {H : Type 0} → Recorder H → Source → Option Target �
 handled r p (Some t) s w = call_alone r p t s w
 handled r p None s w = Gives s w
 
+-- What is done for an interrupt.
 abbrev pub handle : {H : Type 0} → Recorder H → Source → ℕ → Piece State H
 handle r p vector s w = handled r p (handler_of p.handlers vector) s w
 
@@ -123,6 +125,7 @@ pub record Session : Type 0 where
   pub ending : Option Ending
   pub history : History
 
+-- What an answer of a run shows.
 abbrev pub session_of : Answer State History → Session
 session_of (Gives s w) = record { trace = w.outside.trace; ending = None; history = w.history }
 session_of (Ends why s w) = record { trace = w.outside.trace; ending = ending_of why; history = w.history }

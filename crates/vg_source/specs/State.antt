@@ -81,6 +81,7 @@ abbrev pub class_in : Option Cell → Option Name
 class_in (Some (Object c fs)) = Some c
 class_in _ = None
 
+-- The class of the object in a cell of the heap.
 abbrev pub class_at : Heap → ℕ → Option Name
 class_at h k = class_in (slice_get h.cells k)
 
@@ -89,6 +90,7 @@ abbrev pub field_in : Name → Option Cell → Option Value
 field_in f (Some (Object c fs)) = find_named fs f
 field_in f _ = None
 
+-- The value of a field of the object in a cell of the heap.
 abbrev pub field_at : Heap → ℕ → Name → Option Value
 field_at h k f = field_in f (slice_get h.cells k)
 
@@ -97,6 +99,7 @@ abbrev pub items_in : Option Cell → Option (List Value)
 items_in (Some (Array t vs)) = Some vs
 items_in _ = None
 
+-- The elements of the array in a cell of the heap.
 abbrev pub items_at : Heap → ℕ → Option (List Value)
 items_at h k = items_in (slice_get h.cells k)
 
@@ -105,6 +108,7 @@ abbrev pub with_field : Name → Value → Option Cell → List Cell → ℕ →
 with_field f v (Some (Object c fs)) cells k = slice_set cells k (Object c (set_named fs f v))
 with_field f v _ cells k = cells
 
+-- The heap with a field of an object set.
 abbrev pub set_field : Heap → ℕ → Name → Value → Heap
 set_field h k f v = record h { cells = with_field f v (slice_get h.cells k) h.cells k }
 
@@ -113,6 +117,7 @@ abbrev pub with_item : ℕ → Value → Option Cell → List Cell → ℕ → L
 with_item i v (Some (Array t vs)) cells k = slice_set cells k (Array t (slice_set vs i v))
 with_item i v _ cells k = cells
 
+-- The heap with an element of an array set.
 abbrev pub set_item : Heap → ℕ → ℕ → Value → Heap
 set_item h k i v = record h { cells = with_item i v (slice_get h.cells k) h.cells k }
 

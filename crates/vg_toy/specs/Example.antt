@@ -22,6 +22,7 @@ pub record Shown : Type 0 where
   pub behind_ticks : List (List Active)
   pub why : Signal
 
+-- What an answer shows.
 abbrev pub shown : Answer (List ℕ) History → Shown
 shown (Ends why s w) = record { trace = w.outside.trace; behind_ticks = w.history.behind_ticks; why = why }
 shown (Gives s w) = record { trace = w.outside.trace; behind_ticks = w.history.behind_ticks; why = Over Done }
