@@ -5,10 +5,15 @@ pub mod Lexemes
 pub mod Tokens
 pub mod Tables
 pub mod Walk
+pub mod Pieces
+pub mod Shapes
+pub mod Hexadecimal
+pub mod FirstText
+pub mod FirstViews
+pub mod FirstSession
 pub mod Grammar
 pub mod Parses
 pub mod Tree
-pub mod FirstSession
 pub mod Faults
 pub mod Made
 pub mod Numbering

@@ -105,8 +105,9 @@ fn all_hex_digits(run: &[u8]) -> bool
 }
 
 // Whether a run is a hexadecimal number.
-fn is_hexadecimal(run: &[u8]) -> bool
-    ensures { result ≡ is_hexadecimal run.now }
+pub(crate) fn is_hexadecimal(run: &[u8]) -> bool
+    ensures value { result ≡ is_hexadecimal run.now }
+    ensures long { IsTrue result → 3 ≤ length run.now }
 {
     match run {
         [zero, x, first, digits @ ..] => {

@@ -2,6 +2,7 @@
 #![tactic(auto)]
 
 pub mod device_write;
+pub mod first_text;
 pub mod gap;
 pub mod grammar;
 pub mod kind;
@@ -11,6 +12,7 @@ mod spelling;
 pub mod token;
 
 pub use device_write::DeviceWrite;
+pub use first_text::{FirstFault, FirstText, read_first};
 pub use grammar::{Part, Symbol};
 pub use kind::Kind;
 pub use scanner::{end_place, scan};
