@@ -25,3 +25,4 @@ pub mod LeadingZeros
 pub mod Literals
 pub mod Control
 pub mod Dispatch
+pub mod Idioms
