@@ -10,3 +10,4 @@ pub mod Room
 pub mod Steps
 pub mod Search
 pub mod Ends
+pub mod Derivations

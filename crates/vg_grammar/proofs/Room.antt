@@ -71,6 +71,17 @@ ranks n =
       heads = e.1;
     }
 
+pub short_alternative : (n : Part) (i : ℕ) (r : List Symbol) → Some r ≡ nth (rules n) i → length r ≤ 5
+short_alternative n i [] e = omega arith
+short_alternative n i (Sign k ∷ s) e =
+    let h : nat_le (length s) 4 ≡ true = head_at n (rules n) i (Sign k ∷ s) (ranks n).heads (sym e) in
+    let l : length s ≤ 4 = at_most _ _ h in
+    omega (arith, l)
+short_alternative n i (Use m ∷ s) e =
+    let h = both (nat_le (length s) 4) (nat_lt (rank m) (rank n) && all_full m (firsts m)) (head_at n (rules n) i (Use m ∷ s) (ranks n).heads (sym e)) in
+    let l : length s ≤ 4 = at_most _ _ h.0 in
+    omega (arith, l)
+
 pub few_alternatives : (n : Part) → length (rules n) ≤ 9
 few_alternatives n = (ranks n).few
 

@@ -28,7 +28,7 @@ pub record At (ts : List Token) (at : ℕ) (s : List Symbol) (deep : ℕ) : Type
 pub starts : (ts : List Token) (s : List Symbol) → s ≡ Use part.Text ∷ [] → At ts 0 s 0
 starts ts s e = record { within = omega arith; run = subst (λ l. Run [] l (look ts)) (sym e) (run_start (look ts)); opens = refl; low = omega arith }
 
-asked : (ts : List Token) (at : ℕ) (k : Kind) (n : Part) (o : Option (List Symbol)) → k ≡ kind_at ts at → o ≡ chosen n (number k) → chosen n (look (drop at ts)) ≡ o
+pub asked : (ts : List Token) (at : ℕ) (k : Kind) (n : Part) (o : Option (List Symbol)) → k ≡ kind_at ts at → o ≡ chosen n (number k) → chosen n (look (drop at ts)) ≡ o
 asked ts at k n o e c = ap (chosen n) (sym (look_at ts at)) ∙ ap (λ j. chosen n (number j)) (sym e) ∙ sym c
 
 pub refuses_part : (ts : List Token) (at : ℕ) (k : Kind) (deep : ℕ) (s rest : List Symbol) (n : Part) → At ts at s deep → s ≡ Use n ∷ rest → k ≡ kind_at ts at → None ≡ chosen n (number k) → NoTreeAt ts at × Shallow (take at ts)

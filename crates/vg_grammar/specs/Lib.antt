@@ -1,4 +1,5 @@
 pub mod Numbers
 pub mod Tables
 pub mod Looks
-pub mod Judged
+pub mod Marks
+pub mod Derivation

@@ -1,5 +1,5 @@
 // The alternative that the next token asks for.
-ghost use Rattle.std.specs.Prelude.{◌≡◌};
+ghost use Rattle.std.specs.Prelude.{◌≡◌, ◌≤◌, length, IfSome};
 ghost use Rattle.std.specs.Option.{option_map};
 ghost use Rattle.vg_grammar.specs.Numbers.{number};
 ghost use Rattle.vg_grammar.specs.Tables.{chosen, suits, mem};
@@ -11,7 +11,8 @@ use vg_syntax::{Kind, Part, Symbol};
 
 /// The alternative of a part that the next token asks for: None where no text goes on with that token.
 pub fn chosen(part: Part, look: Kind) -> Option<&'static [Symbol]>
-    ensures { option_map (λ s. s.now) result ≡ chosen part (number look) }
+    ensures chosen { option_map (λ s. s.now) result ≡ chosen part (number look) }
+    ensures short { IfSome result (λ s. length s.now ≤ 5) }
 {
     let mut index = 0;
     while let Some(symbols) = alternative(part, index) {

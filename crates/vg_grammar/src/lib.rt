@@ -1,14 +1,14 @@
-//! From tokens to whether they are a text of the language, and where they cease to be one; the tables of the grammar and what they prove.
+//! From tokens to the steps that make their parse, or where they cease to be a text; the tables of the grammar and what they prove.
 #![tactic(auto)]
 
 pub mod alternative;
 pub mod choice;
+pub mod derivation;
 pub mod laws;
+pub mod marks;
 pub mod number;
-pub mod recogniser;
-pub mod stack;
 pub mod starts;
 #[cfg(test)]
 mod tests;
 
-pub use recogniser::{Stop, recognise};
+pub use derivation::{Step, Stop, derive};

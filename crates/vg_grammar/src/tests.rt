@@ -1,5 +1,5 @@
 // Rows of kinds of tokens, and what they are. Each answer is worked by hand from the grammar.
-use crate::recogniser::{Stop, recognise};
+use crate::derivation::{Stop, derive};
 use std::alloc::Global;
 use vg_base::Place;
 use vg_syntax::{Kind, Token};
@@ -21,7 +21,10 @@ fn answer(alloc: Global, kinds: &[Kind]) -> Result<(), Stop> {
             return Err(Stop::NoMemory);
         }
     }
-    recognise(alloc, &tokens)
+    match derive(alloc, &tokens) {
+        Ok(_) => Ok(()),
+        Err(stop) => Err(stop),
+    }
 }
 
 #[test]
@@ -204,7 +207,10 @@ fn nested(alloc: Global, count: usize, last: Kind) -> Result<(), Stop> {
     {
         return Err(Stop::NoMemory);
     }
-    recognise(alloc, &tokens)
+    match derive(alloc, &tokens) {
+        Ok(_) => Ok(()),
+        Err(stop) => Err(stop),
+    }
 }
 
 #[test]

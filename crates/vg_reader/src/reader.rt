@@ -5,7 +5,7 @@ ghost use Rattle.vg_reader.specs.Answers.{Recognised};
 
 use std::alloc::Global;
 use vg_base::{NoMemory, Place};
-use vg_grammar::{Stop, recognise};
+use vg_grammar::{Stop, derive};
 use vg_syntax::{Token, end_place, scan};
 
 /// Why bytes are no text of the language.
@@ -38,8 +38,8 @@ pub fn judge(alloc: Global, bytes: &[u8]) -> Result<(), ReadFault>
     ensures { Recognised bytes.now result }
 {
     let tokens = scan(alloc, bytes)?;
-    match recognise(alloc, &tokens) {
-        Ok(()) => Ok(()),
+    match derive(alloc, &tokens) {
+        Ok(_) => Ok(()),
         Err(Stop::NoTree(index)) => Err(ReadFault::NoTree(place_of(bytes, &tokens, index))),
         Err(Stop::TooDeep(index)) => Err(ReadFault::TooDeep(place_of(bytes, &tokens, index))),
         Err(Stop::NoMemory) => Err(ReadFault::NoMemory),

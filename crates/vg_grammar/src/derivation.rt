@@ -1,18 +1,27 @@
-// Whether tokens are a whole text, and where they cease to be one.
+// From tokens to the steps that make their parse, or where they cease to be a text.
 ghost use Rattle.std.specs.Prelude.{◌≡◌, ◌≤◌};
 ghost use Rattle.vg_syntax.specs.Parses.{opened, is_open, is_close};
 ghost use Rattle.vg_grammar.specs.Looks.{kind_at, is_at};
-ghost use Rattle.vg_grammar.specs.Judged.{Judged};
+ghost use Rattle.vg_grammar.specs.Derivation.{Derived};
 
 use crate::choice::chosen;
+use crate::marks::{Mark, Marks};
 use crate::number::number;
-use crate::stack::Stack;
 use std::alloc::{AllocFailed, Global};
 use vg_base::NoMemory;
 use vg_syntax::{Kind, Part, Symbol, Token};
 
 /// How many brackets may be open at one place of a text.
 pub const MOST_OPEN: u8 = 64;
+
+/// One step of the making of a parse from its leaves up. The steps of a parse stand in postfix order.
+#[derive(Clone, Copy, Debug, PartialEq, Eq)]
+pub enum Step {
+    /// The next token of the text is taken.
+    Take,
+    /// A part is made of so many of the tokens and parts before it, the last ones.
+    Make(Part, u8),
+}
 
 /// Why and where tokens cease to be a text. A number is that of a token, from 0, or the count of all tokens for their end.
 #[derive(Clone, Copy, Debug, PartialEq, Eq)]
@@ -27,7 +36,7 @@ pub enum Stop {
 
 impl From<NoMemory> for Stop {
     ghost use Rattle.std.specs.Prelude.{◌≡◌};
-    ghost use Rattle.vg_grammar.specs.declared.recogniser.Stop.TheVariants.{NoMemory as Memory};
+    ghost use Rattle.vg_grammar.specs.declared.derivation.Stop.TheVariants.{NoMemory as Memory};
 
     ghost from_gives = { λ _ e. e ≡ Memory };
 
@@ -36,36 +45,56 @@ impl From<NoMemory> for Stop {
     }
 }
 
-/// Whether the tokens are a whole text of the language with at most 64 open brackets at each place.
+impl<T: Drop> From<AllocFailed<T>> for Stop {
+    ghost use Rattle.std.specs.Prelude.{◌≡◌};
+    ghost use Rattle.vg_grammar.specs.declared.derivation.Stop.TheVariants.{NoMemory as Memory};
+
+    ghost from_gives = { λ _ e. e ≡ Memory };
+
+    fn from(_: AllocFailed<T>) -> Self {
+        Stop::NoMemory
+    }
+}
+
+/// The steps that make the parse of these tokens, where they are a text of the language with at most 64 open brackets at each place.
 ///
-/// Its time is linear in the number of tokens. It does not recurse: its memory is a stack of symbols, at most a constant number for each token.
-pub fn recognise(alloc: Global, tokens: &[Token]) -> Result<(), Stop>
-    ensures { Judged tokens.now result }
+/// Its time is linear in the number of tokens. It does not recurse: it keeps a stack of symbols and a list of steps, each at most a
+/// constant number for each token.
+pub fn derive(alloc: Global, tokens: &[Token]) -> Result<Vec<Step>, Stop>
+    ensures { Derived tokens.now result }
 {
-    let mut stack = Stack::new(alloc);
-    stack.push_all(&[Symbol::Use(Part::Text)])?;
+    let mut marks = Marks::new(alloc);
+    marks.push(Mark::See(Symbol::Use(Part::Text)))?;
+    let mut steps = Vec::new(alloc);
     let mut at = 0;
     let mut deep = 0u8;
-    while let Some(symbol) = stack.pop() {
-        match symbol {
-            Symbol::Use(part) => match chosen(part, kind_at(tokens, at)) {
-                None => return Err(Stop::NoTree(at)),
-                Some(symbols) => stack.push_all(symbols)?,
+    while let Some(mark) = marks.pop() {
+        match mark {
+            Mark::Make(part, count) => steps.push(Step::Make(part, count))?,
+            Mark::See(symbol) => match symbol {
+                Symbol::Use(part) => match chosen(part, kind_at(tokens, at)) {
+                    None => return Err(Stop::NoTree(at)),
+                    Some(symbols) => {
+                        marks.push(Mark::Make(part, symbols.len() as u8))?;
+                        marks.push_all(symbols)?;
+                    }
+                },
+                Symbol::Sign(kind) => {
+                    if !is_at(tokens, at, kind) {
+                        return Err(Stop::NoTree(at));
+                    }
+                    match opened(deep, kind) {
+                        None => return Err(Stop::TooDeep(at)),
+                        Some(now) => deep = now,
+                    }
+                    steps.push(Step::Take)?;
+                    at += 1;
+                }
             },
-            Symbol::Sign(kind) => {
-                if !is_at(tokens, at, kind) {
-                    return Err(Stop::NoTree(at));
-                }
-                match opened(deep, kind) {
-                    None => return Err(Stop::TooDeep(at)),
-                    Some(now) => deep = now,
-                }
-                at += 1;
-            }
         }
     }
     if at == tokens.len() {
-        Ok(())
+        Ok(steps)
     } else {
         Err(Stop::NoTree(at))
     }
