@@ -100,18 +100,28 @@ abbrev pub length_of : Node → ℕ
 length_of (Then a rest) = suc (length_of rest)
 length_of _ = zero
 
+-- The superclass of a class, where it has one.
+abbrev pub above_of : Option ClassParts → Option Name
+above_of (Some k) = k.above
+above_of None = None
+
 -- A class and those above it, the nearest first: at most n of them.
-abbrev pub chain_from : ℕ → Node → Name → List Name
-chain_from zero ds c = []
-chain_from (suc n) ds c = c ∷ elim (class_named ds c) [ Some k ↦ elim (k.above) [ Some above ↦ chain_from n ds above | None ↦ [] ] | None ↦ [] ]
+abbrev pub chain_from : ℕ → Node → Option Name → List Name
+chain_from (suc n) ds (Some c) = c ∷ chain_from n ds (above_of (class_named ds c))
+chain_from _ ds _ = []
 
 -- A class and all above it, the nearest first: there are no more of them than declarations.
 abbrev pub chain_of : Node → Name → List Name
-chain_of ds c = chain_from (length_of ds) ds c
+chain_of ds c = chain_from (length_of ds) ds (Some c)
 
--- The members of a class.
+-- The members of a class, where it is there.
+abbrev pub members_in : Option ClassParts → Node
+members_in (Some k) = k.members
+members_in None = Nothing
+
+-- The members of the class of this name.
 abbrev pub members_of : Node → Name → Node
-members_of ds c = elim (class_named ds c) [ Some k ↦ k.members | None ↦ Nothing ]
+members_of ds c = members_in (class_named ds c)
 
 -- The first member of this name on a chain.
 abbrev pub member_on : Node → List Name → Name → Option Member
@@ -122,15 +132,21 @@ member_on ds (c ∷ cs) x = or_else (member_in (members_of ds c) x) (member_on d
 abbrev pub class_member : Node → Name → Name → Option Member
 class_member ds c x = member_on ds (chain_of ds c) x
 
+-- The member of this name among these, where they are there.
+abbrev pub member_among : Option Node → Name → Option Member
+member_among (Some members) x = member_in members x
+member_among None x = None
+
 -- The member of this name of a component.
 abbrev pub component_member : Node → Name → Name → Option Member
-component_member ds c x = elim (component_named ds c) [ Some members ↦ member_in members x | None ↦ None ]
+component_member ds c x = member_among (component_named ds c) x
 
--- The fields among members, with their defaults.
+-- The field of a declaration, with its default.
 abbrev pub field_at : Node → List Named
 field_at (FieldDecl at n t value) = record { name = n; value = default (type_of t) } ∷ []
 field_at _ = []
 
+-- The fields among members, in order of the text.
 abbrev pub fields_in : Node → List Named
 fields_in (Then m rest) = field_at m ++ fields_in rest
 fields_in _ = []

@@ -105,20 +105,38 @@ its_member c x (Some (AMethod ps r)) ls = nothing (ItsMethod c x ps r) ls
 its_member c x None ls = nothing NoHead ls
 
 -- A component, else a device.
-abbrev pub top_name : Node → Name → List Typed → Meant
-top_name ds x ls = nothing (elim (component_named ds x) [ Some members ↦ IsComponent x | None ↦ IsDevice x ]) ls
+abbrev pub top_head : Option Node → Name → Head
+top_head (Some members) x = IsComponent x
+top_head None x = IsDevice x
 
--- A member of the owner, where there is one, else a component or device; a class's member is that of `this`.
+-- What a name of a component or device leaves.
+abbrev pub top_name : Node → Name → List Typed → Meant
+top_name ds x ls = nothing (top_head (component_named ds x) x) ls
+
+-- A member of the class around is that of `this`; where there is none, the name is one of a component or device.
+abbrev pub own_member : Node → ℕ → Name → Option Member → List Typed → Meant
+own_member ds at x (Some m) ls = before (code.Do step.This) (object_member at x (Some m) ls)
+own_member ds at x None ls = top_name ds x ls
+
+-- A member of the component around; where there is none, the name is one of a component or device.
+abbrev pub near_member : Node → Name → Name → Option Member → List Typed → Meant
+near_member ds c x (Some m) ls = its_member c x (Some m) ls
+near_member ds c x None ls = top_name ds x ls
+
+-- A name that is no parameter or local.
 abbrev pub outer_name : Node → Owner → ℕ → Name → List Typed → Meant
-outer_name ds (InClass c) at x ls =
-    elim (class_member ds c x) [ Some m ↦ before (code.Do step.This) (object_member at x (Some m) ls) | None ↦ top_name ds x ls ]
-outer_name ds (InComponent c) at x ls = elim (component_member ds c x) [ Some m ↦ its_member c x (Some m) ls | None ↦ top_name ds x ls ]
+outer_name ds (InClass c) at x ls = own_member ds at x (class_member ds c x) ls
+outer_name ds (InComponent c) at x ls = near_member ds c x (component_member ds c x) ls
 outer_name ds NoOwner at x ls = top_name ds x ls
 
--- A parameter or local in scope, where there is one, else what stands outside of the body.
+-- A parameter or local of this type, or none.
+abbrev pub name_of_type : Node → Owner → ℕ → Name → Option StaticType → List Typed → Meant
+name_of_type ds o at x (Some t) ls = storing (step.SetLocal x) (single (step.Local x) (IsValue t) ls)
+name_of_type ds o at x None ls = outer_name ds o at x ls
+
+-- What a name stands for: a parameter or local in scope comes first.
 abbrev pub meant_name : Node → Owner → ℕ → Name → List Typed → Meant
-meant_name ds o at x ls =
-    elim (find_local ls x) [ Some t ↦ storing (step.SetLocal x) (single (step.Local x) (IsValue t) ls) | None ↦ outer_name ds o at x ls ]
+meant_name ds o at x ls = name_of_type ds o at x (find_local ls x) ls
 
 -- ---- suffixes
 

@@ -62,10 +62,15 @@ chain p c = chain_in (find_class p.classes c)
 abbrev pub is_below : Source → Name → Name → Bool
 is_below p c d = is_among (chain p c) d
 
+-- This name where something is there, else the other.
+abbrev pub name_where : {A : Type 0} → Option A → Name → Option Name → Option Name
+name_where (Some a) c other = Some c
+name_where None c other = other
+
 -- The first class of a chain that declares the method.
 abbrev pub owner_on : Source → List Name → Name → Option Name
 owner_on p [] m = None
-owner_on p (c ∷ cs) m = elim (find_routine p.routines (Method c m)) [ Some r ↦ Some c | None ↦ owner_on p cs m ]
+owner_on p (c ∷ cs) m = name_where (find_routine p.routines (Method c m)) c (owner_on p cs m)
 
 -- The class whose method m an object of class c has.
 abbrev pub owner_of : Source → Name → Name → Option Name
