@@ -1,35 +1,30 @@
 -- What the literals of a text stand for, from the bytes of their tokens.
-use Rattle.std.specs.Prelude.{ℕ, ◌+◌, ◌-◌, ◌*◌, ◌==◌, nat_lt, List, [], ◌∷◌, length, take, drop, pos, negsuc, if◌then◌else◌}
+use Rattle.std.specs.Prelude.{ℕ, ◌+◌, ◌-◌, ◌*◌, ◌==◌, List, [], ◌∷◌, length, take, drop, pos, negsuc, if◌then◌else◌}
+use Rattle.vg_syntax.specs.Hexadecimal.{digit_value, hex_value}
+use Rattle.vg_syntax.specs.Lexemes.{is_hexadecimal}
 use Rattle.vg_source.specs.Types.{StaticType, IntType, RawType}
 use Rattle.vg_source.specs.Values.{Value, Int, Raw}
 
--- The value of a digit in either case.
-abbrev pub digit : ℕ → ℕ
-digit b = if nat_lt b 58 then b - 48 else if nat_lt b 97 then b - 55 else b - 87
-
--- The number that digits write to this base, behind the number that was written before them.
-abbrev pub number_in : ℕ → ℕ → List ℕ → ℕ
-number_in base n [] = n
-number_in base n (b ∷ bs) = number_in base (n * base + digit b) bs
+-- The number that decimal digits write, behind the number that was written before them.
+abbrev pub decimal : ℕ → List ℕ → ℕ
+decimal n [] = n
+decimal n (b ∷ bs) = decimal (n * 10 + digit_value b) bs
 
 -- The number of a token: hexadecimal behind 0x, else decimal.
 abbrev pub number_of : List ℕ → ℕ
-number_of (a ∷ x ∷ bs) = if x == 120 then number_in 16 0 bs else number_in 10 0 (a ∷ x ∷ bs)
-number_of bs = number_in 10 0 bs
+number_of bs = if is_hexadecimal bs then hex_value bs else decimal 0 bs
 
--- A number as a value: a hexadecimal one of d digits is a bit string of 4 d bits; a decimal one is an int, and 2147483648 the least int.
+-- A decimal number is an int, and 2147483648 the least int.
 abbrev pub int_of : ℕ → Value
 int_of n = Int (if n == 2147483648 then negsuc 2147483647 else pos n)
 
--- The value of a number token.
+-- The value of a number token: a hexadecimal one of d digits, as written, is a bit string of 4 d bits.
 abbrev pub number_value : List ℕ → Value
-number_value (a ∷ x ∷ bs) = if x == 120 then Raw (4 * length bs) (number_in 16 0 bs) else int_of (number_in 10 0 (a ∷ x ∷ bs))
-number_value bs = int_of (number_in 10 0 bs)
+number_value bs = if is_hexadecimal bs then Raw (4 * (length bs - 2)) (hex_value bs) else int_of (decimal 0 bs)
 
 -- The static type of a number.
 abbrev pub number_type : List ℕ → StaticType
-number_type (a ∷ x ∷ bs) = if x == 120 then RawType (4 * length bs) else IntType
-number_type bs = IntType
+number_type bs = if is_hexadecimal bs then RawType (4 * (length bs - 2)) else IntType
 
 -- Where one stands in the elements of a char or string.
 pub data Place : Type 0 where
@@ -47,8 +42,8 @@ abbrev pub elements : Place → List ℕ → List ℕ
 elements at [] = []
 elements Outside (b ∷ bs) = if b == 92 then elements Escape bs else b ∷ elements Outside bs
 elements Escape (b ∷ bs) = if b == 120 then elements FirstDigit bs else escaped b ∷ elements Outside bs
-elements FirstDigit (b ∷ bs) = elements (SecondDigit (digit b)) bs
-elements (SecondDigit first) (b ∷ bs) = (first * 16 + digit b) ∷ elements Outside bs
+elements FirstDigit (b ∷ bs) = elements (SecondDigit (digit_value b)) bs
+elements (SecondDigit first) (b ∷ bs) = (first * 16 + digit_value b) ∷ elements Outside bs
 
 -- The bytes of a char or string token, between its quotes.
 abbrev pub bytes_of : List ℕ → List ℕ
