@@ -1,0 +1,161 @@
+// A run of the machine whose events leave it one by one.
+ghost use Rattle.std.specs.Prelude.{◌≡◌, ◌+◌, ◌-◌, ◌*◌, ◌/◌, ◌%◌, ◌<◌, ◌≤◌, ℕ, List, [], IsTrue, Some, None, option_map, length};
+ghost use Rattle.avr_isa.specs.Cpu.{at_reset};
+ghost use Rattle.avr_isa.specs.Effect.{WaitsInRegister, can_push_two, with_pushed};
+ghost use Rattle.avr_isa.specs.Machine.{State, answered, next_state, performed, started, woken};
+ghost use Rattle.avr_isa.specs.RunEnd.{end_of};
+ghost use Rattle.avr_sim.specs.Walk.{finished, pending, unstacked};
+
+use avr_instr::{Instr, decode};
+use avr_isa::{Cpu, Effect, Image, RunEnd, step};
+use std::marker::Model;
+use vg_base::Event;
+
+/// A machine on its way: its processor, the reads and the interrupts to come, the event of the last instruction that is still to be put, and its end.
+///
+/// Contracts see its state: the trace is that event, and how deep the stack has reached is not kept.
+#[derive(Drop)]
+pub struct Running<'a> {
+    cpu: Cpu,
+    reads: &'a [u8],
+    interrupts: &'a [u8],
+    event: Option<Event>,
+    ended: Option<RunEnd>,
+}
+
+impl<'a> Model for Running<'a> {
+    ghost use Rattle.std.specs.Prelude.{option_map};
+    ghost use Rattle.avr_isa.specs.Machine.{State};
+    ghost use Rattle.avr_isa.specs.RunEnd.{end_of};
+    ghost use Rattle.avr_sim.specs.Walk.{pending};
+
+    ghost Value = { State };
+
+    ghost view = { λ m. record { cpu = m.cpu; outside = record { reads = m.reads.now; interrupts = m.interrupts.now; trace = pending m.event }; lowest = 0; ended = option_map end_of m.ended } };
+}
+
+impl<'a> Running<'a> {
+    /// A processor at reset, in front of a script. It takes no memory.
+    pub fn from_reset(cpu: Cpu, reads: &'a [u8], interrupts: &'a [u8]) -> Self
+        requires { cpu ≡ at_reset }
+        ensures { result ≡ unstacked (started reads.now interrupts.now) }
+    {
+        Running {
+            cpu,
+            reads,
+            interrupts,
+            event: None,
+            ended: None,
+        }
+    }
+
+    /// How the run has ended, if it has.
+    pub fn ended(&self) -> Option<RunEnd>
+        ensures { option_map end_of result ≡ self.now.ended }
+    {
+        self.ended
+    }
+
+    /// Takes the event that is still to be put.
+    pub fn take_event(&mut self) -> Option<Event>
+        ensures event { pending result ≡ self.old.outside.trace }
+        ensures rest { self.new ≡ record self.old { outside = record self.old.outside { trace = [] } } }
+    {
+        let event = self.event;
+        self.event = None;
+        event
+    }
+
+    /// One step: the instruction at PC, unless the run has ended. It takes no memory.
+    pub fn step(&mut self, flash: &Image)
+        requires { self.old.outside.trace ≡ [] }
+        ensures { unstacked self.new ≡ unstacked (next_state flash.now self.old) }
+    {
+        if self.ended.is_some() {
+            return;
+        }
+        let pc = self.cpu.pc();
+        let word = flash.word(pc);
+        match decode(word, flash.word(pc.wrapping_add(1))) {
+            Some(instr) => self.perform(flash, instr, word),
+            None => self.ended = Some(RunEnd::Bad(pc, word)),
+        }
+    }
+
+    // The instruction whose first word is this.
+    fn perform(&mut self, flash: &Image, instr: Instr, word: u16)
+        requires { self.old.outside.trace ≡ [] }
+        ensures { unstacked self.new ≡ unstacked (performed flash.now (Some instr) word self.old) }
+    {
+        let pc = self.cpu.pc();
+        let code = self.cpu.register(24);
+        let effect = step(&mut self.cpu, flash, instr);
+        self.finish(effect, pc, code, word);
+    }
+
+    // What is left to be done behind the instruction that stood at this word address, when r24 held this code.
+    fn finish(&mut self, effect: Effect, pc: u16, code: u8, word: u16)
+        requires waiting { WaitsInRegister effect }
+        requires put { self.old.outside.trace ≡ [] }
+        ensures { unstacked self.new ≡ unstacked (finished effect pc code word self.old) }
+    {
+        match effect {
+            Effect::Next => {}
+            Effect::ReadDevice(address, register) => self.answer(address, register),
+            Effect::WriteDevice(address, value) => self.event = Some(Event::Write(address, value)),
+            Effect::Sleep => self.wake(word),
+            Effect::Halt => self.ended = Some(RunEnd::Stop(code)),
+            Effect::Outside => self.ended = Some(RunEnd::Bad(pc, word)),
+        }
+    }
+
+    // Takes the next read into a register.
+    fn answer(&mut self, address: u8, register: u8)
+        requires register { register < 32 }
+        requires put { self.old.outside.trace ≡ [] }
+        ensures { unstacked self.new ≡ unstacked (answered self.old.outside.reads address register self.old) }
+    {
+        match self.reads.split_first() {
+            None => self.ended = Some(RunEnd::Wants(address)),
+            Some((value, rest)) => {
+                self.cpu.set_register(register, *value);
+                self.event = Some(Event::Read(address, *value));
+                self.reads = rest;
+            }
+        }
+    }
+
+    // Takes the next interrupt.
+    fn wake(&mut self, word: u16)
+        requires { self.old.outside.trace ≡ [] }
+        ensures { unstacked self.new ≡ unstacked (woken self.old.outside.interrupts word self.old) }
+    {
+        match self.interrupts.split_first() {
+            None => self.ended = Some(RunEnd::Idle),
+            Some((vector, rest)) => {
+                let sp = self.cpu.sp();
+                if sp <= 0x100 || sp >= 0x1100 {
+                    self.ended = Some(RunEnd::Bad(self.cpu.pc(), word));
+                    return;
+                }
+                let behind = self.cpu.pc().wrapping_add(1);
+                push_two(&mut self.cpu, behind);
+                self.cpu.set_pc(2 * u16::from(*vector));
+                self.cpu.disable();
+                self.event = Some(Event::Enter(*vector));
+                self.interrupts = rest;
+            }
+        }
+    }
+}
+
+// Pushes a word address, low byte first.
+fn push_two(cpu: &mut Cpu, address: u16)
+    requires { IsTrue (can_push_two cpu.old.sp) }
+    ensures { cpu.new ≡ with_pushed cpu.old address }
+{
+    let sp = cpu.sp();
+    cpu.set_sram(sp, (address % 256) as u8);
+    cpu.set_sram(sp - 1, (address / 256) as u8);
+    cpu.set_sp(sp - 2);
+}
