@@ -9,7 +9,9 @@ use Rattle.avr_instr.specs.declared.instr.Instr.{Instr}
 use Rattle.avr_isa.specs.declared.effect.Effect.{Effect}
 use Rattle.avr_isa.specs.declared.effect.Effect.TheVariants.{Next, ReadDevice, WriteDevice, Sleep, Halt, Outside as Forbidden}
 use Rattle.avr_isa.specs.Cpu.{CpuState}
-use Rattle.avr_isa.specs.Effect.{change, register_of, can_push_two}
+use Rattle.avr_isa.specs.Effect.{change}
+use Rattle.avr_isa.specs.Change.{register_of}
+use Rattle.avr_isa.specs.Access.{can_push_two}
 use Rattle.avr_isa.specs.Machine.{MachineEnd, Ends, Bad, State, done, performed, next_state, run_from, instr_here, word_here, started, machine, entered}
 use Rattle.avr_isa.specs.Stack.{lowest_behind, lowest_by_push_two}
 use Rattle.avr_isa.specs.RunEnd.{end_of}
@@ -42,29 +44,28 @@ same_event : (t u : List Event) (event : Event) (cpu : CpuState) (reads interrup
     → Same t (parts cpu reads interrupts ((t ++ u) ++ event ∷ []) l ended) (parts cpu reads interrupts (u ++ event ∷ []) l' ended)
 same_event t u event cpu reads interrupts l l' ended = record { cpu = refl; reads = refl; interrupts = refl; trace = append_assoc t u (event ∷ []); ended = refl }
 
-same_done : (effect : Effect) (word : ℕ) (t u : List Event) (old cpu : CpuState) (reads interrupts : List ℕ) (a a' l l' : ℕ)
-    → Same t (done effect word (parts old reads interrupts (t ++ u) a None) (parts cpu reads interrupts (t ++ u) l None))
-    (done effect word (parts old reads interrupts u a' None) (parts cpu reads interrupts u l' None))
-same_done Next word t u old cpu reads interrupts a a' l l' = same_parts t u cpu reads interrupts l l' None
-same_done (ReadDevice address register) word t u old cpu [] interrupts a a' l l' = record { cpu = refl; reads = refl; interrupts = refl; trace = refl; ended = refl }
-same_done (ReadDevice address register) word t u old cpu (v ∷ vs) interrupts a a' l l' = record { cpu = refl; reads = refl; interrupts = refl; trace = append_assoc t u (Read address v ∷ []); ended = refl }
-same_done (WriteDevice address value) word t u old cpu reads interrupts a a' l l' = same_event t u (Write address value) cpu reads interrupts l l' None
-same_done Sleep word t u old cpu reads [] a a' l l' = record { cpu = refl; reads = refl; interrupts = refl; trace = refl; ended = refl }
-same_done Sleep word t u old cpu reads (k ∷ ks) a a' l l' = by_test (can_push_two cpu.sp)
+same_done : (effect : Effect) (word : ℕ) (t u : List Event) (cpu : CpuState) (reads interrupts : List ℕ) (l l' : ℕ)
+    → Same t (done effect word (parts cpu reads interrupts (t ++ u) l None)) (done effect word (parts cpu reads interrupts u l' None))
+same_done Next word t u cpu reads interrupts l l' = same_parts t u cpu reads interrupts l l' None
+same_done (ReadDevice address register) word t u cpu [] interrupts l l' = record { cpu = refl; reads = refl; interrupts = refl; trace = refl; ended = refl }
+same_done (ReadDevice address register) word t u cpu (v ∷ vs) interrupts l l' = record { cpu = refl; reads = refl; interrupts = refl; trace = append_assoc t u (Read address v ∷ []); ended = refl }
+same_done (WriteDevice address value) word t u cpu reads interrupts l l' = same_event t u (Write address value) cpu reads interrupts l l' None
+same_done Sleep word t u cpu reads [] l l' = record { cpu = refl; reads = refl; interrupts = refl; trace = refl; ended = refl }
+same_done Sleep word t u cpu reads (k ∷ ks) l l' = by_test (can_push_two cpu.sp)
   where
     by_test : (b : Bool) → Same t
         (if b then parts (entered cpu k) reads ks ((t ++ u) ++ Enter k ∷ []) (lowest_by_push_two cpu.sp l) None else parts cpu reads (k ∷ ks) (t ++ u) (lowest_by_push_two cpu.sp l) (Some (Bad cpu.pc word)))
         (if b then parts (entered cpu k) reads ks (u ++ Enter k ∷ []) (lowest_by_push_two cpu.sp l') None else parts cpu reads (k ∷ ks) u (lowest_by_push_two cpu.sp l') (Some (Bad cpu.pc word)))
     by_test true = same_event t u (Enter k) (entered cpu k) reads ks (lowest_by_push_two cpu.sp l) (lowest_by_push_two cpu.sp l') None
     by_test false = same_parts t u cpu reads (k ∷ ks) (lowest_by_push_two cpu.sp l) (lowest_by_push_two cpu.sp l') (Some (Bad cpu.pc word))
-same_done Halt word t u old cpu reads interrupts a a' l l' = same_parts t u cpu reads interrupts l l' (Some (Ends (Stop (register_of old 24))))
-same_done Forbidden word t u old cpu reads interrupts a a' l l' = same_parts t u cpu reads interrupts l l' (Some (Bad old.pc word))
+same_done Halt word t u cpu reads interrupts l l' = same_parts t u cpu reads interrupts l l' (Some (Ends (Stop (register_of cpu 24))))
+same_done Forbidden word t u cpu reads interrupts l l' = same_parts t u cpu reads interrupts l l' (Some (Bad cpu.pc word))
 
 same_performed : (flash : List ℕ) (o : Option Instr) (word : ℕ) (t u : List Event) (cpu : CpuState) (reads interrupts : List ℕ) (l l' : ℕ)
     → Same t (performed flash o word (parts cpu reads interrupts (t ++ u) l None)) (performed flash o word (parts cpu reads interrupts u l' None))
 same_performed flash None word t u cpu reads interrupts l l' = same_parts t u cpu reads interrupts l l' (Some (Bad cpu.pc word))
 same_performed flash (Some i) word t u cpu reads interrupts l l' =
-    same_done (change flash i cpu).effect word t u cpu (change flash i cpu).cpu reads interrupts l l'
+    same_done (change flash i cpu).effect word t u (change flash i cpu).cpu reads interrupts
     (lowest_behind i cpu (change flash i cpu).cpu l) (lowest_behind i cpu (change flash i cpu).cpu l')
 
 same_next : (flash : List ℕ) (t u : List Event) (cpu : CpuState) (reads interrupts : List ℕ) (l l' : ℕ) (ended : Option MachineEnd)

@@ -1,10 +1,11 @@
 // A run of the machine whose events leave it one by one.
 ghost use Rattle.std.specs.Prelude.{◌≡◌, ◌+◌, ◌-◌, ◌*◌, ◌/◌, ◌%◌, ◌<◌, ◌≤◌, ℕ, List, [], IsTrue, Some, None, option_map, length};
 ghost use Rattle.avr_isa.specs.Cpu.{at_reset};
-ghost use Rattle.avr_isa.specs.Effect.{WaitsInRegister, can_push_two, with_pushed};
-ghost use Rattle.avr_isa.specs.Machine.{State, answered, next_state, performed, started, woken};
+ghost use Rattle.avr_isa.specs.Access.{can_push_two, with_pushed};
+ghost use Rattle.avr_isa.specs.Change.{WaitsInRegister};
+ghost use Rattle.avr_isa.specs.Machine.{State, answered, done, next_state, performed, started, woken};
 ghost use Rattle.avr_isa.specs.RunEnd.{end_of};
-ghost use Rattle.avr_sim.specs.Walk.{finished, pending, unstacked};
+ghost use Rattle.avr_sim.specs.Walk.{pending, unstacked};
 
 use avr_instr::{Instr, decode};
 use avr_isa::{Cpu, Effect, Image, RunEnd, step};
@@ -87,25 +88,23 @@ impl<'a> Running<'a> {
         requires { self.old.outside.trace ≡ [] }
         ensures { unstacked self.new ≡ unstacked (performed flash.now (Some instr) word self.old) }
     {
-        let pc = self.cpu.pc();
-        let code = self.cpu.register(24);
         let effect = step(&mut self.cpu, flash, instr);
-        self.finish(effect, pc, code, word);
+        self.finish(effect, word);
     }
 
-    // What is left to be done behind the instruction that stood at this word address, when r24 held this code.
-    fn finish(&mut self, effect: Effect, pc: u16, code: u8, word: u16)
+    // What is left to be done behind the instruction whose first word is this.
+    fn finish(&mut self, effect: Effect, word: u16)
         requires waiting { WaitsInRegister effect }
         requires put { self.old.outside.trace ≡ [] }
-        ensures { unstacked self.new ≡ unstacked (finished effect pc code word self.old) }
+        ensures { unstacked self.new ≡ unstacked (done effect word self.old) }
     {
         match effect {
             Effect::Next => {}
             Effect::ReadDevice(address, register) => self.answer(address, register),
             Effect::WriteDevice(address, value) => self.event = Some(Event::Write(address, value)),
             Effect::Sleep => self.wake(word),
-            Effect::Halt => self.ended = Some(RunEnd::Stop(code)),
-            Effect::Outside => self.ended = Some(RunEnd::Bad(pc, word)),
+            Effect::Halt => self.ended = Some(RunEnd::Stop(self.cpu.register(24))),
+            Effect::Outside => self.ended = Some(RunEnd::Bad(self.cpu.pc(), word)),
         }
     }
 
