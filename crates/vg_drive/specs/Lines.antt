@@ -1,0 +1,28 @@
+-- The lines that the program writes to its second sink.
+use Rattle.std.specs.Prelude.{ℕ, List, [], ◌++◌, codes, decimal}
+use Rattle.vg_base.specs.declared.place.Place.{Place}
+use Rattle.vg_drive.specs.declared.status.Fault.{Fault}
+use Rattle.vg_drive.specs.declared.status.Fault.TheVariants.{NotBuilt}
+use Rattle.vg_drive.specs.declared.status.Status.{Status}
+use Rattle.vg_drive.specs.declared.status.Status.TheVariants.{Done, Refused, Usage, ReadFault, WriteFault, NoMemory, TooLong}
+
+-- the layout of an image of constants: no static bytes from 0x0100 on, and all SRAM from there for the stack
+abbrev pub layout_text : List ℕ
+layout_text = codes "static 0100 0\nstack 0100 4096\n"
+
+-- a place: its line, a colon and its column
+abbrev pub place_text : Place → List ℕ
+place_text place = decimal place.line ++ codes ":" ++ decimal place.col
+
+abbrev pub refusal_line : Fault → List ℕ
+refusal_line (NotBuilt place) = codes "not built at " ++ place_text place ++ codes "\n"
+
+-- the line that says why nothing was built; a success has none
+abbrev pub fault_line : Status → List ℕ
+fault_line Done = []
+fault_line (Refused fault) = refusal_line fault
+fault_line Usage = codes "usage\n"
+fault_line ReadFault = codes "read fault\n"
+fault_line WriteFault = codes "write fault\n"
+fault_line NoMemory = codes "no memory\n"
+fault_line TooLong = codes "too long\n"
