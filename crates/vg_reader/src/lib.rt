@@ -2,6 +2,8 @@
 #![tactic(auto)]
 
 #[cfg(test)]
+mod alternatives;
+#[cfg(test)]
 mod documented;
 pub mod laws;
 pub mod reader;
