@@ -268,3 +268,6 @@ pub fn spelling_both_ways()
     ensures each { (w n : ℕ) (i : _) → Spelled w n i → decoded w n ≡ Some i }
     ensures once { (w n : ℕ) (i j : _) → Spelled w n i → Spelled w n j → i ≡ j }
 {}
+
+#[cfg(test)]
+mod tests;

@@ -2,3 +2,4 @@ pub mod PlainSteps
 pub mod Standing
 pub mod Runs
 pub mod Instructions
+pub mod FlagLaws

@@ -1,6 +1,7 @@
 pub mod Cpu
 pub mod Change
 pub mod Flags
+pub mod Signed
 pub mod Access
 pub mod Flow
 pub mod Effect

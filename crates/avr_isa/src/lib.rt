@@ -5,6 +5,7 @@ mod arithmetic;
 pub mod code;
 pub mod cpu;
 pub mod effect;
+pub mod flag_laws;
 pub mod flags;
 pub mod floor;
 mod flow;

@@ -50,3 +50,51 @@ fn takes_interrupts(rt: HostRuntime) -> Result<(), Fail> {
     assert_eq!(rt; machine.lowest(), 0x10FE);
     Ok(())
 }
+
+// Runs these bytes, and says how the run has ended.
+fn ended(
+    alloc: Global,
+    bytes: &[u8],
+    reads: &[u8],
+    interrupts: &[u8],
+) -> Result<Option<RunEnd>, NoMemory> {
+    let flash = image(Vec::from_slice(alloc, bytes)?)?;
+    let mut machine = PlainMachine::new(alloc, reads, interrupts)?;
+    machine.run(&flash, 100)?;
+    Ok(machine.ended())
+}
+
+#[test]
+fn ends(rt: HostRuntime) -> Result<(), Fail> {
+    // nothing: the erased flash is no instruction
+    let erased = ended(rt.alloc(), &[], &[], &[])?;
+    assert_eq!(rt; erased, Some(RunEnd::Bad(0, 0xFFFF)));
+    // SEI, SLEEP, with SP at 0, where an interrupt must not push
+    let low = ended(rt.alloc(), &[0x78, 0x94, 0x88, 0x95], &[], &[1])?;
+    assert_eq!(rt; low, Some(RunEnd::Bad(1, 0x9588)));
+    let idle = ended(rt.alloc(), &[0x78, 0x94, 0x88, 0x95], &[], &[])?;
+    assert_eq!(rt; idle, Some(RunEnd::Idle));
+    // SEI, and a jump to itself, which is no stop
+    let going = ended(rt.alloc(), &[0x78, 0x94, 0xFF, 0xCF], &[], &[])?;
+    assert_eq!(rt; going, None);
+    // IN r24, 0x10 and a jump to itself, with a read and without one
+    let stopped = ended(rt.alloc(), &[0x80, 0xB3, 0xFF, 0xCF], &[7], &[])?;
+    assert_eq!(rt; stopped, Some(RunEnd::Stop(7)));
+    let wanting = ended(rt.alloc(), &[0x80, 0xB3, 0xFF, 0xCF], &[], &[])?;
+    assert_eq!(rt; wanting, Some(RunEnd::Wants(0x30)));
+    Ok(())
+}
+
+#[test]
+fn two_words_come_round(rt: HostRuntime) -> Result<(), Fail> {
+    let mut bytes = vec![in rt.alloc(); 0xFF; 131_072]?;
+    // a jump to the last word, where the first of the two words of a JMP stands
+    for (at, byte) in [(0, 0xFE), (1, 0xCF), (131_070, 0x0C), (131_071, 0x94)] {
+        *bytes.get_mut(at).ok_or("too short")? = byte;
+    }
+    let flash = image(bytes)?;
+    let mut machine = PlainMachine::new(rt.alloc(), &[], &[])?;
+    machine.run(&flash, 3)?;
+    assert_eq!(rt; machine.ended(), Some(RunEnd::Bad(0xCFFE, 0xFFFF)));
+    Ok(())
+}
