@@ -1,0 +1,8 @@
+//! The command `sim` behind its files: a HEX text and a script go in, and the lines of the machine's trace and of its ending go to a sink.
+#![tactic(auto)]
+
+pub mod simulate;
+#[cfg(test)]
+mod tests;
+
+pub use simulate::{Simulated, simulate_text};
