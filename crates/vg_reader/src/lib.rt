@@ -1,8 +1,9 @@
-//! From the bytes of a text to whether it is a text of the language, or the exact place where it ceases to be one.
+//! From the bytes of a text to the derivation of its one tree, or the exact place where it ceases to be a text of the language.
 #![tactic(auto)]
 
 #[cfg(test)]
 mod alternatives;
+pub mod derivation;
 #[cfg(test)]
 mod documented;
 pub mod laws;
@@ -10,4 +11,5 @@ pub mod reader;
 #[cfg(test)]
 mod tests;
 
+pub use derivation::{Derivation, derive_text};
 pub use reader::{ReadFault, judge};

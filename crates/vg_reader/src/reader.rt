@@ -46,8 +46,8 @@ pub fn judge(alloc: Global, bytes: &[u8]) -> Result<(), ReadFault>
     }
 }
 
-// The place of the token of a number, or that behind the last byte.
-fn place_of(bytes: &[u8], tokens: &[Token], index: usize) -> Place
+/// The place of the token of a number, or that behind the last byte.
+pub fn place_of(bytes: &[u8], tokens: &[Token], index: usize) -> Place
     requires { length bytes.now ≤ 262144 }
     ensures { result ≡ place_of bytes.now tokens.now index }
 {

@@ -1,6 +1,9 @@
 // Texts and their answers. Each place is worked by hand from the grammar.
+use crate::derivation::derive_text;
 use crate::reader::{ReadFault, judge};
 use vg_base::Place;
+use vg_grammar::Step;
+use vg_syntax::Part;
 
 fn no_tree(line: u32, col: u32) -> Result<(), ReadFault> {
     Err(ReadFault::NoTree(Place { line, col }))
@@ -47,5 +50,25 @@ fn texts(rt: HostRuntime) {
     ];
     for (text, answer) in rows.iter() {
         assert_eq!(rt; judge(alloc, text.as_bytes()), *answer);
+    }
+}
+
+// The steps of the smallest device: its tokens and parts in postfix order, worked by hand.
+#[test]
+fn steps(rt: HostRuntime) {
+    let steps = [
+        Step::Take,
+        Step::Take,
+        Step::Take,
+        Step::Make(Part::Registers, 0),
+        Step::Take,
+        Step::Make(Part::DeviceBody, 3),
+        Step::Make(Part::Declaration, 3),
+        Step::Make(Part::Declarations, 0),
+        Step::Make(Part::Text, 2),
+    ];
+    match derive_text(rt.alloc(), b"device D { }") {
+        Ok(derivation) => assert!(rt; derivation.steps.as_slice() == steps.as_slice()),
+        Err(_) => assert!(rt; false),
     }
 }

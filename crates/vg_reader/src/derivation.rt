@@ -1,0 +1,31 @@
+// From bytes to the derivation of their tree.
+ghost use Rattle.std.specs.Prelude.{◌≤◌, length};
+ghost use Rattle.vg_reader.specs.Derivation.{Derives};
+
+use crate::reader::{ReadFault, place_of};
+use std::alloc::Global;
+use vg_grammar::{Step, Stop, derive};
+use vg_syntax::{Token, scan};
+
+/// The derivation of a text's tree: its tokens, and the steps that make the tree from them, from the leaves up.
+#[derive(Drop)]
+pub struct Derivation {
+    pub tokens: Vec<Token>,
+    pub steps: Vec<Step>,
+}
+
+/// The derivation of the one tree of these bytes, or where they cease to be a text of the language with at most 64 open brackets at each place.
+///
+/// Its time and its memory are linear in the text, and it does not recurse.
+pub fn derive_text(alloc: Global, bytes: &[u8]) -> Result<Derivation, ReadFault>
+    requires { length bytes.now ≤ 262144 }
+    ensures { Derives bytes.now result }
+{
+    let tokens = scan(alloc, bytes)?;
+    match derive(alloc, &tokens) {
+        Ok(steps) => Ok(Derivation { tokens, steps }),
+        Err(Stop::NoTree(index)) => Err(ReadFault::NoTree(place_of(bytes, &tokens, index))),
+        Err(Stop::TooDeep(index)) => Err(ReadFault::TooDeep(place_of(bytes, &tokens, index))),
+        Err(Stop::NoMemory) => Err(ReadFault::NoMemory),
+    }
+}
