@@ -1,7 +1,8 @@
 // A sink that writes to a stream of the system.
-ghost use Rattle.std.specs.Prelude.{◌≡◌, ◌+◌, ◌-◌, ◌^◌, ◌<◌, ◌≤◌, ◌⊎◌, None, IsTrue};
+ghost use Rattle.std.specs.Prelude.{◌≡◌, ◌+◌, ◌-◌, ◌^◌, ◌<◌, ◌≤◌, ◌⊎◌, None, IsTrue, OnOk, OnErr};
 ghost use Rattle.std.specs.Io.KnownBytes.{Appends};
 ghost use Rattle.vg_io.specs.Count.{Rose};
+ghost use Rattle.vg_io.specs.Piece.{AppendsAll, AppendsFront};
 
 use std::io::Write;
 use vg_io::{Failed, Sink};
@@ -26,7 +27,13 @@ impl<W: Write> Sink for StreamSink<W> {
 
     ghost faults = { λ s. s.faults };
 
-    fn put(&mut self, piece: &[u8]) -> Result<(), Failed> {
+    fn put(&mut self, piece: &[u8]) -> Result<(), Failed>
+        ensures ok { OnOk result (AppendsAll None None piece.now) }
+        ensures failed { OnErr result (AppendsFront None None piece.now) }
+        ensures later { self.old.faults ≤ self.new.faults }
+        ensures cause { OnErr result (Rose self.old.faults self.new.faults) }
+        ensures through { OnOk result (Appends (W.contents self.old.stream) (W.contents self.new.stream) piece.now) }
+    {
         if is_written(&mut self.stream, piece) {
             return Ok(());
         }
