@@ -1,4 +1,4 @@
--- The next token while a text is read. These are mirrors of the code: no public clause cites one.
+-- The next token while a text is read. These are mirrors of the code: no clause of what the crate exports at its root cites one.
 use Rattle.std.specs.Prelude.{ℕ, ◌==◌, Bool, false, List, [], ◌∷◌, Option, Some, None, slice_get}
 use Rattle.vg_syntax.specs.declared.kind.Kind.{Kind}
 use Rattle.vg_syntax.specs.declared.kind.Kind.TheVariants as kind

@@ -1,4 +1,4 @@
--- A number for each kind of token, by which kinds are compared. A mirror of the code: no public clause cites it.
+-- A number for each kind of token, by which kinds are compared. A mirror of the code: no clause of what the crate exports at its root cites it.
 use Rattle.std.specs.Prelude.{ℕ}
 use Rattle.vg_syntax.specs.declared.kind.Kind.{Kind}
 use Rattle.vg_syntax.specs.declared.kind.Kind.TheVariants as kind

@@ -1,5 +1,6 @@
 // Texts of images, and images of texts. The texts are those of srec_cat and avr-objcopy, or worked by hand.
 use crate::fault::{HexFault, HexRefusal};
+use crate::laws::write_and_read;
 use crate::reader::read;
 use crate::writer::write;
 use avr_isa::Image;
@@ -43,6 +44,15 @@ fn writes_a_base_line(rt: HostRuntime) -> Result<(), Fail> {
     let tail =
         b":10FFF000A5A5A5A5A5A5A5A5A5A5A5A5A5A5A5A5B1\n:020000040001F9\n:10000000A5A5A5A5A5A5A5A5A5A5A5A5A5A5A50144\n:0100100002ED\n:00000001FF\n";
     assert!(rt; text.as_slice().ends_with(tail));
+    Ok(())
+}
+
+#[test]
+fn writes_and_reads_again(rt: HostRuntime) -> Result<(), Fail> {
+    let alloc = rt.alloc();
+    let image = Image::from_vec(Vec::from_slice(alloc, FOUR_BYTES)?);
+    let again = write_and_read(alloc, &image)?;
+    assert_eq!(rt; again.as_slice(), FOUR_BYTES);
     Ok(())
 }
 
