@@ -1,0 +1,4 @@
+pub mod Spelled
+pub mod Parts
+pub mod Depth
+pub mod Texts
