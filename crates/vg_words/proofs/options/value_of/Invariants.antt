@@ -1,0 +1,14 @@
+use Rattle.std.proofs.Common.{◌≡◌, slice_get}
+use Rattle.vg_words.specs.Items.{items, values_of}
+use Rattle.vg_words.specs.Commands.{words_in}
+use Rattle.vg_words.specs.Walk.{items_in, size}
+use Rattle.vg_words.proofs.options.value_of.Given as goal
+
+-- the value wanted of the rest is that wanted of all
+abbrev pub invariant-items : goal.invariant-items
+invariant-items l =
+    slice_get (values_of l.wanted (items_in l.rest)) l.left
+    ≡ slice_get (values_of l.wanted (items (words_in l.words))) l.index
+
+abbrev pub decreases-items : goal.decreases-items
+decreases-items l = size l.rest

@@ -1,0 +1,61 @@
+-- What the words of a command line mean.
+--
+-- The first word is the command. Behind it stand options and plain words in any order. A command takes exactly so many
+-- plain words, and the options that its line names, each at most once. Words that no command takes mean nothing.
+use Rattle.std.specs.Prelude.{ℕ, ◌≤◌, ◌&&◌, Bool, true, false, List, [], ◌∷◌, Option, Some, None, option_map, if◌then◌else◌, map, String, string_bytes, codes}
+use Rattle.std.specs.Global.{Global}
+use Rattle.std.specs.List.{list_any}
+use Rattle.std.specs.Str.{bytes_eq}
+use Rattle.vg_words.specs.Items.{Item, Plain, Set, Bare, items, one, two, plain_words, values_of}
+use Rattle.vg_words.specs.Numbers.{number}
+
+-- the words, each as its bytes
+abbrev pub words_in : List (String Global) → List (List ℕ)
+words_in = map string_bytes
+
+-- what a command line asks for
+pub data Command : Type 0 where
+  Build : (file : List ℕ) → Command
+  Sim : (hex script : List ℕ) (steps : ℕ) → Command
+
+-- whether each option is one of these and has a value
+abbrev pub knows : List (List ℕ) → List Item → Bool
+knows names [] = true
+knows names (Plain word ∷ more) = knows names more
+knows names (Set name value ∷ more) = list_any (bytes_eq name) names && knows names more
+knows names (Bare name ∷ more) = false
+
+-- an option that stands at most once: what stands for it where it is absent, and what its value says
+abbrev pub at_most_once : {A : Type 0} → Option A → (List ℕ → Option A) → List (List ℕ) → Option A
+at_most_once absent read [] = absent
+at_most_once absent read (value ∷ []) = read value
+at_most_once absent read (value ∷ again ∷ more) = None
+
+-- `--steps N`: N from 1 to 1,000,000,000 in at most ten digits, and 10,000,000 where it is absent
+abbrev pub steps_in : List Item → Option ℕ
+steps_in given = at_most_once (Some 10000000) (number 10 1000000000) (values_of (codes "--steps") given)
+
+-- `build FILE`
+abbrev pub build_of : List Item → Option Command
+build_of given = if knows [] given then option_map Build (one (plain_words given)) else None
+
+-- `sim HEX SCRIPT`, with `--steps N`
+abbrev pub sim_with : Option (List ℕ × List ℕ) → Option ℕ → Option Command
+sim_with (Some files) (Some steps) = Some (Sim files.0 files.1 steps)
+sim_with _ _ = None
+
+abbrev pub sim_of : List Item → Option Command
+sim_of given = if knows (codes "--steps" ∷ []) given then sim_with (two (plain_words given)) (steps_in given) else None
+
+-- the command of all words
+abbrev pub command_of : List (List ℕ) → Option Command
+command_of [] = None
+command_of (name ∷ words) =
+    if bytes_eq name (codes "build") then build_of (items words)
+    else if bytes_eq name (codes "sim") then sim_of (items words)
+    else None
+
+-- the steps of a command, where it has any, are from 1 to 1,000,000,000
+abbrev pub HasSteps : Command → Type 0
+HasSteps (Build file) = Unit {0}
+HasSteps (Sim hex script steps) = (1 ≤ steps) × (steps ≤ 1000000000)

@@ -1,0 +1,5 @@
+pub mod Items
+pub mod Numbers
+pub mod Commands
+pub mod Views
+pub mod Walk

@@ -1,0 +1,12 @@
+//! The words of a command line come in, and the command that they mean goes out, or nothing where they mean none.
+#![tactic(auto)]
+
+pub mod command;
+pub mod items;
+pub mod number;
+pub mod options;
+pub mod plain;
+#[cfg(test)]
+mod tests;
+
+pub use command::{Command, command_of};
