@@ -6,7 +6,13 @@ mod alternatives;
 pub mod derivation;
 #[cfg(test)]
 mod documented;
+#[cfg(test)]
+mod firmware;
+#[cfg(test)]
+mod fragments;
 pub mod laws;
+#[cfg(test)]
+mod limits;
 pub mod reader;
 #[cfg(test)]
 mod tests;
