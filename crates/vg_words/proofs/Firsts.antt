@@ -8,7 +8,7 @@ use Rattle.vg_words.specs.Items.{ends_options, equals_at, is_option, items, opti
 use Rattle.vg_words.specs.Commands.{words_in}
 use Rattle.vg_words.specs.Walk.{Begins, with_next}
 
-option_first : (word : List ℕ) (behind : List (List ℕ)) → ends_options word ≡ false → is_option word ≡ true
+pub option_first : (word : List ℕ) (behind : List (List ℕ)) → ends_options word ≡ false → is_option word ≡ true
     → items (word ∷ behind) ≡ option_items word (equals_at word) (items behind) (with_next word behind)
 option_first word [] e f = rw (e, f) refl
 option_first word (next ∷ rest) e f = rw (e, f) refl

@@ -1,3 +1,4 @@
 pub mod Firsts
 pub mod Digits
 pub mod Counts
+pub mod Rereading

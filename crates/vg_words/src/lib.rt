@@ -8,5 +8,7 @@ pub mod options;
 pub mod plain;
 #[cfg(test)]
 mod tests;
+pub mod writing;
 
 pub use command::{Command, command_of};
+pub use writing::words_are_read_as_written;
