@@ -5,7 +5,7 @@
 //   is a name, which cannot stand there, and the word's first byte is the place.
 // - It ends behind `0x`, inside a string or inside a sign of two bytes: the first byte of what is left is the place.
 // - Else what is left of the last token can stand there too, and the place is the end.
-use crate::reader::{ReadFault, judge};
+use crate::{ReadFault, derive_text};
 use vg_base::Place;
 
 const FIRMWARE: &str =
@@ -160,11 +160,11 @@ fn no_tree(line: u32, col: u32) -> Result<(), ReadFault> {
 fn every_front(rt: HostRuntime) {
     let text = FIRMWARE.as_bytes();
     assert!(rt; text.len() <= 262_144);
-    assert_eq!(rt; judge(rt.alloc(), text), Ok(()));
+    assert_eq!(rt; derive_text(rt.alloc(), text).map(|_| ()), Ok(()));
     for end in 0..text.len() {
         let (front, behind) = text.split_at(end);
         assert_eq!(rt;
-            judge(rt.alloc(), front),
+            derive_text(rt.alloc(), front).map(|_| ()),
             answer(front, behind),
             "a text of {end} bytes"
         );
@@ -205,7 +205,11 @@ fn some_fronts(rt: HostRuntime) {
     for (end, answer) in rows.iter() {
         if let Some(front) = text.get(..*end) {
             assert!(rt; front.len() <= 262_144);
-            assert_eq!(rt; judge(rt.alloc(), front), *answer, "a text of {end} bytes");
+            assert_eq!(rt;
+                derive_text(rt.alloc(), front).map(|_| ()),
+                *answer,
+                "a text of {end} bytes"
+            );
         }
     }
 }
