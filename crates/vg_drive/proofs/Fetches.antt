@@ -1,50 +1,93 @@
--- What the shelf was asked for, by the answer.
-use Rattle.std.proofs.Common.{◌≡◌, ℕ, ◌≤◌, List, [], ◌∷◌, ◌++◌, length, map, drop, Option, Some, None, sym, ap, ◌∙◌, inl, inr}
-use Rattle.std.proofs.Math.Seq.{drop-append_seam, drop-length}
-use Rattle.std.proofs.lemmas.List.{append-nil}
+-- How the requests went, by the answer.
+use Rattle.std.proofs.Common.{◌≡◌, ℕ, List, [], Option, Some, None, refl, inl, inr, ◌↔◌}
 use Rattle.vg_io.specs.declared.asked.Asked.{Asked}
+use Rattle.vg_fetch.specs.Asking.{AsksAll, AsksFront, Fetched, HasFailed, HasPassedLimit, Request, gained, last_of}
+use Rattle.vg_fetch.specs.declared.fetch.NoFile.TheVariants as missing
 use Rattle.vg_drive.specs.declared.status.Status.{Status}
-use Rattle.vg_drive.specs.declared.status.Status.TheVariants.{Done, Refused, Usage, ReadFault, WriteFault, NoMemory, TooLong}
-use Rattle.vg_drive.specs.Asking.{AsksAll, AsksFront, gained, request_of, requests_of}
-use Rattle.vg_drive.specs.Mirrors.{AskedFor, Asks}
+use Rattle.vg_drive.specs.declared.status.Status.TheVariants.{Done, Refused, Usage, ReadFault, WriteFault, NoMemory, TooLong, Stopped, Wants, Budget, HexRefused, ScriptRefused, BadInstruction}
+use Rattle.vg_drive.specs.Codes.{IsSettled}
+use Rattle.vg_drive.specs.Mirrors.{FetchedBy}
 
--- what was gained where one fetch came behind the others
-pub gained_one : (old new : List Asked) (a : Asked) → new ≡ old ++ a ∷ [] → gained old new ≡ a ∷ []
-gained_one old new a e = ap (drop (length old)) e ∙ drop-append_seam old (a ∷ [])
+pub asks_front_by : (s : Status) (old new : List Asked) (requests : List Request) → FetchedBy s old new requests → AsksFront old new requests
+asks_front_by Done old new requests h = h.asks
+asks_front_by (Refused fault) old new requests h = h.asks
+asks_front_by Usage old new requests h = h.asks
+asks_front_by ReadFault old new requests h = h.asks
+asks_front_by WriteFault old new requests h = h.asks
+asks_front_by NoMemory old new requests (inl h) = h.asks
+asks_front_by NoMemory old new requests (inr h) = h.asks
+asks_front_by TooLong old new requests h = h.asks
+asks_front_by (Stopped code) old new requests h = h.asks
+asks_front_by (Wants address) old new requests h = h.asks
+asks_front_by Budget old new requests h = h.asks
+asks_front_by (HexRefused fault) old new requests h = h.asks
+asks_front_by (ScriptRefused line) old new requests h = h.asks
+asks_front_by (BadInstruction pc word) old new requests h = h.asks
 
--- and where none came
-pub gained_none : (old new : List Asked) → new ≡ old → gained old new ≡ []
-gained_none old new e = ap (drop (length old)) e ∙ drop-length old
+pub asks_all_by : (s : Status) (old new : List Asked) (requests : List Request) → FetchedBy s old new requests → IsSettled s → AsksAll old new requests
+asks_all_by Done old new requests h settled = h.all refl
+asks_all_by (Refused fault) old new requests h settled = h.all refl
+asks_all_by Usage old new requests h settled = absurd settled
+asks_all_by ReadFault old new requests h settled = absurd settled
+asks_all_by WriteFault old new requests h settled = h.all refl
+asks_all_by NoMemory old new requests h settled = absurd settled
+asks_all_by TooLong old new requests h settled = absurd settled
+asks_all_by (Stopped code) old new requests h settled = h.all refl
+asks_all_by (Wants address) old new requests h settled = h.all refl
+asks_all_by Budget old new requests h settled = h.all refl
+asks_all_by (HexRefused fault) old new requests h settled = h.all refl
+asks_all_by (ScriptRefused line) old new requests h settled = h.all refl
+asks_all_by (BadInstruction pc word) old new requests h settled = h.all refl
 
--- one fetch of the file is all that `build` asks for
-pub one_asks_all : (old new : List Asked) (name : List ℕ) (given : Option ℕ) → Asks old new name given → AsksAll old new (requests_of (Some name))
-one_asks_all old new name given e =
-    let g = gained_one old new _ e in
-    record { keeps = e ∙ ap (λ xs. old ++ xs) (sym g); all = ap (map request_of) g }
+pub failed_by : (s : Status) (old new : List Asked) (requests : List Request) → FetchedBy s old new requests → s ≡ ReadFault → HasFailed (last_of (gained old new))
+failed_by Done old new requests h e = cc
+failed_by (Refused fault) old new requests h e = cc
+failed_by Usage old new requests h e = cc
+failed_by ReadFault old new requests h e = h.failed refl
+failed_by WriteFault old new requests h e = cc
+failed_by NoMemory old new requests h e = cc
+failed_by TooLong old new requests h e = cc
+failed_by (Stopped code) old new requests h e = cc
+failed_by (Wants address) old new requests h e = cc
+failed_by Budget old new requests h e = cc
+failed_by (HexRefused fault) old new requests h e = cc
+failed_by (ScriptRefused line) old new requests h e = cc
+failed_by (BadInstruction pc word) old new requests h e = cc
 
--- all is a front
-pub all_asks_front : (old new : List Asked) (name : List ℕ) → AsksAll old new (requests_of (Some name)) → AsksFront old new (requests_of (Some name))
-all_asks_front old new name h = record { keeps = h.keeps; count = 1; front = h.all }
+-- where no file is missing, none passed its limit
+none_passed : (s : Status) (old new : List Asked) (requests : List Request) → Fetched None old new requests → HasPassedLimit (last_of (gained old new)) → s ≡ TooLong
+none_passed s old new requests h p = let no = h.only p in cc
 
--- and so is nothing
-pub none_asks_front : (old new : List Asked) (file : Option (List ℕ)) → new ≡ old → AsksFront old new (requests_of file)
-none_asks_front old new file e =
-    let g = gained_none old new e in
-    record { keeps = e ∙ sym (append-nil old) ∙ ap (λ xs. old ++ xs) (sym g); count = 0; front = ap (map request_of) g }
+pub passed_by : (s : Status) (old new : List Asked) (requests : List Request) → FetchedBy s old new requests → HasPassedLimit (last_of (gained old new)) → s ≡ TooLong
+passed_by Done old new requests h p = none_passed _ old new requests h p
+passed_by (Refused fault) old new requests h p = none_passed _ old new requests h p
+passed_by Usage old new requests h p = none_passed _ old new requests h p
+passed_by ReadFault old new requests h p = let no = h.only p in cc
+passed_by WriteFault old new requests h p = none_passed _ old new requests h p
+passed_by NoMemory old new requests (inl h) p = let no = h.only p in cc
+passed_by NoMemory old new requests (inr h) p = none_passed _ old new requests h p
+passed_by TooLong old new requests h p = refl
+passed_by (Stopped code) old new requests h p = none_passed _ old new requests h p
+passed_by (Wants address) old new requests h p = none_passed _ old new requests h p
+passed_by Budget old new requests h p = none_passed _ old new requests h p
+passed_by (HexRefused fault) old new requests h p = none_passed _ old new requests h p
+passed_by (ScriptRefused line) old new requests h p = none_passed _ old new requests h p
+passed_by (BadInstruction pc word) old new requests h p = none_passed _ old new requests h p
 
--- a text within the limit was asked for, so all was
-within_asks_all : (old new : List Asked) (name : List ℕ) → (given : ℕ) × (given ≤ 262144) × Asks old new name (Some given) → AsksAll old new (requests_of (Some name))
-within_asks_all old new name (given, short, e) = one_asks_all old new name (Some given) e
+pub long_by : (s : Status) (old new : List Asked) (requests : List Request) → FetchedBy s old new requests → s ≡ TooLong → HasPassedLimit (last_of (gained old new))
+long_by Done old new requests h e = cc
+long_by (Refused fault) old new requests h e = cc
+long_by Usage old new requests h e = cc
+long_by ReadFault old new requests h e = cc
+long_by WriteFault old new requests h e = cc
+long_by NoMemory old new requests h e = cc
+long_by TooLong old new requests h e = h.passed refl
+long_by (Stopped code) old new requests h e = cc
+long_by (Wants address) old new requests h e = cc
+long_by Budget old new requests h e = cc
+long_by (HexRefused fault) old new requests h e = cc
+long_by (ScriptRefused line) old new requests h e = cc
+long_by (BadInstruction pc word) old new requests h e = cc
 
--- with each answer no more was asked for than the words say
-pub asks_front_by : (s : Status) (old new : List Asked) (file : Option (List ℕ)) → AskedFor s old new file → AsksFront old new (requests_of file)
-asks_front_by s old new None h = none_asks_front old new None h.1
-asks_front_by Done old new (Some name) h = all_asks_front old new name (within_asks_all old new name h)
-asks_front_by (Refused fault) old new (Some name) h = all_asks_front old new name (within_asks_all old new name h)
-asks_front_by WriteFault old new (Some name) h = all_asks_front old new name (within_asks_all old new name h)
-asks_front_by Usage old new (Some name) h = absurd h
-asks_front_by ReadFault old new (Some name) h = all_asks_front old new name (one_asks_all old new name None h)
-asks_front_by NoMemory old new (Some name) (inl e) = none_asks_front old new (Some name) e
-asks_front_by NoMemory old new (Some name) (inr h) = all_asks_front old new name (within_asks_all old new name h)
-asks_front_by TooLong old new (Some name) (given, long, e) =
-    all_asks_front old new name (one_asks_all old new name (Some given) e)
+pub too_long_by : (s : Status) (old new : List Asked) (requests : List Request) → FetchedBy s old new requests → (s ≡ TooLong) ↔ HasPassedLimit (last_of (gained old new))
+too_long_by s old new requests h = (λ e. long_by s old new requests h e, λ p. passed_by s old new requests h p)

@@ -1,3 +1,6 @@
 pub mod Texts
 pub mod Fetches
-pub mod Refusals
+pub mod Builds
+pub mod Sims
+pub mod Commands
+pub mod Notes

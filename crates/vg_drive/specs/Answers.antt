@@ -1,8 +1,9 @@
--- What the program promises of the text that it was given and of the image that it puts.
+-- What the program promises of the texts that it was given, of the image that it puts, and of the trace.
 use Rattle.std.specs.Prelude.{ℕ, ◌≡◌, List, ◌++◌, take, Option, Some, None}
 use Rattle.vg_io.specs.Files.{bytes_under}
 use Rattle.vg_io.specs.declared.file.File.{File}
 use Rattle.vg_syntax.specs.declared.device_write.DeviceWrite.{DeviceWrite}
+use Rattle.vg_syntax.specs.Faults.{IsText}
 use Rattle.vg_syntax.specs.FirstSession.{first_session}
 use Rattle.vg_syntax.specs.FirstText.{IsFirst}
 use Rattle.avr_isa.specs.Agrees.{Agrees, NeverReaches}
@@ -12,6 +13,10 @@ use Rattle.vg_hex.specs.HexImage.{HexImage}
 -- the bytes are no program of one component whose main writes constants
 abbrev pub IsNoFirst : List ℕ → Type 0
 IsNoFirst bytes = (writes : List DeviceWrite) → IsFirst bytes writes → ⊥
+
+-- the bytes are a text of the language, of a form that is not built yet
+abbrev pub IsNotBuilt : List ℕ → Type 0
+IsNotBuilt bytes = IsText bytes × IsNoFirst bytes
 
 -- The image does what the text says. The bytes are a text of writes; the machine on the image does what these
 -- writes do, and no run of it brings the stack below 0x0100; the HEX text spells this image and no other.
@@ -23,17 +28,15 @@ pub record IsImageOf (bytes image : List ℕ) : Type 0 where
   pub spelled : HexImage (hex_text image) image
   pub only : (other : List ℕ) → HexImage (hex_text image) other → other ≡ image
 
--- where words name a file and the shelf tells: P holds of the bytes under that name
-abbrev pub ForFile : Option (List File) → (file : Option (List ℕ)) → (P : List ℕ → Type 0) → Type 0
-ForFile told None P = Unit {0}
-ForFile None (Some name) P = Unit {0}
-ForFile (Some files) (Some name) P = P (bytes_under files name)
+-- P holds of some image, which is that of the file where the shelf tells
+abbrev pub ForImage : Option (List File) → (file : List ℕ) → (P : List ℕ → Type 0) → Type 0
+ForImage None file P = (image : List ℕ) × P image
+ForImage (Some files) file P = (image : List ℕ) × IsImageOf (bytes_under files file) image × P image
 
--- words name a file, and P holds of some image, which is that of the file where the shelf tells
-abbrev pub ForImage : Option (List File) → (file : Option (List ℕ)) → (P : List ℕ → Type 0) → Type 0
-ForImage told None P = ⊥
-ForImage None (Some name) P = (image : List ℕ) × P image
-ForImage (Some files) (Some name) P = (image : List ℕ) × IsImageOf (bytes_under files name) image × P image
+-- P holds of two texts, which are those of the files where the shelf tells
+abbrev pub ForTexts : Option (List File) → (first second : List ℕ) → (P : List ℕ → List ℕ → Type 0) → Type 0
+ForTexts None first second P = (a b : List ℕ) × P a b
+ForTexts (Some files) first second P = P (bytes_under files first) (bytes_under files second)
 
 -- where the sink tells: a front of the first piece stands behind what it held, and then a front of the second
 abbrev pub AppendsFronts : (old new : Option (List ℕ)) → (first second : List ℕ) → Type 0

@@ -1,6 +1,5 @@
+pub mod Commands
 pub mod Codes
 pub mod Lines
-pub mod Words
-pub mod Asking
 pub mod Answers
 pub mod Mirrors

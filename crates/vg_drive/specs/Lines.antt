@@ -1,10 +1,12 @@
 -- The lines that the program writes to its second sink.
 use Rattle.std.specs.Prelude.{ℕ, List, [], ◌++◌, codes, decimal}
 use Rattle.vg_base.specs.declared.place.Place.{Place}
+use Rattle.vg_hex.specs.declared.fault.HexFault.{HexFault}
+use Rattle.vg_hex.specs.declared.fault.HexFault.TheVariants.{Form, Sum, Twice, Beyond, NoEnd}
 use Rattle.vg_drive.specs.declared.status.Fault.{Fault}
-use Rattle.vg_drive.specs.declared.status.Fault.TheVariants.{NotBuilt}
+use Rattle.vg_drive.specs.declared.status.Fault.TheVariants.{NoTree, TooDeep, NotBuilt}
 use Rattle.vg_drive.specs.declared.status.Status.{Status}
-use Rattle.vg_drive.specs.declared.status.Status.TheVariants.{Done, Refused, Usage, ReadFault, WriteFault, NoMemory, TooLong}
+use Rattle.vg_drive.specs.declared.status.Status.TheVariants.{Done, Refused, Usage, ReadFault, WriteFault, NoMemory, TooLong, Stopped, Wants, Budget, HexRefused, ScriptRefused, BadInstruction}
 
 -- the layout of an image of constants: no static bytes from 0x0100 on, and all SRAM from there for the stack
 abbrev pub layout_text : List ℕ
@@ -15,14 +17,26 @@ abbrev pub place_text : Place → List ℕ
 place_text place = decimal place.line ++ codes ":" ++ decimal place.col
 
 abbrev pub refusal_line : Fault → List ℕ
+refusal_line (NoTree place) = codes "no tree at " ++ place_text place ++ codes "\n"
+refusal_line (TooDeep place) = codes "too deep at " ++ place_text place ++ codes "\n"
 refusal_line (NotBuilt place) = codes "not built at " ++ place_text place ++ codes "\n"
 
--- the line that says why nothing was built; a success has none
+-- the line of a fault of a HEX text: the number of its line, or a byte address, in decimal
+abbrev pub hex_line : HexFault → List ℕ
+hex_line (Form line) = codes "hex form " ++ decimal line ++ codes "\n"
+hex_line (Sum line) = codes "hex sum " ++ decimal line ++ codes "\n"
+hex_line (Twice address) = codes "hex twice " ++ decimal address ++ codes "\n"
+hex_line (Beyond address) = codes "hex beyond " ++ decimal address ++ codes "\n"
+hex_line NoEnd = codes "hex no end\n"
+
+-- the line that says why nothing was built or run; an answer that comes behind all puts has none
 abbrev pub fault_line : Status → List ℕ
-fault_line Done = []
 fault_line (Refused fault) = refusal_line fault
 fault_line Usage = codes "usage\n"
 fault_line ReadFault = codes "read fault\n"
 fault_line WriteFault = codes "write fault\n"
 fault_line NoMemory = codes "no memory\n"
 fault_line TooLong = codes "too long\n"
+fault_line (HexRefused fault) = hex_line fault
+fault_line (ScriptRefused line) = codes "script form " ++ decimal line ++ codes "\n"
+fault_line _ = []

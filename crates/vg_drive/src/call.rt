@@ -1,29 +1,42 @@
 // The top call.
-ghost use Rattle.std.specs.Prelude.{◌≡◌, ◌↔◌, ◌≤◌, ◌⊎◌, ℕ, List, length, None};
-ghost use Rattle.vg_syntax.specs.declared.device_write.DeviceWrite.{DeviceWrite};
-ghost use Rattle.vg_syntax.specs.FirstText.{IsFirst};
-ghost use Rattle.vg_hex.specs.HexText.{hex_text};
+ghost use Rattle.std.specs.Prelude.{◌≡◌, ◌↔◌, ◌≤◌, ◌⊎◌, ℕ, List, length, Some, None};
+ghost use Rattle.vg_base.specs.declared.place.Place.{Place};
 ghost use Rattle.vg_io.specs.Count.{Rose};
 ghost use Rattle.vg_io.specs.Piece.{AppendsAll, AppendsFront};
-ghost use Rattle.vg_drive.specs.Answers.{AppendsFronts, AppendsFrontAndAll, ForFile, ForImage, IsNoFirst};
-ghost use Rattle.vg_drive.specs.Asking.{AsksAll, AsksFront, HasFailed, HasPassedLimit, gained, last_of, requests_of};
-ghost use Rattle.vg_drive.specs.Codes.{IsBeforePuts, IsDoneOrNoMemory, IsSettled, not_built};
-ghost use Rattle.vg_drive.specs.declared.status.Fault.{Fault};
-ghost use Rattle.vg_drive.specs.Lines.{fault_line, layout_text};
-ghost use Rattle.vg_drive.specs.Words.{file_of, words_in};
-ghost use Rattle.vg_drive.specs.Mirrors.{AskedFor, NoteBy, OutBy, TextBy};
+ghost use Rattle.vg_words.specs.Commands.{command_of, words_in};
+ghost use Rattle.vg_words.specs.Views.{command_in};
+ghost use Rattle.vg_fetch.specs.Asking.{AsksAll, AsksFront, HasFailed, HasPassedLimit, gained, last_of};
+ghost use Rattle.vg_fetch.specs.Told.{ForFile, ForFiles};
+ghost use Rattle.vg_syntax.specs.declared.device_write.DeviceWrite.{DeviceWrite};
+ghost use Rattle.vg_syntax.specs.Faults.{NoTreeIn, TooDeepIn};
+ghost use Rattle.vg_syntax.specs.FirstText.{IsFirst};
+ghost use Rattle.vg_hex.specs.HexText.{hex_text};
+ghost use Rattle.vg_hex.specs.HexImage.{HexImage, fault_in};
+ghost use Rattle.vg_hex.specs.declared.fault.HexFault.{HexFault};
+ghost use Rattle.vg_script.specs.Script.{IsScript, Lists, first_bad};
+ghost use Rattle.avr_isa.specs.Machine.{machine};
+ghost use Rattle.vg_simulate.specs.Shown.{ForRun, ending_of, lines_of};
+ghost use Rattle.vg_drive.specs.Answers.{AppendsFronts, AppendsFrontAndAll, ForImage, ForTexts, IsNotBuilt};
+ghost use Rattle.vg_drive.specs.Codes.{IsBeforePuts, IsDoneOrNoMemory, IsSettled, IsShown, first_place, status_of};
+ghost use Rattle.vg_drive.specs.Commands.{IsAnswerOf, OnBuild, OnSim, requests_of, second_text};
+ghost use Rattle.vg_drive.specs.Lines.{fault_line};
+ghost use Rattle.vg_drive.specs.Mirrors.{AnswerBy, CauseBy, FetchedBy, NotedBy};
+ghost use Rattle.vg_drive.specs.declared.status.Fault as fault;
 
 use crate::build::build;
 use crate::fault_line::fault_line;
+use crate::sim::sim;
 use crate::status::Status;
-use crate::words::file_named;
 use std::alloc::Global;
 use vg_io::{Shelf, Sink};
+use vg_words::{Command, command_of};
 
 /// Does what the words behind the program's name say, and answers how it went.
 ///
 /// `build FILE` fetches FILE, which has at most 262,144 bytes, puts the HEX text of its image to `out` in one put, and
-/// then the layout to `note` in one put. Behind every other answer than `Done` it tries one put of the fault line to `note`.
+/// then the layout to `note` in one put. `sim HEX SCRIPT` fetches two texts of at most 1,048,576 bytes each, runs the image of the first
+/// on the second for at most `--steps` instructions, and puts the lines of its trace and of its ending to `out`. Behind an answer that
+/// is no success and no ending it tries one put of the fault line to `note`.
 pub fn run<S: Shelf, O: Sink, N: Sink>(
     alloc: Global,
     words: &[String],
@@ -31,35 +44,61 @@ pub fn run<S: Shelf, O: Sink, N: Sink>(
     out: &mut O,
     note: &mut N,
 ) -> Status
-    // What the words mean.
-    ensures usage { result ≡ Status.Usage ↔ (file_of (words_in words.now) ≡ None) }
+    // What the words mean, and which answers their command may have.
+    ensures usage { result ≡ Status.Usage ↔ (command_of (words_in words.now) ≡ None) }
+    ensures answers { IsAnswerOf (command_of (words_in words.now)) result }
 
     // What the shelf was asked for, and what it gave.
-    ensures asked { AsksFront (S.asked shelf.old) (S.asked shelf.new) (requests_of (file_of (words_in words.now))) }
-    ensures asked_all { IsSettled result → AsksAll (S.asked shelf.old) (S.asked shelf.new) (requests_of (file_of (words_in words.now))) }
+    ensures asked { AsksFront (S.asked shelf.old) (S.asked shelf.new) (requests_of (command_of (words_in words.now))) }
+    ensures asked_all { IsSettled result → AsksAll (S.asked shelf.old) (S.asked shelf.new) (requests_of (command_of (words_in words.now))) }
     ensures read_fault { result ≡ Status.ReadFault → Rose (S.faults shelf.old) (S.faults shelf.new) }
     ensures read_failed { result ≡ Status.ReadFault → HasFailed (last_of (gained (S.asked shelf.old) (S.asked shelf.new))) }
     ensures too_long { result ≡ Status.TooLong ↔ HasPassedLimit (last_of (gained (S.asked shelf.old) (S.asked shelf.new))) }
 
-    // Which texts are refused, and which are built.
-    ensures refused { (fault : Fault) → result ≡ Status.Refused fault → result ≡ not_built }
-    ensures not_built { IsSettled result → ForFile (S.told shelf.old) (file_of (words_in words.now)) (λ bytes. (result ≡ not_built) ↔ IsNoFirst bytes) }
-    ensures complete { ForFile (S.told shelf.old) (file_of (words_in words.now)) (λ bytes.
+    // `build`: which source texts are refused, and which are built.
+    ensures no_tree { IsSettled result → OnBuild (command_of (words_in words.now)) (λ file. ForFile (S.told shelf.old) file (λ bytes.
+        (place : Place) → (result ≡ Status.Refused (fault.Fault.NoTree place)) ↔ NoTreeIn bytes place)) }
+    ensures too_deep { IsSettled result → OnBuild (command_of (words_in words.now)) (λ file. ForFile (S.told shelf.old) file (λ bytes.
+        (place : Place) → (result ≡ Status.Refused (fault.Fault.TooDeep place)) ↔ TooDeepIn bytes place)) }
+    ensures not_built { IsSettled result → OnBuild (command_of (words_in words.now)) (λ file. ForFile (S.told shelf.old) file (λ bytes.
+        (result ≡ Status.Refused (fault.Fault.NotBuilt first_place)) ↔ IsNotBuilt bytes)) }
+    ensures not_built_first { (place : Place) → result ≡ Status.Refused (fault.Fault.NotBuilt place) → place ≡ first_place }
+    ensures complete { OnBuild (command_of (words_in words.now)) (λ file. ForFile (S.told shelf.old) file (λ bytes.
         (writes : List DeviceWrite) → IsFirst bytes writes → length bytes ≤ 262144 → IsDoneOrNoMemory result
-        ⊎ (Rose (S.faults shelf.old) (S.faults shelf.new) ⊎ (Rose (O.faults out.old) (O.faults out.new) ⊎ Rose (N.faults note.old) (N.faults note.new)))) }
+        ⊎ (Rose (S.faults shelf.old) (S.faults shelf.new) ⊎ (Rose (O.faults out.old) (O.faults out.new) ⊎ Rose (N.faults note.old) (N.faults note.new))))) }
 
-    // The image, whole on `out` with Done.
-    ensures headline { result ≡ Status.Done → ForImage (S.told shelf.old) (file_of (words_in words.now)) (λ image. AppendsAll (O.told out.old) (O.told out.new) (hex_text image)) }
-    ensures write_fault { result ≡ Status.WriteFault → Rose (O.faults out.old) (O.faults out.new) ⊎ Rose (N.faults note.old) (N.faults note.new) }
-    ensures out_front { result ≡ Status.WriteFault → ForImage (S.told shelf.old) (file_of (words_in words.now)) (λ image.
+    // `build`: the image, whole on `out` with Done.
+    ensures headline { result ≡ Status.Done → OnBuild (command_of (words_in words.now)) (λ file. ForImage (S.told shelf.old) file (λ image.
+        AppendsAll (O.told out.old) (O.told out.new) (hex_text image))) }
+    ensures out_front { result ≡ Status.WriteFault → OnBuild (command_of (words_in words.now)) (λ file. ForImage (S.told shelf.old) file (λ image.
         AppendsFront (O.told out.old) (O.told out.new) (hex_text image)
-        × (Rose (O.faults out.old) (O.faults out.new) ⊎ AppendsAll (O.told out.old) (O.told out.new) (hex_text image))) }
+        × (Rose (O.faults out.old) (O.faults out.new) ⊎ AppendsAll (O.told out.old) (O.told out.new) (hex_text image)))) }
+
+    // `sim`: which texts are refused.
+    ensures hex_refused { IsSettled result → OnSim (command_of (words_in words.now)) (λ hex script steps. ForFiles (S.told shelf.old) hex script (λ h s.
+        (why : HexFault) → (result ≡ Status.HexRefused why) ↔ (fault_in h ≡ Some why))) }
+    ensures script_refused { IsSettled result → OnSim (command_of (words_in words.now)) (λ hex script steps. ForFiles (S.told shelf.old) hex script (λ h s.
+        (line : ℕ) → (result ≡ Status.ScriptRefused line) ↔ ((fault_in h ≡ None) × (first_bad s ≡ Some line)))) }
+
+    // `sim`: the lines of the machine's trace and of its ending, whole on `out` with the answer of that ending.
+    ensures shown { IsShown result → OnSim (command_of (words_in words.now)) (λ hex script steps. ForTexts (S.told shelf.old) hex script (λ h s.
+        ForRun h s steps (λ m. (Some result ≡ status_of (ending_of m.ended)) × AppendsAll (O.told out.old) (O.told out.new) (lines_of m)))) }
+    ensures lines_front { result ≡ Status.WriteFault → OnSim (command_of (words_in words.now)) (λ hex script steps. ForTexts (S.told shelf.old) hex script (λ h s.
+        ForRun h s steps (λ m. AppendsFront (O.told out.old) (O.told out.new) (lines_of m)))) }
+    ensures sim_complete { OnSim (command_of (words_in words.now)) (λ hex script steps. ForFiles (S.told shelf.old) hex script (λ h s.
+        (image : List ℕ) (lists : Lists) → HexImage h image → IsScript s lists → length h ≤ 1048576 → length s ≤ 1048576
+        → ((Some result ≡ status_of (ending_of (machine image lists.reads lists.interrupts steps).ended)) ⊎ (result ≡ Status.NoMemory))
+        ⊎ (Rose (S.faults shelf.old) (S.faults shelf.new) ⊎ Rose (O.faults out.old) (O.faults out.new)))) }
+
+    // What may fail, and what nothing was put for.
+    ensures write_fault { result ≡ Status.WriteFault → Rose (O.faults out.old) (O.faults out.new) ⊎ Rose (N.faults note.old) (N.faults note.new) }
     ensures out_none { IsBeforePuts result → O.told out.new ≡ O.told out.old }
 
-    // The layout and the fault line, which are whole where the count of `note` did not rise.
-    ensures note_layout { result ≡ Status.Done → AppendsAll (N.told note.old) (N.told note.new) layout_text }
-    ensures note_fronts { result ≡ Status.WriteFault → AppendsFronts (N.told note.old) (N.told note.new) layout_text (fault_line result) }
-    ensures note_line_last { result ≡ Status.WriteFault → Rose (N.faults note.old) (N.faults note.new) ⊎ AppendsFrontAndAll (N.told note.old) (N.told note.new) layout_text (fault_line result) }
+    // The second text of the command and the fault line, which are whole where the count of `note` did not rise.
+    ensures note_second { IsShown result → AppendsAll (N.told note.old) (N.told note.new) (second_text (command_of (words_in words.now))) }
+    ensures note_fronts { result ≡ Status.WriteFault → AppendsFronts (N.told note.old) (N.told note.new) (second_text (command_of (words_in words.now))) (fault_line result) }
+    ensures note_line_last { result ≡ Status.WriteFault → Rose (N.faults note.old) (N.faults note.new)
+        ⊎ AppendsFrontAndAll (N.told note.old) (N.told note.new) (second_text (command_of (words_in words.now))) (fault_line result) }
     ensures note_line_front { IsBeforePuts result → AppendsFront (N.told note.old) (N.told note.new) (fault_line result) }
     ensures note_line { IsBeforePuts result → Rose (N.faults note.old) (N.faults note.new) ⊎ AppendsAll (N.told note.old) (N.told note.new) (fault_line result) }
 {
@@ -76,29 +115,55 @@ fn answer<S: Shelf, O: Sink, N: Sink>(
     out: &mut O,
     note: &mut N,
 ) -> Status
-    ensures asked { AskedFor result (S.asked shelf.old) (S.asked shelf.new) (file_of (words_in words.now)) }
+    ensures fetched { FetchedBy result (S.asked shelf.old) (S.asked shelf.new) (requests_of (command_of (words_in words.now))) }
     ensures read { result ≡ Status.ReadFault → Rose (S.faults shelf.old) (S.faults shelf.new) }
-    ensures text { TextBy result (S.told shelf.old) (file_of (words_in words.now)) }
-    ensures out { OutBy result (S.told shelf.old) (file_of (words_in words.now)) (O.told out.old) (O.told out.new) (Rose (O.faults out.old) (O.faults out.new)) }
-    ensures note { NoteBy result (N.told note.old) (N.told note.new) }
-    ensures cause { result ≡ Status.WriteFault → Rose (O.faults out.old) (O.faults out.new) ⊎ Rose (N.faults note.old) (N.faults note.new) }
+    ensures holds { AnswerBy (command_of (words_in words.now)) result (S.told shelf.old) (O.told out.old) (O.told out.new) (Rose (O.faults out.old) (O.faults out.new)) }
+    ensures note { NotedBy (command_of (words_in words.now)) result (N.told note.old) (N.told note.new) }
+    ensures cause { result ≡ Status.WriteFault → CauseBy (command_of (words_in words.now)) (Rose (O.faults out.old) (O.faults out.new)) (Rose (N.faults note.old) (N.faults note.new)) }
     ensures later { N.faults note.old ≤ N.faults note.new }
 {
-    match file_named(words) {
+    match command_of(words) {
         None => Status::Usage,
-        Some(name) => build(alloc, name, shelf, out, note),
+        Some(command) => obey(alloc, command, shelf, out, note),
     }
 }
 
-// One put of the fault line, of which a success has none. What becomes of it changes nothing.
+// The answer to a command.
+fn obey<S: Shelf, O: Sink, N: Sink>(
+    alloc: Global,
+    command: Command<'_>,
+    shelf: &mut S,
+    out: &mut O,
+    note: &mut N,
+) -> Status
+    ensures fetched { FetchedBy result (S.asked shelf.old) (S.asked shelf.new) (requests_of (Some (command_in command.entry))) }
+    ensures read { result ≡ Status.ReadFault → Rose (S.faults shelf.old) (S.faults shelf.new) }
+    ensures holds { AnswerBy (Some (command_in command.entry)) result (S.told shelf.old) (O.told out.old) (O.told out.new) (Rose (O.faults out.old) (O.faults out.new)) }
+    ensures note { NotedBy (Some (command_in command.entry)) result (N.told note.old) (N.told note.new) }
+    ensures cause { result ≡ Status.WriteFault → CauseBy (Some (command_in command.entry)) (Rose (O.faults out.old) (O.faults out.new)) (Rose (N.faults note.old) (N.faults note.new)) }
+    ensures later { N.faults note.old ≤ N.faults note.new }
+{
+    match command {
+        Command::Build { file } => build(alloc, file, shelf, out, note),
+        Command::Sim { hex, script, steps } => sim(alloc, hex, script, steps, shelf, out),
+    }
+}
+
+// One put of the fault line, of which an answer behind all puts has none. What becomes of it changes nothing.
 fn put_fault_line<N: Sink>(status: &Status, note: &mut N)
-    ensures none { status.now ≡ Status.Done → N.told note.new ≡ N.told note.old }
+    ensures none { IsShown status.now → N.told note.new ≡ N.told note.old }
     ensures front { AppendsFront (N.told note.old) (N.told note.new) (fault_line status.now) }
     ensures whole { Rose (N.faults note.old) (N.faults note.new) ⊎ AppendsAll (N.told note.old) (N.told note.new) (fault_line status.now) }
     ensures later { N.faults note.old ≤ N.faults note.new }
 {
-    if *status == Status::Done {
-        return;
+    match status {
+        Status::Done
+        | Status::Stopped(_)
+        | Status::Wants(_)
+        | Status::Budget
+        | Status::BadInstruction { .. } => {}
+        _ => {
+            let _ = note.put(fault_line(status).as_str().as_bytes());
+        }
     }
-    let _ = note.put(fault_line(status).as_str().as_bytes());
 }

@@ -1,10 +1,12 @@
-// The line that says why nothing was built.
-ghost use Rattle.std.specs.Prelude.{◌≡◌};
-ghost use Rattle.vg_drive.specs.Lines.{fault_line, refusal_line};
+// The line that says why nothing was built or run.
+ghost use Rattle.std.specs.Prelude.{◌≡◌, ◌++◌, ℕ, decimal, codes, length, ◌≤◌};
+ghost use Rattle.vg_drive.specs.Lines.{fault_line, hex_line, refusal_line, place_text};
 
 use crate::status::{Fault, Status};
 use arrayvec::ArrayString;
 use itoa::Buffer;
+use vg_base::Place;
+use vg_hex::HexFault;
 
 /// The bytes of the longest fault line: a place has two numbers of at most ten digits.
 pub const LONGEST_LINE: usize = 40;
@@ -15,13 +17,19 @@ pub fn fault_line(status: &Status) -> ArrayString<LONGEST_LINE>
 {
     let mut line = ArrayString::new();
     match status {
-        Status::Done => {}
         Status::Refused(fault) => return refusal_line(fault),
+        Status::HexRefused(fault) => return hex_line(fault),
+        Status::ScriptRefused(number) => return numbered_line("script form ", *number),
         Status::Usage => line.push_str("usage\n"),
         Status::ReadFault => line.push_str("read fault\n"),
         Status::WriteFault => line.push_str("write fault\n"),
         Status::NoMemory => line.push_str("no memory\n"),
         Status::TooLong => line.push_str("too long\n"),
+        Status::Done
+        | Status::Stopped(_)
+        | Status::Wants(_)
+        | Status::Budget
+        | Status::BadInstruction { .. } => {}
     }
     line
 }
@@ -29,23 +37,58 @@ pub fn fault_line(status: &Status) -> ArrayString<LONGEST_LINE>
 fn refusal_line(fault: &Fault) -> ArrayString<LONGEST_LINE>
     ensures { result.bytes ≡ refusal_line fault.now }
 {
-    let mut line = ArrayString::new();
     match fault {
-        Fault::NotBuilt(place) => {
-            line.push_str("not built at ");
-            line.push_str(Buffer::new().format(place.line));
-            line.push_str(":");
-            line.push_str(Buffer::new().format(place.col));
-            line.push_str("\n");
+        Fault::NoTree(place) => placed_line("no tree at ", *place),
+        Fault::TooDeep(place) => placed_line("too deep at ", *place),
+        Fault::NotBuilt(place) => placed_line("not built at ", *place),
+    }
+}
+
+fn hex_line(fault: &HexFault) -> ArrayString<LONGEST_LINE>
+    ensures { result.bytes ≡ hex_line fault.now }
+{
+    match fault {
+        HexFault::Form(line) => numbered_line("hex form ", *line),
+        HexFault::Sum(line) => numbered_line("hex sum ", *line),
+        HexFault::Twice(address) => numbered_line("hex twice ", *address),
+        HexFault::Beyond(address) => numbered_line("hex beyond ", *address),
+        HexFault::NoEnd => {
+            let mut line = ArrayString::new();
+            line.push_str("hex no end\n");
+            line
         }
     }
+}
+
+// What it says, and then a place.
+fn placed_line(says: &str, place: Place) -> ArrayString<LONGEST_LINE>
+    requires { length says.now ≤ 16 }
+    ensures { result.bytes ≡ says.now ++ place_text place ++ codes "\n" }
+{
+    let mut line = ArrayString::new();
+    line.push_str(says);
+    line.push_str(Buffer::new().format(place.line));
+    line.push_str(":");
+    line.push_str(Buffer::new().format(place.col));
+    line.push_str("\n");
+    line
+}
+
+// What it says, and then a number.
+fn numbered_line(says: &str, number: u32) -> ArrayString<LONGEST_LINE>
+    requires { length says.now ≤ 16 }
+    ensures { result.bytes ≡ says.now ++ decimal number ++ codes "\n" }
+{
+    let mut line = ArrayString::new();
+    line.push_str(says);
+    line.push_str(Buffer::new().format(number));
+    line.push_str("\n");
     line
 }
 
 #[cfg(test)]
 mod tests {
     use super::*;
-    use vg_base::Place;
 
     // The longest line has the largest line and column.
     #[test]
@@ -60,7 +103,28 @@ mod tests {
                 Status::Refused(Fault::NotBuilt(far)),
                 "not built at 4294967295:4294967295\n",
             ),
+            (
+                Status::Refused(Fault::NoTree(Place { line: 3, col: 17 })),
+                "no tree at 3:17\n",
+            ),
+            (
+                Status::Refused(Fault::TooDeep(Place { line: 1, col: 96 })),
+                "too deep at 1:96\n",
+            ),
             (Status::NoMemory, "no memory\n"),
+            (Status::HexRefused(HexFault::Form(1)), "hex form 1\n"),
+            (Status::HexRefused(HexFault::Sum(20)), "hex sum 20\n"),
+            (Status::HexRefused(HexFault::Twice(0)), "hex twice 0\n"),
+            (
+                Status::HexRefused(HexFault::Beyond(4294967295)),
+                "hex beyond 4294967295\n",
+            ),
+            (Status::HexRefused(HexFault::NoEnd), "hex no end\n"),
+            (Status::ScriptRefused(2), "script form 2\n"),
+            (Status::Stopped(1), ""),
+            (Status::Wants(57), ""),
+            (Status::Budget, ""),
+            (Status::BadInstruction { pc: 0, word: 65535 }, ""),
         ];
         for (status, line) in rows {
             assert_eq!(rt; fault_line(&status).as_str(), line);

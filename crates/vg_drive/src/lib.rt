@@ -1,14 +1,16 @@
-//! The top call: the words of a command come in, a shelf is asked for the source text, and a HEX text, a layout and a status go out.
+//! The top call: the words of a command come in, a shelf is asked for its files, and an image or a trace, a note and a status go out.
 #![tactic(auto)]
 
 mod build;
 mod call;
 mod fault_line;
+mod sim;
 mod status;
-mod words;
 
 pub use call::run;
 pub use status::{Fault, Status};
 
+#[cfg(test)]
+mod sim_tests;
 #[cfg(test)]
 mod tests;

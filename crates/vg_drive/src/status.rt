@@ -2,13 +2,14 @@
 ghost use Rattle.std.specs.Prelude.{◌≡◌};
 
 use vg_base::Place;
+use vg_hex::HexFault;
 
 /// How a call of the program ends.
 #[derive(Clone, Copy, Debug, PartialEq, Eq)]
 pub enum Status {
-    /// All was put.
+    /// All was put. The machine of `sim` sleeps, and no interrupt is left.
     Done,
-    /// The text was refused.
+    /// The source text was refused.
     Refused(Fault),
     /// The words have no meaning.
     Usage,
@@ -20,12 +21,28 @@ pub enum Status {
     NoMemory,
     /// A file has more bytes than its limit.
     TooLong,
+    /// The machine has stopped, with this code.
+    Stopped(u8),
+    /// The machine reads the device register at this data address, and no read is left.
+    Wants(u8),
+    /// As many instructions ran as were allowed, and none of them ended the run.
+    Budget,
+    /// The HEX text has this fault, its first.
+    HexRefused(HexFault),
+    /// The line of this number, from 1 on, is the script's first that is none.
+    ScriptRefused(u32),
+    /// At this word address stands this word, which is no instruction or touches a data address that it must not.
+    BadInstruction { pc: u16, word: u16 },
 }
 
-/// Why a text was refused.
+/// Why a source text was refused.
 #[derive(Clone, Copy, Debug, PartialEq, Eq)]
 pub enum Fault {
-    /// A form that is not built yet stands at this place.
+    /// The token at this place, or the end, is the first that no text of the language has there.
+    NoTree(Place),
+    /// The bracket at this place is the first that is a 65th open one, in a text that could still go on.
+    TooDeep(Place),
+    /// The text is one of the language, and a form that is not built yet stands at this place.
     NotBuilt(Place),
 }
 
@@ -44,6 +61,12 @@ impl Status {
             Status::WriteFault => 4,
             Status::NoMemory => 5,
             Status::TooLong => 6,
+            Status::Stopped(_) => 7,
+            Status::Wants(_) => 8,
+            Status::Budget => 9,
+            Status::HexRefused(_) => 11,
+            Status::ScriptRefused(_) => 12,
+            Status::BadInstruction { .. } => 13,
         }
     }
 }

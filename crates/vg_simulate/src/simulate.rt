@@ -1,5 +1,5 @@
 // One simulation.
-ghost use Rattle.std.specs.Prelude.{◌≡◌, ◌≤◌, ℕ, List, length, Option, Some, None};
+ghost use Rattle.std.specs.Prelude.{◌≡◌, ◌≢◌, ◌≤◌, ℕ, List, length, Option, Some, None};
 ghost use Rattle.vg_io.specs.Count.{Rose};
 ghost use Rattle.vg_io.specs.Piece.{AppendsAll, AppendsFront};
 ghost use Rattle.vg_hex.specs.HexImage.{fault_in};
@@ -44,6 +44,7 @@ pub fn simulate_text<O: Sink>(
     requires hex { length hex.now ≤ 1048576 }
     requires script { length script.now ≤ 1048576 }
     ensures ended { (line : EndLine) → result ≡ Simulated.Ended line → ForRun hex.now script.now budget (λ m. (line ≡ ending_of m.ended) × AppendsAll (O.told out.old) (O.told out.new) (lines_of m)) }
+    ensures no_depth { result ≢ Simulated.Ended EndLine.Depth }
     ensures write_fault { result ≡ Simulated.WriteFault → ForRun hex.now script.now budget (λ m. AppendsFront (O.told out.old) (O.told out.new) (lines_of m)) }
     ensures cause { result ≡ Simulated.WriteFault → Rose (O.faults out.old) (O.faults out.new) }
     ensures hex_refused { (fault : HexFault) → result ≡ Simulated.HexRefused fault → fault_in hex.now ≡ Some fault }
@@ -69,6 +70,7 @@ pub fn simulate_text<O: Sink>(
 
 // The run of a machine at reset, with the line of its ending.
 fn put_run<O: Sink>(started: Machine, script: &Script, budget: u32, out: &mut O) -> Simulated
+    ensures no_depth { result ≢ Simulated.Ended EndLine.Depth }
     ensures shown { Shows (machine started script.now.reads script.now.interrupts budget) (O.told out.old) (O.told out.new) result }
     ensures cause { result ≡ Simulated.WriteFault → Rose (O.faults out.old) (O.faults out.new) }
     ensures later { O.faults out.old ≤ O.faults out.new }
@@ -84,7 +86,8 @@ fn put_run<O: Sink>(started: Machine, script: &Script, budget: u32, out: &mut O)
 
 // The ending that an answer tells, and none where a put failed.
 fn line_told(end: MachineEnd) -> Option<EndLine>
-    ensures { result ≡ line_told end }
+    ensures told { result ≡ line_told end }
+    ensures no_depth { result ≢ Some EndLine.Depth }
 {
     match end {
         MachineEnd::Idle => Some(EndLine::Idle),
