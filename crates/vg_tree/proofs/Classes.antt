@@ -1,0 +1,150 @@
+-- The first class of a name in a row of declarations.
+use Rattle.std.proofs.Common.{◌≡◌, ℕ, zero, suc, ◌+◌, ◌<◌, Bool, true, false, List, [], ◌∷◌, Some, None, length, drop, get_or, refl, sym, ap, ◌∙◌, arith}
+use Rattle.std.specs.Prelude.{◌==◌, if◌then◌else◌}
+use Rattle.std.specs.Str.{bytes_eq}
+use Rattle.std.proofs.lemmas.Slice.Eq.{bytes_eq-Decides}
+use Rattle.vg_tree.specs.declared.node.Node as held
+use Rattle.vg_syntax.specs.Tree.{Node, Then, ClassDecl}
+use Rattle.vg_syntax.specs.Numbering.{count_nodes, numbered}
+use Rattle.vg_tree.specs.Held.{text_at, node_at, nodes_at, arms_at, arm_at, row_at}
+use Rattle.vg_tree.specs.Lookups.{IsOnly, class_in, first_class}
+use Rattle.vg_tree.specs.Classes.{names_class, is_row, is_text}
+use Rattle.vg_tree.proofs.Alike.{alike}
+
+is_class_decl : Node → Bool
+is_class_decl (ClassDecl at name above members) = true
+is_class_decl _ = false
+
+is_held_class : held.Node → Bool
+is_held_class (held.ClassDecl' place name above p members) = true
+is_held_class _ = false
+
+skip : (name : List ℕ) (first rest : Node) → is_class_decl first ≡ false → class_in name (Then first rest) ≡ class_in name rest
+unfolding is_class_decl
+skip name (ClassDecl at other above members) rest e = absurd (let clash : true ≡ false = e in cc)
+skip name _ rest e = refl
+
+numbered_class : (i : ℕ) (n : Node) → is_class_decl (numbered i n) ≡ is_class_decl n
+unfolding is_class_decl
+numbered_class i (ClassDecl at name above members) = refl
+numbered_class i _ = refl
+
+row_no_class : (texts : List (List ℕ)) {m : _} (all : held.Row_of-Node m) → is_class_decl (nodes_at texts all) ≡ false
+unfolding is_class_decl
+row_no_class texts held.end_of-Node = refl
+row_no_class texts (held.more_of-Node n rest) = refl
+
+arms_no_class : (texts : List (List ℕ)) {m : _} (all : held.Row_of-Node m) → is_class_decl (arms_at texts all) ≡ false
+unfolding is_class_decl
+arms_no_class texts held.end_of-Node = refl
+arms_no_class texts (held.more_of-Node n rest) = before n (arms_at texts rest) (arms_no_class texts rest)
+  where
+    before : (n : held.Node) (r : Node) → is_class_decl r ≡ false → is_class_decl (arm_at texts n r) ≡ false
+    before (held.Pair' p c q b) r e = refl
+    before _ r e = e
+
+other_no_class : (texts : List (List ℕ)) (n : held.Node) → is_held_class n ≡ false → is_class_decl (node_at texts n) ≡ false
+unfolding is_class_decl is_held_class
+other_no_class texts (held.ClassDecl' place name above p members) e = absurd (let clash : true ≡ false = e in cc)
+other_no_class texts (held.Row' shape all) e = row_no_class texts all
+other_no_class texts (held.Arms' shape all) e = arms_no_class texts all
+other_no_class texts _ e = refl
+
+equal : (a b : ℕ) → (a == b) ≡ true → a ≡ b
+equal a b e = grind arith
+
+unequal : (a b : ℕ) → (a == b) ≡ false → a ≡ b → ⊥
+unequal a b e f = grind arith
+
+here : (texts : List (List ℕ)) (name : ℕ) (n : held.Node) (i : ℕ) (rest : Node) → names_class name n ≡ true → class_in (text_at texts name) (numbered i (Then (node_at texts n) rest)) ≡ Some i
+here texts name (held.ClassDecl' place other above p members) i rest e =
+    found (bytes_eq (text_at texts other) (text_at texts name)) refl
+  where
+    found : (q : Bool) → bytes_eq (text_at texts other) (text_at texts name) ≡ q
+        → (if q then Some i else class_in (text_at texts name) (numbered (i + count_nodes (node_at texts (held.ClassDecl' place other above p members))) rest)) ≡ Some i
+    found true f = refl
+    found false f =
+        let same : bytes_eq (text_at texts other) (text_at texts name) ≡ true = (bytes_eq-Decides (text_at texts other) (text_at texts name)).1 (ap (text_at texts) (equal other name e)) in
+        absurd (let clash : false ≡ true = sym f ∙ same in cc)
+here texts name _ i rest e = absurd cc
+
+later : (texts : List (List ℕ)) (name : ℕ) (n : held.Node) (i : ℕ) (rest : Node) → IsOnly texts name → names_class name n ≡ false
+    → class_in (text_at texts name) (numbered i (Then (node_at texts n) rest)) ≡ class_in (text_at texts name) (numbered (i + count_nodes (node_at texts n)) rest)
+unfolding is_held_class
+later texts name (held.ClassDecl' place other above p members) i rest only e =
+    passed (bytes_eq (text_at texts other) (text_at texts name)) refl
+  where
+    behind : Node
+    behind = numbered (i + count_nodes (node_at texts (held.ClassDecl' place other above p members))) rest
+
+    passed : (q : Bool) → bytes_eq (text_at texts other) (text_at texts name) ≡ q
+        → (if q then Some i else class_in (text_at texts name) (numbered (i + count_nodes (node_at texts (held.ClassDecl' place other above p members))) rest))
+        ≡ class_in (text_at texts name) (numbered (i + count_nodes (node_at texts (held.ClassDecl' place other above p members))) rest)
+    passed true f = absurd (unequal other name e (only other ((bytes_eq-Decides (text_at texts other) (text_at texts name)).0 f)))
+    passed false f = refl
+later texts name n i rest only e =
+    skip (text_at texts name) (numbered i (node_at texts n)) (numbered (i + count_nodes (node_at texts n)) rest) (numbered_class i (node_at texts n) ∙ other_no_class texts n refl)
+
+-- the first class of the whole row is that of what is left, and the nodes passed have the numbers before
+pub record Seeking (name : ℕ) (whole : held.Node) (left : List held.Node) (next : ℕ) : Type 0 where
+  pub class : (texts : List (List ℕ)) → IsOnly texts name → class_in (text_at texts name) (numbered next (row_at texts left)) ≡ class_in (text_at texts name) (numbered 1 (node_at texts whole))
+  pub room : next + count_nodes (row_at [] left) ≡ 1 + count_nodes (node_at [] whole)
+
+pub seeking_starts : (name : ℕ) (whole : held.Node) (left : List held.Node) → ((texts : List (List ℕ)) → node_at texts whole ≡ row_at texts left) → Seeking name whole left 1
+seeking_starts name whole left e = record {
+  class = λ texts only. sym (ap (λ n. class_in (text_at texts name) (numbered 1 n)) (e texts));
+  room = sym (ap (λ n. 1 + count_nodes n) (e []));
+}
+
+pub seeking_here : (name : ℕ) (whole : held.Node) (n : held.Node) (left : List held.Node) (next : ℕ) → Seeking name whole (n ∷ left) next → names_class name n ≡ true
+    → (texts : List (List ℕ)) → IsOnly texts name → Some next ≡ class_in (text_at texts name) (numbered 1 (node_at texts whole))
+seeking_here name whole n left next s e texts only = sym (here texts name n next (row_at texts left) e) ∙ s.class texts only
+
+pub seeking_on : (name : ℕ) (whole : held.Node) (n : held.Node) (left : List held.Node) (next later_on : ℕ) → Seeking name whole (n ∷ left) next → names_class name n ≡ false
+    → later_on ≡ next + count_nodes (node_at [] n) → Seeking name whole left later_on
+seeking_on name whole n left next later_on s e f = record {
+  class = λ texts only.
+      let same : later_on ≡ next + count_nodes (node_at texts n) = f ∙ sym (ap (λ k. next + k) (alike texts n).nodes) in
+      ap (λ i. class_in (text_at texts name) (numbered i (row_at texts left))) same
+      ∙ sym (later texts name n next (row_at texts left) only e)
+      ∙ s.class texts only;
+  room = let r = s.room in omega (arith, r, f);
+}
+
+pub left_of : (nodes : List held.Node) (i : ℕ) (n : held.Node) → i < length nodes → get_or nodes i n ≡ n → drop i nodes ≡ n ∷ drop (i + 1) nodes
+left_of [] i n h e = absurd (omega (arith, h))
+left_of (m ∷ nodes) zero n h e = ap (λ (k : held.Node). k ∷ nodes) e
+left_of (m ∷ nodes) (suc i) n h e = let one : suc i + 1 ≡ suc (i + 1) = omega arith in left_of nodes i n (omega (arith, h)) e ∙ ap (λ j. n ∷ drop j (m ∷ nodes)) (sym one)
+
+-- what is no row has no class
+arms_no_row : (texts : List (List ℕ)) (name : List ℕ) (i : ℕ) {m : _} (all : held.Row_of-Node m) → class_in name (numbered i (arms_at texts all)) ≡ None
+arms_no_row texts name i held.end_of-Node = refl
+arms_no_row texts name i (held.more_of-Node n rest) = before n (arms_at texts rest) (arms_no_row texts name i rest)
+  where
+    before : (n : held.Node) (r : Node) → class_in name (numbered i r) ≡ None → class_in name (numbered i (arm_at texts n r)) ≡ None
+    before (held.Pair' p c q b) r e = refl
+    before _ r e = e
+
+pub no_row : (texts : List (List ℕ)) (name : List ℕ) (i : ℕ) (n : held.Node) → is_row n ≡ false → class_in name (numbered i (node_at texts n)) ≡ None
+no_row texts name i (held.Row' shape all) e = absurd cc
+no_row texts name i (held.Arms' shape all) e = arms_no_row texts name i all
+no_row texts name i _ e = refl
+
+-- what is no text has no class
+row_no_text : (texts : List (List ℕ)) (name : List ℕ) (i : ℕ) {m : _} (all : held.Row_of-Node m) → first_class name (numbered i (nodes_at texts all)) ≡ None
+row_no_text texts name i held.end_of-Node = refl
+row_no_text texts name i (held.more_of-Node n rest) = refl
+
+arms_no_text : (texts : List (List ℕ)) (name : List ℕ) (i : ℕ) {m : _} (all : held.Row_of-Node m) → first_class name (numbered i (arms_at texts all)) ≡ None
+arms_no_text texts name i held.end_of-Node = refl
+arms_no_text texts name i (held.more_of-Node n rest) = before n (arms_at texts rest) (arms_no_text texts name i rest)
+  where
+    before : (n : held.Node) (r : Node) → first_class name (numbered i r) ≡ None → first_class name (numbered i (arm_at texts n r)) ≡ None
+    before (held.Pair' p c q b) r e = refl
+    before _ r e = e
+
+pub no_text : (texts : List (List ℕ)) (name : List ℕ) (i : ℕ) (n : held.Node) → is_text n ≡ false → first_class name (numbered i (node_at texts n)) ≡ None
+no_text texts name i (held.Text' place p declarations) e = absurd cc
+no_text texts name i (held.Row' shape all) e = row_no_text texts name i all
+no_text texts name i (held.Arms' shape all) e = arms_no_text texts name i all
+no_text texts name i _ e = refl

@@ -1,0 +1,5 @@
+pub mod Rows
+pub mod Passing
+pub mod Numbers
+pub mod Alike
+pub mod Classes

@@ -1,0 +1,4 @@
+pub mod Held
+pub mod Lookups
+pub mod Walks
+pub mod Classes
