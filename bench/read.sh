@@ -2,6 +2,8 @@
 # Times how long texts of 1 KB to 256 KB are read, by the command `build`, which refuses them once they are read.
 # The start of the program, with an empty text, is shown first and is subtracted. Behind a time stands the exponent of
 # its growth since the text before: 1 where time is in proportion to the text, 2 where it grows with its square.
+# Then come texts of 128 KB and 256 KB (262,144 bytes, the most that is read) whose tokens have one byte each, which is as
+# many tokens as a text can have, with the most memory that a run takes.
 set -eu
 here=$(cd "$(dirname "$0")" && pwd)
 top=$(dirname "$here")
@@ -23,6 +25,18 @@ text() {
       printf "%s", line
     }
     printf "  method main() { }\n}\nprogram P { entry main = Main.main; }\n"
+  }'
+}
+
+# A text of so many bytes: one method, whose body begins with one word and ends with another, and between them as often as fits a third.
+dense() {
+  awk -v size="$1" -v front="$2" -v unit="$3" -v back="$4" 'BEGIN {
+    head = "component Main { method main() { " front
+    tail = back " } }\nprogram P { entry main = Main.main; }\n"
+    count = int((size - length(head) - length(tail)) / length(unit))
+    printf "%s", head
+    for (i = 0; i < count; i++) printf "%s", unit
+    printf "%s", tail
   }'
 }
 
@@ -55,3 +69,23 @@ for kb in 1 2 4 8 16 32 64 128 256; do
   before=$now
   size_before=$size
 done
+while IFS='|' read -r name front unit back; do
+  before=
+  for size in 131072 262144; do
+    dense "$size" "$front" "$unit" "$back" > "$work/text.vg"
+    now=$(($(least "$work/text.vg") - start))
+    memory=$(/usr/bin/time -f %M "$program" build "$work/text.vg" 2>&1 > /dev/null < /dev/null | tail -n 1)
+    awk -v name="$name" -v size="$size" -v now="$now" -v before="$before" -v memory="$memory" 'BEGIN {
+      printf "%s, %d bytes: %.0f ms, %.0f MB", name, size, now / 1000000, memory / 1024
+      if (before > 0) printf ", exponent %.2f", log(now / before) / log(2)
+    }'
+    echo " ($(head -n 1 "$work/note"))"
+    before=$now
+  done
+done << 'TEXTS'
+statements|x;|x;|x;
+sums|x|+x|;
+arguments|f(x|,x|);
+indices|x|[x]|;
+blocks|{}|{}|{}
+TEXTS

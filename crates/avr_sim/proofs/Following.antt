@@ -200,10 +200,6 @@ pub follow_ends : (flash : List ℕ) (n budget : ℕ) (first m : State) (o : Opt
 follow_ends flash n budget first m None a b f e h = absurd (cc)
 follow_ends flash n budget first m (Some end) a b f e h = at_end flash n budget first m a b f (stays flash n f.state (end_of end) (f.same.ended ∙ sym e))
 
-pub follow_spent : (flash : List ℕ) (n budget : ℕ) (first m : State) (a b : Option (List ℕ)) → Follows flash n budget first m a b → n ≡ 0
-    → (m.ended ≡ (run_from flash budget first).ended) × AppendsAll a b (trace_lines (run_from flash budget first).outside.trace)
-follow_spent flash n budget first m a b f e = at_end flash n budget first m a b f (ap (λ k. run_from flash k f.state) e)
-
 -- the run from reset, by what the code says of its own
 pub told_ending : (flash flash' reads interrupts reads' interrupts' : List ℕ) (budget : ℕ) (first m : State) (o : Option RunEnd) (result : MachineAnswer)
     → flash' ≡ flash → reads' ≡ reads → interrupts' ≡ interrupts → first ≡ unstacked (started reads' interrupts')

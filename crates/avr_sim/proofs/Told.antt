@@ -1,7 +1,6 @@
 -- What a sink holds behind several puts.
-use Rattle.std.proofs.Common.{◌≡◌, ℕ, ◌≤◌, List, [], ◌++◌, length, take, drop, Option, Some, None, refl, sym, ap, ◌∙◌, arith, append_assoc, append-nil, inl, inr, take-append-drop}
+use Rattle.std.proofs.Common.{◌≡◌, ℕ, List, [], ◌++◌, length, take, drop, Option, Some, None, refl, sym, ap, ◌∙◌, append_assoc, append-nil, take-append-drop}
 use Rattle.std.proofs.Math.Seq.{take-append_seam}
-use Rattle.vg_io.specs.Count.{Rose}
 use Rattle.vg_io.specs.Piece.{AppendsAll, AppendsFront}
 
 pub appends_nothing : (a : Option (List ℕ)) → AppendsAll a a []
@@ -30,7 +29,3 @@ appends_front (Some a) (Some b) c x y z h k =
       k.1 ∙ ap (λ l. Some (l ++ take k.0 y)) e ∙ ap Some (append_assoc a x (take k.0 y))
           ∙ ap (λ l. Some (a ++ l)) (sym (take-append_seam front (drop k.0 y ++ z))) ∙ ap (λ l. Some (a ++ take (length front) l)) (sym whole),
     )
-
-pub rose_since : (a b c : ℕ) → a ≤ b → Rose b c → Rose a c
-rose_since a b c h (inl k) = inl (omega (arith, h, k))
-rose_since a b c h (inr k) = inr k

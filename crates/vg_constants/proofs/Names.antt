@@ -9,7 +9,6 @@ use Rattle.vg_syntax.specs.Lexemes.{is_hexadecimal}
 use Rattle.vg_syntax.specs.FirstText.{FirstAssignment, FirstRegister, First, IsByteNumber, IsAssignment, address_of, AreRegisters, FirstFits, write_of, writes_of}
 use Rattle.vg_syntax.specs.Tree.{Spot, Node, Then, EntryDecl}
 use Rattle.vg_syntax.specs.Tree as tree
-use Rattle.vg_meaning.specs.Code.{Code, Nothing, Do}
 use Rattle.vg_meaning.specs.Code as code
 use Rattle.vg_source.specs.Names.{Name, same_name}
 use Rattle.vg_source.specs.Values.{Raw, default}

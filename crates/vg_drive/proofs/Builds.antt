@@ -1,21 +1,19 @@
 -- What an answer of `build` says: where a text is refused, and where it is built.
-use Rattle.std.proofs.Common.{◌≡◌, ℕ, ◌≤◌, ◌<◌, ◌⊎◌, ◌↔◌, List, length, Option, Some, None, refl, sym, ap, subst, arith, inl, inr}
+use Rattle.std.proofs.Common.{◌≡◌, ℕ, ◌≤◌, ◌⊎◌, ◌↔◌, List, length, Option, Some, None, refl, ap, subst, arith, inl, inr}
 use Rattle.vg_base.specs.declared.place.Place.{Place}
 use Rattle.vg_io.specs.Files.{bytes_under}
-use Rattle.vg_io.specs.Piece.{AppendsAll, AppendsFront}
 use Rattle.vg_io.specs.declared.file.File.{File}
 use Rattle.vg_fetch.specs.Told.{ForFile}
 use Rattle.vg_syntax.specs.declared.device_write.DeviceWrite.{DeviceWrite}
-use Rattle.vg_syntax.specs.Faults.{IsText, NoTreeIn, TooDeepIn}
+use Rattle.vg_syntax.specs.Faults.{NoTreeIn, TooDeepIn}
 use Rattle.vg_syntax.specs.FirstText.{IsFirst}
 use Rattle.vg_reader.proofs.Once.{no_fault, not_deep, one_cause, one_end, one_bracket}
-use Rattle.vg_first_parse.proofs.Texts.{first_is_text, first_has_no_fault, first_is_not_deep}
-use Rattle.vg_hex.specs.HexText.{hex_text}
+use Rattle.vg_first_parse.proofs.Texts.{first_has_no_fault, first_is_not_deep}
 use Rattle.vg_drive.specs.declared.status.Fault.{Fault}
 use Rattle.vg_drive.specs.declared.status.Fault.TheVariants.{NoTree, TooDeep, NotBuilt}
 use Rattle.vg_drive.specs.declared.status.Status.{Status}
 use Rattle.vg_drive.specs.declared.status.Status.TheVariants.{Done, Refused, Usage, ReadFault, WriteFault, NoMemory, TooLong, Stopped, Wants, Budget, HexRefused, ScriptRefused, BadInstruction}
-use Rattle.vg_drive.specs.Answers.{ForImage, IsImageOf, IsNoFirst, IsNotBuilt}
+use Rattle.vg_drive.specs.Answers.{ForImage, IsNotBuilt}
 use Rattle.vg_drive.specs.Codes.{IsDoneOrNoMemory, IsSettled, first_place}
 use Rattle.vg_drive.specs.Commands.{IsAnswerOfBuild}
 use Rattle.vg_drive.specs.Mirrors.{BuildBy, HasFault, StandsFirst}

@@ -1,8 +1,7 @@
 -- How the requests went, by the answer.
-use Rattle.std.proofs.Common.{◌≡◌, ℕ, List, [], Option, Some, None, refl, inl, inr, ◌↔◌}
+use Rattle.std.proofs.Common.{◌≡◌, List, None, refl, inl, inr, ◌↔◌}
 use Rattle.vg_io.specs.declared.asked.Asked.{Asked}
 use Rattle.vg_fetch.specs.Asking.{AsksAll, AsksFront, Fetched, HasFailed, HasPassedLimit, Request, gained, last_of}
-use Rattle.vg_fetch.specs.declared.fetch.NoFile.TheVariants as missing
 use Rattle.vg_drive.specs.declared.status.Status.{Status}
 use Rattle.vg_drive.specs.declared.status.Status.TheVariants.{Done, Refused, Usage, ReadFault, WriteFault, NoMemory, TooLong, Stopped, Wants, Budget, HexRefused, ScriptRefused, BadInstruction}
 use Rattle.vg_drive.specs.Codes.{IsSettled}

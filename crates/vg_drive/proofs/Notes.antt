@@ -1,6 +1,5 @@
 -- What the second sink holds, behind the second text and the fault line.
-use Rattle.std.proofs.Common.{◌≡◌, ℕ, ◌⊎◌, List, [], ◌++◌, length, take, Option, Some, None, refl, sym, ap, ◌∙◌, subst, arith, inl, inr, append-nil}
-use Rattle.std.proofs.lemmas.List.{take_all, append_assoc}
+use Rattle.std.proofs.Common.{◌≡◌, ℕ, ◌⊎◌, List, [], ◌++◌, take, Option, Some, None, sym, ap, ◌∙◌, subst, inl, inr, append-nil}
 use Rattle.vg_io.specs.Piece.{AppendsAll, AppendsFront}
 use Rattle.vg_words.specs.Commands.{Command, Build, Sim}
 use Rattle.vg_drive.specs.declared.status.Status.{Status}

@@ -1,6 +1,5 @@
 -- What an answer of `sim` says: which texts are refused, and what is shown.
 use Rattle.std.proofs.Common.{◌≡◌, ℕ, ◌≤◌, ◌<◌, ◌⊎◌, ◌↔◌, List, length, Option, Some, None, refl, sym, ap, ◌∙◌, subst, arith, inl, inr}
-use Rattle.vg_io.specs.Files.{bytes_under}
 use Rattle.vg_io.specs.Piece.{AppendsAll, AppendsFront}
 use Rattle.vg_io.specs.declared.file.File.{File}
 use Rattle.vg_fetch.specs.Told.{ForFiles}
@@ -12,7 +11,6 @@ use Rattle.vg_script.specs.declared.traces.EndLine.{EndLine}
 use Rattle.vg_script.specs.declared.traces.EndLine.TheVariants as ends
 use Rattle.avr_isa.specs.Machine.{State, machine}
 use Rattle.vg_simulate.specs.Shown.{ForRun, ending_of, lines_of}
-use Rattle.vg_simulate.specs.declared.simulate.Simulated.{Simulated}
 use Rattle.vg_drive.specs.declared.status.Status.{Status}
 use Rattle.vg_drive.specs.declared.status.Status.TheVariants.{Done, Refused, Usage, ReadFault, WriteFault, NoMemory, TooLong, Stopped, Wants, Budget, HexRefused, ScriptRefused, BadInstruction}
 use Rattle.vg_drive.specs.Answers.{ForTexts}

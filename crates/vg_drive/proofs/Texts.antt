@@ -1,16 +1,16 @@
 -- What holds of bytes that were given whole holds of their files.
-use Rattle.std.proofs.Common.{◌≡◌, ℕ, ◌<◌, ◌⊎◌, List, ◌++◌, length, Option, Some, None, sym, ap, ◌∙◌, subst, arith}
+use Rattle.std.proofs.Common.{◌≡◌, ℕ, List, ◌++◌, length, Option, Some, None, sym, ap, ◌∙◌, subst, arith}
 use Rattle.std.proofs.lemmas.List.{take_all}
 use Rattle.vg_io.specs.declared.file.File.{File}
 use Rattle.vg_io.specs.Files.{bytes_under}
 use Rattle.vg_io.specs.Piece.{AppendsAll, AppendsFront}
-use Rattle.vg_fetch.specs.Told.{ForFile, ForFiles}
+use Rattle.vg_fetch.specs.Told.{ForFiles}
 use Rattle.vg_syntax.specs.declared.device_write.DeviceWrite.{DeviceWrite}
 use Rattle.vg_syntax.specs.FirstText.{IsFirst}
 use Rattle.vg_hex.specs.HexImage.{HexImage}
 use Rattle.vg_hex.specs.HexText.{hex_text}
 use Rattle.vg_hex.proofs.Again.{one_image}
-use Rattle.vg_drive.specs.Answers.{ForImage, ForTexts, IsImageOf}
+use Rattle.vg_drive.specs.Answers.{ForTexts, IsImageOf}
 use Rattle.vg_drive.specs.Mirrors.{IsHexOf, IsHexOfWrites}
 
 -- a piece is a front of itself
@@ -33,24 +33,8 @@ hex_of_text bytes text writes given same first (image, agrees, never, read, is) 
     } in
     (image, all, is)
 
--- what holds of the bytes that were given whole holds of the file
-pub of_file : (told : Option (List File)) (file bytes given : List ℕ) (P : List ℕ → Type 0) → ForFile told file (λ b. b ≡ bytes) → given ≡ bytes → P given → ForFile told file P
-of_file None file bytes given P whole same holds = tt
-of_file (Some files) file bytes given P whole same holds = subst P (same ∙ sym whole) holds
-
--- the same for two files
-pub of_files : (told : Option (List File)) (first second a b c d : List ℕ) (P : List ℕ → List ℕ → Type 0) → ForFiles told first second (λ x y. (x ≡ a) × (y ≡ b)) → c ≡ a → d ≡ b → P c d → ForFiles told first second P
-of_files None first second a b c d P whole e f holds = tt
-of_files (Some files) first second a b c d P (x, y) e f holds =
-    subst (λ u. P u (bytes_under files second)) (e ∙ sym x) (subst (λ v. P c v) (f ∙ sym y) holds)
-
+-- what holds of the bytes that were given whole holds of the two files
 pub of_texts : (told : Option (List File)) (first second a b c d : List ℕ) (P : List ℕ → List ℕ → Type 0) → ForFiles told first second (λ x y. (x ≡ a) × (y ≡ b)) → c ≡ a → d ≡ b → P c d → ForTexts told first second P
 of_texts None first second a b c d P whole e f holds = (c, d, holds)
 of_texts (Some files) first second a b c d P (x, y) e f holds =
     subst (λ u. P u (bytes_under files second)) (e ∙ sym x) (subst (λ v. P c v) (f ∙ sym y) holds)
-
--- the image of bytes that were given whole is that of the file
-pub of_image : (told : Option (List File)) (file bytes given image : List ℕ) (P : List ℕ → Type 0) → ForFile told file (λ b. b ≡ bytes) → given ≡ bytes → IsImageOf given image → P image → ForImage told file P
-of_image None file bytes given image P whole same is holds = (image, holds)
-of_image (Some files) file bytes given image P whole same is holds =
-    (image, subst (λ b. IsImageOf b image) (same ∙ sym whole) is, holds)

@@ -4,7 +4,7 @@ use Rattle.vg_words.specs.Commands.{Command, Build, Sim}
 use Rattle.vg_fetch.specs.Asking.{Request}
 use Rattle.vg_drive.specs.Lines.{layout_text}
 use Rattle.vg_drive.specs.declared.status.Status.{Status}
-use Rattle.vg_drive.specs.declared.status.Status.TheVariants.{Done, Refused, Usage, ReadFault, WriteFault, NoMemory, TooLong, Stopped, Wants, Budget, HexRefused, ScriptRefused, BadInstruction}
+use Rattle.vg_drive.specs.declared.status.Status.TheVariants.{Done, Refused, Usage, ReadFault, WriteFault, NoMemory, TooLong}
 
 -- `build FILE` asks for FILE, with at most 262,144 bytes, and `sim HEX SCRIPT` for HEX and then SCRIPT, with at most 1,048,576 bytes each
 abbrev pub requests_of : Option Command → List Request

@@ -6,7 +6,7 @@ use Rattle.vg_hex.specs.declared.fault.HexFault.TheVariants.{Form, Sum, Twice, B
 use Rattle.vg_drive.specs.declared.status.Fault.{Fault}
 use Rattle.vg_drive.specs.declared.status.Fault.TheVariants.{NoTree, TooDeep, NotBuilt}
 use Rattle.vg_drive.specs.declared.status.Status.{Status}
-use Rattle.vg_drive.specs.declared.status.Status.TheVariants.{Done, Refused, Usage, ReadFault, WriteFault, NoMemory, TooLong, Stopped, Wants, Budget, HexRefused, ScriptRefused, BadInstruction}
+use Rattle.vg_drive.specs.declared.status.Status.TheVariants.{Refused, Usage, ReadFault, WriteFault, NoMemory, TooLong, HexRefused, ScriptRefused}
 
 -- the layout of an image of constants: no static bytes from 0x0100 on, and all SRAM from there for the stack
 abbrev pub layout_text : List ℕ

@@ -1,6 +1,5 @@
 -- Mirrors: predicates by cases that follow the code's own functions. No public clause cites one.
-use Rattle.std.specs.Prelude.{ℕ, ◌≡◌, ◌<◌, ◌⊎◌, List, [], ◌∷◌, length, Option, Some, None, Result, Ok, Err}
-use Rattle.vg_base.specs.declared.place.Place.{Place}
+use Rattle.std.specs.Prelude.{ℕ, ◌≡◌, ◌<◌, ◌⊎◌, List, length, Option, Some, None, Result, Ok, Err}
 use Rattle.vg_io.specs.Piece.{AppendsAll, AppendsFront}
 use Rattle.vg_io.specs.declared.asked.Asked.{Asked}
 use Rattle.vg_io.specs.declared.file.File.{File}

@@ -8,12 +8,12 @@ ghost use Rattle.vg_drive.specs.Mirrors.{BuildBy, CompiledBy, FetchedBy, IsHexOf
 
 use crate::status::{Fault, Status};
 use std::alloc::Global;
-use vg_base::{NoMemory, Place, Text};
+use vg_base::{Names, NoMemory, Place, Text};
 use vg_fetch::{NoFile, fetch_file};
 use vg_first::image_of;
 use vg_hex::write;
 use vg_io::{Failed, Shelf, Sink};
-use vg_reader::{ReadFault, judge};
+use vg_reader::{ReadFault, read};
 use vg_syntax::{DeviceWrite, FirstFault, read_first};
 
 /// The bytes that a source text may have.
@@ -34,8 +34,8 @@ fn check_text(alloc: Global, bytes: &[u8]) -> Result<(), NoHex>
     requires { length bytes.now ≤ 262144 }
     ensures { ReadBy bytes.now result }
 {
-    match judge(alloc, bytes) {
-        Ok(()) => Ok(()),
+    match read(alloc, bytes, &mut Names::new(alloc)) {
+        Ok(_) => Ok(()),
         Err(ReadFault::NoTree(place)) => Err(NoHex::Refused(Fault::NoTree(place))),
         Err(ReadFault::TooDeep(place)) => Err(NoHex::Refused(Fault::TooDeep(place))),
         Err(ReadFault::NoMemory) => Err(NoHex::Wanting),

@@ -1,8 +1,7 @@
 -- How a row of one or two requests went.
-use Rattle.std.proofs.Common.{◌≡◌, ℕ, ◌≤◌, ◌<◌, List, [], ◌∷◌, ◌++◌, length, map, take, drop, Option, Some, None, refl, sym, ap, ◌∙◌, subst, arith, inl, inr, append-nil}
+use Rattle.std.proofs.Common.{◌≡◌, ℕ, ◌≤◌, ◌<◌, List, [], ◌∷◌, ◌++◌, length, map, take, drop, Option, Some, None, refl, sym, ap, ◌∙◌, subst, arith, append-nil}
 use Rattle.std.proofs.Math.Seq.{drop-append_seam, drop-length}
 use Rattle.std.proofs.lemmas.List.{append_assoc}
-use Rattle.vg_io.specs.Count.{Rose}
 use Rattle.vg_io.specs.declared.asked.Asked.{Asked}
 use Rattle.vg_fetch.specs.Asking.{AreGivenButLast, Fetched, HasFailed, HasPassedLimit, Request, gained, last_of, request_of}
 use Rattle.vg_fetch.specs.Outcomes.{OutcomeOf}
@@ -81,8 +80,3 @@ second_missing Long old mid new first second limit (m, within, e) (n, long, f) =
 pub two_given : (old mid new : List Asked) (first second : List ℕ) (limit : ℕ) → OutcomeOf None old mid first limit → OutcomeOf None mid new second limit → Fetched None old new (record { name = first; limit = limit } ∷ record { name = second; limit = limit } ∷ [])
 two_given old mid new first second limit (m, within, e) (n, short, f) =
     fetched_behind _ old new _ _ (both old mid new _ _ e f) (record { count = 2; front = refl; in_turn = (within, tt); all = λ n. refl; failed = λ f. cc; passed = λ l. cc; only = λ p. absurd (not_above n limit short p) })
-
--- a count that rose from a later one rose from an earlier one
-pub rose_from : (a b c : ℕ) → a ≤ b → Rose b c → Rose a c
-rose_from a b c le (inl h) = inl (omega (arith, le, h))
-rose_from a b c le (inr h) = inr h

@@ -82,9 +82,6 @@ short_alternative n i (Use m ∷ s) e =
     let l : length s ≤ 4 = at_most _ _ h.0 in
     omega (arith, l)
 
-pub few_alternatives : (n : Part) → length (rules n) ≤ 9
-few_alternatives n = (ranks n).few
-
 most : (s : List Symbol) (rest : List Token) → room s rest ≤ length s + 128 * length rest
 most s [] = omega arith
 most [] (t ∷ rest) = omega arith

@@ -3,7 +3,7 @@ use Rattle.std.proofs.Common.{◌≡◌, ℕ, suc, ◌-◌, List, [], ◌∷◌,
 use Rattle.std.proofs.Math.Seq.{take-append_seam, drop-append_seam}
 use Rattle.vg_syntax.specs.declared.token.Token.{Token}
 use Rattle.vg_syntax.specs.declared.grammar.Part.{Part}
-use Rattle.vg_syntax.specs.Parses.{Parse, Nil, Tok, Sub, leaves, Shallow}
+use Rattle.vg_syntax.specs.Parses.{Parse, Nil, Tok, Sub, leaves, Sentence, Shallow}
 use Rattle.vg_syntax.specs.Made.{Value}
 use Rattle.vg_syntax.specs.Faults.{IsText}
 use Rattle.vg_syntax.specs.Tokens.{IsTokens}
@@ -49,3 +49,6 @@ derived bytes ts steps h a =
     let p = a.0.0 in
     let e : values bytes p ≡ run bytes steps ts [] = sym (run_whole bytes p) ∙ ap (λ l. run bytes (steps_of p) l []) a.0.1.1 ∙ ap (λ s. run bytes s ts []) a.0.2 in
     ((ts, h, (p, a.0.1), a.1), (ts, p, h, a.0.1, ap tree_in e))
+
+pub sentence : (ts : List Token) (steps : List Step) → AreSteps ts steps × Shallow ts → Sentence ts
+sentence ts steps a = (a.0.0, a.0.1)

@@ -34,12 +34,12 @@ values_length bytes (Sub n a kids p) [] h = absurd h
 values_length bytes (Sub n a kids p) (Sign k ∷ s) h = absurd h
 values_length bytes (Sub n a kids p) (Use o ∷ s) h = ap suc (values_length bytes p s h.4)
 
-abbrev size : Parse → ℕ
+abbrev pub size : Parse → ℕ
 size Nil = 0
 size (Tok t p) = suc (size p)
 size (Sub n a kids p) = suc (size kids + size p)
 
-size_join : (p q : Parse) → size (join p q) ≡ size p + size q
+pub size_join : (p q : Parse) → size (join p q) ≡ size p + size q
 size_join Nil q = omega arith
 size_join (Tok t p) q = let h = size_join p q in omega (arith, h)
 size_join (Sub n a kids p) q = let h = size_join p q in omega (arith, h)

@@ -1,12 +1,15 @@
 -- What the reader answers.
-use Rattle.std.specs.Prelude.{ℕ, List, Result, Ok, Err, ⊤}
+use Rattle.std.specs.Prelude.{ℕ, List, Result, Ok, Err}
 use Rattle.vg_syntax.specs.Faults.{IsText, NoTreeIn, TooDeepIn}
-use Rattle.vg_reader.specs.declared.reader.ReadFault.{ReadFault}
-use Rattle.vg_reader.specs.declared.reader.ReadFault.TheVariants as fault
+use Rattle.vg_syntax.specs.Reads.{Reads}
+use Rattle.vg_tree.specs.declared.tree.Tree.{Tree}
+use Rattle.vg_tree.specs.Held.{tree_at}
+use Rattle.vg_reader.specs.declared.fault.ReadFault.{ReadFault}
+use Rattle.vg_reader.specs.declared.fault.ReadFault.TheVariants as fault
 
--- the bytes are a text of the language, or the answer is where they cease to be one
-abbrev pub Recognised : List ℕ → Result ⊤ ReadFault → Type 0
-Recognised bytes (Ok x) = IsText bytes
-Recognised bytes (Err (fault.NoTree place)) = NoTreeIn bytes place
-Recognised bytes (Err (fault.TooDeep place)) = TooDeepIn bytes place
-Recognised bytes (Err fault.NoMemory) = Unit {0}
+-- the tree, its names standing for these texts, is that of the bytes, or the answer is where they cease to be a text of the language
+abbrev pub ReadsAs : List ℕ → List (List ℕ) → Result Tree ReadFault → Type 0
+ReadsAs bytes texts (Ok tree) = IsText bytes × Reads bytes (tree_at texts tree)
+ReadsAs bytes texts (Err (fault.NoTree place)) = NoTreeIn bytes place
+ReadsAs bytes texts (Err (fault.TooDeep place)) = TooDeepIn bytes place
+ReadsAs bytes texts (Err fault.NoMemory) = Unit {0}

@@ -9,8 +9,8 @@ use Rattle.vg_syntax.specs.Reads.{leaf, made, kids_of, tree_in, Reads}
 use Rattle.vg_grammar.specs.declared.derivation.Step.{Step}
 use Rattle.vg_grammar.specs.declared.derivation.Step.TheVariants.{Take, Make}
 use Rattle.vg_reader.specs.declared.derivation.Derivation.{Derivation}
-use Rattle.vg_reader.specs.declared.reader.ReadFault.{ReadFault}
-use Rattle.vg_reader.specs.declared.reader.ReadFault.TheVariants as fault
+use Rattle.vg_reader.specs.declared.fault.ReadFault.{ReadFault}
+use Rattle.vg_reader.specs.declared.fault.ReadFault.TheVariants as fault
 
 -- a part is made of the last values
 abbrev pub reduced : Part → ℕ → List Value → List Value

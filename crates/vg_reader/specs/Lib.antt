@@ -1,2 +1,4 @@
-pub mod Answers
+pub mod Grown
+pub mod Spelled
 pub mod Derivation
+pub mod Answers

@@ -1,6 +1,7 @@
 // A text for each alternative of the grammar, and texts that stop inside it. Each stop is worked by hand: the text goes
 // on to the end of its first part, and stops at the first byte of its second.
-use crate::reader::{ReadFault, judge};
+use crate::derivation::derive_text;
+use crate::fault::ReadFault;
 use std::process::Abort;
 use std::test::Fail;
 use vg_base::Place;
@@ -14,7 +15,11 @@ fn expect_read(
 ) -> Result<(), Fail> {
     let text = format!(in rt.alloc(); "{before}{part}{behind}")?;
     assert!(rt; text.len() <= 262_144);
-    assert_eq!(rt; judge(rt.alloc(), text.as_bytes()), Ok(()), "{text}");
+    assert_eq!(rt;
+        derive_text(rt.alloc(), text.as_bytes()).map(|_| ()),
+        Ok(()),
+        "{text}"
+    );
     Ok(())
 }
 
@@ -34,7 +39,7 @@ fn expect_stop(
         col: front.len() as u32 + 1,
     };
     assert_eq!(rt;
-        judge(rt.alloc(), text.as_bytes()),
+        derive_text(rt.alloc(), text.as_bytes()).map(|_| ()),
         Err(ReadFault::NoTree(place)),
         "{text}"
     );

@@ -1,8 +1,10 @@
 // From bytes to the derivation of their tree.
-ghost use Rattle.std.specs.Prelude.{◌≤◌, length};
+ghost use Rattle.std.specs.Prelude.{◌≤◌, IfOk, length};
+ghost use Rattle.vg_syntax.specs.Tokens.{IsTokens};
+ghost use Rattle.vg_syntax.specs.Parses.{Sentence};
 ghost use Rattle.vg_reader.specs.Derivation.{Derives};
 
-use crate::reader::{ReadFault, place_of};
+use crate::fault::{ReadFault, place_of};
 use std::alloc::Global;
 use vg_grammar::{Step, Stop, derive};
 use vg_syntax::{Token, scan};
@@ -19,7 +21,8 @@ pub struct Derivation {
 /// Its time and its memory are linear in the text, and it does not recurse.
 pub fn derive_text(alloc: Global, bytes: &[u8]) -> Result<Derivation, ReadFault>
     requires { length bytes.now ≤ 262144 }
-    ensures { Derives bytes.now result }
+    ensures tree { Derives bytes.now result }
+    ensures tokens { IfOk result (λ d. IsTokens bytes.now d.tokens.items × Sentence d.tokens.items) }
 {
     let tokens = scan(alloc, bytes)?;
     match derive(alloc, &tokens) {

@@ -1,5 +1,5 @@
 // The example texts of docs/LANGUAGE.md: each is a text of the language.
-use crate::reader::judge;
+use crate::derivation::derive_text;
 
 #[test]
 fn documented_texts(rt: HostRuntime) {
@@ -47,6 +47,6 @@ component Main { method main() { M.DDRB = Pin.led; } }
 ",
     ];
     for text in texts.iter() {
-        assert_eq!(rt; judge(alloc, text.as_bytes()), Ok(()));
+        assert_eq!(rt; derive_text(alloc, text.as_bytes()).map(|_| ()), Ok(()));
     }
 }

@@ -1,21 +1,27 @@
-//! From the bytes of a text to the derivation of its one tree, or the exact place where it ceases to be a text of the language.
+//! From the bytes of a text to its one tree, or the exact place where it ceases to be a text of the language.
 #![tactic(auto)]
 
 #[cfg(test)]
 mod alternatives;
+mod builder;
 pub mod derivation;
 #[cfg(test)]
 mod documented;
+pub mod fault;
 #[cfg(test)]
 mod firmware;
 #[cfg(test)]
 mod fragments;
 pub mod laws;
+mod leaves;
 #[cfg(test)]
 mod limits;
 pub mod reader;
 #[cfg(test)]
 mod tests;
+#[cfg(test)]
+mod trees;
 
 pub use derivation::{Derivation, derive_text};
-pub use reader::{ReadFault, judge};
+pub use fault::ReadFault;
+pub use reader::read;

@@ -1,58 +1,60 @@
-// From bytes to the answer.
-ghost use Rattle.std.specs.Prelude.{◌≡◌, ◌≤◌, ℕ, length};
-ghost use Rattle.vg_syntax.specs.Faults.{place_of};
-ghost use Rattle.vg_reader.specs.Answers.{Recognised};
+// From the bytes of a text to its tree.
+ghost use Rattle.std.specs.Prelude.{◌≡◌, ◌≤◌, ◌<◌, ◌^◌, ◌+◌, ℕ, List, [], ◌∷◌, IfOk, length, map};
+ghost use Rattle.vg_syntax.specs.Reads.{tree_in};
+ghost use Rattle.vg_tree.specs.Held.{tree_at};
+ghost use Rattle.vg_tree.specs.Lookups.{node_count};
+ghost use Rattle.vg_made.specs.HeldMade.{value_at};
+ghost use Rattle.vg_reader.specs.Answers.{ReadsAs};
+ghost use Rattle.vg_reader.specs.Grown.{Grown};
 
+use crate::builder::build;
+use crate::derivation::derive_text;
+use crate::fault::ReadFault;
 use std::alloc::Global;
-use vg_base::{NoMemory, Place};
-use vg_grammar::{Stop, derive};
-use vg_syntax::{Token, end_place, scan};
+use vg_base::Names;
+use vg_made::{Made, Value};
+use vg_tree::{Node, Tree};
 
-/// Why bytes are no text of the language.
-#[derive(Clone, Copy, Debug, PartialEq, Eq)]
-pub enum ReadFault {
-    /// The token at this place, or the end, is the first behind which no text of the language goes on.
-    NoTree(Place),
-    /// The bracket at this place is the first that is a 65th open one, in a text that could still go on.
-    TooDeep(Place),
-    /// Want of memory, free of any cause.
-    NoMemory,
-}
-
-impl From<NoMemory> for ReadFault {
-    ghost use Rattle.std.specs.Prelude.{◌≡◌};
-    ghost use Rattle.vg_reader.specs.declared.reader.ReadFault.TheVariants.{NoMemory as Memory};
-
-    ghost from_gives = { λ _ e. e ≡ Memory };
-
-    fn from(_: NoMemory) -> Self {
-        ReadFault::NoMemory
-    }
-}
-
-/// Whether the bytes are a text of the language with at most 64 open brackets at each place.
+/// The tree of a text of at most 262,144 bytes, or where the bytes cease to be a text of the language with at most 64 open brackets at each place.
 ///
-/// Its time and its memory are linear in the text, and it does not recurse.
-pub fn judge(alloc: Global, bytes: &[u8]) -> Result<(), ReadFault>
-    requires { length bytes.now ≤ 262144 }
-    ensures { Recognised bytes.now result }
+/// Each spelling of a token gets a name in `names`, which may hold fewer than 4,000,000,000 before, and so does the empty text. Those that it held stay, whatever
+/// the answer, at most one comes for each byte beside the empty text's, and the tree stays the same however many come later. Its time and its memory are linear in the text, and it does not recurse.
+pub fn read(alloc: Global, bytes: &[u8], names: &mut Names) -> Result<Tree, ReadFault>
+    requires short { length bytes.now ≤ 262144 }
+    requires room { length names.old < 4000000000 }
+    ensures answer { ReadsAs bytes.now names.new result }
+    ensures names { Grown names.old names.new }
+    ensures few { length names.new ≤ length names.old + length bytes.now + 1 }
+    ensures small { IfOk result (λ tree. node_count tree < 2 ^ 32) }
+    ensures later { IfOk result (λ tree. (texts : List (List ℕ)) → Grown names.new texts → tree_at texts tree ≡ tree_at names.new tree) }
 {
-    let tokens = scan(alloc, bytes)?;
-    match derive(alloc, &tokens) {
-        Ok(_) => Ok(()),
-        Err(Stop::NoTree(index)) => Err(ReadFault::NoTree(place_of(bytes, &tokens, index))),
-        Err(Stop::TooDeep(index)) => Err(ReadFault::TooDeep(place_of(bytes, &tokens, index))),
-        Err(Stop::NoMemory) => Err(ReadFault::NoMemory),
+    let derivation = derive_text(alloc, bytes)?;
+    let nameless = names.intern("")?;
+    let values = build(alloc, bytes, &derivation, nameless, names)?;
+    Ok(tree_in(values))
+}
+
+// The tree of the one value of a whole text.
+fn tree_in(values: Vec<Value>) -> Tree
+    ensures { (texts : List (List ℕ)) → tree_at texts result ≡ tree_in (map (value_at texts) values.items) }
+{
+    let mut left = values.into_iter();
+    match (left.next(), left.next()) {
+        (Some(value), None) => tree_of(value),
+        _ => Tree {
+            root: Node::Nothing,
+        },
     }
 }
 
-/// The place of the token of a number, or that behind the last byte.
-pub fn place_of(bytes: &[u8], tokens: &[Token], index: usize) -> Place
-    requires { length bytes.now ≤ 262144 }
-    ensures { result ≡ place_of bytes.now tokens.now index }
+// The tree of a value, where it is one.
+fn tree_of(value: Value) -> Tree
+    ensures { (texts : List (List ℕ)) → tree_at texts result ≡ tree_in (map (value_at texts) (value ∷ [])) }
 {
-    match tokens.get(index) {
-        None => end_place(bytes),
-        Some(token) => token.place,
+    match value.made {
+        Made::Tree(node) => Tree { root: node },
+        _ => Tree {
+            root: Node::Nothing,
+        },
     }
 }

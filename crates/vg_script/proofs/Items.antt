@@ -1,13 +1,12 @@
 -- Items one behind another, and the lines that hold them.
-use Rattle.std.proofs.Common.{◌≡◌, ℕ, suc, ◌+◌, ◌-◌, ◌*◌, ◌<◌, ◌≤◌, Bool, true, false, List, [], ◌∷◌, ◌++◌, length, length-drop, take, drop, Option, Some, None, refl, sym, ap, ◌∙◌, subst, arith, append_assoc, append-nil, ◌==◌}
-use Rattle.std.specs.Prelude.{if◌then◌else◌, ◌&&◌, nat_le}
-use Rattle.std.proofs.lemmas.Bool.{false≢true}
+use Rattle.std.proofs.Common.{◌≡◌, ℕ, suc, ◌-◌, ◌<◌, Bool, true, false, List, [], ◌∷◌, ◌++◌, length, length-drop, take, drop, Option, Some, None, refl, sym, ap, ◌∙◌, subst, arith, append_assoc, append-nil, ◌==◌}
+use Rattle.std.specs.Prelude.{if◌then◌else◌}
 use Rattle.std.proofs.lemmas.List.{take_all}
 use Rattle.vg_lines.specs.Digits.{in_front}
 use Rattle.vg_script.specs.declared.reader.Taken.{Taken}
 use Rattle.vg_script.specs.declared.reader.Taken.TheVariants.{Good, Bad as Refused}
 use Rattle.vg_script.specs.declared.reader.Item.{Item}
-use Rattle.vg_script.specs.Script.{Line, Bad, spaced_pair, one_digit, two_digits, reads_in, interrupts_in, some, reads_line, interrupts_line, line_of}
+use Rattle.vg_script.specs.Script.{Line, spaced_pair, one_digit, two_digits, reads_in, interrupts_in, some, interrupts_line}
 use Rattle.vg_script.specs.Walk.{behind, Takes, of_width, first_read, first_interrupt, TakesLine}
 
 -- what an item says of the items that it begins
@@ -111,15 +110,6 @@ all_taken old new (Some []) h e = absurd (h refl)
 all_taken old new (Some (v ∷ vs)) h e = let k : new ++ [] ≡ old ++ v ∷ vs = cc in sym (append-nil new) ∙ k
 
 -- a line of items
-pub takes_reads : (line : Line) (o : Option (List ℕ)) (old new interrupts : List ℕ) (taken : Taken) → line ≡ reads_line o → Takes old new o taken → TakesLine line old new interrupts interrupts taken
-takes_reads line o old new interrupts taken e h = subst (λ l. TakesLine l old new interrupts interrupts taken) (sym e) (by_cases o taken h)
-  where
-    by_cases : (o : Option (List ℕ)) (taken : Taken) → Takes old new o taken → TakesLine (reads_line o) old new interrupts interrupts taken
-    by_cases None Good h = absurd h
-    by_cases None Refused h = tt
-    by_cases (Some vs) Good h = (h, refl)
-    by_cases (Some vs) Refused h = absurd h
-
 pub takes_interrupts : (line : Line) (o : Option (List ℕ)) (old new reads : List ℕ) (taken : Taken) → line ≡ interrupts_line o → Takes old new o taken → TakesLine line reads reads old new taken
 takes_interrupts line o old new reads taken e h = subst (λ l. TakesLine l reads reads old new taken) (sym e) (by_cases o taken h)
   where

@@ -2,7 +2,7 @@
 use Rattle.std.specs.Prelude.{ℕ, ◌+◌, true, false, List, [], ◌∷◌, codes, Option, Some, None, if◌then◌else◌}
 use Rattle.vg_syntax.specs.declared.kind.Kind.{Kind}
 use Rattle.vg_syntax.specs.declared.kind.Kind.TheVariants as kind
-use Rattle.vg_syntax.specs.Tree.{Node, Spot}
+use Rattle.vg_syntax.specs.Tree.{Node}
 use Rattle.vg_syntax.specs.Tree as tree
 use Rattle.vg_meaning.specs.Code as code
 use Rattle.vg_source.specs.Names.{Name, same_name}

@@ -1,6 +1,6 @@
 -- The parts of a program of constants, by the kinds of their tokens.
-use Rattle.std.proofs.Common.{◌≡◌, ℕ, List, [], ◌∷◌, ◌++◌, map, length, get_or, refl, sym, ap, ◌∙◌, ◌+◌, ◌<◌, arith, length-append}
-use Rattle.std.proofs.lemmas.List.{map-append, length-map}
+use Rattle.std.proofs.Common.{◌≡◌, ℕ, List, [], ◌∷◌, ◌++◌, map, get_or, refl, sym, ap, ◌∙◌}
+use Rattle.std.proofs.lemmas.List.{map-append}
 use Rattle.vg_syntax.specs.declared.kind.Kind.{Kind}
 use Rattle.vg_syntax.specs.declared.kind.Kind.TheVariants as kind
 use Rattle.vg_syntax.specs.declared.token.Token.{Token}
@@ -118,10 +118,3 @@ tail_some bytes ts program key component method k e f g h =
 
 pub tail_none : (bytes : List ℕ) (ts : List Token) → (map kind_of ts ≡ tail_kinds → ⊥) → (program key component method : List ℕ) → pieces bytes ts ≡ tail_pieces program key component method → ⊥
 tail_none bytes ts none program key component method e = none (sym (kinds_kept bytes ts) ∙ ap (map piece_kind) e)
-
--- a part takes at least one token
-pub part_shorter : (bytes : List ℕ) (ts rest : List Token) (ps : List Piece) → 0 < length ps → pieces bytes ts ≡ ps ++ pieces bytes rest → length rest < length ts
-part_shorter bytes ts rest ps h e =
-    let all : length ts ≡ length ps + length rest =
-    sym (length-map ts (piece_of bytes)) ∙ ap length e ∙ length-append ps (pieces bytes rest) ∙ ap (λ n. length ps + n) (length-map rest (piece_of bytes)) in
-    omega (arith, all)

@@ -1,9 +1,9 @@
 -- What the tokens and the parts of a parse stand for while its tree is made.
-use Rattle.std.specs.Prelude.{ℕ, zero, suc, Bool, true, false, List, [], ◌∷◌, Option, Some, None}
+use Rattle.std.specs.Prelude.{ℕ, zero, suc, Bool, true, false, List, [], Option, Some, None}
 use Rattle.vg_base.specs.declared.place.Place.{Place}
 use Rattle.vg_syntax.specs.declared.kind.Kind.{Kind}
 use Rattle.vg_syntax.specs.declared.kind.Kind.TheVariants as kind
-use Rattle.vg_syntax.specs.Tree.{Spot, TypeTree, IntType, ArrayType, NoType, Param, Node, Nothing, Then}
+use Rattle.vg_syntax.specs.Tree.{TypeTree, ArrayType, NoType, Param, Node, Nothing}
 
 pub data Made : Type 0 where
   Absent : Made  -- nothing is written

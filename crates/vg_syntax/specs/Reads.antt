@@ -1,5 +1,5 @@
 -- The tree of a text: what each part of the grammar makes of its kids.
-use Rattle.std.specs.Prelude.{ℕ, zero, suc, ◌≡◌, Bool, true, false, List, [], ◌∷◌}
+use Rattle.std.specs.Prelude.{ℕ, suc, ◌≡◌, List, [], ◌∷◌}
 use Rattle.vg_base.specs.declared.place.Place.{Place}
 use Rattle.vg_syntax.specs.declared.kind.Kind.{Kind}
 use Rattle.vg_syntax.specs.declared.kind.Kind.TheVariants as kind
@@ -7,8 +7,8 @@ use Rattle.vg_syntax.specs.declared.token.Token.{Token}
 use Rattle.vg_syntax.specs.declared.grammar.Part.{Part}
 use Rattle.vg_syntax.specs.declared.grammar.Part.TheVariants as part
 use Rattle.vg_syntax.specs.Tokens.{IsTokens, text_of}
-use Rattle.vg_syntax.specs.Parses.{Parse, Nil, Tok, Sub, IsParse, Shallow}
-use Rattle.vg_syntax.specs.Tree.{Spot, TypeTree, IntType, BoolType, CharType, RawType, ClassType, ArrayType, FunctionType, NoType, MoreTypes, Param, Node, Nothing, Then, Arm, Text, ClassDecl, ComponentDecl, DeviceDecl, RegisterDecl, ProgramDecl, EntryDecl, FieldDecl, MethodDecl, ConstructorDecl, Block, Local, If, While, For, Return, Break, Continue, Assign, Eval, Number, CharLit, StringLit, True, False, Null, This, Name, NewObject, NewArray, Unary, Chain, Part as PartNode, TypePart, Postfix, Member, Index, Call}
+use Rattle.vg_syntax.specs.Parses.{Parse, Nil, Tok, Sub, IsParse}
+use Rattle.vg_syntax.specs.Tree.{Spot, TypeTree, IntType, BoolType, CharType, RawType, ClassType, FunctionType, NoType, MoreTypes, Node, Nothing, Then, Arm, Text, ClassDecl, ComponentDecl, DeviceDecl, RegisterDecl, ProgramDecl, EntryDecl, FieldDecl, MethodDecl, ConstructorDecl, Block, Local, If, While, For, Return, Break, Continue, Assign, Eval, Number, CharLit, StringLit, True, False, Null, This, Name, NewObject, NewArray, Unary, Chain, Part as PartNode, TypePart, Postfix, Member, Index, Call}
 use Rattle.vg_syntax.specs.Made.{Made, Absent, Word, Tree, Row, Type', Types, Typed, Params, Operators, Pair, Arms, Header, Levels, Indexed, Sized, Object, Array, Value, text_in, kind_in, node_in, row_in, type_in, types_in, param_in, params_in, operators_in, component_in, method_in, arms_in, otherwise_in, count_in, suffixes_in, first_in, condition_in, next_in, above_in, is_row, arrays}
 use Rattle.vg_syntax.specs.Numbering.{numbered}
 

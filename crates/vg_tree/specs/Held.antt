@@ -3,7 +3,7 @@ use Rattle.std.specs.Prelude.{ℕ, List, [], ◌∷◌, map, Option, Some, None,
 use Rattle.vg_tree.specs.declared.type_tree.Param.{Param as HeldParam}
 use Rattle.vg_tree.specs.declared.type_tree.TypeTree as held_type
 use Rattle.vg_tree.specs.declared.node.Node as held
-use Rattle.vg_syntax.specs.Tree.{Spot, TypeTree, IntType, BoolType, CharType, RawType, ClassType, ArrayType, FunctionType, NoType, MoreTypes, Param, Node, Nothing, Then, Arm, Text, ClassDecl, ComponentDecl, DeviceDecl, RegisterDecl, ProgramDecl, EntryDecl, FieldDecl, MethodDecl, ConstructorDecl, Block, Local, If, While, For, Return, Break, Continue, Assign, Eval, Number, CharLit, StringLit, True, False, Null, This, Name, NewObject, NewArray, Unary, Chain, Part, TypePart, Postfix, Member, Index, Call}
+use Rattle.vg_syntax.specs.Tree.{TypeTree, IntType, BoolType, CharType, RawType, ClassType, FunctionType, NoType, MoreTypes, Param, Node, Nothing, Then, Arm, Text, ClassDecl, ComponentDecl, DeviceDecl, RegisterDecl, ProgramDecl, EntryDecl, FieldDecl, MethodDecl, ConstructorDecl, Block, Local, If, While, For, Return, Break, Continue, Assign, Eval, Number, CharLit, StringLit, True, False, Null, This, Name, NewObject, NewArray, Unary, Chain, Part, TypePart, Postfix, Member, Index, Call}
 use Rattle.vg_syntax.specs.Made.{arrays}
 use Rattle.vg_syntax.specs.Reads.{spot}
 use Rattle.vg_syntax.specs.Numbering.{numbered}

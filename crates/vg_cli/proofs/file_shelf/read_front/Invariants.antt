@@ -1,5 +1,5 @@
 -- Each turn so far took at least one byte, and what is gone from the reader stands in `bytes`.
-use Rattle.std.proofs.Common.{ℕ, ◌≤◌, length}
+use Rattle.std.proofs.Common.{◌≤◌, length}
 use Rattle.std.specs.Io.KnownBytes.{Consumes}
 use Rattle.vg_cli.proofs.file_shelf.read_front.Given as goal
 

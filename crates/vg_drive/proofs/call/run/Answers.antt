@@ -1,4 +1,3 @@
-use Rattle.std.proofs.Common.{inl, inr, ◌∙◌}
 use Rattle.vg_drive.proofs.Commands as of
 use Rattle.vg_drive.proofs.Fetches.{asks_all_by, asks_front_by, failed_by, too_long_by}
 use Rattle.vg_drive.proofs.Notes.{fronts_of, line_front_of, line_last_of, line_of, second_of}

@@ -1,7 +1,4 @@
-use Rattle.std.proofs.Common.{Err, Ok, Some, ◌≡◌, refl, ap, ℕ, List}
-use Rattle.vg_simulate.specs.Shown.{ForRun, ending_of, lines_of}
-use Rattle.vg_io.specs.Piece.{AppendsAll}
-use Rattle.vg_drive.specs.Codes.{status_of}
+use Rattle.std.proofs.Common.{Ok, refl}
 use Rattle.vg_drive.proofs.Sims.{shown_status, sim_shown, told_run}
 use Rattle.vg_drive.proofs.Texts.{of_texts}
 use Rattle.vg_drive.proofs.sim.sim.Goals as goal

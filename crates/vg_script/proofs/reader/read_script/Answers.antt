@@ -1,4 +1,4 @@
-use Rattle.std.proofs.Common.{arith, rules, ap, length}
+use Rattle.std.proofs.Common.{arith, ap, length}
 use Rattle.vg_script.proofs.Items.{emptied}
 use Rattle.vg_script.proofs.Texts.{goes_on, read_vectors}
 use Rattle.vg_script.proofs.reader.read_script.Goals as goal

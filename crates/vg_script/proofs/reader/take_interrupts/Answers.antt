@@ -1,5 +1,4 @@
 use Rattle.std.proofs.Common.{sym, ◌∙◌}
-use Rattle.vg_script.specs.Script.{interrupts_in}
 use Rattle.vg_script.proofs.Items.{filled, emptied, no_interrupt, next_interrupt, all_interrupts}
 use Rattle.vg_script.proofs.reader.take_interrupts.Goals as goal
 

@@ -1,5 +1,4 @@
 use Rattle.std.proofs.Common.{sym, ◌∙◌}
-use Rattle.vg_script.specs.Script.{reads_in}
 use Rattle.vg_script.proofs.Items.{filled, emptied, no_read, next_read, all_reads}
 use Rattle.vg_script.proofs.reader.take_reads.Goals as goal
 

@@ -1,4 +1,4 @@
-use Rattle.std.proofs.Common.{◌≡◌, Some, None, sym, ap, ◌∙◌}
+use Rattle.std.proofs.Common.{Some, None, sym, ap, ◌∙◌}
 use Rattle.avr_isa.specs.Machine.{State, Bad}
 use Rattle.avr_isa.proofs.PlainSteps.{next-is, none_none}
 use Rattle.avr_sim.specs.Walk.{unstacked}

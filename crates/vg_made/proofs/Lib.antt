@@ -1,0 +1,4 @@
+pub mod RowLists
+pub mod TypeLists
+pub mod ArmLists
+pub mod KidLists

@@ -1,0 +1,6 @@
+//! From the values of a part's kids to the value that the part makes of them, on the way from a parse to its tree.
+#![tactic(auto)]
+
+pub mod maker;
+
+pub use maker::{leaf, make};

@@ -1,0 +1,74 @@
+// From the steps of a parse to the values that they make.
+ghost use Rattle.std.specs.Prelude.{◌≡◌, ◌≤◌, ◌<◌, ◌-◌, ◌+◌, ◌^◌, ℕ, List, [], length, map, IfOk, OnOk};
+ghost use Rattle.std.specs.List.{AllByRecursion};
+ghost use Rattle.vg_tree.specs.Held.{text_at};
+ghost use Rattle.vg_made.specs.HeldMade.{value_at};
+ghost use Rattle.vg_reader.specs.Derivation.{reduced, run};
+ghost use Rattle.vg_reader.specs.Grown.{Grown};
+ghost use Rattle.vg_reader.specs.Spelled.{IsSpelled};
+
+use crate::derivation::Derivation;
+use crate::leaves::leaf_of;
+use std::alloc::Global;
+use vg_base::{Name, Names, NoMemory};
+use vg_grammar::Step;
+use vg_made::Value;
+use vg_maker::make;
+use vg_syntax::Part;
+
+/// What the steps make of the tokens: a value for each part that stands in no other. The text of the name `nameless` is to be empty.
+pub(crate) fn build(
+    alloc: Global,
+    bytes: &[u8],
+    derivation: &Derivation,
+    nameless: Name,
+    names: &mut Names,
+) -> Result<Vec<Value>, NoMemory>
+    requires spelled { AllByRecursion (IsSpelled bytes.now) derivation.now.tokens.items }
+    requires nameless { (texts : List (List ℕ)) → Grown names.old texts → text_at texts nameless ≡ [] }
+    requires room { length names.old + length derivation.now.tokens.items < 2 ^ 32 - 1 }
+    ensures values { IfOk result (λ v. (texts : List (List ℕ)) → Grown names.new texts → map (value_at texts) v.items ≡ run bytes.now derivation.now.steps.items derivation.now.tokens.items []) }
+    ensures names { Grown names.old names.new }
+    ensures few { length names.new ≤ length names.old + length derivation.now.tokens.items }
+{
+    let tokens = derivation.tokens.as_slice();
+    let mut values = Vec::new(alloc);
+    let mut at = 0;
+    for step in derivation.steps.as_slice() {
+        match step {
+            Step::Make(part, count) => reduce(
+                alloc,
+                nameless,
+                &mut values,
+                *part,
+                *count as usize,
+            )?,
+            Step::Take => {
+                if let Some(token) = tokens.get(at) {
+                    let value = leaf_of(bytes, token, names)?;
+                    values.push(value)?;
+                    at += 1;
+                }
+            }
+        }
+    }
+    Ok(values)
+}
+
+// Makes a part of the last values.
+fn reduce(
+    alloc: Global,
+    nameless: Name,
+    values: &mut Vec<Value>,
+    part: Part,
+    count: usize,
+) -> Result<(), NoMemory>
+    ensures { (texts : List (List ℕ)) → text_at texts nameless ≡ [] → OnOk result (map (value_at texts) values.new.items ≡ reduced part count (map (value_at texts) values.old.items)) }
+{
+    let at = values.len().saturating_sub(count);
+    let (_, kids) = values.as_mut_slice().split_at_mut(at);
+    let value = make(alloc, nameless, part, kids)?;
+    values.truncate(at);
+    values.push(value)?;
+    Ok(())
+}

@@ -1,0 +1,2 @@
+pub mod OtherShapes
+pub mod Assigning

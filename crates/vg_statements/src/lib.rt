@@ -1,0 +1,4 @@
+//! What parts of statements make of their kids.
+#![tactic(auto)]
+
+pub mod statements;
