@@ -7,7 +7,7 @@ use Rattle.std.proofs.lemmas.Option.{slice_get_within}
 use Rattle.vg_syntax.specs.declared.grammar.Part.{Part}
 use Rattle.vg_syntax.specs.declared.token.Token.{Token}
 use Rattle.vg_syntax.specs.Made.{Value}
-use Rattle.vg_syntax.specs.Reads.{leaf, made, kids_of}
+use Rattle.vg_syntax.specs.Reads.{Two, leaf, made, kids_of}
 use Rattle.vg_grammar.specs.declared.derivation.Step.{Step}
 use Rattle.vg_grammar.specs.declared.derivation.Step.TheVariants.{Take, Make}
 use Rattle.vg_made.specs.declared.made.Value.{Value as HeldValue}
@@ -31,6 +31,27 @@ reduce_step texts n count at old new v e f g =
     ∙ ap (λ l. l ++ value_at texts v ∷ []) (sym (take-map (value_at texts) at old))
     ∙ ap (λ w. take at (map (value_at texts) old) ++ w ∷ []) (g ∙ ap (λ l. made n (kids_of l)) (sym (drop-map (value_at texts) at old)))
     ∙ ap (λ i. take i (map (value_at texts) old) ++ made n (kids_of (drop i (map (value_at texts) old))) ∷ []) same
+
+stays : (texts : List (List ℕ)) (n : Part) (k : ℕ) (vs : List HeldValue) (rest : HeldValue) → length vs ≡ suc (suc k) → slice_get vs (suc k) ≡ Some rest → ((first : Value) → made n (Two first (value_at texts rest)) ≡ first)
+    → map (value_at texts) (take (suc k) vs) ≡ take k (map (value_at texts) vs) ++ made n (kids_of (drop k (map (value_at texts) vs))) ∷ []
+stays texts n zero [] rest l e h = absurd (omega (arith, l))
+stays texts n zero (v ∷ []) rest l e h = absurd (omega (arith, l))
+stays texts n zero (v ∷ w ∷ []) rest l e h =
+    let same : rest ≡ w = cc in
+    ap (λ u. u ∷ []) (sym (h (value_at texts v)) ∙ ap (λ u. made n (Two (value_at texts v) (value_at texts u))) same)
+stays texts n zero (v ∷ w ∷ u ∷ vs) rest l e h = absurd (omega (arith, l))
+stays texts n (suc k) [] rest l e h = absurd (omega (arith, l))
+stays texts n (suc k) (v ∷ vs) rest l e h = ap (λ us. value_at texts v ∷ us) (stays texts n k vs rest (omega (arith, l)) e h)
+
+-- a part of the last two values that is the first of them
+pub first_stays : (texts : List (List ℕ)) (n : Part) (vs : List HeldValue) (rest : HeldValue) → 1 < length vs → slice_get vs (length vs - 1) ≡ Some rest → ((first : Value) → made n (Two first (value_at texts rest)) ≡ first)
+    → map (value_at texts) (take (length vs - 1) vs) ≡ reduced n 2 (map (value_at texts) vs)
+first_stays texts n vs rest l e h =
+    let one : length vs - 1 ≡ suc (length vs - 2) = omega (arith, l) in
+    let two : length vs ≡ suc (suc (length vs - 2)) = omega (arith, l) in
+    ap (λ i. map (value_at texts) (take i vs)) one
+    ∙ stays texts n (length vs - 2) vs rest two (sym (ap (slice_get vs) one) ∙ e) h
+    ∙ ap (λ m. take (m - 2) (map (value_at texts) vs) ++ made n (kids_of (drop (m - 2) (map (value_at texts) vs))) ∷ []) (sym (length-map vs (value_at texts)))
 
 next_token : (tokens : List Token) (at : ℕ) (t : Token) → slice_get tokens at ≡ Some t → drop at tokens ≡ t ∷ drop (at + 1) tokens
 next_token [] at t e = absurd (let clash : None ≡ Some t = e in cc)

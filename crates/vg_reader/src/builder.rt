@@ -1,5 +1,5 @@
 // From the steps of a parse to the values that they make.
-ghost use Rattle.std.specs.Prelude.{◌≡◌, ◌≤◌, ◌<◌, ◌-◌, ◌+◌, ◌^◌, ℕ, List, [], length, map, IfOk, OnOk};
+ghost use Rattle.std.specs.Prelude.{◌≡◌, ◌≤◌, ◌<◌, ◌-◌, ◌+◌, ◌^◌, ℕ, List, [], true, length, map, take, IfOk, OnOk};
 ghost use Rattle.std.specs.List.{AllByRecursion};
 ghost use Rattle.vg_tree.specs.Held.{text_at};
 ghost use Rattle.vg_made.specs.HeldMade.{value_at};
@@ -12,8 +12,9 @@ use crate::leaves::leaf_of;
 use std::alloc::Global;
 use vg_base::{Name, Names, NoMemory};
 use vg_grammar::Step;
-use vg_made::Value;
-use vg_maker::make;
+use vg_made::rows::unwritten;
+use vg_made::{Made, Value};
+use vg_maker::{is_first_kid, is_rest, make};
 use vg_syntax::Part;
 
 /// What the steps make of the tokens: a value for each part that stands in no other. The text of the name `nameless` is to be empty.
@@ -55,8 +56,39 @@ pub(crate) fn build(
     Ok(values)
 }
 
-// Makes a part of the last values.
+// Makes a part of the last values. Of the levels of operators, most have no operator: these are the value that is there.
 fn reduce(
+    alloc: Global,
+    nameless: Name,
+    values: &mut Vec<Value>,
+    part: Part,
+    count: usize,
+) -> Result<(), NoMemory>
+    ensures { (texts : List (List ℕ)) → text_at texts nameless ≡ [] → OnOk result (map (value_at texts) values.new.items ≡ reduced part count (map (value_at texts) values.old.items)) }
+{
+    if count == 0 && is_rest(part) {
+        values.push(unwritten(Made::Row(Vec::new(alloc))))?;
+        return Ok(());
+    }
+    if count == 2 && is_there(part, values.as_slice()) {
+        values.pop();
+        return Ok(());
+    }
+    make_last(alloc, nameless, values, part, count)
+}
+
+// Whether a part of the last two values is the first of them.
+fn is_there(part: Part, values: &[Value]) -> bool
+    ensures { (texts : List (List ℕ)) → result ≡ true → map (value_at texts) (take (length values.now - 1) values.now) ≡ reduced part 2 (map (value_at texts) values.now) }
+{
+    match values.last() {
+        Some(rest) => values.len() > 1 && is_first_kid(part, rest),
+        None => false,
+    }
+}
+
+// Makes a part of the last values, whatever it is.
+fn make_last(
     alloc: Global,
     nameless: Name,
     values: &mut Vec<Value>,

@@ -2,7 +2,7 @@ use Rattle.std.proofs.Common.{rules, ◌≡◌, ◌++◌, ◌∷◌, [], ap, ◌
 use Rattle.vg_syntax.specs.Reads.{made, kids_of}
 use Rattle.vg_made.specs.HeldMade.{value_at}
 use Rattle.vg_reader.proofs.Building.{reduce_step, front_stays}
-use Rattle.vg_reader.proofs.builder.reduce.Goals as goal
+use Rattle.vg_reader.proofs.builder.make_last.Goals as goal
 
 pub returns : goal.returns
 returns c texts h =
