@@ -2,8 +2,8 @@
 # Times how long texts of 1 KB to 256 KB are read, by the command `build`, which refuses them once they are read.
 # The start of the program, with an empty text, is shown first and is subtracted. Behind a time stands the exponent of
 # its growth since the text before: 1 where time is in proportion to the text, 2 where it grows with its square.
-# Then come texts of 128 KB and 256 KB (262,144 bytes, the most that is read) whose tokens have one byte each, which is as
-# many tokens as a text can have, with the most memory that a run takes.
+# Then come texts of 131,072 and 262,144 bytes, the most that is read, nearly all of whose tokens have one byte, with the
+# most memory that a run takes.
 set -eu
 here=$(cd "$(dirname "$0")" && pwd)
 top=$(dirname "$here")
