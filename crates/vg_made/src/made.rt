@@ -6,7 +6,6 @@ use vg_tree::{Node, Param, TypeTree};
 /// What a token or a part of the grammar stands for.
 ///
 /// A row that is being made stands from its end to its front, so that one more at its front is a push.
-#[derive(Drop)]
 pub enum Made {
     Absent,
     Word(Kind, Name),
@@ -33,6 +32,31 @@ pub enum Made {
     Object(Name, Vec<Node>, Vec<Node>),
     /// A new array, and the suffixes behind it.
     Array(TypeTree, Node, Vec<Node>),
+}
+
+impl Drop for Made {
+    // By hand: a function that may drop one calls this, where it would have a copy of a derived one.
+    fn drop(self) {
+        match self {
+            Made::Absent => {}
+            Made::Word(_, _) => {}
+            Made::Tree(_) => {}
+            Made::Row(_) => {}
+            Made::Type(_) => {}
+            Made::Types(_) => {}
+            Made::Typed(_) => {}
+            Made::Params(_) => {}
+            Made::Operators(_) => {}
+            Made::Pair(_, _) => {}
+            Made::Arms(_, _) => {}
+            Made::Header(_, _, _) => {}
+            Made::Levels(_, _) => {}
+            Made::Indexed(_, _) => {}
+            Made::Sized(_, _, _) => {}
+            Made::Object(_, _, _) => {}
+            Made::Array(_, _, _) => {}
+        }
+    }
 }
 
 /// What is made, with the place of its first token.

@@ -61,8 +61,8 @@ jump_one kind.Break place = refl
 jump_one _ place = refl
 
 declared_one : (k : Kind) (place : Place) (name : List ℕ) (n : Node) → count_nodes (declared k place name n) ≡ 1 + count_nodes n
-declared_one kind.Component place name n = refl
-declared_one _ place name n = refl
+declared_one kind.Component place name n = omega arith
+declared_one _ place name n = omega arith
 
 field_few : (k : Kind) (place : Place) (b c d : Made) → count_nodes (field_or_constructor k place b c d) ≤ 1 + weight b + weight c + weight d
 field_few kind.Field place b c d = let x = node_few c in omega (arith, x)

@@ -12,7 +12,8 @@ use crate::derivation::derive_text;
 use crate::fault::ReadFault;
 use std::alloc::Global;
 use vg_base::Names;
-use vg_made::{Made, Value};
+use vg_made::Value;
+use vg_made::contents::node_in;
 use vg_tree::{Node, Tree};
 
 /// The tree of a text of at most 262,144 bytes, or where the bytes cease to be a text of the language with at most 64 open brackets at each place.
@@ -51,10 +52,8 @@ fn tree_in(values: Vec<Value>) -> Tree
 fn tree_of(value: Value) -> Tree
     ensures { (texts : List (List ℕ)) → tree_at texts result ≡ tree_in (map (value_at texts) (value ∷ [])) }
 {
-    match value.made {
-        Made::Tree(node) => Tree { root: node },
-        _ => Tree {
-            root: Node::Nothing,
-        },
+    let mut value = value;
+    Tree {
+        root: node_in(&mut value.made),
     }
 }

@@ -16,5 +16,6 @@ pub mod Parses
 pub mod Tree
 pub mod Faults
 pub mod Made
+pub mod Outline
 pub mod Numbering
 pub mod Reads

@@ -1,50 +1,11 @@
 -- The numbers of nodes: each node comes before its children, and those stand in order of the text.
 use Rattle.std.specs.Prelude.{ℕ, ◌+◌}
+use Rattle.vg_syntax.specs.Outline.{outline, size}
 use Rattle.vg_syntax.specs.Tree.{Spot, Node, Nothing, Then, Arm, Text, ClassDecl, ComponentDecl, DeviceDecl, RegisterDecl, ProgramDecl, EntryDecl, FieldDecl, MethodDecl, ConstructorDecl, Block, Local, If, While, For, Return, Break, Continue, Assign, Eval, Number, CharLit, StringLit, True, False, Null, This, Name, NewObject, NewArray, Unary, Chain, Part, TypePart, Postfix, Member, Index, Call}
 
 -- how many nodes there are at and below a node, or in a row
 abbrev pub count_nodes : Node → ℕ
-count_nodes Nothing = 0
-count_nodes (Then first rest) = count_nodes first + count_nodes rest
-count_nodes (Arm condition block rest) = count_nodes condition + count_nodes block + count_nodes rest
-count_nodes (Text at declarations) = 1 + count_nodes declarations
-count_nodes (ClassDecl at name above members) = 1 + count_nodes members
-count_nodes (ComponentDecl at name members) = 1 + count_nodes members
-count_nodes (DeviceDecl at name registers) = 1 + count_nodes registers
-count_nodes (RegisterDecl at name number) = 1
-count_nodes (ProgramDecl at name entries) = 1 + count_nodes entries
-count_nodes (EntryDecl at key component method) = 1
-count_nodes (FieldDecl at name type value) = 1 + count_nodes value
-count_nodes (MethodDecl at name params result body) = 1 + count_nodes body
-count_nodes (ConstructorDecl at params calls_super arguments body) = 1 + count_nodes arguments + count_nodes body
-count_nodes (Block at statements) = 1 + count_nodes statements
-count_nodes (Local at name type value) = 1 + count_nodes value
-count_nodes (If at arms otherwise) = 1 + count_nodes arms + count_nodes otherwise
-count_nodes (While at condition body) = 1 + count_nodes condition + count_nodes body
-count_nodes (For at first condition next body) = 1 + count_nodes first + count_nodes condition + count_nodes next + count_nodes body
-count_nodes (Return at value) = 1 + count_nodes value
-count_nodes (Break at) = 1
-count_nodes (Continue at) = 1
-count_nodes (Assign at target value) = 1 + count_nodes target + count_nodes value
-count_nodes (Eval at expression) = 1 + count_nodes expression
-count_nodes (Number at digits) = 1
-count_nodes (CharLit at spelled) = 1
-count_nodes (StringLit at spelled) = 1
-count_nodes (True at) = 1
-count_nodes (False at) = 1
-count_nodes (Null at) = 1
-count_nodes (This at) = 1
-count_nodes (Name at name) = 1
-count_nodes (NewObject at name arguments) = 1 + count_nodes arguments
-count_nodes (NewArray at element size) = 1 + count_nodes size
-count_nodes (Unary at operators operand) = 1 + count_nodes operand
-count_nodes (Chain at first parts) = 1 + count_nodes first + count_nodes parts
-count_nodes (Part at op operand) = 1 + count_nodes operand
-count_nodes (TypePart at op type) = 1
-count_nodes (Postfix at primary suffixes) = 1 + count_nodes primary + count_nodes suffixes
-count_nodes (Member at name) = 1
-count_nodes (Index at index) = 1 + count_nodes index
-count_nodes (Call at arguments) = 1 + count_nodes arguments
+count_nodes n = size (outline n)
 
 abbrev pub with_id : ℕ → Spot → Spot
 with_id i at = record { id = i; place = at.place }

@@ -1,10 +1,11 @@
 -- The first class of a name in a row of declarations.
-use Rattle.std.proofs.Common.{◌≡◌, ℕ, zero, suc, ◌+◌, ◌<◌, Bool, true, false, List, [], ◌∷◌, Some, None, length, drop, get_or, refl, sym, ap, ◌∙◌, arith}
+use Rattle.std.proofs.Common.{◌≡◌, ℕ, ◌+◌, Bool, true, false, List, [], ◌∷◌, Some, None, refl, sym, ap, ◌∙◌, arith}
 use Rattle.std.specs.Prelude.{◌==◌, if◌then◌else◌}
 use Rattle.std.specs.Str.{bytes_eq}
 use Rattle.std.proofs.lemmas.Slice.Eq.{bytes_eq-Decides}
 use Rattle.vg_tree.specs.declared.node.Node as held
 use Rattle.vg_syntax.specs.Tree.{Node, Then, ClassDecl}
+use Rattle.vg_syntax.specs.Outline.{size}
 use Rattle.vg_syntax.specs.Numbering.{count_nodes, numbered}
 use Rattle.vg_tree.specs.Held.{text_at, node_at, nodes_at, arms_at, arm_at, row_at}
 use Rattle.vg_tree.specs.Lookups.{IsOnly, class_in, first_class}
@@ -104,17 +105,12 @@ pub seeking_on : (name : ℕ) (whole : held.Node) (n : held.Node) (left : List h
     → later_on ≡ next + count_nodes (node_at [] n) → Seeking name whole left later_on
 seeking_on name whole n left next later_on s e f = record {
   class = λ texts only.
-      let same : later_on ≡ next + count_nodes (node_at texts n) = f ∙ sym (ap (λ k. next + k) (alike texts n).nodes) in
+      let same : later_on ≡ next + count_nodes (node_at texts n) = f ∙ sym (ap (λ o. next + size o) (alike texts n)) in
       ap (λ i. class_in (text_at texts name) (numbered i (row_at texts left))) same
       ∙ sym (later texts name n next (row_at texts left) only e)
       ∙ s.class texts only;
   room = let r = s.room in omega (arith, r, f);
 }
-
-pub left_of : (nodes : List held.Node) (i : ℕ) (n : held.Node) → i < length nodes → get_or nodes i n ≡ n → drop i nodes ≡ n ∷ drop (i + 1) nodes
-left_of [] i n h e = absurd (omega (arith, h))
-left_of (m ∷ nodes) zero n h e = ap (λ (k : held.Node). k ∷ nodes) e
-left_of (m ∷ nodes) (suc i) n h e = let one : suc i + 1 ≡ suc (i + 1) = omega arith in left_of nodes i n (omega (arith, h)) e ∙ ap (λ j. n ∷ drop j (m ∷ nodes)) (sym one)
 
 -- what is no row has no class
 arms_no_row : (texts : List (List ℕ)) (name : List ℕ) (i : ℕ) {m : _} (all : held.Row_of-Node m) → class_in name (numbered i (arms_at texts all)) ≡ None

@@ -1,99 +1,86 @@
 -- A walk finds what stands at and below the node of a number.
-use Rattle.std.proofs.Common.{◌≡◌, ℕ, ◌+◌, Bool, true, false, refl, arith}
+use Rattle.std.proofs.Common.{◌≡◌, ℕ, ◌+◌, Bool, true, false, refl, ap, ◌∙◌, arith}
 use Rattle.std.specs.Prelude.{◌==◌, if◌then◌else◌}
-use Rattle.vg_syntax.specs.Tree.{Node, Nothing, Then, Arm, Text, ClassDecl, ComponentDecl, DeviceDecl, RegisterDecl, ProgramDecl, EntryDecl, FieldDecl, MethodDecl, ConstructorDecl, Block, Local, If, While, For, Return, Break, Continue, Assign, Eval, Number, CharLit, StringLit, True, False, Null, This, Name, NewObject, NewArray, Unary, Chain, Part, TypePart, Postfix, Member, Index, Call}
+use Rattle.vg_syntax.specs.Tree.{Node, Then, Arm, Text, ClassDecl, ComponentDecl, DeviceDecl, ProgramDecl, FieldDecl, MethodDecl, ConstructorDecl, Block, Local, If, While, For, Return, Assign, Eval, NewObject, NewArray, Unary, Chain, Part, Postfix, Index, Call}
+use Rattle.vg_syntax.specs.Outline.{Outline, Empty, Beside, Inner, outline, size, total}
 use Rattle.vg_syntax.specs.Numbering.{count_nodes, numbered}
-use Rattle.vg_tree.specs.Lookups.{count_code, code_at}
-use Rattle.vg_tree.specs.Walks.{found_at}
+use Rattle.vg_tree.specs.Lookups.{at_number}
+use Rattle.vg_tree.specs.Walks.{found}
+
+-- the same outlines beside one another, and below a node
+pub both : {a b c d : Outline} → a ≡ c → b ≡ d → Beside a b ≡ Beside c d
+both {a} {b} {c} {d} e f = ap (λ x. Beside x b) e ∙ ap (Beside c) f
+
+pub one : {i w : ℕ} {a b : Outline} → a ≡ b → Inner i w (Beside a Empty) ≡ Inner i w (Beside b Empty)
+one {i} {w} e = ap (λ x. Inner i w (Beside x Empty)) e
+
+pub two : {i w : ℕ} {a b c d : Outline} → a ≡ c → b ≡ d → Inner i w (Beside a (Beside b Empty)) ≡ Inner i w (Beside c (Beside d Empty))
+two {i} {w} e f = ap (Inner i w) (both e (both f refl))
+
+pub four : {i w : ℕ} {a b c d k l m n : Outline} → a ≡ k → b ≡ l → c ≡ m → d ≡ n
+    → Inner i w (Beside a (Beside b (Beside c (Beside d Empty)))) ≡ Inner i w (Beside k (Beside l (Beside m (Beside n Empty))))
+four {i} {w} e f g h = ap (Inner i w) (both e (both f (both g (both h refl))))
+
+-- an outline with its nodes numbered from i on
+abbrev pub renumbered : ℕ → Outline → Outline
+renumbered i Empty = Empty
+renumbered i (Beside first rest) = Beside (renumbered i first) (renumbered (i + size first) rest)
+renumbered i (Inner id weight children) = Inner i weight (renumbered (i + 1) children)
+
+-- what is numbered keeps its outline but for the numbers
+pub numbered_outline : (i : ℕ) (n : Node) → outline (numbered i n) ≡ renumbered i (outline n)
+numbered_outline i (Then first rest) = both (numbered_outline i first) (numbered_outline (i + count_nodes first) rest)
+numbered_outline i (Arm condition block rest) = both (numbered_outline i condition) (both (numbered_outline (i + count_nodes condition) block) (numbered_outline (i + count_nodes condition + count_nodes block) rest))
+numbered_outline i (Text at declarations) = one (numbered_outline (i + 1) declarations)
+numbered_outline i (ClassDecl at name above members) = one (numbered_outline (i + 1) members)
+numbered_outline i (ComponentDecl at name members) = one (numbered_outline (i + 1) members)
+numbered_outline i (DeviceDecl at name registers) = one (numbered_outline (i + 1) registers)
+numbered_outline i (ProgramDecl at name entries) = one (numbered_outline (i + 1) entries)
+numbered_outline i (FieldDecl at name type value) = one (numbered_outline (i + 1) value)
+numbered_outline i (MethodDecl at name params result body) = one (numbered_outline (i + 1) body)
+numbered_outline i (ConstructorDecl at params calls_super arguments body) = two (numbered_outline (i + 1) arguments) (numbered_outline (i + 1 + count_nodes arguments) body)
+numbered_outline i (Block at statements) = one (numbered_outline (i + 1) statements)
+numbered_outline i (Local at name type value) = one (numbered_outline (i + 1) value)
+numbered_outline i (If at arms otherwise) = two (numbered_outline (i + 1) arms) (numbered_outline (i + 1 + count_nodes arms) otherwise)
+numbered_outline i (While at condition body) = two (numbered_outline (i + 1) condition) (numbered_outline (i + 1 + count_nodes condition) body)
+numbered_outline i (For at first condition next body) = four (numbered_outline (i + 1) first) (numbered_outline (i + 1 + count_nodes first) condition) (numbered_outline (i + 1 + count_nodes first + count_nodes condition) next) (numbered_outline (i + 1 + count_nodes first + count_nodes condition + count_nodes next) body)
+numbered_outline i (Return at value) = one (numbered_outline (i + 1) value)
+numbered_outline i (Assign at target value) = two (numbered_outline (i + 1) target) (numbered_outline (i + 1 + count_nodes target) value)
+numbered_outline i (Eval at expression) = one (numbered_outline (i + 1) expression)
+numbered_outline i (NewObject at name arguments) = one (numbered_outline (i + 1) arguments)
+numbered_outline i (NewArray at element size) = one (numbered_outline (i + 1) size)
+numbered_outline i (Unary at operators operand) = one (numbered_outline (i + 1) operand)
+numbered_outline i (Chain at first parts) = two (numbered_outline (i + 1) first) (numbered_outline (i + 1 + count_nodes first) parts)
+numbered_outline i (Part at op operand) = one (numbered_outline (i + 1) operand)
+numbered_outline i (Postfix at primary suffixes) = two (numbered_outline (i + 1) primary) (numbered_outline (i + 1 + count_nodes primary) suffixes)
+numbered_outline i (Index at index) = one (numbered_outline (i + 1) index)
+numbered_outline i (Call at arguments) = one (numbered_outline (i + 1) arguments)
+numbered_outline i _ = refl
+
+pub size_renumbered : (i : ℕ) (o : Outline) → size (renumbered i o) ≡ size o
+size_renumbered i Empty = refl
+size_renumbered i (Beside first rest) = let e = size_renumbered i first in let f = size_renumbered (i + size first) rest in omega (arith, e, f)
+size_renumbered i (Inner id weight children) = ap (λ k. 1 + k) (size_renumbered (i + 1) children)
+
+-- the numbers of nodes do not change how many there are
+pub count_numbered : (i : ℕ) (n : Node) → count_nodes (numbered i n) ≡ count_nodes n
+count_numbered i n = ap size (numbered_outline i n) ∙ size_renumbered i (outline n)
+
+pub total_renumbered : (i : ℕ) (o : Outline) → total (renumbered i o) ≡ total o
+total_renumbered i Empty = refl
+total_renumbered i (Beside first rest) = let e = total_renumbered i first in let f = total_renumbered (i + size first) rest in omega (arith, e, f)
+total_renumbered i (Inner id weight children) = ap (λ k. weight + k) (total_renumbered (i + 1) children)
 
 -- the same choice
-pub pick : (p : Bool) (a b c d : ℕ) → a ≡ c → b ≡ d → (if p then a else b) ≡ (if p then c else d)
+pick : (p : Bool) (a b c d : ℕ) → a ≡ c → b ≡ d → (if p then a else b) ≡ (if p then c else d)
 pick true a b c d e f = e
 pick false a b c d e f = f
 
--- the numbers of nodes do not count
-pub code_numbered : (start : ℕ) (n : Node) → count_code (numbered start n) ≡ count_code n
-code_numbered start Nothing = refl
-code_numbered start (Then first rest) = let e0 = code_numbered start first in let e1 = code_numbered (start + count_nodes first) rest in omega (arith, e0, e1)
-code_numbered start (Arm condition block rest) = let e0 = code_numbered start condition in let e1 = code_numbered (start + count_nodes condition) block in let e2 = code_numbered (start + count_nodes condition + count_nodes block) rest in omega (arith, e0, e1, e2)
-code_numbered start (Text at declarations) = let e0 = code_numbered (start + 1) declarations in omega (arith, e0)
-code_numbered start (ClassDecl at name above members) = let e0 = code_numbered (start + 1) members in omega (arith, e0)
-code_numbered start (ComponentDecl at name members) = let e0 = code_numbered (start + 1) members in omega (arith, e0)
-code_numbered start (DeviceDecl at name registers) = let e0 = code_numbered (start + 1) registers in omega (arith, e0)
-code_numbered start (RegisterDecl at name number) = refl
-code_numbered start (ProgramDecl at name entries) = let e0 = code_numbered (start + 1) entries in omega (arith, e0)
-code_numbered start (EntryDecl at key component method) = refl
-code_numbered start (FieldDecl at name type value) = let e0 = code_numbered (start + 1) value in omega (arith, e0)
-code_numbered start (MethodDecl at name params result body) = let e0 = code_numbered (start + 1) body in omega (arith, e0)
-code_numbered start (ConstructorDecl at params calls_super arguments body) = let e0 = code_numbered (start + 1) arguments in let e1 = code_numbered (start + 1 + count_nodes arguments) body in omega (arith, e0, e1)
-code_numbered start (Block at statements) = let e0 = code_numbered (start + 1) statements in omega (arith, e0)
-code_numbered start (Local at name type value) = let e0 = code_numbered (start + 1) value in omega (arith, e0)
-code_numbered start (If at arms otherwise) = let e0 = code_numbered (start + 1) arms in let e1 = code_numbered (start + 1 + count_nodes arms) otherwise in omega (arith, e0, e1)
-code_numbered start (While at condition body) = let e0 = code_numbered (start + 1) condition in let e1 = code_numbered (start + 1 + count_nodes condition) body in omega (arith, e0, e1)
-code_numbered start (For at first condition next body) = let e0 = code_numbered (start + 1) first in let e1 = code_numbered (start + 1 + count_nodes first) condition in let e2 = code_numbered (start + 1 + count_nodes first + count_nodes condition) next in let e3 = code_numbered (start + 1 + count_nodes first + count_nodes condition + count_nodes next) body in omega (arith, e0, e1, e2, e3)
-code_numbered start (Return at value) = let e0 = code_numbered (start + 1) value in omega (arith, e0)
-code_numbered start (Break at) = refl
-code_numbered start (Continue at) = refl
-code_numbered start (Assign at target value) = let e0 = code_numbered (start + 1) target in let e1 = code_numbered (start + 1 + count_nodes target) value in omega (arith, e0, e1)
-code_numbered start (Eval at expression) = let e0 = code_numbered (start + 1) expression in omega (arith, e0)
-code_numbered start (Number at digits) = refl
-code_numbered start (CharLit at spelled) = refl
-code_numbered start (StringLit at spelled) = refl
-code_numbered start (True at) = refl
-code_numbered start (False at) = refl
-code_numbered start (Null at) = refl
-code_numbered start (This at) = refl
-code_numbered start (Name at name) = refl
-code_numbered start (NewObject at name arguments) = let e0 = code_numbered (start + 1) arguments in omega (arith, e0)
-code_numbered start (NewArray at element size) = let e0 = code_numbered (start + 1) size in omega (arith, e0)
-code_numbered start (Unary at operators operand) = let e0 = code_numbered (start + 1) operand in omega (arith, e0)
-code_numbered start (Chain at first parts) = let e0 = code_numbered (start + 1) first in let e1 = code_numbered (start + 1 + count_nodes first) parts in omega (arith, e0, e1)
-code_numbered start (Part at op operand) = let e0 = code_numbered (start + 1) operand in omega (arith, e0)
-code_numbered start (TypePart at op type) = refl
-code_numbered start (Postfix at primary suffixes) = let e0 = code_numbered (start + 1) primary in let e1 = code_numbered (start + 1 + count_nodes primary) suffixes in omega (arith, e0, e1)
-code_numbered start (Member at name) = refl
-code_numbered start (Index at index) = let e0 = code_numbered (start + 1) index in omega (arith, e0)
-code_numbered start (Call at arguments) = let e0 = code_numbered (start + 1) arguments in omega (arith, e0)
+found_renumbered : (start i : ℕ) (o : Outline) → at_number i (renumbered start o) ≡ found start i o
+found_renumbered start i Empty = refl
+found_renumbered start i (Beside first rest) = let e = found_renumbered start i first in let f = found_renumbered (start + size first) i rest in omega (arith, e, f)
+found_renumbered start i (Inner id weight children) =
+    pick (start == i) _ _ _ _ (ap (λ k. weight + k) (total_renumbered (start + 1) children)) (found_renumbered (start + 1) i children)
 
-pub found_numbered : (start i : ℕ) (n : Node) → code_at i (numbered start n) ≡ found_at start i n
-found_numbered start i Nothing = refl
-found_numbered start i (Then first rest) = let f0 = found_numbered start i first in let f1 = found_numbered (start + count_nodes first) i rest in omega (arith, f0, f1)
-found_numbered start i (Arm condition block rest) = let f0 = found_numbered start i condition in let f1 = found_numbered (start + count_nodes condition) i block in let f2 = found_numbered (start + count_nodes condition + count_nodes block) i rest in omega (arith, f0, f1, f2)
-found_numbered start i (Text at declarations) = let f0 = found_numbered (start + 1) i declarations in pick (start == i) _ _ _ _ (code_numbered start (Text at declarations)) (omega (arith, f0))
-found_numbered start i (ClassDecl at name above members) = let f0 = found_numbered (start + 1) i members in pick (start == i) _ _ _ _ (code_numbered start (ClassDecl at name above members)) (omega (arith, f0))
-found_numbered start i (ComponentDecl at name members) = let f0 = found_numbered (start + 1) i members in pick (start == i) _ _ _ _ (code_numbered start (ComponentDecl at name members)) (omega (arith, f0))
-found_numbered start i (DeviceDecl at name registers) = let f0 = found_numbered (start + 1) i registers in pick (start == i) _ _ _ _ (code_numbered start (DeviceDecl at name registers)) (omega (arith, f0))
-found_numbered start i (RegisterDecl at name number) = pick (start == i) _ _ _ _ (code_numbered start (RegisterDecl at name number)) (refl)
-found_numbered start i (ProgramDecl at name entries) = let f0 = found_numbered (start + 1) i entries in pick (start == i) _ _ _ _ (code_numbered start (ProgramDecl at name entries)) (omega (arith, f0))
-found_numbered start i (EntryDecl at key component method) = pick (start == i) _ _ _ _ (code_numbered start (EntryDecl at key component method)) (refl)
-found_numbered start i (FieldDecl at name type value) = let f0 = found_numbered (start + 1) i value in pick (start == i) _ _ _ _ (code_numbered start (FieldDecl at name type value)) (omega (arith, f0))
-found_numbered start i (MethodDecl at name params result body) = let f0 = found_numbered (start + 1) i body in pick (start == i) _ _ _ _ (code_numbered start (MethodDecl at name params result body)) (omega (arith, f0))
-found_numbered start i (ConstructorDecl at params calls_super arguments body) = let f0 = found_numbered (start + 1) i arguments in let f1 = found_numbered (start + 1 + count_nodes arguments) i body in pick (start == i) _ _ _ _ (code_numbered start (ConstructorDecl at params calls_super arguments body)) (omega (arith, f0, f1))
-found_numbered start i (Block at statements) = let f0 = found_numbered (start + 1) i statements in pick (start == i) _ _ _ _ (code_numbered start (Block at statements)) (omega (arith, f0))
-found_numbered start i (Local at name type value) = let f0 = found_numbered (start + 1) i value in pick (start == i) _ _ _ _ (code_numbered start (Local at name type value)) (omega (arith, f0))
-found_numbered start i (If at arms otherwise) = let f0 = found_numbered (start + 1) i arms in let f1 = found_numbered (start + 1 + count_nodes arms) i otherwise in pick (start == i) _ _ _ _ (code_numbered start (If at arms otherwise)) (omega (arith, f0, f1))
-found_numbered start i (While at condition body) = let f0 = found_numbered (start + 1) i condition in let f1 = found_numbered (start + 1 + count_nodes condition) i body in pick (start == i) _ _ _ _ (code_numbered start (While at condition body)) (omega (arith, f0, f1))
-found_numbered start i (For at first condition next body) = let f0 = found_numbered (start + 1) i first in let f1 = found_numbered (start + 1 + count_nodes first) i condition in let f2 = found_numbered (start + 1 + count_nodes first + count_nodes condition) i next in let f3 = found_numbered (start + 1 + count_nodes first + count_nodes condition + count_nodes next) i body in pick (start == i) _ _ _ _ (code_numbered start (For at first condition next body)) (omega (arith, f0, f1, f2, f3))
-found_numbered start i (Return at value) = let f0 = found_numbered (start + 1) i value in pick (start == i) _ _ _ _ (code_numbered start (Return at value)) (omega (arith, f0))
-found_numbered start i (Break at) = pick (start == i) _ _ _ _ (code_numbered start (Break at)) (refl)
-found_numbered start i (Continue at) = pick (start == i) _ _ _ _ (code_numbered start (Continue at)) (refl)
-found_numbered start i (Assign at target value) = let f0 = found_numbered (start + 1) i target in let f1 = found_numbered (start + 1 + count_nodes target) i value in pick (start == i) _ _ _ _ (code_numbered start (Assign at target value)) (omega (arith, f0, f1))
-found_numbered start i (Eval at expression) = let f0 = found_numbered (start + 1) i expression in pick (start == i) _ _ _ _ (code_numbered start (Eval at expression)) (omega (arith, f0))
-found_numbered start i (Number at digits) = pick (start == i) _ _ _ _ (code_numbered start (Number at digits)) (refl)
-found_numbered start i (CharLit at spelled) = pick (start == i) _ _ _ _ (code_numbered start (CharLit at spelled)) (refl)
-found_numbered start i (StringLit at spelled) = pick (start == i) _ _ _ _ (code_numbered start (StringLit at spelled)) (refl)
-found_numbered start i (True at) = pick (start == i) _ _ _ _ (code_numbered start (True at)) (refl)
-found_numbered start i (False at) = pick (start == i) _ _ _ _ (code_numbered start (False at)) (refl)
-found_numbered start i (Null at) = pick (start == i) _ _ _ _ (code_numbered start (Null at)) (refl)
-found_numbered start i (This at) = pick (start == i) _ _ _ _ (code_numbered start (This at)) (refl)
-found_numbered start i (Name at name) = pick (start == i) _ _ _ _ (code_numbered start (Name at name)) (refl)
-found_numbered start i (NewObject at name arguments) = let f0 = found_numbered (start + 1) i arguments in pick (start == i) _ _ _ _ (code_numbered start (NewObject at name arguments)) (omega (arith, f0))
-found_numbered start i (NewArray at element size) = let f0 = found_numbered (start + 1) i size in pick (start == i) _ _ _ _ (code_numbered start (NewArray at element size)) (omega (arith, f0))
-found_numbered start i (Unary at operators operand) = let f0 = found_numbered (start + 1) i operand in pick (start == i) _ _ _ _ (code_numbered start (Unary at operators operand)) (omega (arith, f0))
-found_numbered start i (Chain at first parts) = let f0 = found_numbered (start + 1) i first in let f1 = found_numbered (start + 1 + count_nodes first) i parts in pick (start == i) _ _ _ _ (code_numbered start (Chain at first parts)) (omega (arith, f0, f1))
-found_numbered start i (Part at op operand) = let f0 = found_numbered (start + 1) i operand in pick (start == i) _ _ _ _ (code_numbered start (Part at op operand)) (omega (arith, f0))
-found_numbered start i (TypePart at op type) = pick (start == i) _ _ _ _ (code_numbered start (TypePart at op type)) (refl)
-found_numbered start i (Postfix at primary suffixes) = let f0 = found_numbered (start + 1) i primary in let f1 = found_numbered (start + 1 + count_nodes primary) i suffixes in pick (start == i) _ _ _ _ (code_numbered start (Postfix at primary suffixes)) (omega (arith, f0, f1))
-found_numbered start i (Member at name) = pick (start == i) _ _ _ _ (code_numbered start (Member at name)) (refl)
-found_numbered start i (Index at index) = let f0 = found_numbered (start + 1) i index in pick (start == i) _ _ _ _ (code_numbered start (Index at index)) (omega (arith, f0))
-found_numbered start i (Call at arguments) = let f0 = found_numbered (start + 1) i arguments in pick (start == i) _ _ _ _ (code_numbered start (Call at arguments)) (omega (arith, f0))
+pub found_numbered : (start i : ℕ) (n : Node) → at_number i (outline (numbered start n)) ≡ found start i (outline n)
+found_numbered start i n = ap (at_number i) (numbered_outline start n) ∙ found_renumbered start i (outline n)

@@ -1,74 +1,75 @@
 -- Walks over rows.
-use Rattle.std.proofs.Common.{◌≡◌, ℕ, zero, suc, ◌+◌, ◌<◌, ◌≤◌, List, [], ◌∷◌, length, drop, get_or, refl, sym, ap, ◌∙◌, arith}
+use Rattle.std.proofs.Common.{◌≡◌, ℕ, zero, suc, ◌+◌, ◌<◌, ◌≤◌, List, [], ◌∷◌, Option, Some, None, length, drop, get_or, refl, sym, ap, ◌∙◌, arith}
 use Rattle.vg_tree.specs.declared.node.Node as held
 use Rattle.vg_tree.specs.declared.walk.Walk.{Walk}
-use Rattle.vg_syntax.specs.Tree.{Node, Nothing, Then}
-use Rattle.vg_syntax.specs.Numbering.{count_nodes}
-use Rattle.vg_tree.specs.Held.{node_at, row_at, arm_at, arm_row}
-use Rattle.vg_tree.specs.Lookups.{count_code}
-use Rattle.vg_tree.specs.Walks.{IsWalk, found_at}
+use Rattle.vg_syntax.specs.Tree.{Node, Nothing}
+use Rattle.vg_syntax.specs.Outline.{Outline, Empty, Beside, outline, size, total}
+use Rattle.vg_tree.specs.Held.{node_at, arm_at}
+use Rattle.vg_tree.specs.Children.{kid_outline, kids_outline}
+use Rattle.vg_tree.specs.Walks.{IsWalk, found, bulk}
 
 -- with the rest, the walk has come as far as with all
-pub record Passing (target : ℕ) (start here : Walk) (all rest : Node) : Type 0 where
-  pub next : here.next + count_nodes rest ≡ start.next + count_nodes all
-  pub code : here.code + count_code rest ≡ start.code + count_code all
-  pub found : here.found + found_at here.next target rest ≡ start.found + found_at start.next target all
+pub record Passing (target : ℕ) (start here : Walk) (all rest : Outline) : Type 0 where
+  pub next : here.next + size rest ≡ start.next + size all
+  pub code : here.code + total rest ≡ start.code + total all
+  pub found : here.found + found here.next target rest ≡ start.found + found start.next target all
+  pub less : bulk rest ≤ bulk all
   pub sound : IsWalk here
 
-pub passing_starts : (target : ℕ) (start : Walk) (all : Node) → IsWalk start → Passing target start start all all
-passing_starts target start all h = record { next = refl; code = refl; found = refl; sound = h }
+pub passing_starts : (target : ℕ) (start : Walk) (all : Outline) → IsWalk start → Passing target start start all all
+passing_starts target start all h = record { next = refl; code = refl; found = refl; less = omega arith; sound = h }
 
-pub passing_one : (target : ℕ) (start here there : Walk) (all first rest : Node) → Passing target start here all (Then first rest)
-    → there.next ≡ here.next + count_nodes first → there.code ≡ here.code + count_code first → there.found ≡ here.found + found_at here.next target first → IsWalk there
+-- a front of an outline, and the rest of it
+pub record Joins (all first rest : Outline) : Type 0 where
+  pub sizes : size all ≡ size first + size rest
+  pub totals : total all ≡ total first + total rest
+  pub founds : (start i : ℕ) → found start i all ≡ found start i first + found (start + size first) i rest
+  pub bulks : bulk first + bulk rest ≤ bulk all
+
+pub passing_on : (target : ℕ) (start here there : Walk) (all left first rest : Outline) → Passing target start here all left → Joins left first rest
+    → there.next ≡ here.next + size first → there.code ≡ here.code + total first → there.found ≡ here.found + found here.next target first → IsWalk there
     → Passing target start there all rest
-passing_one target start here there all first rest p n c f s =
-    let same : found_at there.next target rest ≡ found_at (here.next + count_nodes first) target rest = ap (λ i. found_at i target rest) n in
+passing_on target start here there all left first rest p j n c f s =
+    let same : found there.next target rest ≡ found (here.next + size first) target rest = ap (λ i. found i target rest) n in
     let pn = p.next in
     let pc = p.code in
     let pf = p.found in
-    record { next = omega (arith, pn, n); code = omega (arith, pc, c); found = omega (arith, pf, f, same); sound = s }
+    let pl = p.less in
+    let jn = j.sizes in
+    let jc = j.totals in
+    let jf = j.founds here.next target in
+    let jl = j.bulks in
+    record { next = omega (arith, pn, n, jn); code = omega (arith, pc, c, jc); found = omega (arith, pf, f, same, jf); less = omega (arith, pl, jl); sound = s }
 
--- a pair before a row of pairs, or nothing
-pub arm_nodes : (n : held.Node) (rest : Node) → count_nodes (arm_at [] n rest) ≡ count_nodes (arm_at [] n Nothing) + count_nodes rest
-arm_nodes (held.Pair' p c q b) rest = omega arith
-arm_nodes _ rest = omega arith
+pub beside_joins : (first rest : Outline) → Joins (Beside first rest) first rest
+beside_joins first rest = record { sizes = refl; totals = refl; founds = λ start i. refl; bulks = omega arith }
 
-pub arm_code : (n : held.Node) (rest : Node) → count_code (arm_at [] n rest) ≡ count_code (arm_at [] n Nothing) + count_code rest
-arm_code (held.Pair' p c q b) rest = omega arith
-arm_code _ rest = omega arith
+none_joins : (rest : Outline) → Joins rest Empty rest
+none_joins rest = record { sizes = omega arith; totals = omega arith; founds = λ start i. let same : found (start + 0) i rest ≡ found start i rest = ap (λ j. found j i rest) (omega arith) in omega (arith, same); bulks = omega arith }
 
-pub arm_found : (n : held.Node) (start i : ℕ) (rest : Node) → found_at start i (arm_at [] n rest) ≡ found_at start i (arm_at [] n Nothing) + found_at (start + count_nodes (arm_at [] n Nothing)) i rest
-arm_found (held.Pair' p c q b) start i rest =
-    let same : found_at (start + (count_nodes (node_at [] c) + count_nodes (node_at [] b) + 0)) i rest ≡ found_at (start + count_nodes (node_at [] c) + count_nodes (node_at [] b)) i rest = ap (λ j. found_at j i rest) (omega arith) in
-    omega (arith, same)
-arm_found _ start i rest = let same : found_at (start + 0) i rest ≡ found_at start i rest = ap (λ j. found_at j i rest) (omega arith) in omega (arith, same)
+pub kid_joins : (kid : Option held.Node) (kids : List (Option held.Node)) → Joins (kids_outline (kid ∷ kids)) (kid_outline kid) (kids_outline kids)
+kid_joins None kids = none_joins (kids_outline kids)
+kid_joins (Some n) kids = beside_joins (outline (node_at [] n)) (kids_outline kids)
 
-pub passing_arm : (target : ℕ) (start here there : Walk) (all rest : Node) (n : held.Node) → Passing target start here all (arm_at [] n rest)
-    → there.next ≡ here.next + count_nodes (arm_at [] n Nothing) → there.code ≡ here.code + count_code (arm_at [] n Nothing) → there.found ≡ here.found + found_at here.next target (arm_at [] n Nothing) → IsWalk there
-    → Passing target start there all rest
-passing_arm target start here there all rest n p k c f s =
-    let same : found_at there.next target rest ≡ found_at (here.next + count_nodes (arm_at [] n Nothing)) target rest = ap (λ i. found_at i target rest) k in
-    let pn = p.next in
-    let pc = p.code in
-    let pf = p.found in
-    let an = arm_nodes n rest in
-    let ac = arm_code n rest in
-    let af = arm_found n here.next target rest in
-    record { next = omega (arith, pn, k, an); code = omega (arith, pc, c, ac); found = omega (arith, pf, f, same, af); sound = s }
+pair_joins : (c b rest : Outline) → Joins (Beside c (Beside b rest)) (Beside c (Beside b Empty)) rest
+pair_joins c b rest = record {
+  sizes = omega arith;
+  totals = omega arith;
+  founds = λ start i.
+      let same : found (start + (size c + (size b + 0))) i rest ≡ found (start + size c + size b) i rest = ap (λ j. found j i rest) (omega arith) in
+      omega (arith, same);
+  bulks = omega arith;
+}
 
--- the rows that are left
-pub row_left : (nodes : List held.Node) (i : ℕ) (n : held.Node) → i < length nodes → get_or nodes i n ≡ n → row_at [] (drop i nodes) ≡ Then (node_at [] n) (row_at [] (drop (i + 1) nodes))
-row_left [] i n h e = absurd (omega (arith, h))
-row_left (m ∷ nodes) zero n h e = ap (λ (k : held.Node). Then (node_at [] k) (row_at [] nodes)) e
-row_left (m ∷ nodes) (suc i) n h e = let one : suc i + 1 ≡ suc (i + 1) = omega arith in row_left nodes i n (omega (arith, h)) e ∙ ap (λ j. Then (node_at [] n) (row_at [] (drop j (m ∷ nodes)))) (sym one)
+pub arm_joins : (n : held.Node) (rest : Node) → Joins (outline (arm_at [] n rest)) (outline (arm_at [] n Nothing)) (outline rest)
+arm_joins (held.Pair' p c q b) rest = pair_joins (outline (node_at [] c)) (outline (node_at [] b)) (outline rest)
+arm_joins _ rest = none_joins (outline rest)
 
-pub arms_left : (nodes : List held.Node) (i : ℕ) (n : held.Node) → i < length nodes → get_or nodes i n ≡ n → arm_row [] (drop i nodes) ≡ arm_at [] n (arm_row [] (drop (i + 1) nodes))
-arms_left [] i n h e = absurd (omega (arith, h))
-arms_left (m ∷ nodes) zero n h e = ap (λ (k : held.Node). arm_at [] k (arm_row [] nodes)) e
-arms_left (m ∷ nodes) (suc i) n h e = let one : suc i + 1 ≡ suc (i + 1) = omega arith in arms_left nodes i n (omega (arith, h)) e ∙ ap (λ j. arm_at [] n (arm_row [] (drop j (m ∷ nodes)))) (sym one)
+-- what is left of a list
+pub left_at : {A : Type 0} (xs : List A) (i : ℕ) (d : A) → i < length xs → drop i xs ≡ get_or xs i d ∷ drop (i + 1) xs
+left_at [] i d h = absurd (omega (arith, h))
+left_at (x ∷ xs) zero d h = refl
+left_at (x ∷ xs) (suc i) d h = let one : suc i + 1 ≡ suc (i + 1) = omega arith in left_at xs i d (omega (arith, h)) ∙ ap (λ j. get_or xs i d ∷ drop j (x ∷ xs)) (sym one)
 
-pub none_left : (nodes : List held.Node) (i : ℕ) → length nodes ≤ i → drop i nodes ≡ []
-none_left [] zero h = refl
-none_left [] (suc i) h = refl
-none_left (m ∷ nodes) zero h = absurd (omega (arith, h))
-none_left (m ∷ nodes) (suc i) h = none_left nodes i (omega (arith, h))
+pub left_of : {A : Type 0} (xs : List A) (i : ℕ) (x : A) → i < length xs → get_or xs i x ≡ x → drop i xs ≡ x ∷ drop (i + 1) xs
+left_of xs i x h e = left_at xs i x h ∙ ap (λ z. z ∷ drop (i + 1) xs) e

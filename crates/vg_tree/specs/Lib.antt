@@ -1,4 +1,5 @@
 pub mod Held
+pub mod Children
 pub mod Lookups
 pub mod Walks
 pub mod Classes

@@ -1,4 +1,10 @@
 // Nodes.
+ghost use Rattle.std.specs.Prelude.{◌≡◌, true, [], length, map};
+ghost use Rattle.std.specs.Option.{option_map};
+ghost use Rattle.vg_syntax.specs.Outline.{Inner, outline};
+ghost use Rattle.vg_tree.specs.Held.{node_at};
+ghost use Rattle.vg_tree.specs.Children.{has_number, weight_of, kids_outline};
+
 use crate::type_tree::{Param, TypeTree};
 use vg_base::{Name, Place};
 use vg_syntax::Kind;
@@ -7,7 +13,6 @@ use vg_syntax::Kind;
 ///
 /// The place of a node is that of its first token; that of a `Part` or a `TypePart` is its operator's. Names, numbers, characters and strings are kept as the
 /// spelling of their token, which has a name.
-#[derive(Drop)]
 pub enum Node {
     /// Nothing is written where a node may be left out.
     Nothing,
@@ -66,4 +71,106 @@ pub enum Node {
     Member(Place, Name),
     Index(Place, Box<Node>),
     Call(Place, Box<Node>),
+}
+
+impl Drop for Node {
+    // By hand: a function that may drop one calls this, where it would have a copy of a derived one.
+    fn drop(self) {
+        match self {
+            Node::Nothing => {}
+            Node::Row(_) => {}
+            Node::Arms(_) => {}
+            Node::Pair(_, _) => {}
+            Node::Text(_, _) => {}
+            Node::ClassDecl(_, _, _, _) => {}
+            Node::ComponentDecl(_, _, _) => {}
+            Node::DeviceDecl(_, _, _) => {}
+            Node::RegisterDecl(_, _, _) => {}
+            Node::ProgramDecl(_, _, _) => {}
+            Node::EntryDecl(_, _, _, _) => {}
+            Node::FieldDecl(_, _, _, _) => {}
+            Node::MethodDecl(_, _, _, _, _) => {}
+            Node::ConstructorDecl(_, _, _, _, _) => {}
+            Node::Block(_, _) => {}
+            Node::Local(_, _, _, _) => {}
+            Node::If(_, _, _) => {}
+            Node::While(_, _, _) => {}
+            Node::For(_, _, _, _, _) => {}
+            Node::Return(_, _) => {}
+            Node::Break(_) => {}
+            Node::Continue(_) => {}
+            Node::Assign(_, _, _) => {}
+            Node::Eval(_, _) => {}
+            Node::Number(_, _) => {}
+            Node::CharLiteral(_, _) => {}
+            Node::StringLiteral(_, _) => {}
+            Node::True(_) => {}
+            Node::False(_) => {}
+            Node::Null(_) => {}
+            Node::This(_) => {}
+            Node::Name(_, _) => {}
+            Node::NewObject(_, _, _) => {}
+            Node::NewArray(_, _, _) => {}
+            Node::Unary(_, _, _) => {}
+            Node::Chain(_, _, _) => {}
+            Node::Part(_, _, _) => {}
+            Node::TypePart(_, _, _) => {}
+            Node::Postfix(_, _, _) => {}
+            Node::Member(_, _) => {}
+            Node::Index(_, _) => {}
+            Node::Call(_, _) => {}
+        }
+    }
+}
+
+impl Node {
+    /// The children of a node, in order of the text. A row, a pair and a leaf have none.
+    pub fn children(&self) -> [Option<&Node>; 4]
+        ensures four { length result ≡ 4 }
+        ensures outline { has_number self.now ≡ true → outline (node_at [] self.now) ≡ Inner 0 (weight_of self.now) (kids_outline (map (option_map (λ kid. kid.now)) result)) }
+    {
+        match self {
+            Node::Text(_, a) => [Some(a), None, None, None],
+            Node::ClassDecl(_, _, _, a) => [Some(a), None, None, None],
+            Node::ComponentDecl(_, _, a) => [Some(a), None, None, None],
+            Node::DeviceDecl(_, _, a) => [Some(a), None, None, None],
+            Node::ProgramDecl(_, _, a) => [Some(a), None, None, None],
+            Node::FieldDecl(_, _, _, a) => [Some(a), None, None, None],
+            Node::MethodDecl(_, _, _, _, a) => [Some(a), None, None, None],
+            Node::ConstructorDecl(_, _, _, a, b) => [Some(a), Some(b), None, None],
+            Node::Block(_, a) => [Some(a), None, None, None],
+            Node::Local(_, _, _, a) => [Some(a), None, None, None],
+            Node::If(_, a, b) => [Some(a), Some(b), None, None],
+            Node::While(_, a, b) => [Some(a), Some(b), None, None],
+            Node::For(_, a, b, c, d) => [Some(a), Some(b), Some(c), Some(d)],
+            Node::Return(_, a) => [Some(a), None, None, None],
+            Node::Assign(_, a, b) => [Some(a), Some(b), None, None],
+            Node::Eval(_, a) => [Some(a), None, None, None],
+            Node::NewObject(_, _, a) => [Some(a), None, None, None],
+            Node::NewArray(_, _, a) => [Some(a), None, None, None],
+            Node::Unary(_, _, a) => [Some(a), None, None, None],
+            Node::Chain(_, a, b) => [Some(a), Some(b), None, None],
+            Node::Part(_, _, a) => [Some(a), None, None, None],
+            Node::Postfix(_, a, b) => [Some(a), Some(b), None, None],
+            Node::Index(_, a) => [Some(a), None, None, None],
+            Node::Call(_, a) => [Some(a), None, None, None],
+            Node::Nothing | Node::Row(_) | Node::Arms(_) | Node::Pair(_, _) => {
+                [None, None, None, None]
+            }
+            Node::RegisterDecl(_, _, _)
+            | Node::EntryDecl(_, _, _, _)
+            | Node::Break(_)
+            | Node::Continue(_)
+            | Node::Number(_, _)
+            | Node::CharLiteral(_, _)
+            | Node::StringLiteral(_, _)
+            | Node::True(_)
+            | Node::False(_)
+            | Node::Null(_)
+            | Node::This(_)
+            | Node::Name(_, _)
+            | Node::TypePart(_, _, _)
+            | Node::Member(_, _) => [None, None, None, None],
+        }
+    }
 }

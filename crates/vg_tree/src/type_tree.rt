@@ -2,7 +2,6 @@
 use vg_base::Name;
 
 /// A type as it is written. Parentheses leave no trace.
-#[derive(Drop)]
 pub enum TypeTree {
     Int,
     Bool,
@@ -19,6 +18,23 @@ pub enum TypeTree {
     Nothing,
     /// Types, in order of the text.
     Row(Vec<TypeTree>),
+}
+
+impl Drop for TypeTree {
+    // By hand: a function that may drop one calls this, where it would have a copy of a derived one.
+    fn drop(self) {
+        match self {
+            TypeTree::Int => {}
+            TypeTree::Bool => {}
+            TypeTree::Char => {}
+            TypeTree::Raw(_) => {}
+            TypeTree::Class(_) => {}
+            TypeTree::Array(_, _) => {}
+            TypeTree::Function(_, _) => {}
+            TypeTree::Nothing => {}
+            TypeTree::Row(_) => {}
+        }
+    }
 }
 
 /// A parameter of a method or a constructor: its name and its type.

@@ -1,10 +1,13 @@
 // How a tree is walked: each node before its children, and those in order of the text.
-ghost use Rattle.std.specs.Prelude.{◌≡◌, ◌≤◌, ◌<◌, ◌+◌, ◌-◌, ◌^◌, ◌==◌, [], if◌then◌else◌};
+ghost use Rattle.std.specs.Prelude.{◌≡◌, ◌≤◌, ◌<◌, ◌+◌, ◌-◌, ◌^◌, ◌==◌, true, [], if◌then◌else◌};
+ghost use Rattle.std.specs.Option.{option_map};
+ghost use Rattle.vg_syntax.specs.Outline.{outline, size, total};
 ghost use Rattle.vg_syntax.specs.Numbering.{count_nodes};
 ghost use Rattle.vg_syntax.specs.Tree.{Nothing};
 ghost use Rattle.vg_tree.specs.Held.{node_at, arm_at};
 ghost use Rattle.vg_tree.specs.Lookups.{count_code};
-ghost use Rattle.vg_tree.specs.Walks.{IsWalk, found_at, weight};
+ghost use Rattle.vg_tree.specs.Children.{has_number, weight_of, kid_outline};
+ghost use Rattle.vg_tree.specs.Walks.{IsWalk, found, weight};
 
 use crate::node::Node;
 
@@ -39,6 +42,25 @@ pub(crate) fn walk_from(next: u32) -> Walk
     }
 }
 
+// Whether a node is a statement or an expression.
+fn sort_of(node: &Node) -> Counted
+    ensures { weight result ≡ weight_of node.now }
+{
+    match node {
+        Node::Text(_, _)
+        | Node::ClassDecl(_, _, _, _)
+        | Node::ComponentDecl(_, _, _)
+        | Node::DeviceDecl(_, _, _)
+        | Node::RegisterDecl(_, _, _)
+        | Node::ProgramDecl(_, _, _)
+        | Node::EntryDecl(_, _, _, _)
+        | Node::FieldDecl(_, _, _, _)
+        | Node::MethodDecl(_, _, _, _, _)
+        | Node::ConstructorDecl(_, _, _, _, _) => Counted::Declaration,
+        _ => Counted::Code,
+    }
+}
+
 /// The walk behind a node and all below it.
 #[cycle(pass)]
 pub(crate) fn pass(node: &Node, so_far: Walk, target: u32) -> Walk
@@ -46,12 +68,11 @@ pub(crate) fn pass(node: &Node, so_far: Walk, target: u32) -> Walk
     requires sound { IsWalk so_far }
     ensures next { result.next ≡ so_far.next + count_nodes (node_at [] node.now) }
     ensures code { result.code ≡ so_far.code + count_code (node_at [] node.now) }
-    ensures found { result.found ≡ so_far.found + found_at so_far.next target (node_at [] node.now) }
+    ensures found { result.found ≡ so_far.found + found so_far.next target (outline (node_at [] node.now)) }
     ensures sound { IsWalk result }
 {
     match node {
-        Node::Nothing => so_far,
-        Node::Pair(_, _) => so_far,
+        Node::Nothing | Node::Pair(_, _) => so_far,
         Node::Row(nodes) => {
             let mut passed = so_far;
             'row: for node in nodes.as_slice() {
@@ -66,152 +87,41 @@ pub(crate) fn pass(node: &Node, so_far: Walk, target: u32) -> Walk
             }
             passed
         }
-        Node::Text(_, a) => ended(
-            so_far,
-            pass(a, begun(so_far, Counted::Declaration), target),
-            target,
-        ),
-        Node::ClassDecl(_, _, _, a) => ended(
-            so_far,
-            pass(a, begun(so_far, Counted::Declaration), target),
-            target,
-        ),
-        Node::ComponentDecl(_, _, a) => ended(
-            so_far,
-            pass(a, begun(so_far, Counted::Declaration), target),
-            target,
-        ),
-        Node::DeviceDecl(_, _, a) => ended(
-            so_far,
-            pass(a, begun(so_far, Counted::Declaration), target),
-            target,
-        ),
-        Node::RegisterDecl(_, _, _) => ended(so_far, begun(so_far, Counted::Declaration), target),
-        Node::ProgramDecl(_, _, a) => ended(
-            so_far,
-            pass(a, begun(so_far, Counted::Declaration), target),
-            target,
-        ),
-        Node::EntryDecl(_, _, _, _) => ended(so_far, begun(so_far, Counted::Declaration), target),
-        Node::FieldDecl(_, _, _, a) => ended(
-            so_far,
-            pass(a, begun(so_far, Counted::Declaration), target),
-            target,
-        ),
-        Node::MethodDecl(_, _, _, _, a) => ended(
-            so_far,
-            pass(a, begun(so_far, Counted::Declaration), target),
-            target,
-        ),
-        Node::ConstructorDecl(_, _, _, a, b) => ended(
-            so_far,
-            pass(
-                b,
-                pass(a, begun(so_far, Counted::Declaration), target),
-                target,
-            ),
-            target,
-        ),
-        Node::Block(_, a) => ended(
-            so_far,
-            pass(a, begun(so_far, Counted::Code), target),
-            target,
-        ),
-        Node::Local(_, _, _, a) => ended(
-            so_far,
-            pass(a, begun(so_far, Counted::Code), target),
-            target,
-        ),
-        Node::If(_, a, b) => ended(
-            so_far,
-            pass(b, pass(a, begun(so_far, Counted::Code), target), target),
-            target,
-        ),
-        Node::While(_, a, b) => ended(
-            so_far,
-            pass(b, pass(a, begun(so_far, Counted::Code), target), target),
-            target,
-        ),
-        Node::For(_, a, b, c, d) => ended(
-            so_far,
-            pass(
-                d,
-                pass(
-                    c,
-                    pass(b, pass(a, begun(so_far, Counted::Code), target), target),
-                    target,
-                ),
-                target,
-            ),
-            target,
-        ),
-        Node::Return(_, a) => ended(
-            so_far,
-            pass(a, begun(so_far, Counted::Code), target),
-            target,
-        ),
-        Node::Break(_) => ended(so_far, begun(so_far, Counted::Code), target),
-        Node::Continue(_) => ended(so_far, begun(so_far, Counted::Code), target),
-        Node::Assign(_, a, b) => ended(
-            so_far,
-            pass(b, pass(a, begun(so_far, Counted::Code), target), target),
-            target,
-        ),
-        Node::Eval(_, a) => ended(
-            so_far,
-            pass(a, begun(so_far, Counted::Code), target),
-            target,
-        ),
-        Node::Number(_, _) => ended(so_far, begun(so_far, Counted::Code), target),
-        Node::CharLiteral(_, _) => ended(so_far, begun(so_far, Counted::Code), target),
-        Node::StringLiteral(_, _) => ended(so_far, begun(so_far, Counted::Code), target),
-        Node::True(_) => ended(so_far, begun(so_far, Counted::Code), target),
-        Node::False(_) => ended(so_far, begun(so_far, Counted::Code), target),
-        Node::Null(_) => ended(so_far, begun(so_far, Counted::Code), target),
-        Node::This(_) => ended(so_far, begun(so_far, Counted::Code), target),
-        Node::Name(_, _) => ended(so_far, begun(so_far, Counted::Code), target),
-        Node::NewObject(_, _, a) => ended(
-            so_far,
-            pass(a, begun(so_far, Counted::Code), target),
-            target,
-        ),
-        Node::NewArray(_, _, a) => ended(
-            so_far,
-            pass(a, begun(so_far, Counted::Code), target),
-            target,
-        ),
-        Node::Unary(_, _, a) => ended(
-            so_far,
-            pass(a, begun(so_far, Counted::Code), target),
-            target,
-        ),
-        Node::Chain(_, a, b) => ended(
-            so_far,
-            pass(b, pass(a, begun(so_far, Counted::Code), target), target),
-            target,
-        ),
-        Node::Part(_, _, a) => ended(
-            so_far,
-            pass(a, begun(so_far, Counted::Code), target),
-            target,
-        ),
-        Node::TypePart(_, _, _) => ended(so_far, begun(so_far, Counted::Code), target),
-        Node::Postfix(_, a, b) => ended(
-            so_far,
-            pass(b, pass(a, begun(so_far, Counted::Code), target), target),
-            target,
-        ),
-        Node::Member(_, _) => ended(so_far, begun(so_far, Counted::Code), target),
-        Node::Index(_, a) => ended(
-            so_far,
-            pass(a, begun(so_far, Counted::Code), target),
-            target,
-        ),
-        Node::Call(_, a) => ended(
-            so_far,
-            pass(a, begun(so_far, Counted::Code), target),
-            target,
-        ),
+        _ => pass_inner(node, so_far, target),
+    }
+}
+
+// The walk behind a node that has a number, and all below it.
+#[cycle(pass)]
+fn pass_inner(node: &Node, so_far: Walk, target: u32) -> Walk
+    requires numbered { has_number node.now ≡ true }
+    requires room { so_far.next + count_nodes (node_at [] node.now) < 2 ^ 32 }
+    requires sound { IsWalk so_far }
+    ensures next { result.next ≡ so_far.next + count_nodes (node_at [] node.now) }
+    ensures code { result.code ≡ so_far.code + count_code (node_at [] node.now) }
+    ensures found { result.found ≡ so_far.found + found so_far.next target (outline (node_at [] node.now)) }
+    ensures sound { IsWalk result }
+{
+    let mut passed = begun(so_far, sort_of(node));
+    'children: for child in node.children() {
+        passed = pass_child(child, passed, target);
+    }
+    ended(so_far, passed, target)
+}
+
+// The walk behind a child, where there is one.
+#[cycle(pass)]
+fn pass_child(child: Option<&Node>, so_far: Walk, target: u32) -> Walk
+    requires room { so_far.next + size (kid_outline (option_map (λ kid. kid.now) child)) < 2 ^ 32 }
+    requires sound { IsWalk so_far }
+    ensures next { result.next ≡ so_far.next + size (kid_outline (option_map (λ kid. kid.now) child.entry)) }
+    ensures code { result.code ≡ so_far.code + total (kid_outline (option_map (λ kid. kid.now) child.entry)) }
+    ensures found { result.found ≡ so_far.found + found so_far.next target (kid_outline (option_map (λ kid. kid.now) child.entry)) }
+    ensures sound { IsWalk result }
+{
+    match child {
+        None => so_far,
+        Some(node) => pass(node, so_far, target),
     }
 }
 
@@ -222,7 +132,7 @@ fn pass_arm(node: &Node, so_far: Walk, target: u32) -> Walk
     requires sound { IsWalk so_far }
     ensures next { result.next ≡ so_far.next + count_nodes (arm_at [] node.now Nothing) }
     ensures code { result.code ≡ so_far.code + count_code (arm_at [] node.now Nothing) }
-    ensures found { result.found ≡ so_far.found + found_at so_far.next target (arm_at [] node.now Nothing) }
+    ensures found { result.found ≡ so_far.found + found so_far.next target (outline (arm_at [] node.now Nothing)) }
     ensures sound { IsWalk result }
 {
     match node {

@@ -3,7 +3,8 @@ use Rattle.vg_syntax.specs.Reads.{Reads, tree_in}
 use Rattle.vg_tree.specs.Held.{node_at, tree_at}
 use Rattle.vg_tree.proofs.Alike.{alike}
 use Rattle.vg_reader.specs.Derivation.{tree_of}
-use Rattle.vg_reader.proofs.Counts.{few_nodes, count_numbered}
+use Rattle.vg_tree.proofs.Numbers.{count_numbered}
+use Rattle.vg_reader.proofs.Counts.{few_nodes}
 use Rattle.vg_reader.proofs.Named.{grown_none, grown_twice, held_one, text_found}
 use Rattle.vg_reader.proofs.Spelled.{all_spelled, few_tokens}
 use Rattle.vg_reader.proofs.reader.read.Goals as goal

@@ -1,7 +1,8 @@
 use Rattle.std.proofs.Common.{◌+◌, sym, subst, ap, ◌∙◌}
 use Rattle.vg_syntax.specs.Numbering.{count_nodes}
 use Rattle.vg_tree.specs.Held.{text_at, node_at}
-use Rattle.vg_tree.proofs.Classes.{Seeking, seeking_starts, seeking_here, seeking_on, left_of, no_row}
+use Rattle.vg_tree.proofs.Passing.{left_of}
+use Rattle.vg_tree.proofs.Classes.{Seeking, seeking_starts, seeking_here, seeking_on, no_row}
 use Rattle.vg_tree.proofs.class.class_in.Goals as goal
 
 pub loop-declaration-init : goal.loop-declaration-init
