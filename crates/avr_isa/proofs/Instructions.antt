@@ -1,9 +1,9 @@
 -- What single instructions do in a run, over their operands.
 use Rattle.std.proofs.Common.{◌≡◌, ◌≢◌, ℕ, ◌+◌, ◌*◌, ◌/◌, ◌%◌, ◌<◌, ◌≤◌, true, false, not, ◌&&◌, ◌==◌, if◌then◌else◌, List, [], ◌∷◌, Some, refl, ap, ◌∙◌, arith, slice_set}
-use Rattle.vg_base.specs.Device.{IsDeviceAddress}
-use Rattle.vg_base.specs.Outside.{Outside, with_event}
-use Rattle.vg_base.specs.Outcome.{Idle}
-use Rattle.vg_base.specs.declared.event.Event.TheVariants.{Write, Enter}
+use Rattle.vg_meaning.specs.Device.{IsDeviceAddress}
+use Rattle.vg_meaning.specs.Outside.{Outside, with_event}
+use Rattle.vg_meaning.specs.Outcome.{Idle}
+use Rattle.vg_meaning.specs.declared.event.Event.TheVariants.{Write, Enter}
 use Rattle.avr_instr.specs.declared.instr.Instr.{Instr}
 use Rattle.avr_instr.specs.declared.instr.Instr.TheVariants.{Ldi, Out, Sts, Jmp, Rjmp, Sei, Cli, Sleep as SleepInstr, Reti}
 use Rattle.avr_isa.specs.declared.effect.Effect.TheVariants.{WriteDevice, Sleep, Halt, Outside as Forbidden}

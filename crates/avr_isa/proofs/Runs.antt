@@ -1,6 +1,6 @@
 -- Runs of the machine: one behind another, one instruction at a time, and what they leave as it is.
 use Rattle.std.proofs.Common.{◌≡◌, ℕ, zero, suc, ◌+◌, ◌-◌, ◌≤◌, ◌⊎◌, inl, inr, Bool, true, false, List, [], ◌∷◌, Option, Some, None, refl, ap, ◌∙◌, arith, min, if◌then◌else◌, ◌==◌, nat_le}
-use Rattle.vg_base.specs.Outside.{Outside}
+use Rattle.vg_meaning.specs.Outside.{Outside}
 use Rattle.avr_instr.specs.declared.instr.Instr.{Instr}
 use Rattle.avr_isa.specs.declared.stack.StackUse.{StackUse}
 use Rattle.avr_isa.specs.declared.stack.StackUse.TheVariants.{Nothing, PushesByte, PushesWord, Stores}

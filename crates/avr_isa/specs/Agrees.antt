@@ -1,8 +1,8 @@
 -- What it means that a flash does what a session does.
 use Rattle.std.specs.Prelude.{ℕ, ◌≡◌, ◌≤◌, List, Some, None}
-use Rattle.vg_base.specs.declared.event.Event.{Event}
-use Rattle.vg_base.specs.Outside.{AreReads, AreVectors}
-use Rattle.vg_base.specs.Outcome.{Ending, Idle, Stop, Wants, Beyond, Deep, Outcome}
+use Rattle.vg_meaning.specs.declared.event.Event.{Event}
+use Rattle.vg_meaning.specs.Outside.{AreReads, AreVectors}
+use Rattle.vg_meaning.specs.Outcome.{Ending, Idle, Stop, Wants, Beyond, Deep, Outcome}
 use Rattle.avr_isa.specs.Machine.{State, Ends, machine}
 
 -- the machine has shown this trace and is still going, and its stack has stayed at or above the floor

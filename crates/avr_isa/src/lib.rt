@@ -16,11 +16,6 @@ pub mod stack;
 pub mod stepping;
 mod transfer;
 
-pub use avr_instr::{
-    Base, FarOffset, FlagBit, Instr, IoAddress, NearOffset, Register, RegisterBesideX,
-    RegisterBesideZ, RegisterPair, SixBits, UpperRegister, WidePair, decode, encode,
-    spelling_both_ways,
-};
 pub use code::code_stands;
 pub use cpu::Cpu;
 pub use effect::Effect;

@@ -1,6 +1,6 @@
 // A plain machine: slow, and close to its definition.
 ghost use Rattle.std.specs.Prelude.{◌≡◌, ◌+◌, ◌*◌, ◌/◌, ◌%◌, ◌<◌, ◌≤◌, ℕ, List, option_map, OnOk, IfOk, length, Some, None};
-ghost use Rattle.vg_base.specs.Outside.{Outside};
+ghost use Rattle.vg_meaning.specs.Outside.{Outside};
 ghost use Rattle.avr_isa.specs.Cpu.{CpuState};
 ghost use Rattle.avr_isa.specs.Change.{WaitsInRegister};
 ghost use Rattle.avr_isa.specs.Machine.{State, answered, woken, done, performed, next_state, run_from, started, machine, ending_with, entered, Ends, Bad};
@@ -15,7 +15,8 @@ use crate::stepping::step;
 use avr_instr::{Instr, decode};
 use std::alloc::Global;
 use std::marker::Model;
-use vg_base::{Event, NoMemory};
+use vg_base::NoMemory;
+use vg_meaning::Event;
 
 /// How a run of the machine has ended.
 #[derive(Clone, Copy, Debug, PartialEq, Eq)]

@@ -1,6 +1,6 @@
 -- Mirrors of the code that runs the machine: no public clause cites them.
 use Rattle.std.specs.Prelude.{List, [], ◌∷◌, Option, Some, None}
-use Rattle.vg_base.specs.declared.event.Event.{Event}
+use Rattle.vg_meaning.specs.declared.event.Event.{Event}
 use Rattle.avr_isa.specs.Machine.{State}
 
 -- the event that is still to be put

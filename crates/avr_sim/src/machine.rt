@@ -11,7 +11,8 @@ use crate::running::Running;
 use avr_isa::{Cpu, Image, RunEnd};
 use std::alloc::Global;
 use std::marker::Model;
-use vg_base::{Event, NoMemory};
+use vg_base::NoMemory;
+use vg_meaning::Event;
 use vg_io::{Failed, Sink};
 use vg_script::{Script, put_event};
 

@@ -10,7 +10,7 @@ ghost use Rattle.avr_sim.specs.Walk.{pending, unstacked};
 use avr_instr::{Instr, decode};
 use avr_isa::{Cpu, Effect, Image, RunEnd, step};
 use std::marker::Model;
-use vg_base::Event;
+use vg_meaning::Event;
 
 /// A machine on its way: its processor, the reads and the interrupts to come, the event of the last instruction that is still to be put, and its end.
 ///

@@ -1,7 +1,8 @@
 // One line of a table.
 use crate::outcome::effect_of;
 use crate::part::{Part, number};
-use avr_isa::{Cpu, Effect, Image, decode, step};
+use avr_instr::decode;
+use avr_isa::{Cpu, Effect, Image, step};
 use std::alloc::Global;
 use vg_base::NoMemory;
 

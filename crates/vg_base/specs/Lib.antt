@@ -1,4 +1,2 @@
-pub mod Outside
-pub mod Outcome
+pub mod Limits
 pub mod Names
-pub mod Device

@@ -1,14 +1,16 @@
-//! What every layer shares: want of memory, places and texts, and what a program does to the outside.
+//! What every layer shares: want of memory, places, texts and rows, and the names of texts.
 #![tactic(auto)]
 
-pub mod event;
+pub mod limits;
 pub mod memory;
 pub mod names;
 pub mod place;
-pub mod text;
+pub mod refusal;
+pub mod row;
 
-pub use event::Event;
+pub use limits::{FLASH_BYTES, IMAGE_TEXT_LIMIT, TEXT_LIMIT};
 pub use memory::NoMemory;
 pub use names::{Name, Names};
 pub use place::{NodeId, Place};
-pub use text::Text;
+pub use refusal::Refusal;
+pub use row::Row;

@@ -5,7 +5,8 @@ ghost use Rattle.vg_io.specs.Count.{Rose};
 use std::alloc::Global;
 use std::fs::{File, Files};
 use std::io::Read;
-use vg_io::{FetchFault, Fetches, NoMemory, Shelf};
+use vg_base::NoMemory;
+use vg_io::{FetchFault, Fetches, Shelf};
 
 /// The bytes that one read may take.
 const CHUNK: usize = 4096;

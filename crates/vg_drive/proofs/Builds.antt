@@ -4,11 +4,11 @@ use Rattle.vg_base.specs.declared.place.Place.{Place}
 use Rattle.vg_io.specs.Files.{bytes_under}
 use Rattle.vg_io.specs.declared.file.File.{File}
 use Rattle.vg_fetch.specs.Told.{ForFile}
-use Rattle.vg_syntax.specs.declared.device_write.DeviceWrite.{DeviceWrite}
+use Rattle.vg_first_text.specs.declared.device_write.DeviceWrite.{DeviceWrite}
 use Rattle.vg_syntax.specs.Faults.{NoTreeIn, TooDeepIn}
-use Rattle.vg_syntax.specs.FirstText.{IsFirst}
-use Rattle.vg_reader.proofs.Once.{no_fault, not_deep, one_cause, one_end, one_bracket}
-use Rattle.vg_first_parse.proofs.Texts.{first_has_no_fault, first_is_not_deep}
+use Rattle.vg_first_text.specs.FirstText.{IsFirst}
+use Rattle.vg_texts.proofs.Once.{no_fault, not_deep, one_cause, one_end, one_bracket}
+use Rattle.vg_first_laws.proofs.Texts.{first_has_no_fault, first_is_not_deep}
 use Rattle.vg_drive.specs.declared.status.Fault.{Fault}
 use Rattle.vg_drive.specs.declared.status.Fault.TheVariants.{NoTree, TooDeep, NotBuilt}
 use Rattle.vg_drive.specs.declared.status.Status.{Status}

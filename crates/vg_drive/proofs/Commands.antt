@@ -6,15 +6,15 @@ use Rattle.vg_io.specs.Piece.{AppendsAll, AppendsFront}
 use Rattle.vg_io.specs.declared.file.File.{File}
 use Rattle.vg_words.specs.Commands.{Command, Build, Sim}
 use Rattle.vg_fetch.specs.Told.{ForFile, ForFiles}
-use Rattle.vg_syntax.specs.declared.device_write.DeviceWrite.{DeviceWrite}
+use Rattle.vg_first_text.specs.declared.device_write.DeviceWrite.{DeviceWrite}
 use Rattle.vg_syntax.specs.Faults.{NoTreeIn, TooDeepIn}
-use Rattle.vg_syntax.specs.FirstText.{IsFirst}
+use Rattle.vg_first_text.specs.FirstText.{IsFirst}
 use Rattle.vg_hex.specs.HexImage.{HexImage, fault_in}
 use Rattle.vg_hex.specs.HexText.{hex_text}
 use Rattle.vg_hex.specs.declared.fault.HexFault.{HexFault}
 use Rattle.vg_script.specs.Script.{IsScript, Lists, first_bad}
 use Rattle.avr_isa.specs.Machine.{machine}
-use Rattle.vg_simulate.specs.Shown.{ForRun, ending_of, lines_of}
+use Rattle.vg_sim.specs.Shown.{ForRun, ending_of, lines_of}
 use Rattle.vg_drive.specs.declared.status.Fault.TheVariants.{NoTree, TooDeep, NotBuilt}
 use Rattle.vg_drive.specs.declared.status.Status.{Status}
 use Rattle.vg_drive.specs.declared.status.Status.TheVariants.{Done, Refused, Usage, ReadFault, WriteFault, NoMemory, TooLong, Stopped, Wants, Budget, HexRefused, ScriptRefused, BadInstruction}

@@ -10,7 +10,7 @@ use Rattle.vg_script.specs.Script.{IsScript, Lists, first_bad}
 use Rattle.vg_script.specs.declared.traces.EndLine.{EndLine}
 use Rattle.vg_script.specs.declared.traces.EndLine.TheVariants as ends
 use Rattle.avr_isa.specs.Machine.{State, machine}
-use Rattle.vg_simulate.specs.Shown.{ForRun, ending_of, lines_of}
+use Rattle.vg_sim.specs.Shown.{ForRun, ending_of, lines_of}
 use Rattle.vg_drive.specs.declared.status.Status.{Status}
 use Rattle.vg_drive.specs.declared.status.Status.TheVariants.{Done, Refused, Usage, ReadFault, WriteFault, NoMemory, TooLong, Stopped, Wants, Budget, HexRefused, ScriptRefused, BadInstruction}
 use Rattle.vg_drive.specs.Answers.{ForTexts}

@@ -5,8 +5,8 @@ use Rattle.vg_io.specs.declared.file.File.{File}
 use Rattle.vg_io.specs.Files.{bytes_under}
 use Rattle.vg_io.specs.Piece.{AppendsAll, AppendsFront}
 use Rattle.vg_fetch.specs.Told.{ForFiles}
-use Rattle.vg_syntax.specs.declared.device_write.DeviceWrite.{DeviceWrite}
-use Rattle.vg_syntax.specs.FirstText.{IsFirst}
+use Rattle.vg_first_text.specs.declared.device_write.DeviceWrite.{DeviceWrite}
+use Rattle.vg_first_text.specs.FirstText.{IsFirst}
 use Rattle.vg_hex.specs.HexImage.{HexImage}
 use Rattle.vg_hex.specs.HexText.{hex_text}
 use Rattle.vg_hex.proofs.Again.{one_image}

@@ -2,10 +2,10 @@
 use Rattle.std.specs.Prelude.{ℕ, ◌≡◌, List, ◌++◌, take, Option, Some, None}
 use Rattle.vg_io.specs.Files.{bytes_under}
 use Rattle.vg_io.specs.declared.file.File.{File}
-use Rattle.vg_syntax.specs.declared.device_write.DeviceWrite.{DeviceWrite}
+use Rattle.vg_first_text.specs.declared.device_write.DeviceWrite.{DeviceWrite}
 use Rattle.vg_syntax.specs.Faults.{IsText}
-use Rattle.vg_syntax.specs.FirstSession.{first_session}
-use Rattle.vg_syntax.specs.FirstText.{IsFirst}
+use Rattle.vg_first_text.specs.FirstSession.{first_session}
+use Rattle.vg_first_text.specs.FirstText.{IsFirst}
 use Rattle.avr_isa.specs.Agrees.{Agrees, NeverReaches}
 use Rattle.vg_hex.specs.HexText.{hex_text}
 use Rattle.vg_hex.specs.HexImage.{HexImage}

@@ -11,12 +11,12 @@ use Rattle.vg_fetch.specs.declared.fetch.NoFile.TheVariants as missing
 use Rattle.vg_hex.specs.HexText.{hex_text}
 use Rattle.vg_hex.specs.HexImage.{HexImage, fault_in}
 use Rattle.vg_script.specs.Script.{first_bad}
-use Rattle.vg_simulate.specs.Shown.{ForRun, ending_of, lines_of}
-use Rattle.vg_simulate.specs.declared.simulate.Simulated.{Simulated}
-use Rattle.vg_simulate.specs.declared.simulate.Simulated.TheVariants as simulated
-use Rattle.vg_syntax.specs.declared.device_write.DeviceWrite.{DeviceWrite}
+use Rattle.vg_sim.specs.Shown.{ForRun, ending_of, lines_of}
+use Rattle.vg_sim.specs.declared.simulate.Simulated.{Simulated}
+use Rattle.vg_sim.specs.declared.simulate.Simulated.TheVariants as simulated
+use Rattle.vg_first_text.specs.declared.device_write.DeviceWrite.{DeviceWrite}
 use Rattle.vg_syntax.specs.Faults.{IsText, NoTreeIn, TooDeepIn}
-use Rattle.vg_syntax.specs.FirstSession.{first_session}
+use Rattle.vg_first_text.specs.FirstSession.{first_session}
 use Rattle.avr_isa.specs.Agrees.{Agrees, NeverReaches}
 use Rattle.vg_drive.specs.Answers.{IsImageOf, IsNotBuilt, ForImage, ForTexts}
 use Rattle.vg_drive.specs.Codes.{first_place, status_of}

@@ -1,20 +1,20 @@
 // The command `build`.
 ghost use Rattle.std.specs.Prelude.{◌≡◌, ◌⊎◌, ◌≤◌, ℕ, length, Some, IfOk};
 ghost use Rattle.vg_io.specs.Count.{Rose};
-ghost use Rattle.vg_syntax.specs.FirstSession.{AreDevices};
+ghost use Rattle.vg_first_text.specs.FirstSession.{AreDevices};
 ghost use Rattle.vg_words.specs.Commands.{Build};
 ghost use Rattle.vg_drive.specs.Commands.{requests_of};
 ghost use Rattle.vg_drive.specs.Mirrors.{BuildBy, CompiledBy, FetchedBy, IsHexOfWrites, NoteBy, PutsHex, PutsLayout, ReadBy, status_without_file};
 
 use crate::status::{Fault, Status};
 use std::alloc::Global;
-use vg_base::{Names, NoMemory, Place, Text};
+use vg_base::{Names, NoMemory, Place, Row};
 use vg_fetch::{NoFile, fetch_file};
-use vg_first::image_of;
+use vg_first_image::image_of;
 use vg_hex::write;
 use vg_io::{Failed, Shelf, Sink};
 use vg_reader::{ReadFault, read};
-use vg_syntax::{DeviceWrite, FirstFault, read_first};
+use vg_first_text::{DeviceWrite, FirstFault, read_first};
 
 /// The bytes that a source text may have.
 const TEXT_LIMIT: usize = 262_144;
@@ -43,7 +43,7 @@ fn check_text(alloc: Global, bytes: &[u8]) -> Result<(), NoHex>
 }
 
 // The HEX text of the image that makes these writes.
-fn hex_of(alloc: Global, writes: &[DeviceWrite]) -> Result<Text, NoMemory>
+fn hex_of(alloc: Global, writes: &[DeviceWrite]) -> Result<Row<u8>, NoMemory>
     requires devices { AreDevices writes.now }
     requires short { length writes.now ≤ 100 }
     ensures { IfOk result (λ text. IsHexOfWrites writes.now text) }
@@ -53,7 +53,7 @@ fn hex_of(alloc: Global, writes: &[DeviceWrite]) -> Result<Text, NoMemory>
 }
 
 // The HEX text of the image of a source text.
-fn compiled(alloc: Global, bytes: &[u8]) -> Result<Text, NoHex>
+fn compiled(alloc: Global, bytes: &[u8]) -> Result<Row<u8>, NoHex>
     requires { length bytes.now ≤ 262144 }
     ensures { CompiledBy bytes.now result }
 {

@@ -12,7 +12,7 @@ use std::alloc::Global;
 use vg_fetch::fetch_two;
 use vg_io::{Shelf, Sink};
 use vg_script::EndLine;
-use vg_simulate::{Simulated, simulate_text};
+use vg_sim::{Simulated, simulate_text};
 
 /// The bytes that a HEX text or a script may have.
 const IMAGE_LIMIT: usize = 1_048_576;

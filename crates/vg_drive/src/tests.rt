@@ -4,7 +4,8 @@ use std::alloc::Global;
 use std::process::Abort;
 use std::test::Fail;
 use vg_hex::HexFault;
-use vg_io::{MemoryShelf, MemorySink, NullSink, Place, SteadyShelf};
+use vg_base::Place;
+use vg_io::{MemoryShelf, MemorySink, NullSink, SteadyShelf};
 
 // A program that writes 0x05 to the register at 0x38.
 pub const CONSTANT: &[u8] = b"component Main { method main() { M.PORTB = 0x05; } }

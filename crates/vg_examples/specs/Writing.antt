@@ -1,7 +1,7 @@
 -- How the examples write trees and say what a program does.
 use Rattle.std.specs.Prelude.{ℕ, List, [], ◌∷◌, length, Option, Some, None}
-use Rattle.vg_base.specs.declared.event.Event.{Event}
-use Rattle.vg_base.specs.Outcome.{Ending, Outcome}
+use Rattle.vg_meaning.specs.declared.event.Event.{Event}
+use Rattle.vg_meaning.specs.Outcome.{Ending, Outcome}
 use Rattle.vg_syntax.specs.Tree.{TypeTree, Param, Spot, Node, Nothing, Then}
 use Rattle.vg_meaning.specs.History.{no_history}
 use Rattle.vg_source.specs.Names.{Name}

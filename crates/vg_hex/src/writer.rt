@@ -7,7 +7,7 @@ ghost use Rattle.vg_hex.specs.HexText.{hex_text, records, data_line, base_line, 
 
 use avr_isa::Image;
 use std::alloc::Global;
-use vg_base::{NoMemory, Text};
+use vg_base::{NoMemory, Row};
 use vg_lines::upper_digit;
 
 /// The bytes of a whole record.
@@ -16,12 +16,12 @@ const RECORD_BYTES: usize = 16;
 /// The HEX text of an image: records of 16 bytes from address 0, a base line at 65,536, and the end line (Intel HEX).
 ///
 /// Its digits are upper case and its lines end with LF.
-pub fn write(alloc: Global, image: &Image) -> Result<Text, NoMemory>
+pub fn write(alloc: Global, image: &Image) -> Result<Row<u8>, NoMemory>
     ensures text { IfOk result (λ text. text ≡ hex_text image.now) }
     ensures read { IfOk result (λ text. HexImage text image.now) }
     ensures short { IfOk result (λ text. length text ≤ 1048576) }
 {
-    let mut text = Text::new(alloc);
+    let mut text = Row::new(alloc);
     let bytes = image.as_slice();
     put_records(&mut text, bytes)?;
     text.append(b":00000001FF\n")?;
@@ -29,7 +29,7 @@ pub fn write(alloc: Global, image: &Image) -> Result<Text, NoMemory>
 }
 
 // The records of the bytes of an image.
-fn put_records(text: &mut Text, bytes: &[u8]) -> Result<(), NoMemory>
+fn put_records(text: &mut Row<u8>, bytes: &[u8]) -> Result<(), NoMemory>
     requires { length bytes.now ≤ 131072 }
     ensures text { OnOk result (text.new ≡ text.old ++ records ((length bytes.now + 15) / 16) 0 bytes.now) }
     ensures small { AllByRecursion (λ b. b < 256) bytes.now }
@@ -44,7 +44,7 @@ fn put_records(text: &mut Text, bytes: &[u8]) -> Result<(), NoMemory>
 }
 
 // The base line, where the second 64 KiB begin.
-fn put_base(text: &mut Text, at: usize) -> Result<(), NoMemory>
+fn put_base(text: &mut Row<u8>, at: usize) -> Result<(), NoMemory>
     ensures { OnOk result (text.new ≡ text.old ++ (if at == 65536 then base_line ++ 10 ∷ [] else [])) }
 {
     if at == 65_536 {
@@ -69,7 +69,7 @@ fn piece_at(bytes: &[u8], at: usize) -> &[u8]
 }
 
 // A line of data.
-fn put_data(text: &mut Text, at: usize, bytes: &[u8]) -> Result<(), NoMemory>
+fn put_data(text: &mut Row<u8>, at: usize, bytes: &[u8]) -> Result<(), NoMemory>
     requires place { at < 65536 }
     requires short { length bytes.now ≤ 16 }
     ensures { OnOk result (text.new ≡ text.old ++ (data_line at bytes.now ++ 10 ∷ [])) }
@@ -96,7 +96,7 @@ fn check_of(head: &[u8], bytes: &[u8]) -> u8
     0u8.wrapping_sub(total)
 }
 
-fn put_bytes(text: &mut Text, bytes: &[u8]) -> Result<(), NoMemory>
+fn put_bytes(text: &mut Row<u8>, bytes: &[u8]) -> Result<(), NoMemory>
     ensures { OnOk result (text.new ≡ text.old ++ flat_map upper_pair bytes.now) }
 {
     for b in bytes {
@@ -105,7 +105,7 @@ fn put_bytes(text: &mut Text, bytes: &[u8]) -> Result<(), NoMemory>
     Ok(())
 }
 
-fn put_byte(text: &mut Text, byte: u8) -> Result<(), NoMemory>
+fn put_byte(text: &mut Row<u8>, byte: u8) -> Result<(), NoMemory>
     ensures { OnOk result (text.new ≡ text.old ++ upper_pair byte) }
 {
     text.append(&[upper_digit(byte / 16), upper_digit(byte % 16)])

@@ -5,12 +5,12 @@ ghost use Rattle.vg_io.specs.declared.asked.Asked.{Asked};
 
 use std::alloc::Global;
 use std::marker::Model;
-use vg_base::{NoMemory, Text};
+use vg_base::{NoMemory, Row};
 
 /// One fetch: the name and the limit in bytes that it was made with, and how many bytes were given, or `None` where it failed.
 #[derive(Drop)]
 pub struct Asked {
-    pub name: Text,
+    pub name: Row<u8>,
     pub limit: usize,
     pub given: Option<usize>,
 }
@@ -69,7 +69,7 @@ impl Fetches {
         ensures ok { OnOk result (self.new ≡ asked_after self.old name.now limit given) }
         ensures err { OnErr result (self.new ≡ self.old) }
     {
-        let name = Text::from_slice(alloc, name.as_bytes())?;
+        let name = Row::from_slice(alloc, name.as_bytes())?;
         self.fetches.push(Asked { name, limit, given })?;
         Ok(())
     }

@@ -5,13 +5,13 @@ ghost use Rattle.vg_io.specs.declared.file.File.{File};
 
 use std::alloc::Global;
 use std::marker::Model;
-use vg_base::{NoMemory, Text};
+use vg_base::{NoMemory, Row};
 
 /// A file: its name and its bytes.
 #[derive(Drop)]
 pub struct File {
-    pub name: Text,
-    pub bytes: Text,
+    pub name: Row<u8>,
+    pub bytes: Row<u8>,
 }
 
 /// Files by name, which contracts see as a list. Of two files with one name the first counts.
@@ -41,8 +41,8 @@ impl Files {
         ensures ok { OnOk result (self.new ≡ record { name = name.now; bytes = bytes.now } ∷ self.old) }
         ensures err { OnErr result (self.new ≡ self.old) }
     {
-        let name = Text::from_slice(alloc, name.as_bytes())?;
-        let bytes = Text::from_slice(alloc, bytes)?;
+        let name = Row::from_slice(alloc, name.as_bytes())?;
+        let bytes = Row::from_slice(alloc, bytes)?;
         self.files.insert(0, File { name, bytes })?;
         Ok(())
     }

@@ -18,7 +18,6 @@ pub use null_sink::NullSink;
 pub use shelf::{FetchFault, Shelf};
 pub use sink::{Failed, Sink};
 pub use steady_shelf::SteadyShelf;
-pub use vg_base::{Event, NoMemory, NodeId, Place, Text};
 
 #[cfg(test)]
 mod tests;

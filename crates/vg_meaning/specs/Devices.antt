@@ -1,7 +1,7 @@
 -- Device registers: a read takes the next value of the outside, a write is an event.
 use Rattle.std.specs.Prelude.{ℕ, List, [], ◌∷◌}
-use Rattle.vg_base.specs.declared.event.Event.TheVariants.{Read, Write}
-use Rattle.vg_base.specs.Outside.{with_event}
+use Rattle.vg_meaning.specs.declared.event.Event.TheVariants.{Read, Write}
+use Rattle.vg_meaning.specs.Outside.{with_event}
 use Rattle.vg_meaning.specs.World.{Phase, Starting, Running}
 use Rattle.vg_meaning.specs.Answer.{Wants, Touches, Gives, Piece, over}
 

@@ -1,6 +1,6 @@
 -- The trace only grows: what was seen stays.
 use Rattle.std.specs.Prelude.{◌≡◌, List, ◌++◌}
-use Rattle.vg_base.specs.declared.event.Event.{Event}
+use Rattle.vg_meaning.specs.declared.event.Event.{Event}
 use Rattle.vg_meaning.specs.World.{World}
 use Rattle.vg_meaning.specs.Answer.{Answer, Gives, Ends, Piece}
 

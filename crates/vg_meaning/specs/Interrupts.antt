@@ -1,7 +1,7 @@
 -- Interrupts: a program that idles takes them one by one, in the order of the list.
 use Rattle.std.specs.Prelude.{ℕ, zero, suc, List, [], ◌∷◌}
-use Rattle.vg_base.specs.declared.event.Event.TheVariants.{Enter}
-use Rattle.vg_base.specs.Outside.{with_event}
+use Rattle.vg_meaning.specs.declared.event.Event.TheVariants.{Enter}
+use Rattle.vg_meaning.specs.Outside.{with_event}
 use Rattle.vg_meaning.specs.Answer.{Done, Piece, over, and_then}
 
 -- The first of these interrupts: `handle` is what is done for its vector.

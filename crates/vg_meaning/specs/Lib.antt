@@ -12,3 +12,6 @@ pub mod Told
 pub mod Grows
 pub mod Longer
 pub mod Spent
+pub mod Device
+pub mod Outcome
+pub mod Outside

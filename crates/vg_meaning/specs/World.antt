@@ -1,6 +1,6 @@
 -- What a run has beside the state of its program: the outside, the clock, the limits, and a history of its calls.
 use Rattle.std.specs.Prelude.{ℕ, Option}
-use Rattle.vg_base.specs.Outside.{Outside}
+use Rattle.vg_meaning.specs.Outside.{Outside}
 
 -- Initialisation keeps the node of a stop and touches no device; a run is what comes after it.
 pub data Phase : Type 0 where

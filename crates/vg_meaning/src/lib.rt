@@ -3,7 +3,10 @@
 #![tactic(auto)]
 
 pub mod equivalence;
+pub mod event;
 pub mod history;
 pub mod more_clock;
 pub mod spent_clock;
 pub mod traces;
+
+pub use event::Event;

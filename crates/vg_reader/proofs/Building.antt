@@ -10,8 +10,8 @@ use Rattle.vg_syntax.specs.Made.{Value}
 use Rattle.vg_syntax.specs.Reads.{Two, leaf, made, kids_of}
 use Rattle.vg_grammar.specs.declared.derivation.Step.{Step}
 use Rattle.vg_grammar.specs.declared.derivation.Step.TheVariants.{Take, Make}
-use Rattle.vg_made.specs.declared.made.Value.{Value as HeldValue}
-use Rattle.vg_made.specs.HeldMade.{value_at}
+use Rattle.vg_tree.specs.declared.made.Value.{Value as HeldValue}
+use Rattle.vg_tree.specs.HeldMade.{value_at}
 use Rattle.vg_reader.specs.Derivation.{reduced, run}
 use Rattle.vg_reader.specs.Grown.{Grown}
 use Rattle.vg_reader.proofs.Named.{grown_none, grown_twice}

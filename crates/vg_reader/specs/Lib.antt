@@ -1,4 +1,3 @@
 pub mod Grown
-pub mod Spelled
 pub mod Derivation
 pub mod Answers

@@ -2,20 +2,21 @@
 ghost use Rattle.std.specs.Prelude.{◌≡◌, ◌≤◌, ◌<◌, ◌-◌, ◌+◌, ◌^◌, ℕ, List, [], true, length, map, take, IfOk, OnOk};
 ghost use Rattle.std.specs.List.{AllByRecursion};
 ghost use Rattle.vg_tree.specs.Held.{text_at};
-ghost use Rattle.vg_made.specs.HeldMade.{value_at};
+ghost use Rattle.vg_tree.specs.HeldMade.{value_at};
 ghost use Rattle.vg_reader.specs.Derivation.{reduced, run};
 ghost use Rattle.vg_reader.specs.Grown.{Grown};
-ghost use Rattle.vg_reader.specs.Spelled.{IsSpelled};
+ghost use Rattle.vg_texts.specs.Spelled.{IsSpelled};
 
 use crate::derivation::Derivation;
+use crate::empty::{is_first_kid, is_rest};
 use crate::leaves::leaf_of;
+use crate::maker::make;
 use std::alloc::Global;
 use vg_base::{Name, Names, NoMemory};
 use vg_grammar::Step;
-use vg_made::rows::unwritten;
-use vg_made::{Made, Value};
-use vg_maker::{is_first_kid, is_rest, make};
 use vg_syntax::Part;
+use vg_tree::rows::unwritten;
+use vg_tree::{Made, Value};
 
 /// What the steps make of the tokens: a value for each part that stands in no other. The text of the name `nameless` is to be empty.
 pub(crate) fn build(

@@ -7,7 +7,8 @@ ghost use Rattle.vg_reader.specs.Derivation.{Derives};
 use crate::fault::{ReadFault, place_of};
 use std::alloc::Global;
 use vg_grammar::{Step, Stop, derive};
-use vg_syntax::{Token, scan};
+use vg_scan::scan;
+use vg_syntax::Token;
 
 /// The derivation of a text's tree: its tokens, and the steps that make the tree from them, from the leaves up.
 #[derive(Drop)]

@@ -3,7 +3,8 @@ ghost use Rattle.std.specs.Prelude.{◌≡◌, ◌≤◌, length};
 ghost use Rattle.vg_syntax.specs.Faults.{place_of};
 
 use vg_base::{NoMemory, Place};
-use vg_syntax::{Token, end_place};
+use vg_scan::end_place;
+use vg_syntax::Token;
 
 /// Why bytes are no text of the language.
 #[derive(Clone, Copy, Debug, PartialEq, Eq)]

@@ -2,14 +2,14 @@
 ghost use Rattle.std.specs.Prelude.{◌≡◌, ◌≤◌, ◌<◌, ◌-◌, ◌+◌, ◌^◌, ℕ, List, IfOk, length};
 ghost use Rattle.vg_syntax.specs.Tokens.{text_of};
 ghost use Rattle.vg_syntax.specs.Reads.{leaf};
-ghost use Rattle.vg_made.specs.HeldMade.{value_at};
+ghost use Rattle.vg_tree.specs.HeldMade.{value_at};
 ghost use Rattle.vg_reader.specs.Grown.{Grown};
-ghost use Rattle.vg_reader.specs.Spelled.{IsSpelled};
+ghost use Rattle.vg_texts.specs.Spelled.{IsSpelled};
 
+use crate::maker::leaf;
 use vg_base::{Names, NoMemory};
-use vg_made::Value;
-use vg_maker::leaf;
 use vg_syntax::Token;
+use vg_tree::Value;
 
 /// What a token stands for, once its text has a name.
 pub(crate) fn leaf_of(bytes: &[u8], token: &Token, names: &mut Names) -> Result<Value, NoMemory>

@@ -7,15 +7,16 @@ mod builder;
 pub mod derivation;
 #[cfg(test)]
 mod documented;
+mod empty;
 pub mod fault;
 #[cfg(test)]
 mod firmware;
 #[cfg(test)]
 mod fragments;
-pub mod laws;
 mod leaves;
 #[cfg(test)]
 mod limits;
+mod maker;
 pub mod reader;
 #[cfg(test)]
 mod tests;

@@ -3,7 +3,7 @@ ghost use Rattle.std.specs.Prelude.{◌≡◌, ◌≤◌, ◌<◌, ◌^◌, ◌+
 ghost use Rattle.vg_syntax.specs.Reads.{tree_in};
 ghost use Rattle.vg_tree.specs.Held.{tree_at};
 ghost use Rattle.vg_tree.specs.Lookups.{node_count};
-ghost use Rattle.vg_made.specs.HeldMade.{value_at};
+ghost use Rattle.vg_tree.specs.HeldMade.{value_at};
 ghost use Rattle.vg_reader.specs.Answers.{ReadsAs};
 ghost use Rattle.vg_reader.specs.Grown.{Grown};
 
@@ -12,8 +12,8 @@ use crate::derivation::derive_text;
 use crate::fault::ReadFault;
 use std::alloc::Global;
 use vg_base::Names;
-use vg_made::Value;
-use vg_made::contents::node_in;
+use vg_tree::Value;
+use vg_tree::contents::node_in;
 use vg_tree::{Node, Tree};
 
 /// The tree of a text of at most 262,144 bytes, or where the bytes cease to be a text of the language with at most 64 open brackets at each place.

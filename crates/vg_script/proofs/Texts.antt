@@ -2,7 +2,7 @@
 use Rattle.std.proofs.Common.{◌≡◌, ℕ, ◌+◌, ◌-◌, ◌*◌, ◌≤◌, Bool, true, false, List, [], ◌∷◌, ◌++◌, length, Option, Some, None, refl, sym, ap, ◌∙◌, subst, arith, append_assoc, append-nil, ◌==◌}
 use Rattle.std.specs.Prelude.{if◌then◌else◌, ◌&&◌, nat_le}
 use Rattle.std.specs.List.{flat_map}
-use Rattle.vg_base.specs.Outside.{IsVector, AreVectors}
+use Rattle.vg_meaning.specs.Outside.{IsVector, AreVectors}
 use Rattle.vg_lines.specs.Lines.{lines}
 use Rattle.vg_lines.specs.Digits.{in_front}
 use Rattle.vg_script.specs.declared.reader.Taken.{Taken}

@@ -1,8 +1,8 @@
 -- The lines of a trace.
 use Rattle.std.specs.Prelude.{ℕ, ◌+◌, ◌/◌, ◌%◌, List, [], ◌∷◌, ◌++◌, nat_lt, codes, if◌then◌else◌}
 use Rattle.vg_lines.specs.Digits.{lower_pair}
-use Rattle.vg_base.specs.declared.event.Event.{Event}
-use Rattle.vg_base.specs.declared.event.Event.TheVariants.{Read, Write, Enter}
+use Rattle.vg_meaning.specs.declared.event.Event.{Event}
+use Rattle.vg_meaning.specs.declared.event.Event.TheVariants.{Read, Write, Enter}
 use Rattle.vg_script.specs.declared.traces.EndLine.{EndLine}
 use Rattle.vg_script.specs.declared.traces.EndLine.TheVariants.{Idle, Stop, Wants, Budget, Depth, Bad}
 

@@ -1,6 +1,6 @@
 // The script of a text.
 ghost use Rattle.std.specs.Prelude.{◌≡◌, ◌≤◌, ◌+◌, ◌++◌, ℕ, List, [], length, Option, Some, None, IfOk};
-ghost use Rattle.vg_base.specs.Outside.{AreReads, AreVectors};
+ghost use Rattle.vg_meaning.specs.Outside.{AreReads, AreVectors};
 ghost use Rattle.vg_script.specs.Script.{IsScript, first_bad, interrupts_in, line_of, one_digit, reads_in, some, spaced_pair, two_digits};
 ghost use Rattle.vg_script.specs.Walk.{Takes, TakesLine, first_interrupt, first_read, of_width};
 

@@ -1,6 +1,6 @@
 // A script.
 ghost use Rattle.std.specs.Prelude.{◌≡◌, ℕ, List};
-ghost use Rattle.vg_base.specs.Outside.{AreReads, AreVectors};
+ghost use Rattle.vg_meaning.specs.Outside.{AreReads, AreVectors};
 
 use std::marker::Model;
 use vg_base::NoMemory;
@@ -16,7 +16,7 @@ pub struct Script {
 }
 
 impl Model for Script {
-    ghost use Rattle.vg_base.specs.Outside.{AreReads, AreVectors};
+    ghost use Rattle.vg_meaning.specs.Outside.{AreReads, AreVectors};
     ghost use Rattle.vg_script.specs.Script.{Lists};
 
     ghost Value = { Lists };

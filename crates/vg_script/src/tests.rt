@@ -3,7 +3,7 @@ use crate::reader::read_script;
 use crate::script::ScriptFault;
 use crate::traces::{EndLine, put_ending, put_event};
 use std::test::Fail;
-use vg_base::Event;
+use vg_meaning::Event;
 use vg_io::MemorySink;
 
 #[test]

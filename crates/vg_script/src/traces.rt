@@ -5,7 +5,7 @@ ghost use Rattle.vg_io.specs.Piece.{AppendsAll, AppendsFront};
 ghost use Rattle.vg_script.specs.Traces.{decimal, ending_line, event_line, word_digits};
 ghost use Rattle.vg_lines.specs.Digits.{lower_pair};
 
-use vg_base::Event;
+use vg_meaning::Event;
 use vg_io::{Failed, Sink};
 use vg_lines::lower_digit;
 

@@ -3,14 +3,7 @@ pub mod Places
 pub mod Spellings
 pub mod Lexemes
 pub mod Tokens
-pub mod Tables
-pub mod Walk
-pub mod Pieces
-pub mod Shapes
 pub mod Hexadecimal
-pub mod FirstText
-pub mod FirstViews
-pub mod FirstSession
 pub mod Grammar
 pub mod Parses
 pub mod Tree

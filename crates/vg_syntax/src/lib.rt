@@ -1,19 +1,14 @@
-//! The source language: its tokens, its grammar and its meaning, as definitions, with the types that they speak of.
+//! The source language as definitions: its tokens, its grammar, its tree and the faults of texts, with the small types that they speak of.
 #![tactic(auto)]
 
-pub mod device_write;
-pub mod first_text;
 pub mod gap;
 pub mod grammar;
 pub mod kind;
 pub mod lexeme;
-pub mod scanner;
-mod spelling;
 pub mod token;
 
-pub use device_write::DeviceWrite;
-pub use first_text::{FirstFault, FirstText, read_first};
+pub use gap::Mode;
 pub use grammar::{Part, Symbol};
 pub use kind::Kind;
-pub use scanner::{end_place, scan};
+pub use lexeme::Lexeme;
 pub use token::Token;

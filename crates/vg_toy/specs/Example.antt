@@ -1,7 +1,7 @@
 -- A program with a loop, a call, device reads and an interrupt, and its trace by computation.
 use Rattle.std.specs.Prelude.{◌≡◌, refl, ℕ, List, [], ◌∷◌}
-use Rattle.vg_base.specs.declared.event.Event.{Event}
-use Rattle.vg_base.specs.declared.event.Event.TheVariants.{Read as ReadEvent, Write as WriteEvent, Enter}
+use Rattle.vg_meaning.specs.declared.event.Event.{Event}
+use Rattle.vg_meaning.specs.declared.event.Event.TheVariants.{Read as ReadEvent, Write as WriteEvent, Enter}
 use Rattle.vg_toy.specs.declared.program.Step.TheVariants.{Number, Read, Write, Call}
 use Rattle.vg_meaning.specs.History.{Active, Calling, History, no_history, full}
 use Rattle.vg_meaning.specs.Answer.{Done, Wants, Over, Answer, Ends, Gives, Signal}

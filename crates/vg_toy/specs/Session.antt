@@ -1,6 +1,6 @@
 -- Whole runs: the first method is called, and then the interrupts are taken, each by the method at the place of its vector.
 use Rattle.std.specs.Prelude.{ℕ, List, [], length, None, slice_get}
-use Rattle.vg_base.specs.Outside.{before}
+use Rattle.vg_meaning.specs.Outside.{before}
 use Rattle.vg_meaning.specs.History.{Recorder}
 use Rattle.vg_meaning.specs.World.{World, Running}
 use Rattle.vg_meaning.specs.Answer.{Answer, Piece, go_on, and_then}

@@ -3,3 +3,7 @@ pub mod Passing
 pub mod Numbers
 pub mod Alike
 pub mod Classes
+pub mod ArmLists
+pub mod KidLists
+pub mod RowLists
+pub mod TypeLists

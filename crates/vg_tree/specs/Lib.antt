@@ -3,3 +3,5 @@ pub mod Children
 pub mod Lookups
 pub mod Walks
 pub mod Classes
+pub mod HeldMade
+pub mod Nothing

@@ -3,7 +3,8 @@ use super::{PlainMachine, RunEnd};
 use crate::image::Image;
 use std::alloc::Global;
 use std::test::Fail;
-use vg_base::{Event, NoMemory};
+use vg_base::NoMemory;
+use vg_meaning::Event;
 
 // A jump to word 70, sixty-eight returns, SP at 0x10FF, a write of 5 to 0x38, and then SEI, SLEEP, CLI and a jump back to SEI.
 fn constant(alloc: Global) -> Result<Image, NoMemory> {

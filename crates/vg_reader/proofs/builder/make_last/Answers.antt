@@ -1,6 +1,6 @@
 use Rattle.std.proofs.Common.{rules, ◌≡◌, ◌++◌, ◌∷◌, [], ap, ◌∙◌, sym, take, drop, map, length, ◌≤◌, arith}
 use Rattle.vg_syntax.specs.Reads.{made, kids_of}
-use Rattle.vg_made.specs.HeldMade.{value_at}
+use Rattle.vg_tree.specs.HeldMade.{value_at}
 use Rattle.vg_reader.proofs.Building.{reduce_step, front_stays}
 use Rattle.vg_reader.proofs.builder.make_last.Goals as goal
 

@@ -4,9 +4,9 @@ use Rattle.vg_tree.specs.Held.{node_at, tree_at}
 use Rattle.vg_tree.proofs.Alike.{alike}
 use Rattle.vg_reader.specs.Derivation.{tree_of}
 use Rattle.vg_tree.proofs.Numbers.{count_numbered}
-use Rattle.vg_reader.proofs.Counts.{few_nodes}
+use Rattle.vg_texts.proofs.Counts.{few_nodes}
 use Rattle.vg_reader.proofs.Named.{grown_none, grown_twice, held_one, text_found}
-use Rattle.vg_reader.proofs.Spelled.{all_spelled, few_tokens}
+use Rattle.vg_texts.proofs.Spelled.{all_spelled, few_tokens}
 use Rattle.vg_reader.proofs.reader.read.Goals as goal
 
 pub build-requires-clause-spelled : goal.build-requires-clause-spelled

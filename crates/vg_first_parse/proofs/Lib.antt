@@ -1,4 +1,0 @@
-pub mod Spelled
-pub mod Parts
-pub mod Depth
-pub mod Texts

@@ -1,0 +1,5 @@
+pub mod First
+pub mod Hexadecimal
+pub mod Parts
+pub mod Pieces
+pub mod Registers

@@ -1,0 +1,5 @@
+pub mod FirstSession
+pub mod FirstText
+pub mod FirstViews
+pub mod Pieces
+pub mod Shapes

@@ -1,4 +1,0 @@
-pub mod RowLists
-pub mod TypeLists
-pub mod ArmLists
-pub mod KidLists

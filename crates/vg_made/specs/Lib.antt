@@ -1,2 +1,0 @@
-pub mod HeldMade
-pub mod Nothing

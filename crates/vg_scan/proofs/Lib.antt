@@ -1,0 +1,4 @@
+pub mod Lengths
+pub mod Places
+pub mod Reading
+pub mod Rows

@@ -1,9 +1,0 @@
-pub mod Lengths
-pub mod Places
-pub mod Reading
-pub mod Pieces
-pub mod Parts
-pub mod First
-pub mod Hexadecimal
-pub mod Registers
-pub mod Rows

@@ -1,5 +1,0 @@
-use Rattle.vg_syntax.proofs.First.{one_list}
-use Rattle.vg_syntax.proofs.first_text.one_list_of_writes.Goals as goal
-
-pub returns : goal.returns
-returns c = one_list

@@ -1,6 +1,0 @@
-use Rattle.std.proofs.Common.{[], ◌∙◌}
-use Rattle.vg_syntax.proofs.Places.{walked_behind}
-use Rattle.vg_syntax.proofs.scanner.end_place.Goals as goal
-
-pub returns : goal.returns
-returns c = c.walked.ensures ∙ walked_behind [] c.args.bytes.now

@@ -1,6 +1,0 @@
-use Rattle.vg_syntax.specs.Spellings.{double_signs}
-use Rattle.vg_syntax.proofs.spelling.double_sign_kind.Goals as goal
-
-pub returns : goal.returns
-unfolding double_signs
-returns c = c.kind_spelled.ensures
