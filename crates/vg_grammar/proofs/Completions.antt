@@ -231,7 +231,9 @@ a_for_test : Has (Use part.ForTest ∷ [])
 a_for_test = one_of part.ForTest 0 _ refl (tok _ kind.Semicolon (part_of _ _ a_expression (tok _ kind.Semicolon nil)))
 
 a_for_header : Has (Use part.ForHeader ∷ [])
-a_for_header = one_of part.ForHeader 0 _ refl (tok _ kind.LeftParen (part_of _ _ a_maybe_simple (part_of _ _ a_for_test (part_of _ _ a_maybe_simple (tok _ kind.RightParen nil)))))
+a_for_header =
+    one_of part.ForHeader 0 _ refl (tok _ kind.LeftParen (part_of _ _ a_maybe_simple
+    (part_of _ _ a_for_test (part_of _ _ a_maybe_simple (tok _ kind.RightParen nil)))))
 
 a_maybe_expression : Has (Use part.MaybeExpression ∷ [])
 a_maybe_expression = one_of part.MaybeExpression 1 _ refl nil

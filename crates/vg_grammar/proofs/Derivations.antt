@@ -1,5 +1,6 @@
 -- What the steps made so far and the marks to come say of every parse that begins so.
-use Rattle.std.proofs.Common.{◌≡◌, ℕ, zero, suc, ◌+◌, ◌*◌, ◌<◌, true, false, List, [], ◌∷◌, ◌++◌, length, Some, None, refl, sym, ap, ◌∙◌, subst, arith, append_assoc, append-nil, take, drop, take_all}
+use Rattle.std.proofs.Common.{◌≡◌, ℕ, zero, suc, ◌+◌, ◌*◌, ◌<◌, true, false, List, [], ◌∷◌, ◌++◌, length, Some, None, refl, sym, ap, ◌∙◌, subst, arith}
+use Rattle.std.proofs.Common.{append_assoc, append-nil, take, drop, take_all}
 use Rattle.vg_syntax.specs.declared.kind.Kind.{Kind}
 use Rattle.vg_syntax.specs.declared.token.Token.{Token}
 use Rattle.vg_syntax.specs.declared.grammar.Symbol.{Symbol}
@@ -21,7 +22,8 @@ use Rattle.vg_grammar.proofs.Rows.{join}
 use Rattle.vg_grammar.proofs.Theory.{Stacked, stacked_expand, expanded}
 use Rattle.vg_grammar.proofs.Runs.{same_some, run_start}
 use Rattle.vg_grammar.proofs.Room.{room}
-use Rattle.vg_grammar.proofs.Steps.{At, here, starts, asked, refuses_part, expands, expands_room, refuses_sign, too_deep, matches, matches_room, ends, left_over}
+use Rattle.vg_grammar.proofs.Steps.{At, here, starts, asked, refuses_part, expands, expands_room, refuses_sign, too_deep, matches, matches_room, ends}
+use Rattle.vg_grammar.proofs.Steps.{left_over}
 
 -- the symbols among the marks
 abbrev pub plain : List Mark → List Symbol
@@ -65,10 +67,12 @@ come_sees (Sub n a kids p) q (Use o ∷ s) m h =
 
 -- every parse that begins with the tokens read has these steps so far, and goes on as a parse of the marks
 pub record Made (front : List Token) (m : List Mark) (steps : List Step) (u : ℕ) : Type 0 where
-  pub back : (p : Parse) (more : List Token) → look more ≡ u → Fits p (Use part.Text ∷ []) → leaves p ≡ front ++ more → (q : Parse) × Fits q (plain m) × (leaves q ≡ more) × (steps ++ to_come m q ≡ steps_of p)
+  pub back : (p : Parse) (more : List Token) → look more ≡ u → Fits p (Use part.Text ∷ []) → leaves p ≡ front ++ more
+      → (q : Parse) × Fits q (plain m) × (leaves q ≡ more) × (steps ++ to_come m q ≡ steps_of p)
   pub ok : Stacked (plain m)
 
-made_expand : (front : List Token) (n : Part) (m : List Mark) (steps : List Step) (u : ℕ) (rhs : List Symbol) → Made front (See (Use n) ∷ m) steps u → chosen n u ≡ Some rhs → Made front (sees rhs (Make n (length rhs) ∷ m)) steps u
+made_expand : (front : List Token) (n : Part) (m : List Mark) (steps : List Step) (u : ℕ) (rhs : List Symbol) → Made front (See (Use n) ∷ m) steps u
+    → chosen n u ≡ Some rhs → Made front (sees rhs (Make n (length rhs) ∷ m)) steps u
 made_expand front n m steps u rhs r c = record {
   back = λ p more l h e.
       let o = r.back p more l h e in
@@ -76,27 +80,32 @@ made_expand front n m steps u rhs r c = record {
       let i : x.rhs ≡ rhs = same_some x.rhs rhs (chosen n (look (leaves o.0))) x.is_chosen (ap (chosen n) (ap look o.2 ∙ l) ∙ c) in
       let f : Fits x.kids rhs = subst (λ z. Fits x.kids z) i x.kids_fit in
       let g : to_come (sees rhs (Make n (length rhs) ∷ m)) (join x.kids x.behind) ≡ steps_of x.kids ++ step.Make n (width x.kids) ∷ to_come m x.behind =
-      come_sees x.kids x.behind rhs (Make n (length rhs) ∷ m) f ∙ ap (λ w. steps_of x.kids ++ step.Make n w ∷ to_come m x.behind) (sym (width_is x.kids rhs f)) in (
+      come_sees x.kids x.behind rhs (Make n (length rhs) ∷ m) f ∙ ap (λ w. steps_of x.kids ++ step.Make n w ∷ to_come m x.behind)
+          (sym (width_is x.kids rhs f)) in (
         join x.kids x.behind,
-        subst (λ z. Fits (join x.kids x.behind) z) (sym (plain_sees rhs (Make n (length rhs) ∷ m))) (subst (λ z. Fits (join x.kids x.behind) (z ++ plain m)) i x.all_fit),
+        subst (λ z. Fits (join x.kids x.behind) z) (sym (plain_sees rhs (Make n (length rhs) ∷ m)))
+            (subst (λ z. Fits (join x.kids x.behind) (z ++ plain m)) i x.all_fit),
         x.same_leaves ∙ o.2,
         ap (λ l. steps ++ l) (g ∙ ap (to_come (See (Use n) ∷ m)) (sym x.is)) ∙ o.3,
       );
   ok = subst Stacked (sym (plain_sees rhs (Make n (length rhs) ∷ m))) (stacked_expand n (plain m) (pick (rules n) u) rhs c r.ok);
 }
 
-made_part : (front : List Token) (n : Part) (c : ℕ) (m : List Mark) (steps : List Step) (u : ℕ) → Made front (Make n c ∷ m) steps u → Made front m (steps ++ step.Make n c ∷ []) u
+made_part : (front : List Token) (n : Part) (c : ℕ) (m : List Mark) (steps : List Step) (u : ℕ) → Made front (Make n c ∷ m) steps u
+    → Made front m (steps ++ step.Make n c ∷ []) u
 made_part front n c m steps u r = record {
   back = λ p more l h e. let o = r.back p more l h e in (o.0, o.1, o.2, append_assoc steps (step.Make n c ∷ []) (to_come m o.0) ∙ o.3);
   ok = r.ok;
 }
 
-take_tok : (q : Parse) (k : Kind) (m : List Mark) (t : Token) (more : List Token) → Fits q (Sign k ∷ plain m) → leaves q ≡ t ∷ more → (x : Parse) × Fits x (plain m) × (leaves x ≡ more) × (step.Take ∷ to_come m x ≡ to_come (See (Sign k) ∷ m) q)
+take_tok : (q : Parse) (k : Kind) (m : List Mark) (t : Token) (more : List Token) → Fits q (Sign k ∷ plain m) → leaves q ≡ t ∷ more
+    → (x : Parse) × Fits x (plain m) × (leaves x ≡ more) × (step.Take ∷ to_come m x ≡ to_come (See (Sign k) ∷ m) q)
 take_tok Nil k m t more h e = absurd h
 take_tok (Tok v q) k m t more h e = let f : v ∷ leaves q ≡ t ∷ more = e in (q, h.1, cc, refl)
 take_tok (Sub n a kids q) k m t more h e = absurd h
 
-made_match : (front : List Token) (k : Kind) (m : List Mark) (steps : List Step) (t : Token) (v : ℕ) → Made front (See (Sign k) ∷ m) steps (number t.kind) → Made (front ++ t ∷ []) m (steps ++ step.Take ∷ []) v
+made_match : (front : List Token) (k : Kind) (m : List Mark) (steps : List Step) (t : Token) (v : ℕ) → Made front (See (Sign k) ∷ m) steps (number t.kind)
+    → Made (front ++ t ∷ []) m (steps ++ step.Take ∷ []) v
 made_match front k m steps t v r = record {
   back = λ p more l h e.
       let o = r.back p (t ∷ more) refl h (e ∙ append_assoc front (t ∷ []) more) in
@@ -137,16 +146,21 @@ unfolding makes
 makes_sees [] m = refl
 makes_sees (x ∷ s) m = makes_sees s m
 
-pub expanding : (ts : List Token) (at : ℕ) (k : Kind) (deep : ℕ) (m rest mid new : List Mark) (steps : List Step) (rhs : List Symbol) (n : Part) → Making ts at m steps deep → m ≡ See (Use n) ∷ rest → k ≡ kind_at ts at → Some rhs ≡ chosen n (number k) → mid ≡ Make n (length rhs) ∷ rest → new ≡ sees rhs mid → Making ts at new steps deep
+pub expanding : (ts : List Token) (at : ℕ) (k : Kind) (deep : ℕ) (m rest mid new : List Mark) (steps : List Step) (rhs : List Symbol) (n : Part)
+    → Making ts at m steps deep → m ≡ See (Use n) ∷ rest → k ≡ kind_at ts at → Some rhs ≡ chosen n (number k) → mid ≡ Make n (length rhs) ∷ rest
+    → new ≡ sees rhs mid → Making ts at new steps deep
 expanding ts at k deep m rest mid new steps rhs n r e o c i j =
     let f : new ≡ sees rhs (Make n (length rhs) ∷ rest) = j ∙ ap (sees rhs) i in
     let v = subst (λ l. Made (take at ts) l steps (look (drop at ts))) e r.made in
     record {
       at_it = expands ts at k deep (plain m) (plain rest) rhs (plain new) n r.at_it (ap plain e) o c (ap plain f ∙ plain_sees rhs (Make n (length rhs) ∷ rest));
-      made = subst (λ l. Made (take at ts) l steps (look (drop at ts))) (sym f) (made_expand (take at ts) n rest steps (look (drop at ts)) rhs v (asked ts at k n (Some rhs) o c));
+      made = subst (λ l. Made (take at ts) l steps (look (drop at ts))) (sym f)
+          (made_expand (take at ts) n rest steps (look (drop at ts)) rhs v (asked ts at k n (Some rhs) o c));
     }
 
-pub expanding_less : (ts : List Token) (at : ℕ) (k : Kind) (m rest mid new : List Mark) (rhs : List Symbol) (n : Part) → m ≡ See (Use n) ∷ rest → k ≡ kind_at ts at → Some rhs ≡ chosen n (number k) → mid ≡ Make n (length rhs) ∷ rest → new ≡ sees rhs mid → steps_left new (drop at ts) < steps_left m (drop at ts)
+pub expanding_less : (ts : List Token) (at : ℕ) (k : Kind) (m rest mid new : List Mark) (rhs : List Symbol) (n : Part) → m ≡ See (Use n) ∷ rest
+    → k ≡ kind_at ts at → Some rhs ≡ chosen n (number k) → mid ≡ Make n (length rhs) ∷ rest → new ≡ sees rhs mid
+    → steps_left new (drop at ts) < steps_left m (drop at ts)
 unfolding steps_left makes
 expanding_less ts at k m rest mid new rhs n e o c i j =
     let f : new ≡ sees rhs (Make n (length rhs) ∷ rest) = j ∙ ap (sees rhs) i in
@@ -155,10 +169,12 @@ expanding_less ts at k m rest mid new rhs n e o c i j =
     let b : makes m ≡ makes rest = ap makes e in
     omega (arith, h, a, b)
 
-pub making : (ts : List Token) (at deep c : ℕ) (m rest : List Mark) (steps new : List Step) (n : Part) → Making ts at m steps deep → m ≡ Make n c ∷ rest → new ≡ steps ++ step.Make n c ∷ [] → Making ts at rest new deep
+pub making : (ts : List Token) (at deep c : ℕ) (m rest : List Mark) (steps new : List Step) (n : Part) → Making ts at m steps deep → m ≡ Make n c ∷ rest
+    → new ≡ steps ++ step.Make n c ∷ [] → Making ts at rest new deep
 making ts at deep c m rest steps new n r e f = record {
   at_it = subst (λ l. At ts at l deep) (ap plain e) r.at_it;
-  made = subst (λ l. Made (take at ts) rest l (look (drop at ts))) (sym f) (made_part (take at ts) n c rest steps (look (drop at ts)) (subst (λ l. Made (take at ts) l steps (look (drop at ts))) e r.made));
+  made = subst (λ l. Made (take at ts) rest l (look (drop at ts))) (sym f)
+      (made_part (take at ts) n c rest steps (look (drop at ts)) (subst (λ l. Made (take at ts) l steps (look (drop at ts))) e r.made));
 }
 
 pub making_less : (ts : List Token) (at c : ℕ) (m rest : List Mark) (n : Part) → m ≡ Make n c ∷ rest → steps_left rest (drop at ts) < steps_left m (drop at ts)
@@ -168,24 +184,29 @@ making_less ts at c m rest n e =
     let b : room (plain m) (drop at ts) ≡ room (plain rest) (drop at ts) = ap (λ l. room (plain l) (drop at ts)) e in
     omega (arith, a, b)
 
-pub matching : (ts : List Token) (at : ℕ) (k : Kind) (deep now : ℕ) (m rest : List Mark) (steps new : List Step) → Making ts at m steps deep → m ≡ See (Sign k) ∷ rest → is_at ts at k ≡ true → Some now ≡ opened deep k → new ≡ steps ++ step.Take ∷ [] → Making ts (at + 1) rest new now
+pub matching : (ts : List Token) (at : ℕ) (k : Kind) (deep now : ℕ) (m rest : List Mark) (steps new : List Step) → Making ts at m steps deep
+    → m ≡ See (Sign k) ∷ rest → is_at ts at k ≡ true → Some now ≡ opened deep k → new ≡ steps ++ step.Take ∷ [] → Making ts (at + 1) rest new now
 matching ts at k deep now m rest steps new r e i o g =
     let h = here ts at k i in
     let v = subst (λ l. Made (take at ts) l steps (look (drop at ts))) e r.made in
     let w = subst (λ u. Made (take at ts) (See (Sign k) ∷ rest) steps u) (ap look h.at_it) v in
     record {
       at_it = matches ts at k deep now (plain m) (plain rest) r.at_it (ap plain e) i o;
-      made = subst (λ l. Made (take (at + 1) ts) rest l (look (drop (at + 1) ts))) (sym g) (subst (λ l. Made l rest (steps ++ step.Take ∷ []) (look (drop (at + 1) ts))) (sym h.front) (made_match (take at ts) k rest steps h.token (look (drop (at + 1) ts)) w));
+      made = subst (λ l. Made (take (at + 1) ts) rest l (look (drop (at + 1) ts))) (sym g)
+          (subst (λ l. Made l rest (steps ++ step.Take ∷ []) (look (drop (at + 1) ts))) (sym h.front)
+          (made_match (take at ts) k rest steps h.token (look (drop (at + 1) ts)) w));
     }
 
-pub matching_less : (ts : List Token) (at : ℕ) (k : Kind) (m rest : List Mark) → m ≡ See (Sign k) ∷ rest → is_at ts at k ≡ true → steps_left rest (drop (at + 1) ts) < steps_left m (drop at ts)
+pub matching_less : (ts : List Token) (at : ℕ) (k : Kind) (m rest : List Mark) → m ≡ See (Sign k) ∷ rest → is_at ts at k ≡ true
+    → steps_left rest (drop (at + 1) ts) < steps_left m (drop at ts)
 unfolding steps_left makes
 matching_less ts at k m rest e i =
     let h = matches_room ts at k (plain m) (plain rest) (ap plain e) i in
     let b : makes m ≡ makes rest = ap makes e in
     omega (arith, h, b)
 
-pub ending : (ts : List Token) (at deep : ℕ) (m : List Mark) (steps : List Step) → Making ts at m steps deep → m ≡ [] → at ≡ length ts → AreSteps ts steps × Shallow ts
+pub ending : (ts : List Token) (at deep : ℕ) (m : List Mark) (steps : List Step) → Making ts at m steps deep → m ≡ [] → at ≡ length ts
+    → AreSteps ts steps × Shallow ts
 ending ts at deep m steps r e f =
     let s = ends ts at deep (plain m) r.at_it (ap plain e) f in
     let a : take at ts ≡ ts = take_all at ts (omega (arith, f)) in
@@ -207,14 +228,18 @@ top k x y m rest e f g = e ∙ ap (λ z. z ∷ rest) (f ∙ ap See g)
 pub top_make : (k : Mark) (n : Part) (c : ℕ) (m rest : List Mark) → m ≡ k ∷ rest → k ≡ Make n c → m ≡ Make n c ∷ rest
 top_make k n c m rest e f = e ∙ ap (λ z. z ∷ rest) f
 
-pub refuse_part : (ts : List Token) (at : ℕ) (k : Kind) (deep : ℕ) (m rest : List Mark) (steps : List Step) (n : Part) → Making ts at m steps deep → m ≡ See (Use n) ∷ rest → k ≡ kind_at ts at → None ≡ chosen n (number k) → NoTreeAt ts at × Shallow (take at ts)
+pub refuse_part : (ts : List Token) (at : ℕ) (k : Kind) (deep : ℕ) (m rest : List Mark) (steps : List Step) (n : Part) → Making ts at m steps deep
+    → m ≡ See (Use n) ∷ rest → k ≡ kind_at ts at → None ≡ chosen n (number k) → NoTreeAt ts at × Shallow (take at ts)
 refuse_part ts at k deep m rest steps n r e o c = refuses_part ts at k deep (plain m) (plain rest) n r.at_it (ap plain e) o c
 
-pub refuse_sign : (ts : List Token) (at : ℕ) (k : Kind) (deep : ℕ) (m rest : List Mark) (steps : List Step) → Making ts at m steps deep → m ≡ See (Sign k) ∷ rest → is_at ts at k ≡ false → NoTreeAt ts at × Shallow (take at ts)
+pub refuse_sign : (ts : List Token) (at : ℕ) (k : Kind) (deep : ℕ) (m rest : List Mark) (steps : List Step) → Making ts at m steps deep
+    → m ≡ See (Sign k) ∷ rest → is_at ts at k ≡ false → NoTreeAt ts at × Shallow (take at ts)
 refuse_sign ts at k deep m rest steps r e i = refuses_sign ts at k deep (plain m) (plain rest) r.at_it (ap plain e) i
 
-pub refuse_deep : (ts : List Token) (at : ℕ) (k : Kind) (deep : ℕ) (m rest : List Mark) (steps : List Step) → Making ts at m steps deep → m ≡ See (Sign k) ∷ rest → is_at ts at k ≡ true → None ≡ opened deep k → TooDeepAt ts at
+pub refuse_deep : (ts : List Token) (at : ℕ) (k : Kind) (deep : ℕ) (m rest : List Mark) (steps : List Step) → Making ts at m steps deep
+    → m ≡ See (Sign k) ∷ rest → is_at ts at k ≡ true → None ≡ opened deep k → TooDeepAt ts at
 refuse_deep ts at k deep m rest steps r e i o = too_deep ts at k deep (plain m) (plain rest) r.at_it (ap plain e) i o
 
-pub refuse_left : (ts : List Token) (at deep : ℕ) (m : List Mark) (steps : List Step) → Making ts at m steps deep → m ≡ [] → (at ≡ length ts → ⊥) → NoTreeAt ts at × Shallow (take at ts)
+pub refuse_left : (ts : List Token) (at deep : ℕ) (m : List Mark) (steps : List Step) → Making ts at m steps deep → m ≡ [] → (at ≡ length ts → ⊥)
+    → NoTreeAt ts at × Shallow (take at ts)
 refuse_left ts at deep m steps r e f = left_over ts at deep (plain m) r.at_it (ap plain e) f

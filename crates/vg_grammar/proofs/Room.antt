@@ -1,5 +1,6 @@
 -- How many steps are left: each step makes the room smaller.
-use Rattle.std.proofs.Common.{◌≡◌, ℕ, zero, suc, ◌+◌, ◌*◌, ◌<◌, ◌≤◌, Bool, true, false, not, List, [], ◌∷◌, ◌++◌, length, length-append, Some, None, refl, sym, ap, subst, arith, ◌⊎◌, inl, inr, ⊎_elim, ◌&&◌, ◌==◌}
+use Rattle.std.proofs.Common.{◌≡◌, ℕ, zero, suc, ◌+◌, ◌*◌, ◌<◌, ◌≤◌, Bool, true, false, not, List, [], ◌∷◌, ◌++◌, length, length-append, Some, None, refl}
+use Rattle.std.proofs.Common.{sym, ap, subst, arith, ◌⊎◌, inl, inr, ⊎_elim, ◌&&◌, ◌==◌}
 use Rattle.std.specs.Prelude.{if◌then◌else◌, nat_lt, nat_le}
 use Rattle.std.proofs.lemmas.Bool.{false≢true}
 use Rattle.vg_syntax.specs.declared.kind.Kind.{Kind}
@@ -23,9 +24,12 @@ head_at n (x ∷ rs) (suc i) r h e = head_at n rs i r (both (head_ok rank n x) _
 
 full_at : (m : Part) (us : List Kind) (u : ℕ) → all_full m us ≡ true → mem u us ≡ true → full (chosen m u) ≡ true
 full_at m [] u h e = absurd (false≢true e)
-full_at m (v ∷ us) u h e = ⊎_elim (λ i. subst (λ w. full (chosen m w) ≡ true) (sym (same u (number v) i)) (both (full (chosen m (number v))) _ h).0) (λ i. full_at m us u (both (full (chosen m (number v))) _ h).1 i) (either (u == number v) (mem u us) e)
+full_at m (v ∷ us) u h e =
+    ⊎_elim (λ i. subst (λ w. full (chosen m w) ≡ true) (sym (same u (number v) i)) (both (full (chosen m (number v))) _ h).0)
+    (λ i. full_at m us u (both (full (chosen m (number v))) _ h).1 i) (either (u == number v) (mem u us) e)
 
-pick_if : (b : Bool) (r x : List Symbol) (rs : List (List Symbol)) (i : ℕ) → nth (r ∷ rs) (if b then 0 else suc i) ≡ Some x → ((b ≡ true) × (r ≡ x)) ⊎ (nth rs i ≡ Some x)
+pick_if : (b : Bool) (r x : List Symbol) (rs : List (List Symbol)) (i : ℕ) → nth (r ∷ rs) (if b then 0 else suc i) ≡ Some x
+    → ((b ≡ true) × (r ≡ x)) ⊎ (nth rs i ≡ Some x)
 pick_if true r x rs i e = inl (refl, (let f : Some r ≡ Some x = e in cc))
 pick_if false r x rs i e = inr e
 
@@ -114,7 +118,8 @@ not_both : (b : Bool) → not b ≡ true → b ≡ true → ⊥
 not_both true h k = false≢true h
 not_both false h k = false≢true k
 
-room_expand : (n : Part) (s : List Symbol) (x : Symbol) (l : List Symbol) (rest : List Token) → chosen n (look rest) ≡ Some (x ∷ l) → room ((x ∷ l) ++ s) rest < room (Use n ∷ s) rest
+room_expand : (n : Part) (s : List Symbol) (x : Symbol) (l : List Symbol) (rest : List Token) → chosen n (look rest) ≡ Some (x ∷ l)
+    → room ((x ∷ l) ++ s) rest < room (Use n ∷ s) rest
 room_expand n s x l [] e =
     let g : full (chosen n 0) ≡ true = ap full e in
     absurd (not_both (full (chosen n 0)) (ranks n).ends g)
@@ -128,9 +133,13 @@ room_expand n s (Sign k) l (t ∷ rest) e =
     let app = length-append l s in
     let one = r.least in
     let q : (number k == number t.kind) ≡ true = eq_test (number k) (number t.kind) same_number in
-    subst (λ b. 1 + length (l ++ s) + 128 * length rest + (if b then 0 else 128) < 1 + length s + 128 * length rest + (if full (chosen n (number t.kind)) then 7 * rank n else 128)) (sym q) (subst (λ b. 1 + length (l ++ s) + 128 * length rest + 0 < 1 + length s + 128 * length rest + (if b then 7 * rank n else 128)) (sym g) (omega (arith, app, len, one)))
+    subst (λ b. 1 + length (l ++ s) + 128 * length rest + (if b then 0 else 128) < 1 + length s + 128 * length rest +
+        (if full (chosen n (number t.kind)) then 7 * rank n else 128)) (sym q) (subst
+        (λ b. 1 + length (l ++ s) + 128 * length rest + 0 < 1 + length s + 128 * length rest + (if b then 7 * rank n else 128)) (sym g)
+        (omega (arith, app, len, one)))
 room_expand n s (Use m) l (t ∷ rest) e =
-    let o = both (nat_le (length l) 4) (nat_lt (rank m) (rank n) && all_full m (firsts m)) (head_at n (rules n) (pick (rules n) (number t.kind)) (Use m ∷ l) (ranks n).heads e) in
+    let o = both (nat_le (length l) 4) (nat_lt (rank m) (rank n) && all_full m (firsts m))
+        (head_at n (rules n) (pick (rules n) (number t.kind)) (Use m ∷ l) (ranks n).heads e) in
     let p = both (nat_lt (rank m) (rank n)) (all_full m (firsts m)) o.1 in
     let in_m : mem (number t.kind) (firsts m) ≡ true = picks_it (rules n) (number t.kind) (Use m ∷ l) e in
     let fm = full_at m (firsts m) (number t.kind) p.1 in_m in
@@ -138,7 +147,10 @@ room_expand n s (Use m) l (t ∷ rest) e =
     let lower : rank m < rank n = below _ _ p.0 in
     let g : full (chosen n (number t.kind)) ≡ true = ap full e in
     let app = length-append l s in
-    subst (λ b. 1 + length (l ++ s) + 128 * length rest + (if b then 7 * rank m else 128) < 1 + length s + 128 * length rest + (if full (chosen n (number t.kind)) then 7 * rank n else 128)) (sym fm) (subst (λ b. 1 + length (l ++ s) + 128 * length rest + 7 * rank m < 1 + length s + 128 * length rest + (if b then 7 * rank n else 128)) (sym g) (omega (arith, app, len, lower)))
+    subst (λ b. 1 + length (l ++ s) + 128 * length rest + (if b then 7 * rank m else 128) < 1 + length s + 128 * length rest +
+        (if full (chosen n (number t.kind)) then 7 * rank n else 128)) (sym fm) (subst
+        (λ b. 1 + length (l ++ s) + 128 * length rest + 7 * rank m < 1 + length s + 128 * length rest + (if b then 7 * rank n else 128)) (sym g)
+        (omega (arith, app, len, lower)))
 
 pub room_any : (n : Part) (s rhs : List Symbol) (rest : List Token) → chosen n (look rest) ≡ Some rhs → room (rhs ++ s) rest < room (Use n ∷ s) rest
 room_any n s [] rest e = room_empty n s rest e

@@ -19,7 +19,8 @@ use Rattle.vg_grammar.proofs.Theory.{Stacked, stacked_expand, expand_forth, expa
 -- `front` is read, the symbols `s` are to come, and the next token's kind has the number u
 pub record Run (front : List Token) (s : List Symbol) (u : ℕ) : Type 0 where
   pub forth : (q : Parse) → Fits q s → (p : Parse) × Fits p (Use part.Text ∷ []) × (leaves p ≡ front ++ leaves q)
-  pub back : (p : Parse) (more : List Token) → look more ≡ u → Fits p (Use part.Text ∷ []) → leaves p ≡ front ++ more → (q : Parse) × Fits q s × (leaves q ≡ more)
+  pub back : (p : Parse) (more : List Token) → look more ≡ u → Fits p (Use part.Text ∷ []) → leaves p ≡ front ++ more
+      → (q : Parse) × Fits q s × (leaves q ≡ more)
   pub ok : Stacked s
 
 pub run_start : (u : ℕ) → Run [] (Use part.Text ∷ []) u
@@ -32,7 +33,8 @@ run_start u = record {
 pub same_some : (a b : List Symbol) (o : Option (List Symbol)) → o ≡ Some a → o ≡ Some b → a ≡ b
 same_some a b o e f = let g : Some a ≡ Some b = sym e ∙ f in cc
 
-pub run_expand : (front : List Token) (n : Part) (s : List Symbol) (u : ℕ) (rhs : List Symbol) → Run front (Use n ∷ s) u → chosen n u ≡ Some rhs → Run front (rhs ++ s) u
+pub run_expand : (front : List Token) (n : Part) (s : List Symbol) (u : ℕ) (rhs : List Symbol) → Run front (Use n ∷ s) u → chosen n u ≡ Some rhs
+    → Run front (rhs ++ s) u
 run_expand front n s u rhs r c = record {
   forth = λ q h. let e = expand_forth n (pick (rules n) u) rhs s c q h in let o = r.forth e.0 e.1 in (o.0, o.1, o.2 ∙ ap (λ l. front ++ l) e.2);
   back = λ p more l h e.
@@ -44,12 +46,14 @@ run_expand front n s u rhs r c = record {
   ok = stacked_expand n s (pick (rules n) u) rhs c r.ok;
 }
 
-take_tok : (q : Parse) (k : Kind) (s : List Symbol) (t : Token) (more : List Token) → Fits q (Sign k ∷ s) → leaves q ≡ t ∷ more → (x : Parse) × Fits x s × (leaves x ≡ more)
+take_tok : (q : Parse) (k : Kind) (s : List Symbol) (t : Token) (more : List Token) → Fits q (Sign k ∷ s) → leaves q ≡ t ∷ more
+    → (x : Parse) × Fits x s × (leaves x ≡ more)
 take_tok Nil k s t more h e = absurd h
 take_tok (Tok v q) k s t more h e = let f : v ∷ leaves q ≡ t ∷ more = e in (q, h.1, cc)
 take_tok (Sub n a kids q) k s t more h e = absurd h
 
-pub run_match : (front : List Token) (k : Kind) (s : List Symbol) (t : Token) (v : ℕ) → Run front (Sign k ∷ s) (number t.kind) → t.kind ≡ k → Run (front ++ t ∷ []) s v
+pub run_match : (front : List Token) (k : Kind) (s : List Symbol) (t : Token) (v : ℕ) → Run front (Sign k ∷ s) (number t.kind) → t.kind ≡ k
+    → Run (front ++ t ∷ []) s v
 run_match front k s t v r c = record {
   forth = λ q h. let o = r.forth (Tok t q) (c, h) in (o.0, o.1, o.2 ∙ sym (append_assoc front (t ∷ []) (leaves q)));
   back = λ p more l h e.
@@ -105,7 +109,8 @@ stops_dead front (t ∷ rest) d = λ v. d (t ∷ v.0) refl (subst Sentence (appe
 pub stops_part : (front rest : List Token) (n : Part) (s : List Symbol) → Run front (Use n ∷ s) (look rest) → chosen n (look rest) ≡ None → Stops front rest
 stops_part front rest n s r c = stops_dead front rest (dead_part front n s (look rest) r c)
 
-pub stops_sign : (front : List Token) (t : Token) (rest : List Token) (k : Kind) (s : List Symbol) → Run front (Sign k ∷ s) (number t.kind) → (number t.kind ≡ number k → ⊥) → Stops front (t ∷ rest)
+pub stops_sign : (front : List Token) (t : Token) (rest : List Token) (k : Kind) (s : List Symbol) → Run front (Sign k ∷ s) (number t.kind)
+    → (number t.kind ≡ number k → ⊥) → Stops front (t ∷ rest)
 stops_sign front t rest k s r c = stops_dead front (t ∷ rest) (dead_sign front k s (number t.kind) r c)
 
 pub stops_end : (front : List Token) (k : Kind) (s : List Symbol) → Run front (Sign k ∷ s) 0 → Stops front []
@@ -132,6 +137,7 @@ open_more d [] t = last (opened d t.kind)
     last (Some e) = refl
 open_more d (v ∷ ts) t = then_all (opened d v.kind) (λ e. open_more e ts t)
   where
-    then_all : (o : Option ℕ) → ((e : ℕ) → open_in e (ts ++ t ∷ []) ≡ option_and_then (λ e. opened e t.kind) (open_in e ts)) → option_and_then (λ e. open_in e (ts ++ t ∷ [])) o ≡ option_and_then (λ e. opened e t.kind) (option_and_then (λ e. open_in e ts) o)
+    then_all : (o : Option ℕ) → ((e : ℕ) → open_in e (ts ++ t ∷ []) ≡ option_and_then (λ e. opened e t.kind) (open_in e ts))
+        → option_and_then (λ e. open_in e (ts ++ t ∷ [])) o ≡ option_and_then (λ e. opened e t.kind) (option_and_then (λ e. open_in e ts) o)
     then_all None h = refl
     then_all (Some e) h = h e

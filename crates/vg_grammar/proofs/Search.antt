@@ -14,7 +14,8 @@ suited (x ∷ rs) zero u r e s =
     e ∙ sym (ap (λ b. nth (x ∷ rs) (if b then 0 else suc (pick rs u))) t)
 suited (x ∷ rs) (suc i) u r e s = suited rs i u r e s
 
-pub passed : (rs : List (List Symbol)) (i u : ℕ) (r : List Symbol) → Some r ≡ nth rs i → suits r u ≡ false → (i + 1 ≤ length rs) × (first_suited (drop (i + 1) rs) u ≡ first_suited (drop i rs) u)
+pub passed : (rs : List (List Symbol)) (i u : ℕ) (r : List Symbol) → Some r ≡ nth rs i → suits r u ≡ false
+    → (i + 1 ≤ length rs) × (first_suited (drop (i + 1) rs) u ≡ first_suited (drop i rs) u)
 passed [] i u r e s = absurd (let clash : Some r ≡ None = e in cc)
 passed (x ∷ rs) zero u r e s =
     let f : Some r ≡ Some x = e in

@@ -1,5 +1,6 @@
 -- The forced steps of a reader by the tables: the next token chooses the alternative of every parse.
-use Rattle.std.proofs.Common.{◌≡◌, ℕ, zero, suc, ◌+◌, Bool, true, false, not, List, [], ◌∷◌, ◌++◌, Some, None, refl, sym, ap, ◌∙◌, subst, arith, ◌⊎◌, inl, inr, ⊎_elim, ◌&&◌, ◌||◌, ◌==◌}
+use Rattle.std.proofs.Common.{◌≡◌, ℕ, zero, suc, ◌+◌, Bool, true, false, not, List, [], ◌∷◌, ◌++◌, Some, None, refl, sym, ap, ◌∙◌, subst, arith, ◌⊎◌, inl}
+use Rattle.std.proofs.Common.{inr, ⊎_elim, ◌&&◌, ◌||◌, ◌==◌}
 use Rattle.std.specs.Prelude.{if◌then◌else◌}
 use Rattle.std.proofs.lemmas.Bool.{false≢true}
 use Rattle.vg_syntax.specs.declared.kind.Kind.{Kind}
@@ -58,7 +59,8 @@ mem_append_right (v ∷ us) ks u e = or_right (u == number v) _ (mem_append_righ
 
 mem_append_left : (us ks : List Kind) (u : ℕ) → mem u us ≡ true → mem u (us ++ ks) ≡ true
 mem_append_left [] ks u e = absurd (false≢true e)
-mem_append_left (v ∷ us) ks u e = ⊎_elim (λ h. or_left (u == number v) _ h) (λ h. or_right (u == number v) _ (mem_append_left us ks u h)) (either (u == number v) (mem u us) e)
+mem_append_left (v ∷ us) ks u e =
+    ⊎_elim (λ h. or_left (u == number v) _ h) (λ h. or_right (u == number v) _ (mem_append_left us ks u h)) (either (u == number v) (mem u us) e)
 
 picked : (n : Part) (a u : ℕ) (us : List Kind) → picks n a us ≡ true → mem u us ≡ true → pick (rules n) u ≡ a
 picked n a u [] p m = absurd (false≢true m)
@@ -109,7 +111,8 @@ right n a rhs e = right_of n a rhs (subst (λ j. check_alt n j rhs ≡ true) z (
 Begins : List Token → List Symbol → Type 0
 Begins ts s = ((ts ≡ []) × (nullable_seq s ≡ true)) ⊎ ((t : Token) × (rest : List Token) × (ts ≡ t ∷ rest) × (mem (number t.kind) (firsts_seq s) ≡ true))
 
-begins_use : (n : Part) (s : List Symbol) (us vs : List Token) (a : ℕ) (rhs : List Symbol) → Right n a rhs → Begins us rhs → Begins vs s → Begins (us ++ vs) (Use n ∷ s)
+begins_use : (n : Part) (s : List Symbol) (us vs : List Token) (a : ℕ) (rhs : List Symbol) → Right n a rhs → Begins us rhs → Begins vs s
+    → Begins (us ++ vs) (Use n ∷ s)
 unfolding Begins
 begins_use n s us vs a rhs r (inr h) k =
     inr (h.0, h.1 ++ vs, ap (λ l. l ++ vs) h.2, mem_append_left (firsts n) _ (number h.0.kind) (r.within (number h.0.kind) h.3))
@@ -117,7 +120,8 @@ begins_use n s us vs a rhs r (inl h) (inl k) =
     inl (ap (λ l. l ++ vs) h.0 ∙ k.0, and_of (nullable n) _ (r.nulls h.1) k.1)
 begins_use n s us vs a rhs r (inl h) (inr k) =
     let e : firsts_seq (Use n ∷ s) ≡ firsts n ++ firsts_seq s = ap (λ b. firsts n ++ (if b then firsts_seq s else [])) (r.nulls h.1) in
-    inr (k.0, k.1, ap (λ l. l ++ vs) h.0 ∙ k.2, subst (λ l. mem (number k.0.kind) l ≡ true) (sym e) (mem_append_right (firsts n) (firsts_seq s) (number k.0.kind) k.3))
+    inr (k.0, k.1, ap (λ l. l ++ vs) h.0 ∙ k.2, subst (λ l. mem (number k.0.kind) l ≡ true) (sym e)
+        (mem_append_right (firsts n) (firsts_seq s) (number k.0.kind) k.3))
 
 sign_first : (t : Token) (k : Kind) → t.kind ≡ k → mem (number t.kind) (k ∷ []) ≡ true
 sign_first t k e = or_left (number t.kind == number k) _ (same_test (number t.kind) (number k) (ap number e))
@@ -174,7 +178,8 @@ can_split (Use n ∷ l) s u (inr h) = by_cases (can_split l s u h.1)
     e : firsts_seq (Use n ∷ l) ≡ firsts n ++ firsts_seq l
     e = ap (λ b. firsts n ++ (if b then firsts_seq l else [])) h.0
 
-    by_cases : (mem u (firsts_seq l) ≡ true) ⊎ ((nullable_seq l ≡ true) × Can s u) → (mem u (firsts_seq (Use n ∷ l)) ≡ true) ⊎ ((nullable_seq (Use n ∷ l) ≡ true) × Can s u)
+    by_cases : (mem u (firsts_seq l) ≡ true) ⊎ ((nullable_seq l ≡ true) × Can s u)
+        → (mem u (firsts_seq (Use n ∷ l)) ≡ true) ⊎ ((nullable_seq (Use n ∷ l) ≡ true) × Can s u)
     by_cases (inl m) = inl (subst (λ ks. mem u ks ≡ true) (sym e) (mem_append_right (firsts n) (firsts_seq l) u m))
     by_cases (inr m) = inr (and_of (nullable n) _ h.0 m.0, m.1)
 
@@ -186,7 +191,8 @@ stacked_push n (Use m ∷ l) s f c h =
     let d = both _ _ b.1 in
     (λ u k. by_cases u b.0 d.0 (can_split l s u k), stacked_push n l s d.1 c h)
   where
-    by_cases : (u : ℕ) → subset (firsts_seq l) (follows m) ≡ true → (not (nullable_seq l) || subset (follows n) (follows m)) ≡ true → (mem u (firsts_seq l) ≡ true) ⊎ ((nullable_seq l ≡ true) × Can s u) → mem u (follows m) ≡ true
+    by_cases : (u : ℕ) → subset (firsts_seq l) (follows m) ≡ true → (not (nullable_seq l) || subset (follows n) (follows m)) ≡ true
+        → (mem u (firsts_seq l) ≡ true) ⊎ ((nullable_seq l ≡ true) × Can s u) → mem u (follows m) ≡ true
     by_cases u x y (inl k) = mem_subset (firsts_seq l) (follows m) u x k
     by_cases u x y (inr k) = mem_subset (follows n) (follows m) u (implied (nullable_seq l) _ y k.0) (c u k.1)
 
@@ -194,10 +200,12 @@ pub stacked_expand : (n : Part) (s : List Symbol) (a : ℕ) (rhs : List Symbol) 
 stacked_expand n s a rhs e h = stacked_push n rhs s (right n a rhs e).follow h.0 h.1
 
 -- the step of a part, in both directions
-pub expand_forth : (n : Part) (a : ℕ) (rhs s : List Symbol) → nth (rules n) a ≡ Some rhs → (q : Parse) → Fits q (rhs ++ s) → (p : Parse) × Fits p (Use n ∷ s) × (leaves p ≡ leaves q)
+pub expand_forth : (n : Part) (a : ℕ) (rhs s : List Symbol) → nth (rules n) a ≡ Some rhs → (q : Parse) → Fits q (rhs ++ s)
+    → (p : Parse) × Fits p (Use n ∷ s) × (leaves p ≡ leaves q)
 expand_forth n a rhs s e q h = let c = cut q rhs s h in (Sub n a c.0 c.1, (refl, rhs, e, c.2, c.3), sym c.4)
 
-chosen_is : (n : Part) (a : ℕ) (rhs s : List Symbol) (us vs : List Token) → Right n a rhs → Begins us rhs → Can s (look vs) → ((u : ℕ) → Can s u → mem u (follows n) ≡ true) → pick (rules n) (look (us ++ vs)) ≡ a
+chosen_is : (n : Part) (a : ℕ) (rhs s : List Symbol) (us vs : List Token) → Right n a rhs → Begins us rhs → Can s (look vs)
+    → ((u : ℕ) → Can s u → mem u (follows n) ≡ true) → pick (rules n) (look (us ++ vs)) ≡ a
 unfolding Begins
 chosen_is n a rhs s us vs r (inl b) c f = subst (λ l. pick (rules n) (look (l ++ vs)) ≡ a) (sym b.0) (r.empty b.1 (look vs) (f _ c))
 chosen_is n a rhs s us vs r (inr b) c f = subst (λ l. pick (rules n) (look (l ++ vs)) ≡ a) (sym b.2) (r.first (number b.0.kind) b.3)

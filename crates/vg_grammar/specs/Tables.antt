@@ -18,11 +18,15 @@ mem u (k ∷ ks) = (u == number k) || mem u ks
 
 -- what an expression begins with
 abbrev pub expression_firsts : List Kind
-expression_firsts = kind.Minus ∷ kind.Not ∷ kind.Complement ∷ kind.New ∷ kind.Number ∷ kind.CharLiteral ∷ kind.StringLiteral ∷ kind.True ∷ kind.False ∷ kind.Null ∷ kind.This ∷ kind.Name ∷ kind.LeftParen ∷ []
+expression_firsts =
+    kind.Minus ∷ kind.Not ∷ kind.Complement ∷ kind.New ∷ kind.Number ∷ kind.CharLiteral ∷ kind.StringLiteral ∷ kind.True ∷ kind.False ∷ kind.Null ∷
+    kind.This ∷ kind.Name ∷ kind.LeftParen ∷ []
 
 -- what a statement begins with
 abbrev pub statement_firsts : List Kind
-statement_firsts = kind.LeftBrace ∷ kind.Local ∷ kind.If ∷ kind.While ∷ kind.For ∷ kind.Return ∷ kind.Break ∷ kind.Continue ∷ kind.Minus ∷ kind.Not ∷ kind.Complement ∷ kind.New ∷ kind.Number ∷ kind.CharLiteral ∷ kind.StringLiteral ∷ kind.True ∷ kind.False ∷ kind.Null ∷ kind.This ∷ kind.Name ∷ kind.LeftParen ∷ []
+statement_firsts =
+    kind.LeftBrace ∷ kind.Local ∷ kind.If ∷ kind.While ∷ kind.For ∷ kind.Return ∷ kind.Break ∷ kind.Continue ∷ kind.Minus ∷ kind.Not ∷ kind.Complement ∷
+    kind.New ∷ kind.Number ∷ kind.CharLiteral ∷ kind.StringLiteral ∷ kind.True ∷ kind.False ∷ kind.Null ∷ kind.This ∷ kind.Name ∷ kind.LeftParen ∷ []
 
 -- what a type begins with
 abbrev pub type_firsts : List Kind
@@ -123,7 +127,8 @@ firsts part.CastLevel = expression_firsts
 firsts part.CastRest = kind.Cast ∷ []
 firsts part.Unary = expression_firsts
 firsts part.Operators = kind.Minus ∷ kind.Not ∷ kind.Complement ∷ []
-firsts part.Postfix = kind.Number ∷ kind.CharLiteral ∷ kind.StringLiteral ∷ kind.True ∷ kind.False ∷ kind.Null ∷ kind.This ∷ kind.Name ∷ kind.LeftParen ∷ kind.New ∷ []
+firsts part.Postfix =
+    kind.Number ∷ kind.CharLiteral ∷ kind.StringLiteral ∷ kind.True ∷ kind.False ∷ kind.Null ∷ kind.This ∷ kind.Name ∷ kind.LeftParen ∷ kind.New ∷ []
 firsts part.Suffixes = suffix_firsts
 firsts part.Index = kind.LeftBracket ∷ []
 firsts part.Arguments = kind.LeftParen ∷ []
@@ -132,7 +137,9 @@ firsts part.MoreArguments = kind.Comma ∷ []
 firsts part.New = atom_firsts
 firsts part.NewOfName = kind.LeftParen ∷ kind.LeftBracket ∷ []
 firsts part.NewLevels = kind.Dot ∷ kind.LeftParen ∷ kind.LeftBracket ∷ []
-firsts part.NewLevel = kind.RightBracket ∷ kind.Minus ∷ kind.Not ∷ kind.Complement ∷ kind.New ∷ kind.Number ∷ kind.CharLiteral ∷ kind.StringLiteral ∷ kind.True ∷ kind.False ∷ kind.Null ∷ kind.This ∷ kind.Name ∷ kind.LeftParen ∷ []
+firsts part.NewLevel =
+    kind.RightBracket ∷ kind.Minus ∷ kind.Not ∷ kind.Complement ∷ kind.New ∷ kind.Number ∷ kind.CharLiteral ∷ kind.StringLiteral ∷ kind.True ∷ kind.False ∷
+    kind.Null ∷ kind.This ∷ kind.Name ∷ kind.LeftParen ∷ []
 firsts part.Primary = primary_firsts
 
 -- whether a part can be empty
@@ -218,7 +225,10 @@ abbrev pub behind_type : List Kind
 behind_type = kind.LeftBrace ∷ behind_unary
 
 abbrev pub behind_statement : List Kind
-behind_statement = kind.LeftBrace ∷ kind.Local ∷ kind.If ∷ kind.While ∷ kind.For ∷ kind.Return ∷ kind.Break ∷ kind.Continue ∷ kind.Minus ∷ kind.Not ∷ kind.Complement ∷ kind.New ∷ kind.Number ∷ kind.CharLiteral ∷ kind.StringLiteral ∷ kind.True ∷ kind.False ∷ kind.Null ∷ kind.This ∷ kind.Name ∷ kind.LeftParen ∷ kind.RightBrace ∷ []
+behind_statement =
+    kind.LeftBrace ∷ kind.Local ∷ kind.If ∷ kind.While ∷ kind.For ∷ kind.Return ∷ kind.Break ∷ kind.Continue ∷ kind.Minus ∷ kind.Not ∷ kind.Complement ∷
+    kind.New ∷ kind.Number ∷ kind.CharLiteral ∷ kind.StringLiteral ∷ kind.True ∷ kind.False ∷ kind.Null ∷ kind.This ∷ kind.Name ∷ kind.LeftParen ∷
+    kind.RightBrace ∷ []
 
 abbrev pub behind_member : List Kind
 behind_member = kind.Field ∷ kind.Method ∷ kind.Constructor ∷ kind.RightBrace ∷ []
@@ -263,7 +273,9 @@ follows part.Condition = kind.LeftBrace ∷ []
 follows part.Else = behind_statement
 follows part.ElseArm = behind_statement
 follows part.ForHeader = kind.LeftBrace ∷ []
-follows part.ForTest = kind.Minus ∷ kind.Not ∷ kind.Complement ∷ kind.New ∷ kind.Number ∷ kind.CharLiteral ∷ kind.StringLiteral ∷ kind.True ∷ kind.False ∷ kind.Null ∷ kind.This ∷ kind.Name ∷ kind.LeftParen ∷ kind.RightParen ∷ []
+follows part.ForTest =
+    kind.Minus ∷ kind.Not ∷ kind.Complement ∷ kind.New ∷ kind.Number ∷ kind.CharLiteral ∷ kind.StringLiteral ∷ kind.True ∷ kind.False ∷ kind.Null ∷
+    kind.This ∷ kind.Name ∷ kind.LeftParen ∷ kind.RightParen ∷ []
 follows part.MaybeSimple = kind.Semicolon ∷ kind.RightParen ∷ []
 follows part.MaybeExpression = kind.Semicolon ∷ []
 follows part.Simple = kind.Semicolon ∷ kind.RightParen ∷ []
@@ -293,7 +305,8 @@ follows part.ProductRest = behind_level_11
 follows part.CastLevel = behind_level_12
 follows part.CastRest = behind_level_12
 follows part.Unary = behind_unary
-follows part.Operators = kind.Number ∷ kind.CharLiteral ∷ kind.StringLiteral ∷ kind.True ∷ kind.False ∷ kind.Null ∷ kind.This ∷ kind.Name ∷ kind.LeftParen ∷ kind.New ∷ []
+follows part.Operators =
+    kind.Number ∷ kind.CharLiteral ∷ kind.StringLiteral ∷ kind.True ∷ kind.False ∷ kind.Null ∷ kind.This ∷ kind.Name ∷ kind.LeftParen ∷ kind.New ∷ []
 follows part.Postfix = behind_unary
 follows part.Suffixes = behind_unary
 follows part.Index = kind.Dot ∷ kind.LeftBracket ∷ kind.LeftParen ∷ behind_unary

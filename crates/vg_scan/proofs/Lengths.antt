@@ -1,5 +1,6 @@
 -- How many bytes the tokens take: at least one, and no more than there are.
-use Rattle.std.proofs.Common.{◌≡◌, ℕ, ◌+◌, ◌-◌, ◌<◌, ◌≤◌, Bool, true, false, not, zero, suc, List, [], ◌∷◌, length, take, drop, Option, Some, None, refl, sym, ap, ◌∙◌, arith}
+use Rattle.std.proofs.Common.{◌≡◌, ℕ, ◌+◌, ◌-◌, ◌<◌, ◌≤◌, Bool, true, false, not, zero, suc, List, [], ◌∷◌, length, take, drop, Option, Some, None, refl, sym}
+use Rattle.std.proofs.Common.{ap, ◌∙◌, arith}
 use Rattle.std.specs.Prelude.{◌&&◌, ◌==◌, if◌then◌else◌, bytes_eq, slice_get}
 use Rattle.vg_syntax.specs.Bytes.{is_letter, is_digit, is_word_byte}
 use Rattle.vg_syntax.specs.declared.kind.Kind.{Kind}
@@ -8,7 +9,8 @@ use Rattle.vg_syntax.specs.declared.lexeme.Lexeme.{Lexeme}
 use Rattle.std.proofs.lemmas.Bool.{eqb-true}
 use Rattle.std.proofs.lemmas.Slice.Eq.{bytes_eq-Decides}
 use Rattle.vg_syntax.specs.Spellings.{Spelling, kind_spelled, double_signs, single_signs, reserved_words}
-use Rattle.vg_syntax.specs.Lexemes.{taking, no_token, found_or, begins_with, ending, is_number, run_length, is_hex_escape, escape_length, element_length, string_end, lexeme, char_literal, string_literal, word, number, sign}
+use Rattle.vg_syntax.specs.Lexemes.{taking, no_token, found_or, begins_with, ending, is_number, run_length, is_hex_escape, escape_length, element_length}
+use Rattle.vg_syntax.specs.Lexemes.{string_end, lexeme, char_literal, string_literal, word, number, sign}
 
 pub run_length_within : (text : List ℕ) → run_length text ≤ length text
 run_length_within [] = grind arith
@@ -104,7 +106,8 @@ run_takes k b bs e = record { some = run_some b bs e; within = run_length_within
 none_takes : (b : ℕ) (bs : List ℕ) → Takes (b ∷ bs) (no_token (b ∷ bs))
 none_takes b bs = record { some = omega arith; within = omega arith }
 
-found_takes : (found : Option Kind) (n : ℕ) (text : List ℕ) (other : Lexeme) → ((k : Kind) → found ≡ Some k → Takes text (taking k n)) → Takes text other → Takes text (found_or found n other)
+found_takes : (found : Option Kind) (n : ℕ) (text : List ℕ) (other : Lexeme) → ((k : Kind) → found ≡ Some k → Takes text (taking k n)) → Takes text other
+    → Takes text (found_or found n other)
 found_takes (Some k) n text other f g = f k refl
 found_takes None n text other f g = g
 

@@ -1,5 +1,6 @@
 -- A place carried along is the place from the bytes before.
-use Rattle.std.proofs.Common.{◌≡◌, ℕ, ◌+◌, ◌-◌, ◌<◌, ◌≤◌, Bool, true, false, List, [], ◌∷◌, ◌++◌, length, take, drop, sym, ap, ◌∙◌, arith, append_assoc, append-nil, length-append, length-take, length-drop}
+use Rattle.std.proofs.Common.{◌≡◌, ℕ, ◌+◌, ◌-◌, ◌<◌, ◌≤◌, Bool, true, false, List, [], ◌∷◌, ◌++◌, length, take, drop, sym, ap, ◌∙◌, arith, append_assoc}
+use Rattle.std.proofs.Common.{append-nil, length-append, length-take, length-drop}
 use Rattle.std.specs.Prelude.{if◌then◌else◌}
 use Rattle.std.proofs.lemmas.List.Folds.{list_any-append}
 use Rattle.std.proofs.lemmas.List.{take-append-drop}
@@ -26,7 +27,8 @@ one_more xs b =
     (ends_one_more xs b) (ap length (last_one_more xs b) ∙ at_end b 0 (last_line xs))
   where
     same : (e : Bool) (n m n' m' : ℕ) → n' ≡ (if e then n + 1 else n) → m' ≡ (if e then 0 else m + 1)
-        → (let place : Place = if e then record { line = 1 + n + 1; col = 1 } else record { line = 1 + n; col = 1 + m + 1 } in place) ≡ record { line = 1 + n'; col = 1 + m' }
+        → (let place : Place = if e then record { line = 1 + n + 1; col = 1 } else record { line = 1 + n; col = 1 + m + 1 } in place)
+            ≡ record { line = 1 + n'; col = 1 + m' }
     same true n m n' m' f g = rw (f, g) (ap (λ k. record { line = k; col = 1 }) (omega arith))
     same false n m n' m' f g = rw (f, g) (ap (λ k. record { line = 1 + n; col = k }) (omega arith))
 

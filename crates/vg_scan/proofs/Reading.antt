@@ -1,5 +1,6 @@
 -- The tokens so far and those of the rest are those of the text.
-use Rattle.std.proofs.Common.{◌≡◌, ℕ, ◌+◌, ◌<◌, ◌≤◌, List, [], ◌∷◌, ◌++◌, length, drop, Option, Some, None, refl, sym, ◌∙◌, subst, arith, append_assoc, append-nil, Bool, true, false, zero, suc, length-drop}
+use Rattle.std.proofs.Common.{◌≡◌, ℕ, ◌+◌, ◌<◌, ◌≤◌, List, [], ◌∷◌, ◌++◌, length, drop, Option, Some, None, refl, sym, ◌∙◌, subst, arith, append_assoc}
+use Rattle.std.proofs.Common.{append-nil, Bool, true, false, zero, suc, length-drop}
 use Rattle.std.specs.Prelude.{if◌then◌else◌, nat_lt}
 use Rattle.vg_scan.proofs.Lengths.{lexeme_takes}
 use Rattle.vg_syntax.specs.declared.token.Token.{Token}
@@ -12,7 +13,8 @@ pub record Reading (bytes : List ℕ) (tokens : List Token) (end : ℕ) : Type 0
 pub begins : (bytes : List ℕ) → Reading bytes [] 0
 begins bytes = record { forth = λ ts h. h }
 
-pub goes_on : (bytes : List ℕ) (tokens : List Token) (end : ℕ) (t : Token) → Reading bytes tokens end → next_token bytes end ≡ Some t → Reading bytes (tokens ++ t ∷ []) t.end
+pub goes_on : (bytes : List ℕ) (tokens : List Token) (end : ℕ) (t : Token) → Reading bytes tokens end → next_token bytes end ≡ Some t
+    → Reading bytes (tokens ++ t ∷ []) t.end
 goes_on bytes tokens end t r e = record {
   forth = λ ts h. subst (λ l. IsTokens bytes l) (sym (append_assoc tokens (t ∷ []) ts)) (r.forth (t ∷ ts) (e, h));
 }

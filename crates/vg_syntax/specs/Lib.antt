@@ -7,6 +7,7 @@ pub mod Hexadecimal
 pub mod Grammar
 pub mod Parses
 pub mod Tree
+pub mod Classes
 pub mod Faults
 pub mod Made
 pub mod Outline

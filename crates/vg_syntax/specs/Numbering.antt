@@ -1,11 +1,17 @@
 -- The numbers of nodes: each node comes before its children, and those stand in order of the text.
 use Rattle.std.specs.Prelude.{ℕ, ◌+◌}
-use Rattle.vg_syntax.specs.Outline.{outline, size}
-use Rattle.vg_syntax.specs.Tree.{Spot, Node, Nothing, Then, Arm, Text, ClassDecl, ComponentDecl, DeviceDecl, RegisterDecl, ProgramDecl, EntryDecl, FieldDecl, MethodDecl, ConstructorDecl, Block, Local, If, While, For, Return, Break, Continue, Assign, Eval, Number, CharLit, StringLit, True, False, Null, This, Name, NewObject, NewArray, Unary, Chain, Part, TypePart, Postfix, Member, Index, Call}
+use Rattle.vg_syntax.specs.Outline.{outline, size, total}
+use Rattle.vg_syntax.specs.Tree.{Spot, Node, Nothing, Then, Arm, Text, ClassDecl, ComponentDecl, DeviceDecl, RegisterDecl, ProgramDecl, EntryDecl, FieldDecl}
+use Rattle.vg_syntax.specs.Tree.{MethodDecl, ConstructorDecl, Block, Local, If, While, For, Return, Break, Continue, Assign, Eval, Number, CharLit, StringLit}
+use Rattle.vg_syntax.specs.Tree.{True, False, Null, This, Name, NewObject, NewArray, Unary, Chain, Part, TypePart, Postfix, Member, Index, Call}
 
 -- how many nodes there are at and below a node, or in a row
 abbrev pub count_nodes : Node → ℕ
 count_nodes n = size (outline n)
+
+-- How many of them are statements and expressions. A block, the parts of a chain and the suffixes of an operand count; declarations, rows and pairs do not.
+abbrev pub count_code : Node → ℕ
+count_code n = total (outline n)
 
 abbrev pub with_id : ℕ → Spot → Spot
 with_id i at = record { id = i; place = at.place }
@@ -14,7 +20,8 @@ with_id i at = record { id = i; place = at.place }
 abbrev pub numbered : ℕ → Node → Node
 numbered i Nothing = Nothing
 numbered i (Then first rest) = Then (numbered i first) (numbered (i + count_nodes first) rest)
-numbered i (Arm condition block rest) = Arm (numbered i condition) (numbered (i + count_nodes condition) block) (numbered (i + count_nodes condition + count_nodes block) rest)
+numbered i (Arm condition block rest) =
+    Arm (numbered i condition) (numbered (i + count_nodes condition) block) (numbered (i + count_nodes condition + count_nodes block) rest)
 numbered i (Text at declarations) = Text (with_id i at) (numbered (i + 1) declarations)
 numbered i (ClassDecl at name above members) = ClassDecl (with_id i at) name above (numbered (i + 1) members)
 numbered i (ComponentDecl at name members) = ComponentDecl (with_id i at) name (numbered (i + 1) members)
@@ -24,12 +31,15 @@ numbered i (ProgramDecl at name entries) = ProgramDecl (with_id i at) name (numb
 numbered i (EntryDecl at key component method) = EntryDecl (with_id i at) key component method
 numbered i (FieldDecl at name type value) = FieldDecl (with_id i at) name type (numbered (i + 1) value)
 numbered i (MethodDecl at name params result body) = MethodDecl (with_id i at) name params result (numbered (i + 1) body)
-numbered i (ConstructorDecl at params calls_super arguments body) = ConstructorDecl (with_id i at) params calls_super (numbered (i + 1) arguments) (numbered (i + 1 + count_nodes arguments) body)
+numbered i (ConstructorDecl at params calls_super arguments body) =
+    ConstructorDecl (with_id i at) params calls_super (numbered (i + 1) arguments) (numbered (i + 1 + count_nodes arguments) body)
 numbered i (Block at statements) = Block (with_id i at) (numbered (i + 1) statements)
 numbered i (Local at name type value) = Local (with_id i at) name type (numbered (i + 1) value)
 numbered i (If at arms otherwise) = If (with_id i at) (numbered (i + 1) arms) (numbered (i + 1 + count_nodes arms) otherwise)
 numbered i (While at condition body) = While (with_id i at) (numbered (i + 1) condition) (numbered (i + 1 + count_nodes condition) body)
-numbered i (For at first condition next body) = For (with_id i at) (numbered (i + 1) first) (numbered (i + 1 + count_nodes first) condition) (numbered (i + 1 + count_nodes first + count_nodes condition) next) (numbered (i + 1 + count_nodes first + count_nodes condition + count_nodes next) body)
+numbered i (For at first condition next body) =
+    For (with_id i at) (numbered (i + 1) first) (numbered (i + 1 + count_nodes first) condition)
+    (numbered (i + 1 + count_nodes first + count_nodes condition) next) (numbered (i + 1 + count_nodes first + count_nodes condition + count_nodes next) body)
 numbered i (Return at value) = Return (with_id i at) (numbered (i + 1) value)
 numbered i (Break at) = Break (with_id i at)
 numbered i (Continue at) = Continue (with_id i at)

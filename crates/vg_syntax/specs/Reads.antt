@@ -8,8 +8,13 @@ use Rattle.vg_syntax.specs.declared.grammar.Part.{Part}
 use Rattle.vg_syntax.specs.declared.grammar.Part.TheVariants as part
 use Rattle.vg_syntax.specs.Tokens.{IsTokens, text_of}
 use Rattle.vg_syntax.specs.Parses.{Parse, Nil, Tok, Sub, IsParse}
-use Rattle.vg_syntax.specs.Tree.{Spot, TypeTree, IntType, BoolType, CharType, RawType, ClassType, FunctionType, NoType, MoreTypes, Node, Nothing, Then, Arm, Text, ClassDecl, ComponentDecl, DeviceDecl, RegisterDecl, ProgramDecl, EntryDecl, FieldDecl, MethodDecl, ConstructorDecl, Block, Local, If, While, For, Return, Break, Continue, Assign, Eval, Number, CharLit, StringLit, True, False, Null, This, Name, NewObject, NewArray, Unary, Chain, Part as PartNode, TypePart, Postfix, Member, Index, Call}
-use Rattle.vg_syntax.specs.Made.{Made, Absent, Word, Tree, Row, Type', Types, Typed, Params, Operators, Pair, Arms, Header, Levels, Indexed, Sized, Object, Array, Value, text_in, kind_in, node_in, row_in, type_in, types_in, param_in, params_in, operators_in, component_in, method_in, arms_in, otherwise_in, count_in, suffixes_in, first_in, condition_in, next_in, above_in, is_row, arrays}
+use Rattle.vg_syntax.specs.Tree.{Spot, TypeTree, IntType, BoolType, CharType, RawType, ClassType, FunctionType, NoType, MoreTypes, Node, Nothing, Then, Arm}
+use Rattle.vg_syntax.specs.Tree.{Text, ClassDecl, ComponentDecl, DeviceDecl, RegisterDecl, ProgramDecl, EntryDecl, FieldDecl, MethodDecl, ConstructorDecl}
+use Rattle.vg_syntax.specs.Tree.{Block, Local, If, While, For, Return, Break, Continue, Assign, Eval, Number, CharLit, StringLit, True, False, Null, This}
+use Rattle.vg_syntax.specs.Tree.{Name, NewObject, NewArray, Unary, Chain, Part as PartNode, TypePart, Postfix, Member, Index, Call}
+use Rattle.vg_syntax.specs.Made.{Made, Absent, Word, Tree, Row, Type', Types, Typed, Params, Operators, Pair, Arms, Header, Levels, Indexed, Sized, Object}
+use Rattle.vg_syntax.specs.Made.{Array, Value, text_in, kind_in, node_in, row_in, type_in, types_in, param_in, params_in, operators_in, component_in}
+use Rattle.vg_syntax.specs.Made.{method_in, arms_in, otherwise_in, count_in, suffixes_in, first_in, condition_in, next_in, above_in, is_row, arrays}
 use Rattle.vg_syntax.specs.Numbering.{numbered}
 
 -- the kids of a part
@@ -94,7 +99,8 @@ register (Five word name equal number end) = value word.place (Tree (RegisterDec
 register _ = unwritten Absent
 
 abbrev pub entry : Kids → Value
-entry (Five word key equal handler end) = value word.place (Tree (EntryDecl (spot word.place) (text_in key.made) (component_in handler.made) (method_in handler.made)))
+entry (Five word key equal handler end) =
+    value word.place (Tree (EntryDecl (spot word.place) (text_in key.made) (component_in handler.made) (method_in handler.made)))
 entry _ = unwritten Absent
 
 abbrev pub handler : Kids → Value
@@ -107,7 +113,8 @@ field_or_constructor _ place params above block = ConstructorDecl (spot place) (
 
 abbrev pub member : Kids → Value
 member (Four word b c d) = value word.place (Tree (field_or_constructor (kind_in word.made) word.place b.made c.made d.made))
-member (Five word name params result block) = value word.place (Tree (MethodDecl (spot word.place) (text_in name.made) (params_in params.made) (type_in result.made) (node_in block.made)))
+member (Five word name params result block) =
+    value word.place (Tree (MethodDecl (spot word.place) (text_in name.made) (params_in params.made) (type_in result.made) (node_in block.made)))
 member _ = unwritten Absent
 
 abbrev pub super_call : Kids → Value
@@ -213,7 +220,8 @@ else_part _ = unwritten (Arms Nothing Nothing)
 
 abbrev pub else_arm : Kids → Value
 else_arm (One body) = value body.place (Arms Nothing (node_in body.made))
-else_arm (Four word condition body rest) = value word.place (Arms (Arm (node_in condition.made) (node_in body.made) (arms_in rest.made)) (otherwise_in rest.made))
+else_arm (Four word condition body rest) =
+    value word.place (Arms (Arm (node_in condition.made) (node_in body.made) (arms_in rest.made)) (otherwise_in rest.made))
 else_arm _ = unwritten Absent
 
 abbrev pub header : Kids → Value

@@ -1,5 +1,6 @@
 -- The bytes of a token are ASCII, but for those that begin no token.
-use Rattle.std.proofs.Common.{◌≡◌, ℕ, ◌+◌, ◌-◌, ◌<◌, Bool, true, false, not, zero, suc, List, [], ◌∷◌, length, take, drop, Option, Some, None, refl, sym, subst, arith}
+use Rattle.std.proofs.Common.{◌≡◌, ℕ, ◌+◌, ◌-◌, ◌<◌, Bool, true, false, not, zero, suc, List, [], ◌∷◌, length, take, drop, Option, Some, None, refl, sym}
+use Rattle.std.proofs.Common.{subst, arith}
 use Rattle.std.specs.Prelude.{◌&&◌, ◌==◌, if◌then◌else◌, bytes_eq, nat_lt}
 use Rattle.std.specs.Str.{IsAscii}
 use Rattle.std.proofs.lemmas.Str.Ascii.{IsAscii-nil, IsAscii-cons}
@@ -9,7 +10,8 @@ use Rattle.vg_syntax.specs.declared.kind.Kind.{Kind}
 use Rattle.vg_syntax.specs.declared.kind.Kind.TheVariants as kind
 use Rattle.vg_syntax.specs.declared.lexeme.Lexeme.{Lexeme}
 use Rattle.vg_syntax.specs.Spellings.{Spelling, kind_spelled, double_signs, single_signs, reserved_words}
-use Rattle.vg_syntax.specs.Lexemes.{taking, no_token, found_or, begins_with, ending, is_number, run_length, is_escape, is_hex_escape, escape_length, element_length, string_end, lexeme, char_literal, string_literal, word, number, sign}
+use Rattle.vg_syntax.specs.Lexemes.{taking, no_token, found_or, begins_with, ending, is_number, run_length, is_escape, is_hex_escape, escape_length}
+use Rattle.vg_syntax.specs.Lexemes.{element_length, string_end, lexeme, char_literal, string_literal, word, number, sign}
 
 -- a front of so many bytes is ASCII
 abbrev Front : ℕ → List ℕ → Type 0
@@ -105,7 +107,8 @@ choice false text x y f g = g refl
 unknown : (n : ℕ) (text : List ℕ) → Known text (taking kind.Unknown n)
 unknown n text = λ h. absurd (h refl)
 
-found_known : (found : Option Kind) (n : ℕ) (text : List ℕ) (other : Lexeme) → ((k : Kind) → found ≡ Some k → Front n text) → Known text other → Known text (found_or found n other)
+found_known : (found : Option Kind) (n : ℕ) (text : List ℕ) (other : Lexeme) → ((k : Kind) → found ≡ Some k → Front n text) → Known text other
+    → Known text (found_or found n other)
 found_known (Some k) n text other f g = λ h. f k refl
 found_known None n text other f g = g
 
@@ -136,7 +139,8 @@ string_front left passed (b ∷ bs) n zero e s f = IsAscii-nil
 string_front (suc left) passed (b ∷ bs) n (suc m) e s f =
     more m b bs (first_low left b bs f) (string_front left (passed + 1) bs n m e (omega (arith, s)) (rest_low left b bs f))
 string_front zero passed (b ∷ bs) n (suc m) e s f =
-    by_byte (b == 34) (element_length 34 (b ∷ bs) == 0) (element_length 34 (b ∷ bs)) refl refl (element_front 34 (b ∷ bs)) e (λ l g h. string_front l (passed + 1) bs n m g (omega (arith, s)) h)
+    by_byte (b == 34) (element_length 34 (b ∷ bs) == 0) (element_length 34 (b ∷ bs)) refl refl (element_front 34 (b ∷ bs)) e
+        (λ l g h. string_front l (passed + 1) bs n m g (omega (arith, s)) h)
   where
     by_byte : (quote none : Bool) (k : ℕ) → (b == 34) ≡ quote → (k == 0) ≡ none → Front k (b ∷ bs)
         → (if quote then Some (passed + 1) else if none then None else string_end (k - 1) (passed + 1) bs) ≡ Some n
@@ -193,7 +197,8 @@ unfolding double_signs single_signs all_low table_low
 sign_known text =
     found_known (kind_spelled (take 2 text) double_signs) 2 text (found_or (kind_spelled (take 1 text) single_signs) 1 (no_token text))
     (λ k e. spelled_low (take 2 text) double_signs refl k e)
-    (found_known (kind_spelled (take 1 text) single_signs) 1 text (no_token text) (λ k e. spelled_low (take 1 text) single_signs refl k e) (unknown (length text) text))
+    (found_known (kind_spelled (take 1 text) single_signs) 1 text (no_token text) (λ k e. spelled_low (take 1 text) single_signs refl k e)
+        (unknown (length text) text))
 
 same_byte : (b q : ℕ) → (b == q) ≡ true → q ≡ b
 same_byte b q e = grind arith

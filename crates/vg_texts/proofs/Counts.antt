@@ -20,7 +20,7 @@ use Rattle.vg_grammar.proofs.Room.{room, room_match, room_any}
 use Rattle.vg_grammar.proofs.Rows.{join}
 use Rattle.vg_grammar.proofs.Theory.{Stacked, stacked_expand, expanded}
 use Rattle.vg_grammar.proofs.Runs.{run_start}
-use Rattle.vg_tree.proofs.Numbers.{count_numbered}
+use Rattle.vg_syntax.proofs.Numbering.{count_numbered}
 use Rattle.vg_texts.proofs.Values.{size, size_join}
 use Rattle.vg_texts.proofs.Few.{weight, kids_weight, node_few, made_few}
 use Rattle.vg_texts.proofs.Spelled.{few_tokens}
@@ -41,7 +41,8 @@ size_room (suc fuel) (Sub n a kids p) (Use o ∷ s) f k h =
     let x = expanded o s k (Sub n a kids p) h in
     let z = size_join x.kids x.behind in
     let w : size x.kids + size x.behind ≡ size kids + size p = ap inner (sym x.is) in
-    let rest = size_room fuel (join x.kids x.behind) (x.rhs ++ s) (omega (arith, f, z, w)) (stacked_expand o s (pick (rules o) (look (leaves (Sub n a kids p)))) x.rhs x.is_chosen k) x.all_fit in
+    let rest = size_room fuel (join x.kids x.behind) (x.rhs ++ s) (omega (arith, f, z, w))
+        (stacked_expand o s (pick (rules o) (look (leaves (Sub n a kids p)))) x.rhs x.is_chosen k) x.all_fit in
     let same = ap (room (x.rhs ++ s)) x.same_leaves in
     let less = room_any o s x.rhs (leaves (Sub n a kids p)) x.is_chosen in
     omega (arith, rest, same, less, z, w)

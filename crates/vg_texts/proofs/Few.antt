@@ -7,8 +7,14 @@ use Rattle.vg_syntax.specs.declared.grammar.Part.{Part}
 use Rattle.vg_syntax.specs.declared.grammar.Part.TheVariants as part
 use Rattle.vg_syntax.specs.Tree.{Node, Nothing, NewObject, NewArray}
 use Rattle.vg_syntax.specs.Numbering.{count_nodes}
-use Rattle.vg_syntax.specs.Made.{Made, Word, Tree, Row, Type', Arms, Header, Levels, Indexed, Sized, Object, Array, Value, node_in, row_in, arms_in, otherwise_in, suffixes_in, first_in, condition_in, next_in, text_in, kind_in}
-use Rattle.vg_syntax.specs.Reads.{Kids, One, Two, Three, Four, Five, spot, value, made, declared, field_or_constructor, jump, statement_of_two, statement_of_three, statement_of_four, assigned, chained, part_of, suffixed, fresh, postfix_of, suffix_of, behind_name, named, bracketed, level_or_suffix, literal, atom, behind_sign, block, declaration, dimensions, else_arm, else_part, enclosed, entry, extended, handler, header, level, member, more_parameters, more_rowed, more_types, new_level, new_levels, new_of_name, new_part, operators, optional, other_atom, parameters, plain, postfix, primary, register, rest_of_level, result_type, rowed, simple, statement, suffixes, super_call, type_of, typed, types, unary, whole, atom_of}
+use Rattle.vg_syntax.specs.Made.{Made, Word, Tree, Row, Type', Arms, Header, Levels, Indexed, Sized, Object, Array, Value, node_in, row_in, arms_in}
+use Rattle.vg_syntax.specs.Made.{otherwise_in, suffixes_in, first_in, condition_in, next_in, text_in, kind_in}
+use Rattle.vg_syntax.specs.Reads.{Kids, One, Two, Three, Four, Five, spot, value, made, declared, field_or_constructor, jump, statement_of_two}
+use Rattle.vg_syntax.specs.Reads.{statement_of_three, statement_of_four, assigned, chained, part_of, suffixed, fresh, postfix_of, suffix_of, behind_name}
+use Rattle.vg_syntax.specs.Reads.{named, bracketed, level_or_suffix, literal, atom, behind_sign, block, declaration, dimensions, else_arm, else_part}
+use Rattle.vg_syntax.specs.Reads.{enclosed, entry, extended, handler, header, level, member, more_parameters, more_rowed, more_types, new_level, new_levels}
+use Rattle.vg_syntax.specs.Reads.{new_of_name, new_part, operators, optional, other_atom, parameters, plain, postfix, primary, register, rest_of_level}
+use Rattle.vg_syntax.specs.Reads.{result_type, rowed, simple, statement, suffixes, super_call, type_of, typed, types, unary, whole, atom_of}
 
 -- how many nodes there are in what is made
 abbrev pub weight : Made → ℕ
@@ -145,7 +151,8 @@ few_block _ = omega arith
 
 few_declaration : (k : Kids) → weight (declaration k).made ≤ 3 + kids_weight k
 few_declaration (Four word name above body) = let x = row_few body.made in omega (arith, x)
-few_declaration (Three word name body) = let x = row_few body.made in let y = declared_one (kind_in word.made) word.place (text_in name.made) (row_in body.made) in omega (arith, x, y)
+few_declaration (Three word name body) =
+    let x = row_few body.made in let y = declared_one (kind_in word.made) word.place (text_in name.made) (row_in body.made) in omega (arith, x, y)
 few_declaration _ = omega arith
 
 few_dimensions : (k : Kids) → weight (dimensions k).made ≤ 3 + kids_weight k
@@ -154,7 +161,8 @@ few_dimensions _ = omega arith
 
 few_else_arm : (k : Kids) → weight (else_arm k).made ≤ 3 + kids_weight k
 few_else_arm (One body) = let x = node_few body.made in omega (arith, x)
-few_else_arm (Four word condition body rest) = let x = node_few condition.made in let y = node_few body.made in let z = arms_few rest.made in omega (arith, x, y, z)
+few_else_arm (Four word condition body rest) =
+    let x = node_few condition.made in let y = node_few body.made in let z = arms_few rest.made in omega (arith, x, y, z)
 few_else_arm _ = omega arith
 
 few_else_part : (k : Kids) → weight (else_part k).made ≤ 3 + kids_weight k
@@ -178,7 +186,8 @@ few_handler (Three component dot method) = omega arith
 few_handler _ = omega arith
 
 few_header : (k : Kids) → weight (header k).made ≤ 3 + kids_weight k
-few_header (Five left first condition next close) = let x = node_few first.made in let y = node_few condition.made in let z = node_few next.made in omega (arith, x, y, z)
+few_header (Five left first condition next close) =
+    let x = node_few first.made in let y = node_few condition.made in let z = node_few next.made in omega (arith, x, y, z)
 few_header _ = omega arith
 
 few_level : (k : Kids) → weight (level k).made ≤ 3 + kids_weight k
@@ -268,7 +277,8 @@ few_rowed (Two a rest) = let x = node_few a.made in let y = row_few rest.made in
 few_rowed _ = omega arith
 
 few_simple : (k : Kids) → weight (simple k).made ≤ 3 + kids_weight k
-few_simple (Two a right) = let x = assigned_few a.place (node_in a.made) (node_in right.made) in let y = node_few a.made in let z = node_few right.made in omega (arith, x, y, z)
+few_simple (Two a right) =
+    let x = assigned_few a.place (node_in a.made) (node_in right.made) in let y = node_few a.made in let z = node_few right.made in omega (arith, x, y, z)
 few_simple _ = omega arith
 
 few_statement : (k : Kids) → weight (statement k).made ≤ 3 + kids_weight k

@@ -130,7 +130,8 @@ join_known (t ∷ ts) us h g = (h.0, join_known ts us h.1 g)
 leaves_known : (p : Parse) (s : List Symbol) → symbols_known s ≡ true → Fits p s → AllByRecursion IsKnown (leaves p)
 leaves_known Nil s h f = tt
 leaves_known (Tok t p) [] h f = absurd f
-leaves_known (Tok t p) (Sign k ∷ s) h f = (sign_known k t.kind (first (not (number k == 0)) (symbols_known s) h) f.0, leaves_known p s (second (not (number k == 0)) (symbols_known s) h) f.1)
+leaves_known (Tok t p) (Sign k ∷ s) h f =
+    (sign_known k t.kind (first (not (number k == 0)) (symbols_known s) h) f.0, leaves_known p s (second (not (number k == 0)) (symbols_known s) h) f.1)
 leaves_known (Tok t p) (Use n ∷ s) h f = absurd f
 leaves_known (Sub n a kids p) [] h f = absurd f
 leaves_known (Sub n a kids p) (Sign k ∷ s) h f = absurd f

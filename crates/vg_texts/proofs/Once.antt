@@ -1,5 +1,6 @@
 -- A text has one answer.
-use Rattle.std.proofs.Common.{◌≡◌, ℕ, zero, suc, ◌+◌, ◌<◌, ◌≤◌, List, [], ◌∷◌, ◌++◌, length, Option, Some, None, refl, sym, ap, ◌∙◌, subst, arith, append_assoc, ◌⊎◌, inl, inr, ⊎_elim, take, drop, slice_get, take-append-drop}
+use Rattle.std.proofs.Common.{◌≡◌, ℕ, zero, suc, ◌+◌, ◌<◌, ◌≤◌, List, [], ◌∷◌, ◌++◌, length, Option, Some, None, refl, sym, ap, ◌∙◌, subst, arith}
+use Rattle.std.proofs.Common.{append_assoc, ◌⊎◌, inl, inr, ⊎_elim, take, drop, slice_get, take-append-drop}
 use Rattle.std.specs.Option.{option_and_then}
 use Rattle.vg_base.specs.declared.place.Place.{Place}
 use Rattle.vg_syntax.specs.declared.token.Token.{Token}
@@ -56,7 +57,8 @@ open_none : (d : ℕ) (a b : List Token) → open_in d a ≡ None → open_in d 
 open_none d [] b e = absurd (let clash : Some d ≡ None = e in cc)
 open_none d (t ∷ a) b e = by_cases (opened d t.kind) (λ c. open_none c a b) e
   where
-    by_cases : (o : Option ℕ) → ((c : ℕ) → open_in c a ≡ None → open_in c (a ++ b) ≡ None) → option_and_then (λ c. open_in c a) o ≡ None → option_and_then (λ c. open_in c (a ++ b)) o ≡ None
+    by_cases : (o : Option ℕ) → ((c : ℕ) → open_in c a ≡ None → open_in c (a ++ b) ≡ None) → option_and_then (λ c. open_in c a) o ≡ None
+        → option_and_then (λ c. open_in c (a ++ b)) o ≡ None
     by_cases None g f = refl
     by_cases (Some c) g f = g c f
 
@@ -128,7 +130,8 @@ one_end bytes p q n m =
 
 one_index : (ts : List Token) (i j : ℕ) → TooDeepAt ts i → TooDeepAt ts j → i ≡ j
 one_index ts i j d e =
-    ⊎_elim (λ h. absurd (shallow_front ts (i + 1) j (omega (arith, h)) d.2 e.1)) (λ h. ⊎_elim (λ k. k) (λ k. absurd (shallow_front ts (j + 1) i (omega (arith, k)) e.2 d.1)) h) (compare i j)
+    ⊎_elim (λ h. absurd (shallow_front ts (i + 1) j (omega (arith, h)) d.2 e.1))
+        (λ h. ⊎_elim (λ k. k) (λ k. absurd (shallow_front ts (j + 1) i (omega (arith, k)) e.2 d.1)) h) (compare i j)
 
 pub one_bracket : (bytes : List ℕ) (p q : Place) → TooDeepIn bytes p → TooDeepIn bytes q → p ≡ q
 one_bracket bytes p q d f =

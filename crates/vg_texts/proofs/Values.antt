@@ -50,7 +50,8 @@ fronts a b c d l e = (
   sym (drop-append_seam a b) ∙ ap (drop (length a)) e ∙ ap (λ i. drop i (c ++ d)) l ∙ drop-append_seam c d,
 )
 
-same_tok : (bytes : List ℕ) (t : Token) (q : Parse) (k : Kind) (s : List Symbol) (more : List Token) → Fits q (Sign k ∷ s) → t ∷ more ≡ leaves q → (x : Parse) × Fits x s × (more ≡ leaves x) × (values bytes q ≡ leaf bytes t ∷ values bytes x)
+same_tok : (bytes : List ℕ) (t : Token) (q : Parse) (k : Kind) (s : List Symbol) (more : List Token) → Fits q (Sign k ∷ s) → t ∷ more ≡ leaves q
+    → (x : Parse) × Fits x s × (more ≡ leaves x) × (values bytes q ≡ leaf bytes t ∷ values bytes x)
 same_tok bytes t Nil k s more h e = absurd h
 same_tok bytes t (Tok v q) k s more h e = let f : t ∷ more ≡ v ∷ leaves q = e in let g : v ≡ t = cc in (q, h.1, cc, ap (λ w. leaf bytes w ∷ values bytes q) g)
 same_tok bytes t (Sub n a kids q) k s more h e = absurd h
@@ -60,7 +61,8 @@ same_nil bytes Nil h = refl
 same_nil bytes (Tok t q) h = absurd h
 same_nil bytes (Sub n a kids q) h = absurd h
 
-same_values : (bytes : List ℕ) (fuel : ℕ) (p q : Parse) (s : List Symbol) → size p ≤ fuel → Stacked s → Fits p s → Fits q s → leaves p ≡ leaves q → values bytes p ≡ values bytes q
+same_values : (bytes : List ℕ) (fuel : ℕ) (p q : Parse) (s : List Symbol) → size p ≤ fuel → Stacked s → Fits p s → Fits q s → leaves p ≡ leaves q
+    → values bytes p ≡ values bytes q
 same_values bytes fuel p q [] f k h i e = same_nil bytes p h ∙ sym (same_nil bytes q i)
 same_values bytes fuel Nil q (x ∷ s) f k h i e = absurd h
 same_values bytes fuel (Tok t p) q (Use n ∷ s) f k h i e = absurd h
@@ -75,12 +77,15 @@ same_values bytes (suc fuel) (Sub n a kids p) q (Use o ∷ s) f k h i e =
     let g : y.rhs ≡ x.rhs = same_some y.rhs x.rhs (chosen o (look (leaves q))) y.is_chosen (ap (chosen o) (ap look (sym e)) ∙ x.is_chosen) in
     let z = size_join x.kids x.behind in
     let w : size x.kids + size x.behind ≡ size kids + size p = ap inner (sym x.is) in
-    let r = same_values bytes fuel (join x.kids x.behind) (join y.kids y.behind) (x.rhs ++ s) (omega (arith, f, z, w)) (stacked_expand o s (pick (rules o) (look (leaves (Sub n a kids p)))) x.rhs x.is_chosen k) x.all_fit (subst (λ l. Fits (join y.kids y.behind) (l ++ s)) g y.all_fit) (x.same_leaves ∙ e ∙ sym y.same_leaves) in
+    let r = same_values bytes fuel (join x.kids x.behind) (join y.kids y.behind) (x.rhs ++ s) (omega (arith, f, z, w))
+        (stacked_expand o s (pick (rules o) (look (leaves (Sub n a kids p)))) x.rhs x.is_chosen k) x.all_fit
+        (subst (λ l. Fits (join y.kids y.behind) (l ++ s)) g y.all_fit) (x.same_leaves ∙ e ∙ sym y.same_leaves) in
     let lx = values_length bytes x.kids x.rhs x.kids_fit in
     let ly = values_length bytes y.kids y.rhs y.kids_fit in
     let len : length (values bytes x.kids) ≡ length (values bytes y.kids) = lx ∙ ap length (sym g) ∙ sym ly in
     let v = fronts _ _ _ _ len (sym (values_join bytes x.kids x.behind) ∙ r ∙ values_join bytes y.kids y.behind) in
-    ap (values bytes) x.is ∙ ap (λ l. made o (kids_of l) ∷ values bytes x.behind) v.0 ∙ ap (λ l. made o (kids_of (values bytes y.kids)) ∷ l) v.1 ∙ ap (values bytes) (sym y.is)
+    ap (values bytes) x.is ∙ ap (λ l. made o (kids_of l) ∷ values bytes x.behind) v.0 ∙ ap (λ l. made o (kids_of (values bytes y.kids)) ∷ l) v.1
+        ∙ ap (values bytes) (sym y.is)
   where
     inner : Parse → ℕ
     inner Nil = 0

@@ -4,7 +4,7 @@ use Rattle.vg_tree.specs.declared.node.Node as held
 use Rattle.vg_syntax.specs.Tree.{Node}
 use Rattle.vg_syntax.specs.Outline.{outline}
 use Rattle.vg_tree.specs.Held.{node_at, nodes_at, arms_at, arm_at}
-use Rattle.vg_tree.proofs.Numbers.{both, one, two, four}
+use Rattle.vg_syntax.proofs.Numbering.{both, one, two, four}
 
 mutual
   pub alike : (texts : List (List ℕ)) (n : held.Node) → outline (node_at texts n) ≡ outline (node_at [] n)

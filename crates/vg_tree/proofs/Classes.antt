@@ -1,10 +1,14 @@
 -- The first class of a name in a row of declarations.
-use Rattle.std.proofs.Common.{◌≡◌, ℕ, ◌+◌, Bool, true, false, List, [], ◌∷◌, Some, None, refl, sym, ap, ◌∙◌, arith}
+-- The code compares names by number, the definition by their bytes: `here` and `later` are its step at a class of that name and at what is none.
+-- `Seeking` is the invariant of the loop over a row; the rest shows that what is no row, or no text, has no class.
+use Rattle.std.proofs.Common.{◌≡◌, ℕ, ◌+◌, Bool, true, false, List, [], ◌∷◌, Option, Some, None, refl, sym, ap, ◌∙◌, arith}
 use Rattle.std.specs.Prelude.{◌==◌, if◌then◌else◌}
 use Rattle.std.specs.Str.{bytes_eq}
+use Rattle.std.specs.Option.{option_map}
 use Rattle.std.proofs.lemmas.Slice.Eq.{bytes_eq-Decides}
 use Rattle.vg_tree.specs.declared.node.Node as held
 use Rattle.vg_syntax.specs.Tree.{Node, Then, ClassDecl}
+use Rattle.vg_syntax.specs.Classes.{ClassParts}
 use Rattle.vg_syntax.specs.Outline.{size}
 use Rattle.vg_syntax.specs.Numbering.{count_nodes, numbered}
 use Rattle.vg_tree.specs.Held.{text_at, node_at, nodes_at, arms_at, arm_at, row_at}
@@ -57,51 +61,59 @@ equal a b e = grind arith
 unequal : (a b : ℕ) → (a == b) ≡ false → a ≡ b → ⊥
 unequal a b e f = grind arith
 
-here : (texts : List (List ℕ)) (name : ℕ) (n : held.Node) (i : ℕ) (rest : Node) → names_class name n ≡ true → class_in (text_at texts name) (numbered i (Then (node_at texts n) rest)) ≡ Some i
-here texts name (held.ClassDecl' place other above p members) i rest e =
-    found (bytes_eq (text_at texts other) (text_at texts name)) refl
+picks : (q : Bool) (k : ClassParts) (behind : Option ClassParts) → q ≡ true → option_map (λ c. c.at.id) (if q then Some k else behind) ≡ Some k.at.id
+picks true k behind e = refl
+picks false k behind e = absurd (let clash : false ≡ true = e in cc)
+
+passes : (q : Bool) (k : ClassParts) (behind : Option ClassParts) → q ≡ false
+    → option_map (λ c. c.at.id) (if q then Some k else behind) ≡ option_map (λ c. c.at.id) behind
+passes true k behind e = absurd (let clash : true ≡ false = e in cc)
+passes false k behind e = refl
+
+equal_texts : (texts : List (List ℕ)) (a b : ℕ) → (a == b) ≡ true → bytes_eq (text_at texts a) (text_at texts b) ≡ true
+equal_texts texts a b e = (bytes_eq-Decides (text_at texts a) (text_at texts b)).1 (ap (text_at texts) (equal a b e))
+
+other_texts : (texts : List (List ℕ)) (a b : ℕ) → IsOnly texts b → (a == b) ≡ false → bytes_eq (text_at texts a) (text_at texts b) ≡ false
+other_texts texts a b only e = by_test (bytes_eq (text_at texts a) (text_at texts b)) refl
   where
-    found : (q : Bool) → bytes_eq (text_at texts other) (text_at texts name) ≡ q
-        → (if q then Some i else class_in (text_at texts name) (numbered (i + count_nodes (node_at texts (held.ClassDecl' place other above p members))) rest)) ≡ Some i
-    found true f = refl
-    found false f =
-        let same : bytes_eq (text_at texts other) (text_at texts name) ≡ true = (bytes_eq-Decides (text_at texts other) (text_at texts name)).1 (ap (text_at texts) (equal other name e)) in
-        absurd (let clash : false ≡ true = sym f ∙ same in cc)
+    by_test : (q : Bool) → bytes_eq (text_at texts a) (text_at texts b) ≡ q → q ≡ false
+    by_test true f = absurd (unequal a b e (only a ((bytes_eq-Decides (text_at texts a) (text_at texts b)).0 f)))
+    by_test false f = refl
+
+here : (texts : List (List ℕ)) (name : ℕ) (n : held.Node) (i : ℕ) (rest : Node) → names_class name n ≡ true
+    → class_in (text_at texts name) (numbered i (Then (node_at texts n) rest)) ≡ Some i
+here texts name (held.ClassDecl' place other above p members) i rest e = picks _ _ _ (equal_texts texts other name e)
 here texts name _ i rest e = absurd cc
 
 later : (texts : List (List ℕ)) (name : ℕ) (n : held.Node) (i : ℕ) (rest : Node) → IsOnly texts name → names_class name n ≡ false
-    → class_in (text_at texts name) (numbered i (Then (node_at texts n) rest)) ≡ class_in (text_at texts name) (numbered (i + count_nodes (node_at texts n)) rest)
+    → class_in (text_at texts name) (numbered i (Then (node_at texts n) rest))
+        ≡ class_in (text_at texts name) (numbered (i + count_nodes (node_at texts n)) rest)
 unfolding is_held_class
-later texts name (held.ClassDecl' place other above p members) i rest only e =
-    passed (bytes_eq (text_at texts other) (text_at texts name)) refl
-  where
-    behind : Node
-    behind = numbered (i + count_nodes (node_at texts (held.ClassDecl' place other above p members))) rest
-
-    passed : (q : Bool) → bytes_eq (text_at texts other) (text_at texts name) ≡ q
-        → (if q then Some i else class_in (text_at texts name) (numbered (i + count_nodes (node_at texts (held.ClassDecl' place other above p members))) rest))
-        ≡ class_in (text_at texts name) (numbered (i + count_nodes (node_at texts (held.ClassDecl' place other above p members))) rest)
-    passed true f = absurd (unequal other name e (only other ((bytes_eq-Decides (text_at texts other) (text_at texts name)).0 f)))
-    passed false f = refl
+later texts name (held.ClassDecl' place other above p members) i rest only e = passes _ _ _ (other_texts texts other name only e)
 later texts name n i rest only e =
-    skip (text_at texts name) (numbered i (node_at texts n)) (numbered (i + count_nodes (node_at texts n)) rest) (numbered_class i (node_at texts n) ∙ other_no_class texts n refl)
+    skip (text_at texts name) (numbered i (node_at texts n)) (numbered (i + count_nodes (node_at texts n)) rest)
+    (numbered_class i (node_at texts n) ∙ other_no_class texts n refl)
 
 -- the first class of the whole row is that of what is left, and the nodes passed have the numbers before
 pub record Seeking (name : ℕ) (whole : held.Node) (left : List held.Node) (next : ℕ) : Type 0 where
-  pub class : (texts : List (List ℕ)) → IsOnly texts name → class_in (text_at texts name) (numbered next (row_at texts left)) ≡ class_in (text_at texts name) (numbered 1 (node_at texts whole))
+  pub class : (texts : List (List ℕ)) → IsOnly texts name → class_in (text_at texts name) (numbered next (row_at texts left))
+      ≡ class_in (text_at texts name) (numbered 1 (node_at texts whole))
   pub room : next + count_nodes (row_at [] left) ≡ 1 + count_nodes (node_at [] whole)
 
-pub seeking_starts : (name : ℕ) (whole : held.Node) (left : List held.Node) → ((texts : List (List ℕ)) → node_at texts whole ≡ row_at texts left) → Seeking name whole left 1
+pub seeking_starts : (name : ℕ) (whole : held.Node) (left : List held.Node) → ((texts : List (List ℕ)) → node_at texts whole ≡ row_at texts left)
+    → Seeking name whole left 1
 seeking_starts name whole left e = record {
   class = λ texts only. sym (ap (λ n. class_in (text_at texts name) (numbered 1 n)) (e texts));
   room = sym (ap (λ n. 1 + count_nodes n) (e []));
 }
 
-pub seeking_here : (name : ℕ) (whole : held.Node) (n : held.Node) (left : List held.Node) (next : ℕ) → Seeking name whole (n ∷ left) next → names_class name n ≡ true
+pub seeking_here : (name : ℕ) (whole : held.Node) (n : held.Node) (left : List held.Node) (next : ℕ) → Seeking name whole (n ∷ left) next
+    → names_class name n ≡ true
     → (texts : List (List ℕ)) → IsOnly texts name → Some next ≡ class_in (text_at texts name) (numbered 1 (node_at texts whole))
 seeking_here name whole n left next s e texts only = sym (here texts name n next (row_at texts left) e) ∙ s.class texts only
 
-pub seeking_on : (name : ℕ) (whole : held.Node) (n : held.Node) (left : List held.Node) (next later_on : ℕ) → Seeking name whole (n ∷ left) next → names_class name n ≡ false
+pub seeking_on : (name : ℕ) (whole : held.Node) (n : held.Node) (left : List held.Node) (next later_on : ℕ) → Seeking name whole (n ∷ left) next
+    → names_class name n ≡ false
     → later_on ≡ next + count_nodes (node_at [] n) → Seeking name whole left later_on
 seeking_on name whole n left next later_on s e f = record {
   class = λ texts only.

@@ -1,9 +1,8 @@
-pub mod Rows
-pub mod Passing
+pub mod RowLists
+pub mod ArmLists
+pub mod KidLists
+pub mod TypeLists
 pub mod Numbers
 pub mod Alike
 pub mod Classes
-pub mod ArmLists
-pub mod KidLists
-pub mod RowLists
-pub mod TypeLists
+pub mod Passing

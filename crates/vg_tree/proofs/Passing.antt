@@ -45,7 +45,12 @@ pub beside_joins : (first rest : Outline) → Joins (Beside first rest) first re
 beside_joins first rest = record { sizes = refl; totals = refl; founds = λ start i. refl; bulks = omega arith }
 
 none_joins : (rest : Outline) → Joins rest Empty rest
-none_joins rest = record { sizes = omega arith; totals = omega arith; founds = λ start i. let same : found (start + 0) i rest ≡ found start i rest = ap (λ j. found j i rest) (omega arith) in omega (arith, same); bulks = omega arith }
+none_joins rest = record {
+  sizes = omega arith;
+  totals = omega arith;
+  founds = λ start i. let same : found (start + 0) i rest ≡ found start i rest = ap (λ j. found j i rest) (omega arith) in omega (arith, same);
+  bulks = omega arith;
+}
 
 pub kid_joins : (kid : Option held.Node) (kids : List (Option held.Node)) → Joins (kids_outline (kid ∷ kids)) (kid_outline kid) (kids_outline kids)
 kid_joins None kids = none_joins (kids_outline kids)
@@ -69,7 +74,8 @@ arm_joins _ rest = none_joins (outline rest)
 pub left_at : {A : Type 0} (xs : List A) (i : ℕ) (d : A) → i < length xs → drop i xs ≡ get_or xs i d ∷ drop (i + 1) xs
 left_at [] i d h = absurd (omega (arith, h))
 left_at (x ∷ xs) zero d h = refl
-left_at (x ∷ xs) (suc i) d h = let one : suc i + 1 ≡ suc (i + 1) = omega arith in left_at xs i d (omega (arith, h)) ∙ ap (λ j. get_or xs i d ∷ drop j (x ∷ xs)) (sym one)
+left_at (x ∷ xs) (suc i) d h =
+    let one : suc i + 1 ≡ suc (i + 1) = omega arith in left_at xs i d (omega (arith, h)) ∙ ap (λ j. get_or xs i d ∷ drop j (x ∷ xs)) (sym one)
 
 pub left_of : {A : Type 0} (xs : List A) (i : ℕ) (x : A) → i < length xs → get_or xs i x ≡ x → drop i xs ≡ x ∷ drop (i + 1) xs
 left_of xs i x h e = left_at xs i x h ∙ ap (λ z. z ∷ drop (i + 1) xs) e

@@ -1,5 +1,5 @@
 -- Rows as lists.
-use Rattle.std.proofs.Common.{◌≡◌, ℕ, ◌==◌, length, List, [], ◌∷◌, Vec, Global, refl, ap, ◌∙◌}
+use Rattle.std.proofs.Common.{◌≡◌, ℕ, ◌==◌, length, List, [], ◌∷◌, Vec, Global, refl, sym, ap, ◌∙◌}
 use Rattle.std.proofs.Math.Dec.{eqb-suc-zero}
 use Rattle.vg_tree.specs.declared.node.Node as held
 use Rattle.vg_tree.specs.declared.node.Node.TheViews as views
@@ -19,3 +19,8 @@ node_of_row texts v = nodes_in_order texts _ (held.TheBlock.hidden-the_row-Node-
 pub empty_is_nothing : (texts : List (List ℕ)) (ns : List held.Node) (n : ℕ) → n ≡ length ns → (n == 0) ≡ is_nothing (row_at texts ns)
 empty_is_nothing texts [] n e = rw e refl
 empty_is_nothing texts (m ∷ ns) n e = ap (λ k. k == 0) e ∙ eqb-suc-zero (length ns)
+
+-- a row and the slice of its nodes
+pub row_same : (n : held.Node) (v : Vec held.Node Global) (s : List held.Node) → n ≡ views.Row v → s ≡ v.items
+    → (texts : List (List ℕ)) → node_at texts n ≡ row_at texts s
+row_same n v s e f texts = ap (node_at texts) e ∙ node_of_row texts v ∙ sym (ap (row_at texts) f)

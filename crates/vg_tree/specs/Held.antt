@@ -3,7 +3,10 @@ use Rattle.std.specs.Prelude.{ℕ, List, [], ◌∷◌, map, Option, Some, None,
 use Rattle.vg_tree.specs.declared.type_tree.Param.{Param as HeldParam}
 use Rattle.vg_tree.specs.declared.type_tree.TypeTree as held_type
 use Rattle.vg_tree.specs.declared.node.Node as held
-use Rattle.vg_syntax.specs.Tree.{TypeTree, IntType, BoolType, CharType, RawType, ClassType, FunctionType, NoType, MoreTypes, Param, Node, Nothing, Then, Arm, Text, ClassDecl, ComponentDecl, DeviceDecl, RegisterDecl, ProgramDecl, EntryDecl, FieldDecl, MethodDecl, ConstructorDecl, Block, Local, If, While, For, Return, Break, Continue, Assign, Eval, Number, CharLit, StringLit, True, False, Null, This, Name, NewObject, NewArray, Unary, Chain, Part, TypePart, Postfix, Member, Index, Call}
+use Rattle.vg_syntax.specs.Tree.{TypeTree, IntType, BoolType, CharType, RawType, ClassType, FunctionType, NoType, MoreTypes, Param, Node, Nothing, Then, Arm}
+use Rattle.vg_syntax.specs.Tree.{Text, ClassDecl, ComponentDecl, DeviceDecl, RegisterDecl, ProgramDecl, EntryDecl, FieldDecl, MethodDecl, ConstructorDecl}
+use Rattle.vg_syntax.specs.Tree.{Block, Local, If, While, For, Return, Break, Continue, Assign, Eval, Number, CharLit, StringLit, True, False, Null, This}
+use Rattle.vg_syntax.specs.Tree.{Name, NewObject, NewArray, Unary, Chain, Part, TypePart, Postfix, Member, Index, Call}
 use Rattle.vg_syntax.specs.Made.{arrays}
 use Rattle.vg_syntax.specs.Reads.{spot}
 use Rattle.vg_syntax.specs.Numbering.{numbered}
@@ -57,13 +60,16 @@ abbrev mutual
   node_at texts (held.ProgramDecl' place name p es) = ProgramDecl (spot place) (text_at texts name) (node_at texts es)
   node_at texts (held.EntryDecl place key component method) = EntryDecl (spot place) (text_at texts key) (text_at texts component) (text_at texts method)
   node_at texts (held.FieldDecl' place name type p e) = FieldDecl (spot place) (text_at texts name) (type_at texts type) (node_at texts e)
-  node_at texts (held.MethodDecl' place name params result p body) = MethodDecl (spot place) (text_at texts name) (map (param_at texts) params.items) (type_at texts result) (node_at texts body)
-  node_at texts (held.ConstructorDecl' place params calls_super p arguments q body) = ConstructorDecl (spot place) (map (param_at texts) params.items) calls_super (node_at texts arguments) (node_at texts body)
+  node_at texts (held.MethodDecl' place name params result p body) =
+      MethodDecl (spot place) (text_at texts name) (map (param_at texts) params.items) (type_at texts result) (node_at texts body)
+  node_at texts (held.ConstructorDecl' place params calls_super p arguments q body) =
+      ConstructorDecl (spot place) (map (param_at texts) params.items) calls_super (node_at texts arguments) (node_at texts body)
   node_at texts (held.Block' place p ss) = Block (spot place) (node_at texts ss)
   node_at texts (held.Local' place name type p e) = Local (spot place) (text_at texts name) (type_at texts type) (node_at texts e)
   node_at texts (held.If' place p arms q otherwise) = If (spot place) (node_at texts arms) (node_at texts otherwise)
   node_at texts (held.While' place p c q b) = While (spot place) (node_at texts c) (node_at texts b)
-  node_at texts (held.For' place p first q condition r next s body) = For (spot place) (node_at texts first) (node_at texts condition) (node_at texts next) (node_at texts body)
+  node_at texts (held.For' place p first q condition r next s body) =
+      For (spot place) (node_at texts first) (node_at texts condition) (node_at texts next) (node_at texts body)
   node_at texts (held.Return' place p e) = Return (spot place) (node_at texts e)
   node_at texts (held.Break place) = Break (spot place)
   node_at texts (held.Continue place) = Continue (spot place)

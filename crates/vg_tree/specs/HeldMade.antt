@@ -3,7 +3,8 @@ use Rattle.std.specs.Prelude.{ℕ, List, map, reverse, length}
 use Rattle.vg_tree.specs.declared.node.Node.{Node as HeldNode}
 use Rattle.vg_tree.specs.declared.type_tree.TypeTree.{TypeTree as HeldType}
 use Rattle.vg_syntax.specs.Tree.{Node, TypeTree}
-use Rattle.vg_syntax.specs.Made.{Made, Absent, Word, Tree, Row, Type', Types, Typed, Params, Operators, Pair, Arms, Header, Levels, Indexed, Sized, Object, Array, Value}
+use Rattle.vg_syntax.specs.Made.{Made, Absent, Word, Tree, Row, Type', Types, Typed, Params, Operators, Pair, Arms, Header, Levels, Indexed, Sized, Object}
+use Rattle.vg_syntax.specs.Made.{Array, Value}
 use Rattle.vg_tree.specs.Held.{text_at, type_at, type_row, param_at, node_at, row_at, arm_row}
 use Rattle.vg_tree.specs.declared.made.Made.{Made as HeldMade}
 use Rattle.vg_tree.specs.declared.made.Made.TheVariants as held

@@ -1,15 +1,12 @@
 -- What is looked up in a tree.
-use Rattle.std.specs.Prelude.{ℕ, ◌+◌, ◌≡◌, ◌==◌, List, [], Option, Some, None, if◌then◌else◌}
-use Rattle.std.specs.Str.{bytes_eq}
+use Rattle.std.specs.Prelude.{ℕ, ◌+◌, ◌≡◌, ◌==◌, List, [], Option, None, if◌then◌else◌}
+use Rattle.std.specs.Option.{option_map}
+use Rattle.vg_syntax.specs.Classes.{class_named}
 use Rattle.vg_syntax.specs.Outline.{Outline, Empty, Beside, Inner, outline, total}
 use Rattle.vg_syntax.specs.Numbering.{count_nodes}
 use Rattle.vg_tree.specs.declared.tree.Tree.{Tree}
 use Rattle.vg_tree.specs.Held.{text_at, node_at}
-use Rattle.vg_syntax.specs.Tree.{Node, Then, Text, ClassDecl}
-
--- How many statements and expressions there are at and below a node, or in a row. A block, the parts of a chain and the suffixes of an operand count; declarations, rows and pairs do not.
-abbrev pub count_code : Node → ℕ
-count_code n = total (outline n)
+use Rattle.vg_syntax.specs.Tree.{Node, Text}
 
 abbrev pub at_number : ℕ → Outline → ℕ
 at_number i Empty = 0
@@ -22,9 +19,7 @@ code_at i n = at_number i (outline n)
 
 -- the number of the first class of this name in a row of declarations
 abbrev pub class_in : (name : List ℕ) → Node → Option ℕ
-class_in name (Then (ClassDecl at other above members) rest) = if bytes_eq other name then Some at.id else class_in name rest
-class_in name (Then first rest) = class_in name rest
-class_in name _ = None
+class_in name declarations = option_map (λ k. k.at.id) (class_named declarations name)
 
 -- the number of the first class of this name among the declarations of a text
 abbrev pub first_class : (name : List ℕ) → Node → Option ℕ

@@ -5,6 +5,7 @@
 pub mod arms;
 mod class;
 pub mod contents;
+pub mod laws;
 pub mod made;
 pub mod node;
 pub mod nothing;
@@ -14,6 +15,7 @@ pub mod type_tree;
 pub mod types;
 mod walk;
 
+pub use laws::counts_agree;
 pub use made::{Made, Value};
 pub use node::Node;
 pub use tree::Tree;

@@ -2,10 +2,9 @@
 ghost use Rattle.std.specs.Prelude.{◌≡◌, ◌≤◌, ◌<◌, ◌+◌, ◌-◌, ◌^◌, ◌==◌, true, [], if◌then◌else◌};
 ghost use Rattle.std.specs.Option.{option_map};
 ghost use Rattle.vg_syntax.specs.Outline.{outline, size, total};
-ghost use Rattle.vg_syntax.specs.Numbering.{count_nodes};
+ghost use Rattle.vg_syntax.specs.Numbering.{count_code, count_nodes};
 ghost use Rattle.vg_syntax.specs.Tree.{Nothing};
 ghost use Rattle.vg_tree.specs.Held.{node_at, arm_at};
-ghost use Rattle.vg_tree.specs.Lookups.{count_code};
 ghost use Rattle.vg_tree.specs.Children.{has_number, weight_of, kid_outline};
 ghost use Rattle.vg_tree.specs.Walks.{IsWalk, found, weight};
 

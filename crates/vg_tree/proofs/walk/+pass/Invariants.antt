@@ -15,7 +15,9 @@ abbrev pub invariant-pass-arms : goal.invariant-pass-arms
 invariant-pass-arms l = Passing l.target l.fn.so_far l.passed (outline (node_at [] l.fn.node)) (outline (arm_row [] (drop l.node-index l.node-items)))
 
 abbrev pub invariant-pass_inner-children : goal.invariant-pass_inner-children
-invariant-pass_inner-children l = Passing l.target l.initial.passed l.passed (kids_outline (map (option_map (λ kid. kid.now)) l.child-items)) (kids_outline (map (option_map (λ kid. kid.now)) (drop l.child-index l.child-items)))
+invariant-pass_inner-children l =
+    Passing l.target l.initial.passed l.passed (kids_outline (map (option_map (λ kid. kid.now)) l.child-items))
+    (kids_outline (map (option_map (λ kid. kid.now)) (drop l.child-index l.child-items)))
 
 abbrev pub decreases-pass : goal.decreases-pass
 decreases-pass l = 3 * bulk (outline (node_at [] l.node.now)) + 2
