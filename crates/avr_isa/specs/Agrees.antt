@@ -1,8 +1,9 @@
 -- What it means that a flash does what a session does.
-use Rattle.std.specs.Prelude.{ℕ, ◌≡◌, ◌≤◌, List, Some, None}
+use Rattle.std.specs.Prelude.{ℕ, ◌≡◌, ◌≤◌, List, Option, Some, None}
 use Rattle.vg_meaning.specs.declared.event.Event.{Event}
 use Rattle.vg_meaning.specs.Outside.{AreReads, AreVectors}
-use Rattle.vg_meaning.specs.Outcome.{Ending, Idle, Stop, Wants, Beyond, Deep, Outcome}
+use Rattle.vg_meaning.specs.Ending.{Ending, Idle, Stop, Wants, Beyond, Deep}
+use Rattle.vg_meaning.specs.Seen.{Seen}
 use Rattle.avr_isa.specs.Machine.{State, Ends, machine}
 
 -- the machine has shown this trace and is still going, and its stack has stayed at or above the floor
@@ -21,15 +22,16 @@ abbrev pub ComesToEnd : (at : ℕ → State) (ending : Ending) (trace : List Eve
 ComesToEnd at ending trace floor = (k : ℕ) × HasEnded (at k) ending trace floor
 
 -- the machine, which is at k after at most k instructions, does what a session with this clock does
-abbrev pub Follows : (at : ℕ → State) (clock floor : ℕ) → Ending → (trace : List Event) → Type 0
-Follows at clock floor Beyond trace = (k : ℕ) × (clock ≤ k) × IsGoing (at k) trace floor
-Follows at clock floor Idle trace = ComesToEnd at Idle trace floor
-Follows at clock floor (Stop code) trace = ComesToEnd at (Stop code) trace floor
-Follows at clock floor (Wants address) trace = ComesToEnd at (Wants address) trace floor
-Follows at clock floor Deep trace = ⊥
+abbrev pub Follows : (at : ℕ → State) (clock floor : ℕ) → Option Ending → (trace : List Event) → Type 0
+Follows at clock floor (Some Beyond) trace = (k : ℕ) × (clock ≤ k) × IsGoing (at k) trace floor
+Follows at clock floor (Some Idle) trace = ComesToEnd at Idle trace floor
+Follows at clock floor (Some (Stop code)) trace = ComesToEnd at (Stop code) trace floor
+Follows at clock floor (Some (Wants address)) trace = ComesToEnd at (Wants address) trace floor
+Follows at clock floor (Some Deep) trace = ⊥
+Follows at clock floor None trace = ⊥
 
 -- the machine on this flash does what the session does, for all reads, interrupts and clocks, and its stack stays at or above the floor
-pub record Agrees (session : (reads interrupts : List ℕ) → ℕ → Outcome) (flash : List ℕ) (floor stack : ℕ) : Type 0 where
+pub record Agrees (session : (reads interrupts : List ℕ) → ℕ → Seen) (flash : List ℕ) (floor stack : ℕ) : Type 0 where
   pub each : (reads interrupts : List ℕ) (clock : ℕ) → AreReads reads → AreVectors interrupts
       → Follows (machine flash reads interrupts) clock floor (session reads interrupts clock).ending (session reads interrupts clock).trace
 

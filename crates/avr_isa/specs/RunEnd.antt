@@ -1,5 +1,5 @@
 -- The ends of a run as the program has them.
-use Rattle.vg_meaning.specs.Outcome.{Idle, Stop, Wants}
+use Rattle.vg_meaning.specs.Ending.{Idle, Stop, Wants}
 use Rattle.avr_isa.specs.declared.plain.RunEnd.{RunEnd}
 use Rattle.avr_isa.specs.declared.plain.RunEnd.TheVariants.{Idle as HasIdled, Stop as HasStopped, Wants as HasWanted, Bad as HasBroken}
 use Rattle.avr_isa.specs.Machine.{MachineEnd, Ends, Bad}

@@ -1,7 +1,7 @@
 -- What a run of the simulator shows of the machine.
 use Rattle.std.specs.Prelude.{ℕ, ◌≡◌, List, Option, Some, None}
 use Rattle.std.specs.List.{flat_map}
-use Rattle.vg_meaning.specs.Outcome.{Idle as Idles, Stop as Stops, Wants as WantsRead}
+use Rattle.vg_meaning.specs.Ending.{Idle as Idles, Stop as Stops, Wants as WantsRead}
 use Rattle.vg_meaning.specs.declared.event.Event.{Event}
 use Rattle.vg_script.specs.Traces.{event_line}
 use Rattle.avr_isa.specs.Machine.{MachineEnd as End, Ends, Bad as Breaks}

@@ -1,8 +1,8 @@
 -- Texts seen through the strings that hold them.
-use Rattle.std.proofs.Common.{◌≡◌, ℕ, ◌+◌, Bool, true, false, String, string_bytes, List, [], ◌∷◌, ◌++◌, map, length, Option, Some, None, refl, sym, ap, ◌∙◌, cond}
+use Rattle.std.proofs.Common.{◌≡◌, ℕ, ◌+◌, Bool, true, false, String, string_bytes, List, [], ◌∷◌, ◌++◌, map, Some, None, refl, sym, ap, ◌∙◌, cond}
 use Rattle.std.proofs.lemmas.List.{map-append}
 use Rattle.std.specs.Global.{Global}
-use Rattle.std.specs.Prelude.{not, ◌||◌, is_some, if◌then◌else◌}
+use Rattle.std.specs.Prelude.{not, ◌||◌, if◌then◌else◌}
 use Rattle.std.specs.List.{list_any, position_or_len, position}
 use Rattle.std.specs.Str.{bytes_eq}
 use Rattle.vg_base.specs.Names.{number_of, with_text}

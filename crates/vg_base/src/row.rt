@@ -1,5 +1,5 @@
 // A list of things.
-ghost use Rattle.std.specs.Prelude.{◌≡◌, ◌↔◌, ℕ, List, [], ◌∷◌, ◌++◌, length, IfOk, IsTrue, OnOk, OnErr};
+ghost use Rattle.std.specs.Prelude.{◌≡◌, ◌↔◌, ◌≤◌, ℕ, List, [], ◌∷◌, ◌++◌, insert, length, option_to_list, IfOk, IsTrue, OnOk, OnErr};
 
 use crate::memory::NoMemory;
 use std::alloc::Global;
@@ -70,6 +70,23 @@ impl<T: Drop> Row<T> {
         self.things.push(thing)?;
         Ok(())
     }
+
+    /// Puts one thing before the one with this index, counted from 0, or behind all.
+    pub fn insert(&mut self, index: usize, thing: T) -> Result<(), NoMemory>
+        requires { index ≤ length self.old }
+        ensures ok { OnOk result (self.new ≡ insert self.old index thing) }
+        ensures err { OnErr result (self.new ≡ self.old) }
+    {
+        self.things.insert(index, thing)?;
+        Ok(())
+    }
+
+    /// Takes the last thing from the row, where it has one. It takes no memory.
+    pub fn pop(&mut self) -> Option<T>
+        ensures { self.old ≡ self.new ++ option_to_list result }
+    {
+        self.things.pop()
+    }
 }
 
 impl Row<u8> {
@@ -111,5 +128,18 @@ mod tests {
             Err(_) => assert!(rt; false),
         }
         assert!(rt; Row::<u8>::new(rt.alloc()).is_empty());
+    }
+
+    #[test]
+    fn things_go_in_and_come_out(rt: HostRuntime) {
+        match Row::from_slice(rt.alloc(), b"ac") {
+            Ok(mut row) => {
+                assert!(rt; row.insert(1, b'b').is_ok());
+                assert!(rt; row.pop() == Some(b'c'));
+                assert!(rt; row.into_vec().as_slice() == b"ab".as_slice());
+            }
+            Err(_) => assert!(rt; false),
+        }
+        assert!(rt; Row::from_vec(Vec::<u8>::new(rt.alloc())).pop().is_none());
     }
 }

@@ -1,7 +1,7 @@
 -- Arrays of arrays.
 use Rattle.std.specs.Prelude.{◌≡◌, refl, [], ◌∷◌, codes, Some, None}
 use Rattle.vg_meaning.specs.declared.event.Event.TheVariants.{Write}
-use Rattle.vg_meaning.specs.Outcome.{Idle}
+use Rattle.vg_meaning.specs.Ending.{Idle}
 use Rattle.vg_syntax.specs.declared.kind.Kind.TheVariants as kind
 use Rattle.vg_syntax.specs.Tree.{Arm, ArrayType, Assign, Block, Chain, ComponentDecl, DeviceDecl, EntryDecl, FieldDecl, If, Index, IntType, Member, MethodDecl, Name, NewArray, NoType, Node, Nothing, Null, Number, Part, Postfix, ProgramDecl, RawType, RegisterDecl, Text, TypePart}
 use Rattle.vg_source.specs.Program.{source_of}

@@ -1,7 +1,7 @@
 -- Bounds of arrays.
 use Rattle.std.specs.Prelude.{◌≡◌, refl, [], ◌∷◌, codes, Some, None}
 use Rattle.vg_meaning.specs.declared.event.Event.TheVariants.{Write}
-use Rattle.vg_meaning.specs.Outcome.{Idle, Stop}
+use Rattle.vg_meaning.specs.Ending.{Idle, Stop}
 use Rattle.vg_syntax.specs.declared.kind.Kind.TheVariants as kind
 use Rattle.vg_syntax.specs.Tree.{ArrayType, Assign, Block, Chain, CharType, ComponentDecl, DeviceDecl, EntryDecl, FieldDecl, Index, Member, MethodDecl, Name, NewArray, NoType, Node, Number, Postfix, ProgramDecl, RawType, RegisterDecl, Text, TypePart, Unary}
 use Rattle.vg_source.specs.Program.{source_of}

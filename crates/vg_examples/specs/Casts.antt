@@ -1,7 +1,7 @@
 -- Casts among ints, chars and bit strings: the high bits are cut, or zeros fill them.
 use Rattle.std.specs.Prelude.{◌≡◌, refl, [], ◌∷◌, codes, Some, None}
 use Rattle.vg_meaning.specs.declared.event.Event.TheVariants.{Write}
-use Rattle.vg_meaning.specs.Outcome.{Idle}
+use Rattle.vg_meaning.specs.Ending.{Idle}
 use Rattle.vg_syntax.specs.declared.kind.Kind.TheVariants as kind
 use Rattle.vg_syntax.specs.Tree.{Arm, Assign, Block, Chain, CharLit, CharType, ComponentDecl, DeviceDecl, EntryDecl, If, IntType, Member, MethodDecl, Name, NoType, Node, Nothing, Number, Part, Postfix, ProgramDecl, RawType, RegisterDecl, Text, TypePart, Unary}
 use Rattle.vg_source.specs.Program.{source_of}

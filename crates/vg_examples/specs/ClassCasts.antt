@@ -1,7 +1,7 @@
 -- Casts and tests of classes.
 use Rattle.std.specs.Prelude.{◌≡◌, refl, [], ◌∷◌, codes, Some, None}
 use Rattle.vg_meaning.specs.declared.event.Event.TheVariants.{Write}
-use Rattle.vg_meaning.specs.Outcome.{Stop}
+use Rattle.vg_meaning.specs.Ending.{Stop}
 use Rattle.vg_syntax.specs.declared.kind.Kind.TheVariants as kind
 use Rattle.vg_syntax.specs.Tree.{Arm, Assign, Block, Chain, ClassDecl, ClassType, ComponentDecl, DeviceDecl, EntryDecl, FieldDecl, If, Local, Member, MethodDecl, Name, NewObject, NoType, Node, Nothing, Number, Postfix, ProgramDecl, RegisterDecl, Text, TypePart}
 use Rattle.vg_source.specs.Program.{source_of}

@@ -1,7 +1,7 @@
 -- Loops, conditions and calls.
 use Rattle.std.specs.Prelude.{◌≡◌, refl, [], ◌∷◌, codes, Some, None, false}
 use Rattle.vg_meaning.specs.declared.event.Event.TheVariants.{Read, Write}
-use Rattle.vg_meaning.specs.Outcome.{Idle, Stop}
+use Rattle.vg_meaning.specs.Ending.{Idle, Stop}
 use Rattle.vg_syntax.specs.declared.kind.Kind.TheVariants as kind
 use Rattle.vg_syntax.specs.Tree.{Arm, ArrayType, Assign, Block, Break, Call, Chain, ClassDecl, ComponentDecl, ConstructorDecl, Continue, DeviceDecl, EntryDecl, Eval, False, FieldDecl, For, If, Index, IntType, Local, Member, MethodDecl, Name, NewObject, NoType, Node, Nothing, Number, Part, Postfix, ProgramDecl, RawType, RegisterDecl, Return, Text, True, TypePart}
 use Rattle.vg_source.specs.Program.{source_of}

@@ -1,7 +1,7 @@
 -- A delegate in an array.
 use Rattle.std.specs.Prelude.{◌≡◌, refl, [], ◌∷◌, codes, Some, None, false}
 use Rattle.vg_meaning.specs.declared.event.Event.TheVariants.{Write}
-use Rattle.vg_meaning.specs.Outcome.{Idle}
+use Rattle.vg_meaning.specs.Ending.{Idle}
 use Rattle.vg_syntax.specs.Tree.{ArrayType, Assign, Block, Call, ComponentDecl, ConstructorDecl, DeviceDecl, EntryDecl, Eval, FieldDecl, FunctionType, Index, Member, MethodDecl, Name, NewArray, NoType, Node, Nothing, Number, Postfix, ProgramDecl, RegisterDecl, Text}
 use Rattle.vg_source.specs.Program.{source_of}
 use Rattle.vg_examples.specs.Writing.{at, row, outcome_of}

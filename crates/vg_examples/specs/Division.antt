@@ -1,7 +1,7 @@
 -- Division is toward zero, and the remainder has the sign of the dividend.
 use Rattle.std.specs.Prelude.{◌≡◌, refl, [], ◌∷◌, codes, Some, None}
 use Rattle.vg_meaning.specs.declared.event.Event.TheVariants.{Write}
-use Rattle.vg_meaning.specs.Outcome.{Idle}
+use Rattle.vg_meaning.specs.Ending.{Idle}
 use Rattle.vg_syntax.specs.declared.kind.Kind.TheVariants as kind
 use Rattle.vg_syntax.specs.Tree.{Arm, Assign, Block, Chain, ComponentDecl, DeviceDecl, EntryDecl, If, Member, MethodDecl, Name, NoType, Node, Nothing, Number, Part, Postfix, ProgramDecl, RegisterDecl, Text, Unary}
 use Rattle.vg_source.specs.Program.{source_of}

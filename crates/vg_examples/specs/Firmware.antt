@@ -1,7 +1,7 @@
 -- A firmware with tasks, a debounced button, a text and delegates.
 use Rattle.std.specs.Prelude.{◌≡◌, refl, [], ◌∷◌, codes, Some, None, false}
 use Rattle.vg_meaning.specs.declared.event.Event.TheVariants.{Read, Write, Enter}
-use Rattle.vg_meaning.specs.Outcome.{Idle}
+use Rattle.vg_meaning.specs.Ending.{Idle}
 use Rattle.vg_syntax.specs.declared.kind.Kind.TheVariants as kind
 use Rattle.vg_syntax.specs.Tree.{Arm, ArrayType, Assign, Block, BoolType, Call, Chain, CharType, ClassDecl, ClassType, ComponentDecl, ConstructorDecl, DeviceDecl, EntryDecl, Eval, False, FieldDecl, FunctionType, If, Index, IntType, Local, Member, MethodDecl, Name, NewObject, NoType, Node, Nothing, Null, Number, Part, Postfix, ProgramDecl, RawType, RegisterDecl, Return, StringLit, Text, TypePart, While}
 use Rattle.vg_source.specs.Program.{source_of}

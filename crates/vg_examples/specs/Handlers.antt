@@ -1,7 +1,7 @@
 -- Interrupts and their handlers.
 use Rattle.std.specs.Prelude.{◌≡◌, refl, [], ◌∷◌, codes, Some, None}
 use Rattle.vg_meaning.specs.declared.event.Event.TheVariants.{Write, Enter}
-use Rattle.vg_meaning.specs.Outcome.{Idle, Beyond}
+use Rattle.vg_meaning.specs.Ending.{Idle, Beyond}
 use Rattle.vg_syntax.specs.Tree.{Assign, Block, ComponentDecl, DeviceDecl, EntryDecl, Member, MethodDecl, Name, NoType, Node, Number, Postfix, ProgramDecl, RegisterDecl, Text}
 use Rattle.vg_source.specs.Program.{source_of}
 use Rattle.vg_examples.specs.Writing.{at, row, outcome_of}

@@ -1,7 +1,7 @@
 -- How programs are written in the language.
 use Rattle.std.specs.Prelude.{◌≡◌, refl, [], ◌∷◌, codes, Some, None, false}
 use Rattle.vg_meaning.specs.declared.event.Event.TheVariants.{Write, Enter}
-use Rattle.vg_meaning.specs.Outcome.{Idle, Beyond}
+use Rattle.vg_meaning.specs.Ending.{Idle, Beyond}
 use Rattle.vg_syntax.specs.declared.kind.Kind.TheVariants as kind
 use Rattle.vg_syntax.specs.Tree.{Arm, ArrayType, Assign, Block, Break, Call, Chain, ComponentDecl, ConstructorDecl, Continue, DeviceDecl, EntryDecl, Eval, FieldDecl, For, FunctionType, If, Index, IntType, Local, Member, MethodDecl, Name, NewArray, NoType, Node, Nothing, Number, Part, Postfix, ProgramDecl, RawType, RegisterDecl, Return, Text, True, TypePart, While}
 use Rattle.vg_source.specs.Program.{source_of}

@@ -1,6 +1,6 @@
 -- The clock of initialisation.
 use Rattle.std.specs.Prelude.{◌≡◌, refl, [], ◌∷◌, codes, Some, None, false}
-use Rattle.vg_meaning.specs.Outcome.{Idle}
+use Rattle.vg_meaning.specs.Ending.{Idle}
 use Rattle.vg_syntax.specs.declared.kind.Kind.TheVariants as kind
 use Rattle.vg_syntax.specs.Tree.{Assign, Block, Chain, ComponentDecl, ConstructorDecl, DeviceDecl, EntryDecl, IntType, Local, MethodDecl, Name, NoType, Node, Nothing, Number, Part, ProgramDecl, RegisterDecl, Text, While}
 use Rattle.vg_meaning.specs.Answer.{OutOfClock}

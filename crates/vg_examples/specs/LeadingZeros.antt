@@ -1,7 +1,7 @@
 -- Numbers are compared by value, but the digits of a hexadecimal literal count as written.
 use Rattle.std.specs.Prelude.{◌≡◌, refl, [], ◌∷◌, codes, Some, None}
 use Rattle.vg_meaning.specs.declared.event.Event.TheVariants.{Write, Enter}
-use Rattle.vg_meaning.specs.Outcome.{Idle}
+use Rattle.vg_meaning.specs.Ending.{Idle}
 use Rattle.vg_syntax.specs.declared.kind.Kind.TheVariants as kind
 use Rattle.vg_syntax.specs.Tree.{Assign, Block, Chain, ComponentDecl, DeviceDecl, EntryDecl, FieldDecl, Member, MethodDecl, Name, NoType, Node, Number, Part, Postfix, ProgramDecl, RawType, RegisterDecl, Text, TypePart}
 use Rattle.vg_source.specs.Program.{source_of}

@@ -1,7 +1,7 @@
 -- Division: the least int by -1, and by zero.
 use Rattle.std.specs.Prelude.{◌≡◌, refl, [], ◌∷◌, codes, Some, None}
 use Rattle.vg_meaning.specs.declared.event.Event.TheVariants.{Write}
-use Rattle.vg_meaning.specs.Outcome.{Stop}
+use Rattle.vg_meaning.specs.Ending.{Stop}
 use Rattle.vg_syntax.specs.declared.kind.Kind.TheVariants as kind
 use Rattle.vg_syntax.specs.Tree.{Assign, Block, Chain, ComponentDecl, DeviceDecl, EntryDecl, IntType, Local, Member, MethodDecl, Name, NoType, Node, Number, Part, Postfix, ProgramDecl, RawType, RegisterDecl, Text, TypePart, Unary}
 use Rattle.vg_source.specs.Program.{source_of}

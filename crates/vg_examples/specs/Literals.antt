@@ -1,7 +1,7 @@
 -- String literals are arrays of their own.
 use Rattle.std.specs.Prelude.{◌≡◌, refl, [], ◌∷◌, codes, Some, None}
 use Rattle.vg_meaning.specs.declared.event.Event.TheVariants.{Write}
-use Rattle.vg_meaning.specs.Outcome.{Idle}
+use Rattle.vg_meaning.specs.Ending.{Idle}
 use Rattle.vg_syntax.specs.declared.kind.Kind.TheVariants as kind
 use Rattle.vg_syntax.specs.Tree.{Arm, ArrayType, Assign, Block, Call, Chain, CharLit, CharType, ComponentDecl, DeviceDecl, EntryDecl, If, Index, Member, MethodDecl, Name, NoType, Node, Nothing, Number, Part, Postfix, ProgramDecl, RawType, RegisterDecl, Return, StringLit, Text, TypePart}
 use Rattle.vg_source.specs.Program.{source_of}

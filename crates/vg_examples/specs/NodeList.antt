@@ -1,7 +1,7 @@
 -- A list of objects made at initialisation.
 use Rattle.std.specs.Prelude.{◌≡◌, refl, [], ◌∷◌, codes, Some, None, false}
 use Rattle.vg_meaning.specs.declared.event.Event.TheVariants.{Write}
-use Rattle.vg_meaning.specs.Outcome.{Idle}
+use Rattle.vg_meaning.specs.Ending.{Idle}
 use Rattle.vg_syntax.specs.declared.kind.Kind.TheVariants as kind
 use Rattle.vg_syntax.specs.Tree.{Assign, Block, Chain, ClassDecl, ClassType, ComponentDecl, ConstructorDecl, DeviceDecl, EntryDecl, FieldDecl, IntType, Local, Member, MethodDecl, Name, NewObject, NoType, Node, Nothing, Null, Number, Part, Postfix, ProgramDecl, RegisterDecl, Text, While}
 use Rattle.vg_meaning.specs.Answer.{OutOfClock}

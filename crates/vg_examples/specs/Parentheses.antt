@@ -1,7 +1,7 @@
 -- Parentheses leave no node, but a parenthesised member is a value.
 use Rattle.std.specs.Prelude.{◌≡◌, refl, [], ◌∷◌, codes, Some, None}
 use Rattle.vg_meaning.specs.declared.event.Event.TheVariants.{Read, Write}
-use Rattle.vg_meaning.specs.Outcome.{Idle, Stop}
+use Rattle.vg_meaning.specs.Ending.{Idle, Stop}
 use Rattle.vg_syntax.specs.declared.kind.Kind.TheVariants as kind
 use Rattle.vg_syntax.specs.Tree.{Arm, Assign, Block, Call, Chain, ClassDecl, ClassType, ComponentDecl, DeviceDecl, EntryDecl, Eval, FieldDecl, If, IntType, Local, Member, MethodDecl, Name, NoType, Node, Nothing, Null, Number, Part, Postfix, ProgramDecl, RawType, RegisterDecl, Text, TypePart}
 use Rattle.vg_source.specs.Program.{source_of}

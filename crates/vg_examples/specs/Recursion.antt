@@ -1,7 +1,7 @@
 -- Recursion, the peak of its calls, and a limit on them.
 use Rattle.std.specs.Prelude.{◌≡◌, refl, [], ◌∷◌, codes, Some, None}
 use Rattle.vg_meaning.specs.declared.event.Event.TheVariants.{Write}
-use Rattle.vg_meaning.specs.Outcome.{Idle, Deep}
+use Rattle.vg_meaning.specs.Ending.{Idle, Deep}
 use Rattle.vg_syntax.specs.declared.kind.Kind.TheVariants as kind
 use Rattle.vg_syntax.specs.Tree.{Arm, Assign, Block, Call, Chain, ComponentDecl, DeviceDecl, EntryDecl, If, IntType, Member, MethodDecl, Name, NoType, Node, Nothing, Number, Part, Postfix, ProgramDecl, RawType, RegisterDecl, Return, Text, TypePart}
 use Rattle.vg_source.specs.Program.{source_of}

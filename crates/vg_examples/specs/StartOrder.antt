@@ -1,7 +1,7 @@
 -- What comes first at initialisation.
 use Rattle.std.specs.Prelude.{◌≡◌, refl, [], ◌∷◌, codes, Some, None, true, false}
 use Rattle.vg_meaning.specs.declared.event.Event.TheVariants.{Write}
-use Rattle.vg_meaning.specs.Outcome.{Idle}
+use Rattle.vg_meaning.specs.Ending.{Idle}
 use Rattle.vg_syntax.specs.declared.kind.Kind.TheVariants as kind
 use Rattle.vg_syntax.specs.Tree.{Assign, Block, Chain, ClassDecl, ClassType, ComponentDecl, ConstructorDecl, DeviceDecl, EntryDecl, FieldDecl, IntType, Member, MethodDecl, Name, NewObject, NoType, Node, Nothing, Number, Part, Postfix, ProgramDecl, RawType, RegisterDecl, Text, TypePart}
 use Rattle.vg_meaning.specs.Answer.{Stops, Touches}

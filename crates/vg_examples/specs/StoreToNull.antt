@@ -1,7 +1,7 @@
 -- A store to a field of null.
 use Rattle.std.specs.Prelude.{◌≡◌, refl, [], ◌∷◌, codes, Some, None}
 use Rattle.vg_meaning.specs.declared.event.Event.TheVariants.{Write}
-use Rattle.vg_meaning.specs.Outcome.{Stop}
+use Rattle.vg_meaning.specs.Ending.{Stop}
 use Rattle.vg_syntax.specs.Tree.{Assign, Block, ClassDecl, ClassType, ComponentDecl, DeviceDecl, EntryDecl, FieldDecl, IntType, Member, MethodDecl, Name, NoType, Node, Nothing, Number, Postfix, ProgramDecl, RegisterDecl, Text}
 use Rattle.vg_source.specs.Program.{source_of}
 use Rattle.vg_examples.specs.Writing.{at, row, outcome_of}

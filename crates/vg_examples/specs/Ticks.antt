@@ -1,6 +1,6 @@
 -- Ticks and active calls of initialisation.
 use Rattle.std.specs.Prelude.{◌≡◌, refl, [], ◌∷◌, codes, Some, None, false}
-use Rattle.vg_meaning.specs.Outcome.{Idle}
+use Rattle.vg_meaning.specs.Ending.{Idle}
 use Rattle.vg_syntax.specs.declared.kind.Kind.TheVariants as kind
 use Rattle.vg_syntax.specs.Tree.{Arm, Block, Call, Chain, ClassDecl, ClassType, ComponentDecl, ConstructorDecl, DeviceDecl, EntryDecl, Eval, FieldDecl, If, IntType, MethodDecl, Name, NewObject, NoType, Node, Nothing, Number, Part, Postfix, ProgramDecl, RegisterDecl, Text}
 use Rattle.vg_meaning.specs.Answer.{OutOfClock, OutOfDepth}

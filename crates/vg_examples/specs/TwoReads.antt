@@ -1,8 +1,8 @@
 -- Two device reads: operands go from left to right.
 use Rattle.std.specs.Prelude.{◌≡◌, refl, [], ◌∷◌, codes, Some, None}
 use Rattle.vg_meaning.specs.declared.event.Event.TheVariants.{Read, Write}
-use Rattle.vg_meaning.specs.Outcome as ending
-use Rattle.vg_meaning.specs.Outcome.{Idle}
+use Rattle.vg_meaning.specs.Ending as ending
+use Rattle.vg_meaning.specs.Ending.{Idle}
 use Rattle.vg_syntax.specs.declared.kind.Kind.TheVariants as kind
 use Rattle.vg_syntax.specs.Tree.{Assign, Block, Chain, ComponentDecl, DeviceDecl, EntryDecl, IntType, Member, MethodDecl, Name, NoType, Node, Part, Postfix, ProgramDecl, RawType, RegisterDecl, Text, TypePart}
 use Rattle.vg_source.specs.Program.{source_of}

@@ -1,7 +1,7 @@
 -- How the examples write trees and say what a program does.
 use Rattle.std.specs.Prelude.{ℕ, List, [], ◌∷◌, length, Option, Some, None}
 use Rattle.vg_meaning.specs.declared.event.Event.{Event}
-use Rattle.vg_meaning.specs.Outcome.{Ending, Outcome}
+use Rattle.vg_meaning.specs.Ending.{Ending}
 use Rattle.vg_syntax.specs.Tree.{TypeTree, Param, Spot, Node, Nothing, Then}
 use Rattle.vg_meaning.specs.History.{no_history}
 use Rattle.vg_source.specs.Names.{Name}
@@ -39,14 +39,19 @@ session_behind p (Failed why) deepest reads interrupts clock = no_session
 abbrev pub session_after : Source → ℕ → Option ℕ → (reads interrupts : List ℕ) → (clock : ℕ) → Session
 session_after p start deepest reads interrupts clock = session_behind p (started p start) deepest reads interrupts clock
 
+-- A trace and its ending.
+pub record Shown : Type 0 where
+  pub trace : List Event
+  pub ending : Ending
+
 -- The trace and the ending, where there is one.
-abbrev pub shown : List Event → Option Ending → Option Outcome
+abbrev pub shown : List Event → Option Ending → Option Shown
 shown trace (Some ending) = Some (record { trace = trace; ending = ending })
 shown trace None = None
 
 -- What such a session shows.
-abbrev pub outcome_of : Source → ℕ → Option ℕ → (reads interrupts : List ℕ) → (clock : ℕ) → Option Outcome
+abbrev pub outcome_of : Source → ℕ → Option ℕ → (reads interrupts : List ℕ) → (clock : ℕ) → Option Shown
 outcome_of p start deepest reads interrupts clock = show_session (session_after p start deepest reads interrupts clock)
   where
-    show_session : Session → Option Outcome
+    show_session : Session → Option Shown
     show_session s = shown s.trace s.ending

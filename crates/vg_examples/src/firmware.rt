@@ -1,7 +1,7 @@
 // The largest of the programs.
 ghost use Rattle.std.specs.Prelude.{◌≡◌, [], ◌∷◌, Some, None};
 ghost use Rattle.vg_meaning.specs.declared.event.Event.TheVariants.{Write, Enter};
-ghost use Rattle.vg_meaning.specs.Outcome.{Beyond};
+ghost use Rattle.vg_meaning.specs.Ending.{Beyond};
 ghost use Rattle.vg_source.specs.Program.{source_of};
 ghost use Rattle.vg_examples.specs.Firmware.{firmware};
 ghost use Rattle.vg_examples.specs.Writing.{outcome_of};

@@ -6,7 +6,7 @@ use Rattle.vg_meaning.specs.declared.event.Event.{Event}
 use Rattle.vg_meaning.specs.declared.event.Event.TheVariants.{Write, Enter}
 use Rattle.vg_meaning.specs.Device.{IsDeviceAddress}
 use Rattle.vg_meaning.specs.Outside.{Outside, AreVectors, with_event}
-use Rattle.vg_meaning.specs.Outcome.{Idle}
+use Rattle.vg_meaning.specs.Ending.{Idle}
 use Rattle.avr_instr.specs.declared.instr.Instr.{Instr}
 use Rattle.avr_instr.specs.declared.instr.Instr.TheVariants.{Out, Sts, Rjmp, Cli, Reti}
 use Rattle.avr_isa.specs.Cpu.{CpuState, forward, enabled, disabled}

@@ -1,6 +1,6 @@
 -- The tree of a program of constants, and what its session shows.
 use Rattle.std.specs.Prelude.{◌≡◌, ℕ, ◌+◌, List, [], ◌∷◌, Some}
-use Rattle.vg_meaning.specs.Outcome.{Outcome}
+use Rattle.vg_meaning.specs.Seen.{Seen}
 use Rattle.vg_first_text.specs.FirstText.{FirstAssignment, FirstRegister, First}
 use Rattle.vg_syntax.specs.Tree.{Spot, Node, Nothing, Then, NoType, Text, ComponentDecl, DeviceDecl, RegisterDecl, ProgramDecl, EntryDecl, MethodDecl, Block, Assign, Postfix, Name, Member, Number}
 use Rattle.vg_source.specs.Values.{Heap}
@@ -37,6 +37,6 @@ abbrev pub empty_heap : Heap
 empty_heap = record { cells = []; globals = [] }
 
 -- A session shows this trace and this ending.
-pub record Shows (s : Session) (o : Outcome) : Type 0 where
+pub record Shows (s : Session) (o : Seen) : Type 0 where
   pub trace : s.trace ≡ o.trace
-  pub ending : s.ending ≡ Some o.ending
+  pub ending : s.ending ≡ o.ending

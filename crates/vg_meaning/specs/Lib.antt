@@ -13,5 +13,6 @@ pub mod Grows
 pub mod Longer
 pub mod Spent
 pub mod Device
-pub mod Outcome
+pub mod Ending
+pub mod Seen
 pub mod Outside

@@ -1,6 +1,6 @@
 -- What a simulation shows of a HEX text and a script.
 use Rattle.std.specs.Prelude.{ℕ, List, ◌++◌, Option, Some, None}
-use Rattle.vg_meaning.specs.Outcome.{Idle as Idles, Stop as Stops, Wants as WantsRead, Beyond, Deep}
+use Rattle.vg_meaning.specs.Ending.{Idle as Idles, Stop as Stops, Wants as WantsRead, Beyond, Deep}
 use Rattle.vg_hex.specs.HexImage.{HexImage}
 use Rattle.vg_script.specs.Script.{Lists, IsScript}
 use Rattle.vg_script.specs.Traces.{ending_line}

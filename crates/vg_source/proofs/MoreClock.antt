@@ -2,7 +2,7 @@
 use Rattle.std.specs.Prelude.{ℕ, zero, suc, ◌+◌, ◌≤◌, List, [], ◌∷◌, length, Option, Some, None}
 use Rattle.std.proofs.Common.{◌≡◌, ◌≢◌, ◌-◌, ◌<◌, ◌⊎◌, inl, inr, refl, sym, ap, subst, ◌∙◌, arith}
 use Rattle.std.proofs.lemmas.Bool.{cases_lt}
-use Rattle.vg_meaning.specs.Outcome.{Beyond}
+use Rattle.vg_meaning.specs.Ending.{Beyond}
 use Rattle.vg_meaning.specs.History.{Recorder, History, no_history, full}
 use Rattle.vg_meaning.specs.Answer.{Breaks, Continues, Returns, Over, Answer, Gives, Ends, Piece, go_on, passes, OutOfRoom}
 use Rattle.vg_meaning.specs.Interrupts.{idles}

@@ -1,8 +1,8 @@
 -- Calls, the initialisation of a program, and its runs.
 use Rattle.std.specs.Prelude.{ℕ, zero, suc, List, [], ◌∷◌, length, map, Option, Some, None}
 use Rattle.vg_meaning.specs.declared.event.Event.{Event}
-use Rattle.vg_meaning.specs.Outcome.{Ending, Idle, Stop, Beyond, Deep}
-use Rattle.vg_meaning.specs.Outcome as outcome
+use Rattle.vg_meaning.specs.Ending.{Ending, Idle, Stop, Beyond, Deep}
+use Rattle.vg_meaning.specs.Ending as outcome
 use Rattle.vg_meaning.specs.Outside.{before}
 use Rattle.vg_meaning.specs.History.{Active, Calling, Making, Recorder, History, no_history, full}
 use Rattle.vg_meaning.specs.World.{World, Starting, Running}

@@ -1,6 +1,6 @@
 // Laws of the clock.
 ghost use Rattle.std.specs.Prelude.{◌≡◌, ◌≢◌, ℕ, ◌+◌, List, Option, Some};
-ghost use Rattle.vg_meaning.specs.Outcome.{Beyond};
+ghost use Rattle.vg_meaning.specs.Ending.{Beyond};
 ghost use Rattle.vg_meaning.specs.History.{Recorder};
 ghost use Rattle.vg_meaning.specs.Grows.{Extends};
 ghost use Rattle.vg_meaning.specs.Spent.{Spent};
