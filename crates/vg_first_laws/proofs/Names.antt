@@ -14,12 +14,12 @@ use Rattle.vg_source.specs.Names.{Name, same_name}
 use Rattle.vg_source.specs.Values.{Raw, default}
 use Rattle.vg_source.specs.Types.{NoType}
 use Rattle.vg_source.specs.Steps.{Method, Start, Routine, Source}
-use Rattle.vg_source.specs.State.{find_routine, handler_of}
+use Rattle.vg_source.specs.State.{of_count, find_routine, handler_of}
 use Rattle.vg_source.specs.Literals.{decimal, number_of, int_of, number_value}
 use Rattle.vg_source.specs.Nodes.{nodes, literal_bytes, literals}
 use Rattle.vg_source.specs.Declared.{AMethod, or_else, member_among, component_named, device_named, register_in, component_member}
-use Rattle.vg_source.specs.Meant.{InComponent, NoHead, Fresh, doing, settled, then_fresh, meant}
-use Rattle.vg_source.specs.Program.{constructor_in, initialisation, main_of, handlers_in, source_of}
+use Rattle.vg_source.specs.Resolved.{InComponent, NoHead, Fresh, no_names, doing, settled, then_fresh, resolved}
+use Rattle.vg_source.specs.Program.{routine_of, constructor_in, initialisation, main_of, handlers_in, source_of}
 use Rattle.vg_first_laws.specs.Trees.{assignment_node, assignment_row, register_row, first_declarations, first_tree}
 use Rattle.vg_first_laws.proofs.Runs.{write_code, writes_code, IsConstants}
 
@@ -58,13 +58,14 @@ registers_in at k (r ∷ rs) x (number, once, h) =
 
 byte_is : (digits : List ℕ) → IsByteNumber digits → number_value digits ≡ Raw 8 (hex_value digits)
 byte_is digits h =
-    ap (λ b. if b then Raw (4 * (length digits - 2)) (hex_value digits) else int_of (decimal 0 digits)) h.hexadecimal ∙ ap (λ n. Raw (4 * (n - 2)) (hex_value digits)) h.two
+    ap (λ b. if b then Raw (4 * (length digits - 2)) (hex_value digits) else int_of (decimal 0 digits)) h.hexadecimal ∙ ap
+    (λ n. Raw (4 * (n - 2)) (hex_value digits)) h.two
 
 module _ (at : ℕ → Spot) (ds : Node) (c d : Name) (k : ℕ) (rs : List FirstRegister)
     (no_member : component_member ds c d ≡ None) (no_component : component_named ds d ≡ None) (device : device_named ds d ≡ Some (register_row at k rs))
     (registers : AreRegisters rs) where
   assignment_is : (n : ℕ) (a : FirstAssignment) → IsAssignment d rs a
-      → meant ds (InComponent c) (assignment_node at n a) Fresh [] ≡ doing (write_code (write_of rs a)) NoHead []
+      → resolved ds (InComponent c) (assignment_node at n a) Fresh no_names ≡ doing (write_code (write_of rs a)) NoHead no_names
   assignment_is n a h =
       let some : (m : ℕ) × (address_of rs a.register ≡ Some m) = some_of (address_of rs a.register) h.register in
       let e1 : component_member ds c a.device ≡ None = ap (component_member ds c) h.device ∙ no_member in
@@ -75,10 +76,10 @@ module _ (at : ℕ → Spot) (ds : Node) (c d : Name) (k : ℕ) (rs : List First
       simp (e1, e2, e3, e4, e5, some.1) refl
 
   pub assignments_are : (n : ℕ) (rows : List FirstAssignment) → AllByRecursion (IsAssignment d rs) rows
-      → (meant ds (InComponent c) (assignment_row at n rows) Fresh []).does ≡ writes_code (map (write_of rs) rows)
+      → (resolved ds (InComponent c) (assignment_row at n rows) Fresh no_names).does ≡ writes_code (map (write_of rs) rows)
   assignments_are n [] h = refl
   assignments_are n (a ∷ rows) (h, hs) =
-      ap (λ m. (then_fresh (settled m) (meant ds (InComponent c) (assignment_row at (n + 5) rows) Fresh)).does) (assignment_is n a h)
+      ap (λ m. (then_fresh (settled m) (resolved ds (InComponent c) (assignment_row at (n + 5) rows) Fresh)).does) (assignment_is n a h)
       ∙ ap (code.Then (write_code (write_of rs a))) (assignments_are (n + 5) rows hs)
 
 -- ---- literals: there are none
@@ -106,7 +107,8 @@ module _ (at : ℕ → Spot) (device program : ℕ) (f : First) (fits : FirstFit
 
   no_literals : literals ds ≡ []
   no_literals =
-      quiet_append (nodes (assignment_row at 4 f.assignments) ++ []) _ (quiet_append (nodes (assignment_row at 4 f.assignments)) [] (quiet_assignments at 4 f.assignments) refl)
+      quiet_append (nodes (assignment_row at 4 f.assignments) ++ []) _
+      (quiet_append (nodes (assignment_row at 4 f.assignments)) [] (quiet_assignments at 4 f.assignments) refl)
       (quiet_append (nodes (register_row at (device + 1) f.registers)) _ (quiet_registers at (device + 1) f.registers) refl)
 
   abbrev members : Node
@@ -120,7 +122,7 @@ module _ (at : ℕ → Spot) (device program : ℕ) (f : First) (fits : FirstFit
 
   no_member : component_member ds f.component f.device ≡ None
   no_member =
-      ap (λ o. member_among o f.device) component_is
+      ap (λ o. member_among f.component o f.device) component_is
       ∙ ap (λ b. or_else (if b then Some (AMethod NoType NoType) else None) None) (not_same f.method f.device (λ e. fits.names.device_method (sym e)))
 
   device_is : device_named ds f.device ≡ Some (register_row at (device + 1) f.registers)
@@ -130,19 +132,17 @@ module _ (at : ℕ → Spot) (device program : ℕ) (f : First) (fits : FirstFit
   start = record (initialisation ds f.component members (constructor_in members)) { number = 0 }
 
   abbrev main : Routine
-  main = record {
-    target = Method f.component f.method;
-    number = 0;
-    params = [];
-    missing = default NoType;
-    body = (meant ds (InComponent f.component) (tree.Block (at 3) (assignment_row at 4 f.assignments)) Fresh []).does;
-  }
+  main =
+      routine_of (Method f.component f.method) 0 (default NoType)
+      (resolved ds (InComponent f.component) (tree.Block (at 3) (assignment_row at 4 f.assignments)) Fresh no_names)
 
   start_is : find_routine text.routines (Start f.component) ≡ Some start
   start_is = ap (λ b. if b then Some start else find_routine (main ∷ []) (Start f.component)) (same_itself f.component)
 
   main_at : find_routine text.routines (Method f.component f.method) ≡ Some main
-  main_at = ap (λ b. if b && same_name f.method f.method then Some main else None) (same_itself f.component) ∙ ap (λ b. if b then Some main else None) (same_itself f.method)
+  main_at =
+      ap (λ b. if b && same_name f.method f.method then Some main else None) (same_itself f.component) ∙ ap (λ b. if b then Some main else None)
+      (same_itself f.method)
 
   main_is : find_routine text.routines text.main ≡ Some main
   main_is =
@@ -158,10 +158,12 @@ module _ (at : ℕ → Spot) (device program : ℕ) (f : First) (fits : FirstFit
     globals = refl;
     components = refl;
     start = start;
-    start_found = start_is;
+    start_found = ap (of_count 0) start_is;
     start_does = λ call s w. refl;
     main = main;
-    main_found = main_is;
-    main_body = assignments_are at ds f.component f.device (device + 1) f.registers no_member no_component device_is fits.registers 4 f.assignments fits.assignments;
-    handlers = λ k. ap (λ key. handler_of (handlers_in (Then (EntryDecl (at (program + 1)) key f.entry_component f.entry_method) tree.Nothing)) k) fits.names.key;
+    main_found = ap (of_count 0) main_is;
+    main_body =
+        assignments_are at ds f.component f.device (device + 1) f.registers no_member no_component device_is fits.registers 4 f.assignments fits.assignments;
+    handlers =
+        λ k. ap (λ key. handler_of (handlers_in (Then (EntryDecl (at (program + 1)) key f.entry_component f.entry_method) tree.Nothing)) k) fits.names.key;
   }
