@@ -13,7 +13,7 @@ use Rattle.vg_meaning.specs.Calls.{closed, note_call, opened, returned}
 use Rattle.vg_meaning.specs.Interrupts.{idles}
 use Rattle.vg_meaning.specs.Code.{Code, Nothing, Then, Do, performed}
 use Rattle.vg_source.specs.Names.{Name}
-use Rattle.vg_source.specs.Values.{Raw, Null, Heap, Global, stored_values}
+use Rattle.vg_source.specs.Values.{Raw, Null, Heap, FieldValue, stored_values}
 use Rattle.vg_source.specs.Steps.{Step, Put, SetRegister, Target, Start, Routine, Source}
 use Rattle.vg_source.specs.State.{State, find_called, handler_of, entered}
 use Rattle.vg_source.specs.Meaning.{Caller, put, taking, with_found, step, truth}
@@ -102,7 +102,7 @@ module _ (p : Source) (ws : List DeviceWrite) (k : IsConstants p ws) where
       subst (λ a. Shows (session_of a) (first_session ws reads ints (suc n))) (sym (running_does n reads ints)) (record { trace = refl; ending = refl })
 
   -- initialisation from these literals, component fields and components
-  abbrev starting_from : ℕ → List (List ℕ) → List Global → List Name → Initialised
+  abbrev starting_from : ℕ → List (List ℕ) → List FieldValue → List Name → Initialised
   starting_from clock literals globals cs =
       let h : Heap = record { cells = map literal_cell literals; globals = globals } in
       start_of (unless (passes (Some 60000) (stored_values h)) OutOfRoom (start_all full p cs) (with_heap h) (starting_world no_history clock))
