@@ -1,12 +1,17 @@
--- The names of a program of constants stand for what its definition says.
-use Rattle.std.specs.Prelude.{ℕ, ◌+◌, ◌-◌, ◌*◌, ◌&&◌, Bool, true, false, List, [], ◌∷◌, ◌++◌, length, map, flat_map, Option, Some, None, if◌then◌else◌}
+-- The names of a program of constants stand for what its definition says. Each look-up is decided by the names that differ and those that
+-- are the same, so that the tree is resolved to the writes; then the session is that of Runs, and the cost of main is counted over its rows.
+use Rattle.std.specs.Prelude.{ℕ, zero, suc, ◌+◌, ◌-◌, ◌*◌, ◌&&◌, Bool, true, false, List, [], ◌∷◌, ◌++◌, length, map, flat_map, Option, Some, None}
+use Rattle.std.specs.Prelude.{if◌then◌else◌}
 use Rattle.std.specs.List.{AllByRecursion}
-use Rattle.std.proofs.Common.{◌≡◌, ◌≢◌, refl, sym, ap, ◌∙◌}
+use Rattle.std.proofs.Common.{◌≡◌, ◌≢◌, refl, sym, ap, ◌∙◌, arith}
+use Rattle.std.proofs.Math.Nat.{max-zero}
+use Rattle.std.proofs.lemmas.List.{length-map}
 use Rattle.std.proofs.lemmas.Slice.Eq.{bytes_eq-Decides}
 use Rattle.std.proofs.lemmas.Grind.{flat_map-append}
 use Rattle.vg_syntax.specs.Hexadecimal.{hex_value}
 use Rattle.vg_syntax.specs.Lexemes.{is_hexadecimal}
-use Rattle.vg_first_text.specs.FirstText.{FirstAssignment, FirstRegister, First, IsByteNumber, IsAssignment, address_of, AreRegisters, FirstFits, write_of, writes_of}
+use Rattle.vg_first_text.specs.FirstText.{FirstAssignment, FirstRegister, First, IsByteNumber, IsAssignment, address_of, AreRegisters, FirstFits, write_of}
+use Rattle.vg_first_text.specs.FirstText.{writes_of}
 use Rattle.vg_syntax.specs.Tree.{Spot, Node, Then, EntryDecl}
 use Rattle.vg_syntax.specs.Tree as tree
 use Rattle.vg_meaning.specs.Code as code
@@ -16,12 +21,17 @@ use Rattle.vg_source.specs.Types.{NoType}
 use Rattle.vg_source.specs.Steps.{Method, Start, Routine, Source}
 use Rattle.vg_source.specs.State.{of_count, find_routine, handler_of}
 use Rattle.vg_source.specs.Literals.{decimal, number_of, int_of, number_value}
-use Rattle.vg_source.specs.Nodes.{nodes, literal_bytes, literals}
+use Rattle.vg_syntax.specs.Numbering.{count_nodes}
+use Rattle.vg_meaning.specs.History.{Calling}
+use Rattle.vg_first_text.specs.FirstSession.{main_cost, first_session}
+use Rattle.vg_source.specs.Nodes.{nodes, literal_bytes, literals, local_node, count_locals}
+use Rattle.vg_source.specs.Session.{activity}
+use Rattle.vg_source.specs.Peak.{costs, most, peak, seen, sessions}
 use Rattle.vg_source.specs.Declared.{AMethod, or_else, member_among, component_named, device_named, register_in, component_member}
 use Rattle.vg_source.specs.Resolved.{InComponent, NoHead, Fresh, no_names, doing, settled, then_fresh, resolved}
 use Rattle.vg_source.specs.Program.{routine_of, constructor_in, initialisation, main_of, handlers_in, source_of}
-use Rattle.vg_first_laws.specs.Trees.{assignment_node, assignment_row, register_row, first_declarations, first_tree}
-use Rattle.vg_first_laws.proofs.Runs.{write_code, writes_code, IsConstants}
+use Rattle.vg_first_laws.specs.Trees.{assignment_node, assignment_row, register_row, first_declarations, first_tree, empty_heap}
+use Rattle.vg_first_laws.proofs.Runs.{write_code, writes_code, IsConstants, session_behind, session_does}
 
 -- ---- names
 
@@ -98,6 +108,19 @@ quiet_registers : (at : ℕ → Spot) (n : ℕ) (rs : List FirstRegister) → Qu
 quiet_registers at n [] = refl
 quiet_registers at n (r ∷ rs) = quiet_registers at (n + 1) rs
 
+-- ---- what the call of main costs
+
+no_locals : (at : ℕ → Spot) (n : ℕ) (rows : List FirstAssignment) → flat_map local_node (nodes (assignment_row at n rows)) ≡ []
+no_locals at n [] = refl
+no_locals at n (a ∷ rows) = no_locals at (n + 5) rows
+
+rows_size : (at : ℕ → Spot) (n : ℕ) (rows : List FirstAssignment) → count_nodes (assignment_row at n rows) ≡ 5 * length rows
+rows_size at n [] = refl
+rows_size at n (a ∷ rows) = ap (λ m. 5 + m) (rows_size at (n + 5) rows) ∙ omega arith
+
+cost_is : (locals nodes n m : ℕ) → locals ≡ 0 → nodes ≡ 5 * n → m ≡ n → 32 + 4 * (0 + locals + (1 + (nodes + 0))) ≡ 32 + 4 * (1 + 5 * m)
+cost_is locals nodes n m e h k = omega (arith, e, h, k)
+
 module _ (at : ℕ → Spot) (device program : ℕ) (f : First) (fits : FirstFits f) where
   abbrev ds : Node
   ds = first_declarations at device program f
@@ -144,12 +167,14 @@ module _ (at : ℕ → Spot) (device program : ℕ) (f : First) (fits : FirstFit
       ap (λ b. if b && same_name f.method f.method then Some main else None) (same_itself f.component) ∙ ap (λ b. if b then Some main else None)
       (same_itself f.method)
 
+  main_target : text.main ≡ Method f.component f.method
+  main_target =
+      ap (λ key. main_of (Then (EntryDecl (at (program + 1)) key f.entry_component f.entry_method) tree.Nothing)) fits.names.key
+      ∙ ap (λ x. Method x f.entry_method) fits.names.component
+      ∙ ap (λ x. Method f.component x) fits.names.method
+
   main_is : find_routine text.routines text.main ≡ Some main
-  main_is =
-      ap (λ key. find_routine text.routines (main_of (Then (EntryDecl (at (program + 1)) key f.entry_component f.entry_method) tree.Nothing))) fits.names.key
-      ∙ ap (λ x. find_routine text.routines (Method x f.entry_method)) fits.names.component
-      ∙ ap (λ x. find_routine text.routines (Method f.component x)) fits.names.method
-      ∙ main_at
+  main_is = ap (find_routine text.routines) main_target ∙ main_at
 
   pub is_constants : IsConstants text (writes_of f)
   is_constants = record {
@@ -164,6 +189,34 @@ module _ (at : ℕ → Spot) (device program : ℕ) (f : First) (fits : FirstFit
     main_found = ap (of_count 0) main_is;
     main_body =
         assignments_are at ds f.component f.device (device + 1) f.registers no_member no_component device_is fits.registers 4 f.assignments fits.assignments;
+    calls = ap (λ t. activity t 0) main_target;
     handlers =
         λ k. ap (λ key. handler_of (handlers_in (Then (EntryDecl (at (program + 1)) key f.entry_component f.entry_method) tree.Nothing)) k) fits.names.key;
   }
+
+  -- ---- the peak
+
+  abbrev body : Node
+  body = tree.Block (at 3) (assignment_row at 4 f.assignments)
+
+  costs_are : costs (first_tree at device program f) ≡ main_cost (writes_of f) ∷ []
+  costs_are =
+      ap (λ n. n ∷ [])
+      (cost_is (count_locals body) (count_nodes (assignment_row at 4 f.assignments)) (length f.assignments) (length (writes_of f))
+      (ap length (no_locals at 4 f.assignments)) (rows_size at 4 f.assignments) (length-map f.assignments (write_of f.registers)))
+
+  abbrev tree_of : Node
+  tree_of = first_tree at device program f
+
+  -- at first no call was active; behind the one tick main alone was
+  peak_is : (reads ints : List ℕ) (clock : ℕ)
+      → peak tree_of (session_behind text (writes_of f) is_constants reads ints clock) ≡ (first_session (writes_of f) reads ints clock).peak
+  peak_is reads ints zero = refl
+  peak_is reads ints (suc n) =
+      ap (λ cs. 4 + most cs ((Calling 0 ∷ []) ∷ [])) costs_are
+      ∙ ap (λ m. 4 + m) (max-zero (main_cost (writes_of f) + 0) ∙ omega arith)
+
+  pub sessions_are : (reads ints : List ℕ) (clock : ℕ) → sessions tree_of empty_heap reads ints clock ≡ first_session (writes_of f) reads ints clock
+  sessions_are reads ints clock =
+      ap (seen tree_of) (session_does text (writes_of f) is_constants reads ints clock)
+      ∙ ap (λ n. record (first_session (writes_of f) reads ints clock) { peak = n }) (peak_is reads ints clock)

@@ -1,12 +1,13 @@
--- A program whose main writes constants, by the language's meaning.
+-- A program whose main writes constants, by the language's meaning. The writes go by induction on their list, the interrupts on theirs;
+-- what is known of the program is put in place of its parts, one equation at a time, and the rest computes.
 use Rattle.std.specs.Prelude.{ℕ, zero, suc, List, [], ◌∷◌, ◌++◌, length, map, Option, Some, None}
-use Rattle.std.proofs.Common.{◌≡◌, refl, sym, ap, subst, ◌∙◌}
+use Rattle.std.proofs.Common.{◌≡◌, refl, sym, ap, ◌∙◌}
 use Rattle.std.proofs.lemmas.List.{append-nil, append_assoc}
 use Rattle.vg_meaning.specs.declared.event.Event.{Event}
 use Rattle.vg_meaning.specs.declared.event.Event.TheVariants.{Enter}
 use Rattle.vg_first_text.specs.declared.device_write.DeviceWrite.{DeviceWrite}
 use Rattle.vg_first_text.specs.FirstSession.{write_event, first_session}
-use Rattle.vg_meaning.specs.History.{History, Making, no_history, full, note_closing}
+use Rattle.vg_meaning.specs.History.{History, Calling, Making, no_history, full, note_closing}
 use Rattle.vg_meaning.specs.World.{World, Running}
 use Rattle.vg_meaning.specs.Answer.{Done, OutOfRoom, Over, Answer, Gives, Ends, go_on, and_then, passes, unless}
 use Rattle.vg_meaning.specs.Calls.{closed, note_call, opened, returned}
@@ -18,8 +19,8 @@ use Rattle.vg_source.specs.Steps.{Step, Put, SetRegister, Target, Start, Routine
 use Rattle.vg_source.specs.State.{State, find_called, handler_of, entered}
 use Rattle.vg_source.specs.Meaning.{Caller, put, taking, with_found, step, truth}
 use Rattle.vg_source.specs.Session.{activity, back_in, literal_cell, start_all, starting_world, start_of, Initialised, run_routine, called, call_alone}
-use Rattle.vg_source.specs.Session.{handled, handle, with_heap, running, running_world, Started, started, session, session_of}
-use Rattle.vg_first_laws.specs.Trees.{empty_heap, Shows}
+use Rattle.vg_source.specs.Session.{handled, handle, with_heap, running, running_world, Started, started, Session, session, session_of}
+use Rattle.vg_first_laws.specs.Trees.{empty_heap}
 
 -- the code of an assignment, and of all of them
 abbrev pub write_code : DeviceWrite → Code Step
@@ -32,8 +33,15 @@ writes_code (w ∷ ws) = Then (write_code w) (writes_code ws)
 -- the world of a run with this clock, history, outside and trace
 abbrev pub during : (clock : ℕ) → History → (reads interrupts : List ℕ) → List Event → World History
 during clock h reads interrupts t =
-    record { phase =
-        Running; deepest = None; largest = None; clock = clock; outside = record { reads = reads; interrupts = interrupts; trace = t }; history = h }
+    record {
+      phase =
+          Running;
+      deepest = None;
+      largest = None;
+      clock = clock;
+      outside = record { reads = reads; interrupts = interrupts; trace = t };
+      history = h;
+    }
 
 -- the writes are made in order
 writes_do : (p : Source) (call : Caller History) (ws : List DeviceWrite) (s : State) (c : ℕ) (h : History) (reads ints : List ℕ) (t : List Event)
@@ -64,6 +72,7 @@ pub record IsConstants (p : Source) (ws : List DeviceWrite) : Type 0 where
   pub main : Routine
   pub main_found : find_called p.routines p.main 0 ≡ Some main
   pub main_body : main.body ≡ writes_code ws
+  pub calls : activity p.main main.number ≡ Calling 0
   pub handlers : (k : ℕ) → handler_of p.handlers k ≡ None
 
 -- the call of a routine from outside, where it is found
@@ -96,10 +105,24 @@ module _ (p : Source) (ws : List DeviceWrite) (k : IsConstants p ws) where
       ap (λ a. and_then a (idles (length ints) (handle full p))) (main_does n reads ints)
       ∙ idles_do p k.handlers ints (with_heap empty_heap) n (note_closing called_history) reads (map write_event ws)
 
-  pub session_does : (reads ints : List ℕ) (clock : ℕ) → Shows (session p empty_heap None reads ints clock) (first_session ws reads ints clock)
-  session_does reads ints zero = record { trace = refl; ending = refl }
+  -- what the call of main leaves: one tick, behind which main alone was active
+  abbrev pub history_behind : ℕ → History
+  history_behind zero = no_history
+  history_behind (suc n) = note_closing (note_call full (Calling 0) no_history)
+
+  abbrev pub session_behind : (reads ints : List ℕ) → ℕ → Session
+  session_behind reads ints clock = record {
+    trace = (first_session ws reads ints clock).trace;
+    ending = (first_session ws reads ints clock).ending;
+    history = history_behind clock;
+  }
+
+  pub session_does : (reads ints : List ℕ) (clock : ℕ) → session p empty_heap None reads ints clock ≡ session_behind reads ints clock
+  session_does reads ints zero = refl
   session_does reads ints (suc n) =
-      subst (λ a. Shows (session_of a) (first_session ws reads ints (suc n))) (sym (running_does n reads ints)) (record { trace = refl; ending = refl })
+      ap session_of (running_does n reads ints)
+      ∙ ap (λ call. session_of (Ends (Over Done) (with_heap empty_heap)
+      (during n (note_closing (note_call full call no_history)) reads [] (map write_event ws ++ map Enter ints)))) k.calls
 
   -- initialisation from these literals, component fields and components
   abbrev starting_from : ℕ → List (List ℕ) → List FieldValue → List Name → Initialised
