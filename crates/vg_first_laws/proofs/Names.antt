@@ -1,6 +1,6 @@
 -- The names of a program of constants stand for what its definition says. Each look-up is decided by the names that differ and those that
 -- are the same, so that the tree is resolved to the writes; then the session is that of Runs, and the cost of main is counted over its rows.
-use Rattle.std.specs.Prelude.{ℕ, zero, suc, ◌+◌, ◌-◌, ◌*◌, ◌&&◌, Bool, true, false, List, [], ◌∷◌, ◌++◌, length, map, flat_map, Option, Some, None}
+use Rattle.std.specs.Prelude.{ℕ, zero, suc, ◌+◌, ◌-◌, ◌*◌, ◌&&◌, Bool, true, false, List, [], ◌∷◌, ◌++◌, length, map, flat_map, Option, Some, None, bytes_eq}
 use Rattle.std.specs.Prelude.{if◌then◌else◌}
 use Rattle.std.specs.List.{AllByRecursion}
 use Rattle.std.proofs.Common.{◌≡◌, ◌≢◌, refl, sym, ap, ◌∙◌, arith}
@@ -15,7 +15,7 @@ use Rattle.vg_first_text.specs.FirstText.{writes_of}
 use Rattle.vg_syntax.specs.Tree.{Spot, Node, Then, EntryDecl}
 use Rattle.vg_syntax.specs.Tree as tree
 use Rattle.vg_meaning.specs.Code as code
-use Rattle.vg_source.specs.Names.{Name, same_name}
+use Rattle.vg_source.specs.Names.{Name}
 use Rattle.vg_source.specs.Values.{Raw, default}
 use Rattle.vg_source.specs.Types.{NoType}
 use Rattle.vg_source.specs.Steps.{Method, Start, Routine, Source}
@@ -35,15 +35,15 @@ use Rattle.vg_first_laws.proofs.Runs.{write_code, writes_code, IsConstants, sess
 
 -- ---- names
 
-same_itself : (x : Name) → same_name x x ≡ true
+same_itself : (x : Name) → bytes_eq x x ≡ true
 same_itself x = (bytes_eq-Decides x x).1 refl
 
 not_true : (b : Bool) → (b ≡ true → ⊥) → b ≡ false
 not_true true h = absurd (h refl)
 not_true false h = refl
 
-not_same : (x y : Name) → x ≢ y → same_name x y ≡ false
-not_same x y h = not_true (same_name x y) (λ e. h ((bytes_eq-Decides x y).0 e))
+not_same : (x y : Name) → x ≢ y → bytes_eq x y ≡ false
+not_same x y h = not_true (bytes_eq x y) (λ e. h ((bytes_eq-Decides x y).0 e))
 
 some_of : (o : Option ℕ) → o ≢ None → (n : ℕ) × (o ≡ Some n)
 some_of (Some n) h = (n, refl)
@@ -61,7 +61,7 @@ found_register false m n o p e h = h
 registers_in : (at : ℕ → Spot) (k : ℕ) (rs : List FirstRegister) (x : Name) → AreRegisters rs → register_in (register_row at k rs) x ≡ address_of rs x
 registers_in at k [] x h = refl
 registers_in at k (r ∷ rs) x (number, once, h) =
-    found_register (same_name r.name x) (number_of r.digits) (hex_value r.digits) (register_in (register_row at (k + 1) rs) x) (address_of rs x)
+    found_register (bytes_eq r.name x) (number_of r.digits) (hex_value r.digits) (register_in (register_row at (k + 1) rs) x) (address_of rs x)
     (number_is r.digits number.hexadecimal) (registers_in at (k + 1) rs x h)
 
 -- ---- assignments
@@ -164,7 +164,7 @@ module _ (at : ℕ → Spot) (device program : ℕ) (f : First) (fits : FirstFit
 
   main_at : find_routine text.routines (Method f.component f.method) ≡ Some main
   main_at =
-      ap (λ b. if b && same_name f.method f.method then Some main else None) (same_itself f.component) ∙ ap (λ b. if b then Some main else None)
+      ap (λ b. if b && bytes_eq f.method f.method then Some main else None) (same_itself f.component) ∙ ap (λ b. if b then Some main else None)
       (same_itself f.method)
 
   main_target : text.main ≡ Method f.component f.method

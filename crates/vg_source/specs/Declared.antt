@@ -1,8 +1,9 @@
 -- The declarations of a text, by name. Where two have one name, the first is meant.
-use Rattle.std.specs.Prelude.{ℕ, zero, suc, List, [], ◌∷◌, ◌++◌, Option, Some, None, if◌then◌else◌}
+use Rattle.std.specs.Prelude.{ℕ, zero, suc, List, [], ◌∷◌, ◌++◌, Option, Some, None, if◌then◌else◌, bytes_eq}
 use Rattle.vg_syntax.specs.Tree.{TypeTree, Param, Node, Nothing, Then, ClassDecl, ComponentDecl, DeviceDecl, RegisterDecl, FieldDecl, MethodDecl}
 use Rattle.vg_syntax.specs.Tree as tree
-use Rattle.vg_source.specs.Names.{Name, same_name}
+use Rattle.vg_syntax.specs.Classes.{ClassParts, class_named}
+use Rattle.vg_source.specs.Names.{Name}
 use Rattle.vg_source.specs.Types.{StaticType, IntType, BoolType, CharType, RawType, ClassType, ArrayType, FunctionType, NoType, MoreTypes}
 use Rattle.vg_source.specs.Values.{FieldValue, default}
 use Rattle.vg_source.specs.Literals.{number_of}
@@ -36,8 +37,8 @@ or_else None b = b
 
 -- A member declaration of this name, of this class or component.
 abbrev pub as_member : (owner : Name) → Node → Name → Option Member
-as_member owner (FieldDecl at n t value) x = if same_name n x then Some (AField owner (written_type t)) else None
-as_member owner (MethodDecl at n ps t body) x = if same_name n x then Some (AMethod (row_of ps) (written_type t)) else None
+as_member owner (FieldDecl at n t value) x = if bytes_eq n x then Some (AField owner (written_type t)) else None
+as_member owner (MethodDecl at n ps t body) x = if bytes_eq n x then Some (AMethod (row_of ps) (written_type t)) else None
 as_member owner _ x = None
 
 -- The member of this name among these, which are those of this class or component.
@@ -45,24 +46,9 @@ abbrev pub member_in : (owner : Name) → Node → Name → Option Member
 member_in owner (Then m rest) x = or_else (as_member owner m x) (member_in owner rest x)
 member_in owner _ x = None
 
--- A class: the name of its superclass, if it has one, and its members.
-pub record ClassParts : Type 0 where
-  pub above : Option Name
-  pub members : Node
-
--- A class declaration of this name.
-abbrev pub as_class : Node → Name → Option ClassParts
-as_class (ClassDecl at n above members) c = if same_name n c then Some (record { above = above; members = members }) else None
-as_class _ c = None
-
--- The class of this name.
-abbrev pub class_named : Node → Name → Option ClassParts
-class_named (Then d rest) c = or_else (as_class d c) (class_named rest c)
-class_named _ c = None
-
 -- The members of a component declaration of this name.
 abbrev pub as_component : Node → Name → Option Node
-as_component (ComponentDecl at n members) c = if same_name n c then Some members else None
+as_component (ComponentDecl at n members) c = if bytes_eq n c then Some members else None
 as_component _ c = None
 
 -- The members of the component of this name.
@@ -72,7 +58,7 @@ component_named _ c = None
 
 -- The registers of a device declaration of this name.
 abbrev pub as_device : Node → Name → Option Node
-as_device (DeviceDecl at n registers) d = if same_name n d then Some registers else None
+as_device (DeviceDecl at n registers) d = if bytes_eq n d then Some registers else None
 as_device _ d = None
 
 -- The registers of the device of this name.
@@ -82,7 +68,7 @@ device_named _ x = None
 
 -- The address of a register declaration of this name.
 abbrev pub as_register : Node → Name → Option ℕ
-as_register (RegisterDecl at n number) x = if same_name n x then Some (number_of number) else None
+as_register (RegisterDecl at n number) x = if bytes_eq n x then Some (number_of number) else None
 as_register _ x = None
 
 -- The address of the register of this name among these.

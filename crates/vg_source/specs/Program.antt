@@ -1,8 +1,8 @@
 -- From the tree of a text to its source program: classes, methods, constructors, initialisers, components and entries.
-use Rattle.std.specs.Prelude.{ℕ, suc, List, [], ◌∷◌, ◌++◌, codes, length, drop, reverse, map, Option, Some, None, if◌then◌else◌}
+use Rattle.std.specs.Prelude.{ℕ, suc, List, [], ◌∷◌, ◌++◌, codes, length, drop, reverse, map, Option, Some, None, if◌then◌else◌, bytes_eq}
 use Rattle.vg_syntax.specs.Tree.{Param, Node, Nothing, Then, ClassDecl, ComponentDecl, ProgramDecl, EntryDecl, FieldDecl, MethodDecl, ConstructorDecl, Text}
 use Rattle.vg_meaning.specs.Code as code
-use Rattle.vg_source.specs.Names.{Name, same_name}
+use Rattle.vg_source.specs.Names.{Name}
 use Rattle.vg_source.specs.Values.{Value, Null, FieldValue, default}
 use Rattle.vg_source.specs.Steps.{Step, This, SetField, SetComponentField, Super, Target, Method, Construct, Start, Routine, Class, Handler, Source}
 use Rattle.vg_source.specs.Literals.{number_of}
@@ -164,13 +164,13 @@ entries_in _ = Nothing
 
 -- The method of the entry `main`.
 abbrev pub main_of : Node → Target
-main_of (Then (EntryDecl at key c m) rest) = if same_name key (codes "main") then Method c m else main_of rest
+main_of (Then (EntryDecl at key c m) rest) = if bytes_eq key (codes "main") then Method c m else main_of rest
 main_of (Then _ rest) = main_of rest
 main_of _ = Method [] []
 
 -- The numbered entries: the key of such an entry is a number.
 abbrev pub declared_handler : Node → List Handler
-declared_handler (EntryDecl at key c m) = if same_name key (codes "main") then [] else record { vector = number_of key; target = Method c m } ∷ []
+declared_handler (EntryDecl at key c m) = if bytes_eq key (codes "main") then [] else record { vector = number_of key; target = Method c m } ∷ []
 declared_handler _ = []
 
 -- All numbered entries, in order of the text.

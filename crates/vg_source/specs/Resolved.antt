@@ -1,11 +1,11 @@
 -- What the nodes of a body stand for: structured code over steps, with each name told what it stands for. Types go upward.
-use Rattle.std.specs.Prelude.{ℕ, ◌+◌, true, false, List, [], ◌∷◌, codes, length, Option, Some, None, if◌then◌else◌}
+use Rattle.std.specs.Prelude.{ℕ, ◌+◌, true, false, List, [], ◌∷◌, codes, length, Option, Some, None, if◌then◌else◌, bytes_eq}
 use Rattle.vg_syntax.specs.declared.kind.Kind.{Kind}
 use Rattle.vg_syntax.specs.declared.kind.Kind.TheVariants as kind
 use Rattle.vg_syntax.specs.Tree.{Node}
 use Rattle.vg_syntax.specs.Tree as tree
 use Rattle.vg_meaning.specs.Code as code
-use Rattle.vg_source.specs.Names.{Name, same_name}
+use Rattle.vg_source.specs.Names.{Name}
 use Rattle.vg_source.specs.Types.{StaticType, IntType, BoolType, CharType, RawType, NullType, ClassType, ArrayType, FunctionType, NoType}
 use Rattle.vg_source.specs.Operators.{Operator, Plus, Minus, Times, Divide, Remainder, Less, AtMost, Greater, AtLeast, Equal, Unequal, And, Or, Xor}
 use Rattle.vg_source.specs.Operators.{ShiftLeft, ShiftRight, Concat, Prefix, Negative, Not, Complement}
@@ -112,7 +112,7 @@ settled m = settled_as m m.head
 -- A parameter or local in scope.
 abbrev pub find_local : List Typed → Name → Option Typed
 find_local [] x = None
-find_local (l ∷ ls) x = if same_name l.name x then Some l else find_local ls x
+find_local (l ∷ ls) x = if bytes_eq l.name x then Some l else find_local ls x
 
 -- A member of the object that waits, whose static class is c.
 abbrev pub object_member : ℕ → (c x : Name) → Option Member → Scope → Resolved
@@ -182,7 +182,7 @@ register_of None x = None
 abbrev pub member_suffix : Node → ℕ → Name → Scope → Head → Resolved
 member_suffix ds at x ls (IsValue (ClassType c)) = object_member at c x (class_member ds c x) ls
 member_suffix ds at x ls (IsValue (ArrayType t)) =
-    if same_name x length_name then single (step.Length at t) (IsValue IntType) ls else nothing NoHead ls
+    if bytes_eq x length_name then single (step.Length at t) (IsValue IntType) ls else nothing NoHead ls
 member_suffix ds at x ls (IsComponent c) = its_member c x (component_member ds c x) ls
 member_suffix ds at x ls (IsDevice d) = its_register (register_of (device_named ds d) x) ls
 member_suffix ds at x ls _ = nothing NoHead ls

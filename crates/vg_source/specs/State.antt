@@ -1,6 +1,7 @@
 -- What an evaluation has in hand, and the look-ups in it.
 use Rattle.std.specs.Prelude.{ℕ, ◌==◌, ◌&&◌, Bool, false, List, [], ◌∷◌, ◌++◌, take, drop, reverse, Option, Some, None, slice_get, slice_set, if◌then◌else◌}
-use Rattle.vg_source.specs.Names.{Name, same_name, is_among}
+use Rattle.std.specs.Prelude.{bytes_eq}
+use Rattle.vg_source.specs.Names.{Name, is_among}
 use Rattle.vg_source.specs.Values.{Value, FieldValue, Heap, Cell, Object, Array}
 use Rattle.vg_source.specs.Steps.{Source, Class, Routine, Target, Method, Construct, Start, Handler}
 
@@ -14,19 +15,19 @@ pub record State : Type 0 where
 -- The value of the field f that c declares.
 abbrev pub find_value : List FieldValue → (c f : Name) → Option Value
 find_value [] c f = None
-find_value (v ∷ vs) c f = if same_name v.owner c && same_name v.name f then Some v.value else find_value vs c f
+find_value (v ∷ vs) c f = if bytes_eq v.owner c && bytes_eq v.name f then Some v.value else find_value vs c f
 
 -- The field f that c declares is set, where it is there.
 abbrev pub set_value : List FieldValue → (c f : Name) → Value → List FieldValue
 set_value [] c f x = []
 set_value (v ∷ vs) c f x =
-    if same_name v.owner c && same_name v.name f then record v { value = x } ∷ vs else v ∷ set_value vs c f x
+    if bytes_eq v.owner c && bytes_eq v.name f then record v { value = x } ∷ vs else v ∷ set_value vs c f x
 
 -- Two targets are the same.
 abbrev pub same_target : Target → Target → Bool
-same_target (Method c m) (Method d n) = same_name c d && same_name m n
-same_target (Construct c) (Construct d) = same_name c d
-same_target (Start c) (Start d) = same_name c d
+same_target (Method c m) (Method d n) = bytes_eq c d && bytes_eq m n
+same_target (Construct c) (Construct d) = bytes_eq c d
+same_target (Start c) (Start d) = bytes_eq c d
 same_target _ _ = false
 
 -- The routine of a target.
@@ -46,7 +47,7 @@ find_called rs t count = of_count count (find_routine rs t)
 -- The class of a name.
 abbrev pub find_class : List Class → Name → Option Class
 find_class [] c = None
-find_class (k ∷ ks) c = if same_name k.name c then Some k else find_class ks c
+find_class (k ∷ ks) c = if bytes_eq k.name c then Some k else find_class ks c
 
 -- The names of a class and of all above it, where the class is there.
 abbrev pub chain_in : Option Class → List Name
