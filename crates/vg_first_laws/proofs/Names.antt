@@ -6,8 +6,7 @@ use Rattle.std.proofs.lemmas.Slice.Eq.{bytes_eq-Decides}
 use Rattle.std.proofs.lemmas.Grind.{flat_map-append}
 use Rattle.vg_syntax.specs.Hexadecimal.{hex_value}
 use Rattle.vg_syntax.specs.Lexemes.{is_hexadecimal}
-use Rattle.vg_first_text.specs.FirstText.{FirstAssignment, FirstRegister, First, IsByteNumber, IsAssignment, address_of, AreRegisters, FirstFits, write_of}
-use Rattle.vg_first_text.specs.FirstText.{writes_of}
+use Rattle.vg_first_text.specs.FirstText.{FirstAssignment, FirstRegister, First, IsByteNumber, IsAssignment, address_of, AreRegisters, FirstFits, write_of, writes_of}
 use Rattle.vg_syntax.specs.Tree.{Spot, Node, Then, EntryDecl}
 use Rattle.vg_syntax.specs.Tree as tree
 use Rattle.vg_meaning.specs.Code as code
@@ -59,8 +58,7 @@ registers_in at k (r ∷ rs) x (number, once, h) =
 
 byte_is : (digits : List ℕ) → IsByteNumber digits → number_value digits ≡ Raw 8 (hex_value digits)
 byte_is digits h =
-    ap (λ b. if b then Raw (4 * (length digits - 2)) (hex_value digits) else int_of (decimal 0 digits)) h.hexadecimal
-        ∙ ap (λ n. Raw (4 * (n - 2)) (hex_value digits)) h.two
+    ap (λ b. if b then Raw (4 * (length digits - 2)) (hex_value digits) else int_of (decimal 0 digits)) h.hexadecimal ∙ ap (λ n. Raw (4 * (n - 2)) (hex_value digits)) h.two
 
 module _ (at : ℕ → Spot) (ds : Node) (c d : Name) (k : ℕ) (rs : List FirstRegister)
     (no_member : component_member ds c d ≡ None) (no_component : component_named ds d ≡ None) (device : device_named ds d ≡ Some (register_row at k rs))
@@ -108,8 +106,7 @@ module _ (at : ℕ → Spot) (device program : ℕ) (f : First) (fits : FirstFit
 
   no_literals : literals ds ≡ []
   no_literals =
-      quiet_append (nodes (assignment_row at 4 f.assignments) ++ []) _
-          (quiet_append (nodes (assignment_row at 4 f.assignments)) [] (quiet_assignments at 4 f.assignments) refl)
+      quiet_append (nodes (assignment_row at 4 f.assignments) ++ []) _ (quiet_append (nodes (assignment_row at 4 f.assignments)) [] (quiet_assignments at 4 f.assignments) refl)
       (quiet_append (nodes (register_row at (device + 1) f.registers)) _ (quiet_registers at (device + 1) f.registers) refl)
 
   abbrev members : Node
@@ -145,9 +142,7 @@ module _ (at : ℕ → Spot) (device program : ℕ) (f : First) (fits : FirstFit
   start_is = ap (λ b. if b then Some start else find_routine (main ∷ []) (Start f.component)) (same_itself f.component)
 
   main_at : find_routine text.routines (Method f.component f.method) ≡ Some main
-  main_at =
-      ap (λ b. if b && same_name f.method f.method then Some main else None) (same_itself f.component)
-      ∙ ap (λ b. if b then Some main else None) (same_itself f.method)
+  main_at = ap (λ b. if b && same_name f.method f.method then Some main else None) (same_itself f.component) ∙ ap (λ b. if b then Some main else None) (same_itself f.method)
 
   main_is : find_routine text.routines text.main ≡ Some main
   main_is =
@@ -167,8 +162,6 @@ module _ (at : ℕ → Spot) (device program : ℕ) (f : First) (fits : FirstFit
     start_does = λ call s w. refl;
     main = main;
     main_found = main_is;
-    main_body =
-        assignments_are at ds f.component f.device (device + 1) f.registers no_member no_component device_is fits.registers 4 f.assignments fits.assignments;
-    handlers =
-        λ k. ap (λ key. handler_of (handlers_in (Then (EntryDecl (at (program + 1)) key f.entry_component f.entry_method) tree.Nothing)) k) fits.names.key;
+    main_body = assignments_are at ds f.component f.device (device + 1) f.registers no_member no_component device_is fits.registers 4 f.assignments fits.assignments;
+    handlers = λ k. ap (λ key. handler_of (handlers_in (Then (EntryDecl (at (program + 1)) key f.entry_component f.entry_method) tree.Nothing)) k) fits.names.key;
   }

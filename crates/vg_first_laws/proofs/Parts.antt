@@ -1,4 +1,6 @@
 -- The parts of a program of constants: each is spelled by its pieces.
+-- For each part the parse is written down by the alternatives of the grammar, with its tokens as leaves; assignments and
+-- registers by induction.
 use Rattle.std.proofs.Common.{◌≡◌, ℕ, List, [], ◌∷◌, ◌++◌, refl}
 use Rattle.std.specs.List.{flat_map}
 use Rattle.vg_syntax.specs.declared.kind.Kind.TheVariants as kind

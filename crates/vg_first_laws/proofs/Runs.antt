@@ -17,8 +17,7 @@ use Rattle.vg_source.specs.Values.{Raw, Null, Heap, Global, stored_values}
 use Rattle.vg_source.specs.Steps.{Step, Put, SetRegister, Target, Start, Routine, Source}
 use Rattle.vg_source.specs.State.{State, find_routine, handler_of, entered}
 use Rattle.vg_source.specs.Meaning.{Caller, put, taking, with_found, step, truth}
-use Rattle.vg_source.specs.Session.{activity, back_in, literal_cell, start_all, starting_world, start_of, Initialised, run_routine, called, call_alone}
-use Rattle.vg_source.specs.Session.{handled, handle, with_heap, running, running_world, Started, started, session, session_of}
+use Rattle.vg_source.specs.Session.{activity, back_in, literal_cell, start_all, starting_world, start_of, Initialised, run_routine, called, call_alone, handled, handle, with_heap, running, running_world, Started, started, session, session_of}
 use Rattle.vg_first_laws.specs.Trees.{empty_heap, Shows}
 
 -- the code of an assignment, and of all of them
@@ -32,16 +31,14 @@ writes_code (w ∷ ws) = Then (write_code w) (writes_code ws)
 -- the world of a run with this clock, history, outside and trace
 abbrev pub during : (clock : ℕ) → History → (reads interrupts : List ℕ) → List Event → World History
 during clock h reads interrupts t =
-    record { phase = Running; deepest = None; largest = None; clock = clock; outside = record { reads = reads; interrupts = interrupts; trace = t };
-        history = h }
+    record { phase = Running; deepest = None; largest = None; clock = clock; outside = record { reads = reads; interrupts = interrupts; trace = t }; history = h }
 
 -- the writes are made in order
 writes_do : (p : Source) (call : Caller History) (ws : List DeviceWrite) (s : State) (c : ℕ) (h : History) (reads ints : List ℕ) (t : List Event)
     → performed full (step p call) truth (writes_code ws) s (during c h reads ints t) ≡ Gives s (during c h reads ints (t ++ map write_event ws))
 writes_do p call [] s c h reads ints t = ap (λ x. Gives s (during c h reads ints x)) (sym (append-nil t))
 writes_do p call (w ∷ ws) s c h reads ints t =
-    writes_do p call ws s c h reads ints (t ++ write_event w ∷ [])
-        ∙ ap (λ x. Gives s (during c h reads ints x)) (append_assoc t (write_event w ∷ []) (map write_event ws))
+    writes_do p call ws s c h reads ints (t ++ write_event w ∷ []) ∙ ap (λ x. Gives s (during c h reads ints x)) (append_assoc t (write_event w ∷ []) (map write_event ws))
 
 -- each interrupt is taken, and none has a handler
 idles_do : (p : Source) → ((k : ℕ) → handler_of p.handlers k ≡ None) → (ks : List ℕ) (s : State) (c : ℕ) (h : History) (reads : List ℕ) (t : List Event)
@@ -84,10 +81,8 @@ module _ (p : Source) (ws : List DeviceWrite) (k : IsConstants p ws) where
       ≡ Gives (with_heap empty_heap) (during n (note_closing called_history) reads ints (map write_event ws))
   main_does n reads ints =
       ap (λ o. alone p p.main n o (with_heap empty_heap) (running_world no_history None reads ints (suc n))) k.main_found
-      ∙ ap (λ c. behind_body k.main (with_heap empty_heap) (performed full (step p (called full p n)) truth c (entered k.main 0 Null (with_heap empty_heap))
-          (during n called_history reads ints []))) k.main_body
-      ∙ ap (behind_body k.main (with_heap empty_heap)) (writes_do p (called full p n) ws
-          (entered k.main 0 Null (with_heap empty_heap)) n called_history reads ints [])
+      ∙ ap (λ c. behind_body k.main (with_heap empty_heap) (performed full (step p (called full p n)) truth c (entered k.main 0 Null (with_heap empty_heap)) (during n called_history reads ints []))) k.main_body
+      ∙ ap (behind_body k.main (with_heap empty_heap)) (writes_do p (called full p n) ws (entered k.main 0 Null (with_heap empty_heap)) n called_history reads ints [])
 
   running_does : (n : ℕ) (reads ints : List ℕ)
       → running full no_history p empty_heap None reads ints (suc n)
@@ -112,15 +107,12 @@ module _ (p : Source) (ws : List DeviceWrite) (k : IsConstants p ws) where
 
   start_alone : (n : ℕ) → alone p (Start k.component) n (Some k.start) (with_heap empty_heap) (starting_world no_history (suc n))
       ≡ Gives (with_heap empty_heap) (record (starting_world {H = History} (note_closing start_history) n) { clock = n })
-  start_alone n =
-      ap (behind_body k.start (with_heap empty_heap)) (k.start_does (called full p n) (entered k.start 0 Null (with_heap empty_heap))
-      (starting_world start_history n))
+  start_alone n = ap (behind_body k.start (with_heap empty_heap)) (k.start_does (called full p n) (entered k.start 0 Null (with_heap empty_heap)) (starting_world start_history n))
 
   pub started_does : (n : ℕ) → started p (suc n) ≡ Started empty_heap
   started_does n =
       ap (λ l. starting_from (suc n) l p.globals p.components) k.literals
       ∙ ap (λ g. starting_from (suc n) [] g p.components) k.globals
       ∙ ap (λ cs. starting_from (suc n) [] [] cs) k.components
-      ∙ ap (λ o. start_of (and_then (alone p (Start k.component) n o (with_heap empty_heap) (starting_world no_history (suc n))) (start_all full p [])))
-          k.start_found
+      ∙ ap (λ o. start_of (and_then (alone p (Start k.component) n o (with_heap empty_heap) (starting_world no_history (suc n))) (start_all full p []))) k.start_found
       ∙ ap (λ a. start_of (and_then a (start_all full p []))) (start_alone n)

@@ -2,8 +2,7 @@
 use Rattle.std.specs.Prelude.{◌≡◌, ℕ, ◌+◌, List, [], ◌∷◌, Some}
 use Rattle.vg_meaning.specs.Seen.{Seen}
 use Rattle.vg_first_text.specs.FirstText.{FirstAssignment, FirstRegister, First}
-use Rattle.vg_syntax.specs.Tree.{Spot, Node, Nothing, Then, NoType, Text, ComponentDecl, DeviceDecl, RegisterDecl, ProgramDecl, EntryDecl, MethodDecl, Block}
-use Rattle.vg_syntax.specs.Tree.{Assign, Postfix, Name, Member, Number}
+use Rattle.vg_syntax.specs.Tree.{Spot, Node, Nothing, Then, NoType, Text, ComponentDecl, DeviceDecl, RegisterDecl, ProgramDecl, EntryDecl, MethodDecl, Block, Assign, Postfix, Name, Member, Number}
 use Rattle.vg_source.specs.Values.{Heap}
 use Rattle.vg_source.specs.Session.{Session}
 

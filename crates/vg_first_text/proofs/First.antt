@@ -1,4 +1,6 @@
 -- One spelling has one program of constants.
+-- The pieces of a text spell head, assignments, middle, registers and tail. Each part ends where the next one begins with a piece
+-- that cannot go on with it, so the parts are found one by one from the front, and no other program has these pieces.
 use Rattle.std.proofs.Common.{◌≡◌, ℕ, List, [], ◌∷◌, ◌++◌, map, drop, refl, sym, ap, ◌∙◌, subst, Bool, true, false, Some, None}
 use Rattle.std.specs.List.{flat_map, AllByRecursion}
 use Rattle.std.specs.Prelude.{if◌then◌else◌, bytes_eq, unwrap_or, Result, Ok, Err, IsErrAnd, IsErrOf}

@@ -1,4 +1,6 @@
 -- The parts of a program of constants, by the kinds of their tokens.
+-- A part is known by the kinds of its tokens, in order; with their texts it is spelled in one way. The lemmas go from kinds to
+-- pieces and back.
 use Rattle.std.proofs.Common.{◌≡◌, ℕ, List, [], ◌∷◌, ◌++◌, map, get_or, refl, sym, ap, ◌∙◌}
 use Rattle.std.proofs.lemmas.List.{map-append}
 use Rattle.vg_syntax.specs.declared.kind.Kind.{Kind}

@@ -1,4 +1,6 @@
 -- Registers one by one: their numbers, their names and the look-up of their addresses.
+-- Registers that fit so far are kept beside a look-up of their addresses; one more goes behind them. A new name has no address
+-- among the earlier ones, and each earlier one keeps its own.
 use Rattle.std.proofs.Common.{◌≡◌, ℕ, Bool, true, false, List, [], ◌∷◌, ◌++◌, Option, Some, None, refl, sym, ap, ◌∙◌}
 use Rattle.std.specs.Prelude.{if◌then◌else◌, cond, bytes_eq, is_some}
 use Rattle.std.proofs.lemmas.Slice.Eq.{bytes_eq-Decides}

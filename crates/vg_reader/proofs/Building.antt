@@ -1,4 +1,6 @@
 -- The values that are held stand for those that the steps make.
+-- The invariant of the loop, Built: with the steps and tokens that are left, the values so far become those of all steps, for
+-- all texts that the names may stand for later. Each lemma is one step: a token is taken, or a part is made.
 use Rattle.std.proofs.Common.{◌≡◌, ℕ, zero, suc, slice_get, get_or, ◌+◌, ◌-◌, ◌<◌, ◌≤◌, List, [], ◌∷◌, ◌++◌, length, map, Some, None, refl, sym, ap, ◌∙◌}
 use Rattle.std.proofs.Common.{subst, arith, take, drop}
 use Rattle.std.specs.Prelude.{Vec}

@@ -1,4 +1,6 @@
 -- The tree of a text has fewer than 2^32 nodes.
+-- A parse has no more tokens and parts than the room of Room gives its tokens, each of them makes at most three nodes (Few), and a
+-- text has no more tokens than bytes.
 use Rattle.std.proofs.Common.{◌≡◌, ℕ, zero, suc, ◌+◌, ◌*◌, ◌<◌, ◌≤◌, Bool, true, false, List, [], ◌∷◌, ◌++◌, length, sym, ap, arith}
 use Rattle.std.specs.Prelude.{if◌then◌else◌}
 use Rattle.vg_base.specs.Limits.{text_limit}

@@ -6,10 +6,7 @@ use Rattle.vg_first_laws.proofs.Names.{is_constants}
 use Rattle.vg_first_laws.proofs.meaning.constants_mean.Goals as goal
 
 pub returns-clause-started : goal.returns-clause-started
-returns-clause-started c =
-    λ at device program f fits clock. started_does (source_of (first_tree at device program f)) (writes_of f) (is_constants at device program f fits) clock
+returns-clause-started c = λ at device program f fits clock. started_does (source_of (first_tree at device program f)) (writes_of f) (is_constants at device program f fits) clock
 
 pub returns-clause-session : goal.returns-clause-session
-returns-clause-session c =
-    λ at device program f fits reads ints clock. session_does (source_of (first_tree at device program f)) (writes_of f)
-    (is_constants at device program f fits) reads ints clock
+returns-clause-session c = λ at device program f fits reads ints clock. session_does (source_of (first_tree at device program f)) (writes_of f) (is_constants at device program f fits) reads ints clock
