@@ -25,7 +25,8 @@ kind_of_piece other text = refl
 
 -- tokens of the pieces `ps` begin with a row of parses of `s`, and those behind have the pieces `qs`
 unfoldable pub Goes : (bytes : List ℕ) (ps : List Piece) (s : List Symbol) (qs : List Piece) → Type 0
-Goes bytes ps s qs = (ts : List Token) → pieces bytes ts ≡ ps → (p : Parse) × (more : List Token) × Fits p s × (ts ≡ leaves p ++ more) × (pieces bytes more ≡ qs)
+Goes bytes ps s qs =
+    (ts : List Token) → pieces bytes ts ≡ ps → (p : Parse) × (more : List Token) × Fits p s × (ts ≡ leaves p ++ more) × (pieces bytes more ≡ qs)
 
 module _ (bytes : List ℕ) where
   pub nil : (qs : List Piece) → Goes bytes qs [] qs
@@ -60,7 +61,8 @@ module _ (bytes : List ℕ) where
   empty n a qs e = one_of n a [] qs qs e (nil qs)
 
   -- a level of expressions that is one operand of the next level
-  pub level : (n m r : Part) (a : ℕ) (ps qs : List Piece) → nth (rules n) 0 ≡ Some (Use m ∷ Use r ∷ []) → nth (rules r) a ≡ Some [] → Goes bytes ps (Use m ∷ []) qs → Goes bytes ps (Use n ∷ []) qs
+  pub level : (n m r : Part) (a : ℕ) (ps qs : List Piece) → nth (rules n) 0 ≡ Some (Use m ∷ Use r ∷ []) → nth (rules r) a ≡ Some []
+      → Goes bytes ps (Use m ∷ []) qs → Goes bytes ps (Use n ∷ []) qs
   level n m r a ps qs e f g = one_of n 0 (Use m ∷ Use r ∷ []) ps qs e (before m (Use r ∷ []) ps qs qs g (empty r a qs f))
 
   no_tokens : (ts : List Token) → pieces bytes ts ≡ [] → ts ≡ []

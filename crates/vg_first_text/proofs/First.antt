@@ -1,9 +1,12 @@
 -- One spelling has one program of constants.
+-- The pieces of a text spell head, assignments, middle, registers and tail. Each part ends where the next one begins with a piece
+-- that cannot go on with it, so the parts are found one by one from the front, and no other program has these pieces.
 use Rattle.std.proofs.Common.{◌≡◌, ℕ, List, [], ◌∷◌, ◌++◌, map, drop, refl, sym, ap, ◌∙◌, subst, Bool, true, false, Some, None}
 use Rattle.std.specs.List.{flat_map, AllByRecursion}
 use Rattle.std.specs.Prelude.{if◌then◌else◌, bytes_eq, unwrap_or, Result, Ok, Err, IsErrAnd, IsErrOf}
-use Rattle.vg_first_text.specs.declared.first_text.FirstFault.{FirstFault}
-use Rattle.vg_first_text.specs.declared.first_text.FirstFault.TheVariants.{NotFirst}
+use Rattle.vg_base.specs.declared.refusal.Refusal.{Refusal}
+use Rattle.vg_base.specs.declared.refusal.Refusal.TheVariants.{Fault}
+use Rattle.vg_first_text.specs.declared.first_text.NotFirst.{NotFirst}
 use Rattle.vg_meaning.specs.Device.{IsDeviceAddress}
 use Rattle.vg_first_text.specs.declared.device_write.DeviceWrite.{DeviceWrite}
 use Rattle.vg_syntax.specs.declared.token.Token.{Token}
@@ -12,7 +15,8 @@ use Rattle.vg_syntax.specs.Hexadecimal.{hex_value}
 use Rattle.vg_syntax.specs.Tokens.{IsTokens}
 use Rattle.vg_scan.proofs.Reading.{only_tokens}
 use Rattle.vg_first_text.proofs.Hexadecimal.{two_digits_below}
-use Rattle.vg_first_text.specs.FirstText.{First, FirstAssignment, FirstRegister, head_pieces, assignment_pieces, middle_pieces, register_pieces, tail_pieces, first_pieces, AreRegisters, IsAssignment, FirstFits, IsFirst, address_of, write_of, writes_of}
+use Rattle.vg_first_text.specs.FirstText.{First, FirstAssignment, FirstRegister, head_pieces, assignment_pieces, middle_pieces, register_pieces, tail_pieces}
+use Rattle.vg_first_text.specs.FirstText.{first_pieces, AreRegisters, IsAssignment, FirstFits, IsFirst, address_of, write_of, writes_of}
 use Rattle.vg_first_text.specs.FirstViews.{IsBehindAssignments, IsBehindRegisters}
 use Rattle.vg_first_text.specs.Pieces.{Piece, pieces}
 
@@ -102,7 +106,17 @@ same_tail a b c d a' b' c' d' e = (cc, cc, cc, cc)
 
 same_fields : (c c' m m' : List ℕ) (a a' : List FirstAssignment) (d d' : List ℕ) (r r' : List FirstRegister) (p p' k k' x x' y y' : List ℕ)
     → c ≡ c' → m ≡ m' → a ≡ a' → d ≡ d' → r ≡ r' → p ≡ p' → k ≡ k' → x ≡ x' → y ≡ y'
-    → (let f : First = record { component = c; method = m; assignments = a; device = d; registers = r; program = p; key = k; entry_component = x; entry_method = y } in f)
+    → (let f : First = record {
+      component = c;
+      method = m;
+      assignments = a;
+      device = d;
+      registers = r;
+      program = p;
+      key = k;
+      entry_component = x;
+      entry_method = y;
+    } in f)
     ≡ record { component = c'; method = m'; assignments = a'; device = d'; registers = r'; program = p'; key = k'; entry_component = x'; entry_method = y' }
 same_fields c c' m m' a a' d d' r r' p p' k k' x x' y y' e1 e2 e3 e4 e5 e6 e7 e8 e9 = cc
 
@@ -141,7 +155,8 @@ not_fitting bytes tokens f t e none writes a =
     none (subst FirstFits (sym same) a.fits)
 
 -- the address of a register that is there is that of a device register
-address_fits : (rs : List FirstRegister) (name : List ℕ) → AreRegisters rs → (address_of rs name ≡ None → ⊥) → IsDeviceAddress (unwrap_or (address_of rs name) 0)
+address_fits : (rs : List FirstRegister) (name : List ℕ) → AreRegisters rs → (address_of rs name ≡ None → ⊥)
+    → IsDeviceAddress (unwrap_or (address_of rs name) 0)
 address_fits [] name h some = absurd (some refl)
 address_fits (r ∷ rs) name h some = by_test (bytes_eq r.name name) some (address_fits rs name h.2)
   where
@@ -152,14 +167,16 @@ address_fits (r ∷ rs) name h some = by_test (bytes_eq r.name name) some (addre
     by_test false some again = again some
 
 -- the writes of assignments that fit go to device registers
-pub are_devices : (device : List ℕ) (rs : List FirstRegister) (xs : List FirstAssignment) → AreRegisters rs → AllByRecursion (IsAssignment device rs) xs → AreDevices (map (write_of rs) xs)
+pub are_devices : (device : List ℕ) (rs : List FirstRegister) (xs : List FirstAssignment) → AreRegisters rs → AllByRecursion (IsAssignment device rs) xs
+    → AreDevices (map (write_of rs) xs)
 are_devices device rs [] h g = tt
 are_devices device rs (x ∷ xs) h g = (
   record { place = address_fits rs x.register h g.0.register; byte = two_digits_below x.digits g.0.value.hexadecimal g.0.value.two },
   are_devices device rs xs h g.1,
 )
 
--- a fault that is handed on
-pub handed_on : {T : Type 0} (result : Result T FirstFault) (fault : FirstFault) → IsErrAnd result (λ e. e ≡ fault) → IsErrOf result NotFirst → fault ≡ NotFirst
-handed_on (Ok v) fault h e = absurd h
-handed_on (Err f) fault h e = let same : f ≡ NotFirst = cc in sym h ∙ same
+-- a refusal that is handed on
+pub handed_on : {T : Type 0} (result : Result T (Refusal NotFirst)) (refusal : Refusal NotFirst) (why : NotFirst) → IsErrAnd result (λ e. e ≡ refusal)
+    → result ≡ Err (Fault why) → refusal ≡ Fault why
+handed_on (Ok v) refusal why h e = absurd h
+handed_on (Err f) refusal why h e = let same : f ≡ Fault why = cc in sym h ∙ same

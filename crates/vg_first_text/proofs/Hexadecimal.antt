@@ -1,5 +1,6 @@
 -- Values of hexadecimal digits.
-use Rattle.std.proofs.Common.{◌≡◌, ℕ, ◌+◌, ◌*◌, ◌<◌, ◌≤◌, List, [], ◌∷◌, length, drop, get_or, suc, Bool, true, false, refl, ap, arith, drop-cons, Option, Some, None, IfNone}
+use Rattle.std.proofs.Common.{◌≡◌, ℕ, ◌+◌, ◌*◌, ◌<◌, ◌≤◌, List, [], ◌∷◌, length, drop, get_or, suc, Bool, true, false, refl, ap, arith, drop-cons, Option}
+use Rattle.std.proofs.Common.{Some, None, IfNone}
 use Rattle.vg_first_text.specs.FirstText.{IsByteNumber}
 use Rattle.std.specs.Prelude.{◌&&◌, ◌==◌}
 use Rattle.vg_syntax.specs.Bytes.{is_hex_digit}

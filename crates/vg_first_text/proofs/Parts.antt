@@ -1,4 +1,6 @@
 -- The parts of a program of constants, by the kinds of their tokens.
+-- A part is known by the kinds of its tokens, in order; with their texts it is spelled in one way. The lemmas go from kinds to
+-- pieces and back.
 use Rattle.std.proofs.Common.{◌≡◌, ℕ, List, [], ◌∷◌, ◌++◌, map, get_or, refl, sym, ap, ◌∙◌}
 use Rattle.std.proofs.lemmas.List.{map-append}
 use Rattle.vg_syntax.specs.declared.kind.Kind.{Kind}
@@ -57,7 +59,8 @@ tail_spelled bytes (a ∷ b ∷ c ∷ d ∷ e ∷ f ∷ g ∷ h ∷ i ∷ j ∷ 
 tail_spelled bytes _ k = absurd cc
 
 -- a front that spells a part, and the rest
-pub in_front : (bytes : List ℕ) (ts front rest : List Token) (ps : List Piece) → ts ≡ front ++ rest → pieces bytes front ≡ ps → pieces bytes ts ≡ ps ++ pieces bytes rest
+pub in_front : (bytes : List ℕ) (ts front rest : List Token) (ps : List Piece) → ts ≡ front ++ rest → pieces bytes front ≡ ps
+    → pieces bytes ts ≡ ps ++ pieces bytes rest
 in_front bytes ts front rest ps e p = ap (pieces bytes) e ∙ map-append (piece_of bytes) front rest ∙ ap (λ l. l ++ pieces bytes rest) p
 
 -- no front of these kinds
@@ -70,10 +73,12 @@ head_some bytes ts front rest component method e k f g =
     in_front bytes ts front rest (head_pieces component method) e
     (head_spelled bytes front k ∙ ap (λ t. head_pieces t (text_at bytes front 4)) (sym f) ∙ ap (head_pieces component) (sym g))
 
-pub head_none : (bytes : List ℕ) (ts : List Token) → HasNoFront ts head_kinds → (component method : List ℕ) (more : List Piece) → pieces bytes ts ≡ head_pieces component method ++ more → ⊥
+pub head_none : (bytes : List ℕ) (ts : List Token) → HasNoFront ts head_kinds → (component method : List ℕ) (more : List Piece)
+    → pieces bytes ts ≡ head_pieces component method ++ more → ⊥
 head_none bytes ts none component method more = no_front bytes ts head_kinds none (head_pieces component method) more refl
 
-pub assignment_some : (bytes : List ℕ) (ts front rest : List Token) (device register digits : List ℕ) → ts ≡ front ++ rest → map kind_of front ≡ assignment_kinds
+pub assignment_some : (bytes : List ℕ) (ts front rest : List Token) (device register digits : List ℕ) → ts ≡ front ++ rest
+    → map kind_of front ≡ assignment_kinds
     → device ≡ text_at bytes front 0 → register ≡ text_at bytes front 2 → digits ≡ text_at bytes front 4
     → pieces bytes ts ≡ assignment_pieces (record { device = device; register = register; digits = digits }) ++ pieces bytes rest
 assignment_some bytes ts front rest device register digits e k f g h =
@@ -91,7 +96,8 @@ pub middle_some : (bytes : List ℕ) (ts front rest : List Token) (device : List
 middle_some bytes ts front rest device e k f =
     in_front bytes ts front rest (middle_pieces device) e (middle_spelled bytes front k ∙ ap middle_pieces (sym f))
 
-pub middle_none : (bytes : List ℕ) (ts : List Token) → HasNoFront ts middle_kinds → (device : List ℕ) (more : List Piece) → pieces bytes ts ≡ middle_pieces device ++ more → ⊥
+pub middle_none : (bytes : List ℕ) (ts : List Token) → HasNoFront ts middle_kinds → (device : List ℕ) (more : List Piece)
+    → pieces bytes ts ≡ middle_pieces device ++ more → ⊥
 middle_none bytes ts none device more = no_front bytes ts middle_kinds none (middle_pieces device) more refl
 
 pub register_some : (bytes : List ℕ) (ts front rest : List Token) (name digits : List ℕ) → ts ≡ front ++ rest → map kind_of front ≡ register_kinds
@@ -116,5 +122,6 @@ tail_some bytes ts program key component method k e f g h =
     ∙ ap (λ t. tail_pieces program key t (text_at bytes ts 9)) (sym g)
     ∙ ap (λ t. tail_pieces program key component t) (sym h)
 
-pub tail_none : (bytes : List ℕ) (ts : List Token) → (map kind_of ts ≡ tail_kinds → ⊥) → (program key component method : List ℕ) → pieces bytes ts ≡ tail_pieces program key component method → ⊥
+pub tail_none : (bytes : List ℕ) (ts : List Token) → (map kind_of ts ≡ tail_kinds → ⊥) → (program key component method : List ℕ)
+    → pieces bytes ts ≡ tail_pieces program key component method → ⊥
 tail_none bytes ts none program key component method e = none (sym (kinds_kept bytes ts) ∙ ap (map piece_kind) e)

@@ -1,4 +1,6 @@
 -- Registers one by one: their numbers, their names and the look-up of their addresses.
+-- Registers that fit so far are kept beside a look-up of their addresses; one more goes behind them. A new name has no address
+-- among the earlier ones, and each earlier one keeps its own.
 use Rattle.std.proofs.Common.{◌≡◌, ℕ, Bool, true, false, List, [], ◌∷◌, ◌++◌, Option, Some, None, refl, sym, ap, ◌∙◌}
 use Rattle.std.specs.Prelude.{if◌then◌else◌, cond, bytes_eq, is_some}
 use Rattle.std.proofs.lemmas.Slice.Eq.{bytes_eq-Decides}
@@ -39,18 +41,21 @@ equal a = (bytes_eq-Decides a a).1 refl
 no_address : (x : FirstRegister) (xs : List FirstRegister) (name : List ℕ) → address_of (x ∷ xs) name ≡ None → (x.name ≡ name → ⊥) × (address_of xs name ≡ None)
 no_address x xs name e = by_test (bytes_eq x.name name) refl e
   where
-    by_test : (t : Bool) → bytes_eq x.name name ≡ t → (if t then Some (hex_value x.digits) else address_of xs name) ≡ None → (x.name ≡ name → ⊥) × (address_of xs name ≡ None)
+    by_test : (t : Bool) → bytes_eq x.name name ≡ t → (if t then Some (hex_value x.digits) else address_of xs name) ≡ None
+        → (x.name ≡ name → ⊥) × (address_of xs name ≡ None)
     by_test true q e = absurd (let clash : Some (hex_value x.digits) ≡ None = e in cc)
     by_test false q e = (λ s. let clash : true ≡ false = sym ((bytes_eq-Decides x.name name).1 s) ∙ q in cc, e)
 
-still_none : (rs : List FirstRegister) (r : FirstRegister) (name : List ℕ) → address_of rs name ≡ None → (r.name ≡ name → ⊥) → address_of (rs ++ r ∷ []) name ≡ None
+still_none : (rs : List FirstRegister) (r : FirstRegister) (name : List ℕ) → address_of rs name ≡ None → (r.name ≡ name → ⊥)
+    → address_of (rs ++ r ∷ []) name ≡ None
 unfolding either
 still_none rs r name e f =
     address_one_more rs r name ∙ ap (λ o. either o (if bytes_eq r.name name then Some (hex_value r.digits) else None)) e
     ∙ ap (λ t. if t then Some (hex_value r.digits) else None) (not_equal r.name name f)
 
 -- one register more, with a number of its own and a new name
-pub one_more_fits : (rs : List FirstRegister) (r : FirstRegister) → AreRegisters rs → IsRegisterNumber r.digits → address_of rs r.name ≡ None → AreRegisters (rs ++ r ∷ [])
+pub one_more_fits : (rs : List FirstRegister) (r : FirstRegister) → AreRegisters rs → IsRegisterNumber r.digits → address_of rs r.name ≡ None
+    → AreRegisters (rs ++ r ∷ [])
 one_more_fits [] r h n e = (n, refl, tt)
 one_more_fits (x ∷ xs) r h n e =
     let apart = no_address x xs r.name e in

@@ -5,4 +5,4 @@ pub mod device_write;
 pub mod first_text;
 
 pub use device_write::DeviceWrite;
-pub use first_text::{FirstFault, read_first};
+pub use first_text::{NotFirst, read_first};

@@ -1,4 +1,6 @@
 -- Each row of symbols has a row of parses: what is left of a text can always be completed.
+-- A shortest parse of each part is written down, one line a part, from the parts that it is made of. The last lemma joins
+-- these along any row of symbols.
 use Rattle.std.proofs.Common.{◌≡◌, ℕ, List, [], ◌∷◌, Some, refl}
 use Rattle.vg_syntax.specs.declared.kind.Kind.{Kind}
 use Rattle.vg_syntax.specs.declared.grammar.Symbol.{Symbol}

@@ -1,4 +1,6 @@
 -- What the steps made so far and the marks to come say of every parse that begins so.
+-- The marks hold the symbols to come, so what Runs says of a stack of symbols holds of them; beside it each parse of the rest
+-- gives the steps to come, and with the steps so far these are the steps of the whole parse.
 use Rattle.std.proofs.Common.{◌≡◌, ℕ, zero, suc, ◌+◌, ◌*◌, ◌<◌, true, false, List, [], ◌∷◌, ◌++◌, length, Some, None, refl, sym, ap, ◌∙◌, subst, arith}
 use Rattle.std.proofs.Common.{append_assoc, append-nil, take, drop, take_all}
 use Rattle.vg_syntax.specs.declared.kind.Kind.{Kind}

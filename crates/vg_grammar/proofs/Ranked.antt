@@ -1,4 +1,6 @@
 -- How many parts can begin one in another: a part's rank is above that of each part that begins it.
+-- One table of ranks, checked for each part by computation: no left recursion, and no alternative that begins with a part that
+-- can be empty.
 use Rattle.std.proofs.Common.{◌≡◌, ℕ, true, refl}
 use Rattle.vg_syntax.specs.declared.grammar.Part.{Part}
 use Rattle.vg_syntax.specs.declared.grammar.Part.TheVariants as part

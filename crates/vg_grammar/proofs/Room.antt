@@ -1,4 +1,6 @@
 -- How many steps are left: each step makes the room smaller.
+-- The room is 128 for each token left and 1 for each symbol; where the next token has begun the part on top, 7 for each rank of that
+-- part in place of 128. A token that is read and a part that is opened make it smaller, by the ranks, which were checked by computation.
 use Rattle.std.proofs.Common.{◌≡◌, ℕ, zero, suc, ◌+◌, ◌*◌, ◌<◌, ◌≤◌, Bool, true, false, not, List, [], ◌∷◌, ◌++◌, length, length-append, Some, None, refl}
 use Rattle.std.proofs.Common.{sym, ap, subst, arith, ◌⊎◌, inl, inr, ⊎_elim, ◌&&◌, ◌==◌}
 use Rattle.std.specs.Prelude.{if◌then◌else◌, nat_lt, nat_le}

@@ -1,4 +1,6 @@
 -- What the tokens read so far and the stack say of all texts that begin so.
+-- Two ways: every parse of the stack completes what is read to a whole text, and every whole text that goes on so has a parse of
+-- the stack. The first makes what is read viable; from the second, no text goes on where the stack refuses the next token.
 use Rattle.std.proofs.Common.{◌≡◌, ℕ, zero, suc, true, List, [], ◌∷◌, ◌++◌, Option, Some, None, refl, sym, ap, ◌∙◌, subst, append_assoc, append-nil, drop}
 use Rattle.std.specs.Option.{option_and_then}
 use Rattle.vg_syntax.specs.declared.kind.Kind.{Kind}

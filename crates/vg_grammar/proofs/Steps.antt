@@ -1,4 +1,6 @@
 -- One step of the reader.
+-- The invariant of the loop, At, is a run as in Runs with the count of open brackets. Each lemma is one way through the loop:
+-- a part is opened, a token is read, or the tokens are refused at this place.
 use Rattle.std.proofs.Common.{◌≡◌, ℕ, zero, suc, ◌+◌, ◌-◌, ◌<◌, ◌≤◌, Bool, true, false, List, [], ◌∷◌, ◌++◌, length, Option, Some, None, refl, sym, ap, ◌∙◌}
 use Rattle.std.proofs.Common.{subst, arith, take, drop, take_all, ◌==◌}
 use Rattle.std.specs.Prelude.{if◌then◌else◌}

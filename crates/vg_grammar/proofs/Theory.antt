@@ -1,4 +1,6 @@
 -- The forced steps of a reader by the tables: the next token chooses the alternative of every parse.
+-- The tables of firsts and follows were checked by computation. So a next token that a part can begin with is in its firsts, one
+-- that can follow it is in its follows, and these choose one alternative: that of every parse.
 use Rattle.std.proofs.Common.{◌≡◌, ℕ, zero, suc, ◌+◌, Bool, true, false, not, List, [], ◌∷◌, ◌++◌, Some, None, refl, sym, ap, ◌∙◌, subst, arith, ◌⊎◌, inl}
 use Rattle.std.proofs.Common.{inr, ⊎_elim, ◌&&◌, ◌||◌, ◌==◌}
 use Rattle.std.specs.Prelude.{if◌then◌else◌}

@@ -1,6 +1,8 @@
 -- The steps that make a parse, in postfix order.
 use Rattle.std.specs.Prelude.{ℕ, suc, ◌≡◌, List, [], ◌∷◌, ◌++◌, take, Vec, Result, Ok, Err}
 use Rattle.std.specs.Global.{Global}
+use Rattle.vg_base.specs.declared.refusal.Refusal.{Refusal}
+use Rattle.vg_base.specs.declared.refusal.Refusal.TheVariants.{Fault, NoMemory}
 use Rattle.vg_syntax.specs.declared.token.Token.{Token}
 use Rattle.vg_syntax.specs.Parses.{Parse, Nil, Tok, Sub, IsParse, NoTreeAt, Shallow, TooDeepAt}
 use Rattle.vg_grammar.specs.declared.derivation.Step.{Step}
@@ -25,8 +27,8 @@ abbrev pub AreSteps : List Token → List Step → Type 0
 AreSteps ts steps = (p : Parse) × IsParse ts p × (steps_of p ≡ steps)
 
 -- the answer is the steps of a parse with at most 64 open brackets, or the place where the tokens cease to be a text
-abbrev pub Derived : List Token → Result (Vec Step Global) Stop → Type 0
+abbrev pub Derived : List Token → Result (Vec Step Global) (Refusal Stop) → Type 0
 Derived ts (Ok steps) = AreSteps ts steps.items × Shallow ts
-Derived ts (Err (stop.NoTree i)) = NoTreeAt ts i × Shallow (take i ts)
-Derived ts (Err (stop.TooDeep i)) = TooDeepAt ts i
-Derived ts (Err stop.NoMemory) = Unit {0}
+Derived ts (Err (Fault (stop.NoTree i))) = NoTreeAt ts i × Shallow (take i ts)
+Derived ts (Err (Fault (stop.TooDeep i))) = TooDeepAt ts i
+Derived ts (Err NoMemory) = Unit {0}

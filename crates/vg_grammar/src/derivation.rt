@@ -7,8 +7,8 @@ ghost use Rattle.vg_grammar.specs.Derivation.{Derived};
 use crate::choice::chosen;
 use crate::marks::{Mark, Marks};
 use crate::number::number;
-use std::alloc::{AllocFailed, Global};
-use vg_base::NoMemory;
+use std::alloc::Global;
+use vg_base::Refusal;
 use vg_syntax::{Kind, Part, Symbol, Token};
 
 /// How many brackets may be open at one place of a text.
@@ -30,37 +30,13 @@ pub enum Stop {
     NoTree(usize),
     /// This token opens a 65th bracket, and some text begins with it and the tokens before it.
     TooDeep(usize),
-    /// Want of memory, free of any cause.
-    NoMemory,
-}
-
-impl From<NoMemory> for Stop {
-    ghost use Rattle.std.specs.Prelude.{◌≡◌};
-    ghost use Rattle.vg_grammar.specs.declared.derivation.Stop.TheVariants.{NoMemory as Memory};
-
-    ghost from_gives = { λ _ e. e ≡ Memory };
-
-    fn from(_: NoMemory) -> Self {
-        Stop::NoMemory
-    }
-}
-
-impl<T: Drop> From<AllocFailed<T>> for Stop {
-    ghost use Rattle.std.specs.Prelude.{◌≡◌};
-    ghost use Rattle.vg_grammar.specs.declared.derivation.Stop.TheVariants.{NoMemory as Memory};
-
-    ghost from_gives = { λ _ e. e ≡ Memory };
-
-    fn from(_: AllocFailed<T>) -> Self {
-        Stop::NoMemory
-    }
 }
 
 /// The steps that make the parse of these tokens, where they are a text of the language with at most 64 open brackets at each place.
 ///
 /// Its time is linear in the number of tokens. It does not recurse: it keeps a stack of symbols and a list of steps, each at most a
 /// constant number for each token.
-pub fn derive(alloc: Global, tokens: &[Token]) -> Result<Vec<Step>, Stop>
+pub fn derive(alloc: Global, tokens: &[Token]) -> Result<Vec<Step>, Refusal<Stop>>
     ensures { Derived tokens.now result }
 {
     let mut marks = Marks::new(alloc);
@@ -73,7 +49,7 @@ pub fn derive(alloc: Global, tokens: &[Token]) -> Result<Vec<Step>, Stop>
             Mark::Make(part, count) => steps.push(Step::Make(part, count))?,
             Mark::See(symbol) => match symbol {
                 Symbol::Use(part) => match chosen(part, kind_at(tokens, at)) {
-                    None => return Err(Stop::NoTree(at)),
+                    None => return Err(Refusal::Fault(Stop::NoTree(at))),
                     Some(symbols) => {
                         marks.push(Mark::Make(part, symbols.len() as u8))?;
                         marks.push_all(symbols)?;
@@ -81,10 +57,10 @@ pub fn derive(alloc: Global, tokens: &[Token]) -> Result<Vec<Step>, Stop>
                 },
                 Symbol::Sign(kind) => {
                     if !is_at(tokens, at, kind) {
-                        return Err(Stop::NoTree(at));
+                        return Err(Refusal::Fault(Stop::NoTree(at)));
                     }
                     match opened(deep, kind) {
-                        None => return Err(Stop::TooDeep(at)),
+                        None => return Err(Refusal::Fault(Stop::TooDeep(at))),
                         Some(now) => deep = now,
                     }
                     steps.push(Step::Take)?;
@@ -96,7 +72,7 @@ pub fn derive(alloc: Global, tokens: &[Token]) -> Result<Vec<Step>, Stop>
     if at == tokens.len() {
         Ok(steps)
     } else {
-        Err(Stop::NoTree(at))
+        Err(Refusal::Fault(Stop::NoTree(at)))
     }
 }
 

@@ -8,7 +8,5 @@ pub mod laws;
 pub mod marks;
 pub mod number;
 pub mod starts;
-#[cfg(test)]
-mod tests;
 
 pub use derivation::{Step, Stop, derive};

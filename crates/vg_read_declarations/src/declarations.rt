@@ -3,7 +3,8 @@ ghost use Rattle.std.specs.Prelude.{◌≡◌, List, [], ◌∷◌, ℕ, map, If
 ghost use Rattle.std.specs.Option.{option_map};
 ghost use Rattle.vg_syntax.specs.Tree.{ClassDecl, FieldDecl, MethodDecl, ConstructorDecl};
 ghost use Rattle.vg_syntax.specs.Made.{Params, row_in, params_in, is_row, node_in, type_in};
-ghost use Rattle.vg_syntax.specs.Reads.{kids_of, value, spot, whole, declared, declaration, extended, register, entry, handler, field_or_constructor, member, super_call, parameters, more_parameters, typed};
+ghost use Rattle.vg_syntax.specs.Reads.{kids_of, value, spot, whole, declared, declaration, extended, register, entry, handler, field_or_constructor, member};
+ghost use Rattle.vg_syntax.specs.Reads.{super_call, parameters, more_parameters, typed};
 ghost use Rattle.vg_tree.specs.Held.{text_at, param_at, node_at};
 ghost use Rattle.vg_tree.specs.HeldMade.{made_at, value_at};
 
@@ -61,7 +62,8 @@ pub fn class(
     above: Option<Name>,
     members: &mut Made,
 ) -> Result<Node, NoMemory>
-    ensures { (texts : List (List ℕ)) → IfOk result (λ n. node_at texts n ≡ ClassDecl (spot place) (text_at texts name) (option_map (text_at texts) above) (row_in (made_at texts members.old))) }
+    ensures { (texts : List (List ℕ)) → IfOk result (λ n. node_at texts n
+        ≡ ClassDecl (spot place) (text_at texts name) (option_map (text_at texts) above) (row_in (made_at texts members.old))) }
 {
     let members = Box::new(alloc, row_of(row_in(alloc, members)))?;
     Ok(Node::ClassDecl(place, name, above, members))
@@ -69,7 +71,8 @@ pub fn class(
 
 /// A declaration at the top.
 pub fn declaration(alloc: Global, nameless: Name, kids: &mut [Value]) -> Result<Value, NoMemory>
-    ensures { (texts : List (List ℕ)) → text_at texts nameless ≡ [] → IfOk result (λ v. value_at texts v ≡ declaration (kids_of (map (value_at texts) kids.old))) }
+    ensures { (texts : List (List ℕ)) → text_at texts nameless ≡ []
+        → IfOk result (λ v. value_at texts v ≡ declaration (kids_of (map (value_at texts) kids.old))) }
 {
     match kids {
         [word, name, above, body] => {
@@ -177,7 +180,8 @@ pub fn params_of(alloc: Global, made: &mut Made) -> Vec<Param>
 
 /// A field: its name and type, and its first value.
 pub fn field(alloc: Global, place: Place, typed: Param, initial: Node) -> Result<Node, NoMemory>
-    ensures { (texts : List (List ℕ)) → IfOk result (λ n. node_at texts n ≡ FieldDecl (spot place) (param_at texts typed).name (param_at texts typed).type (node_at texts initial)) }
+    ensures { (texts : List (List ℕ)) → IfOk result (λ n. node_at texts n
+        ≡ FieldDecl (spot place) (param_at texts typed).name (param_at texts typed).type (node_at texts initial)) }
 {
     let Param { name, type_ } = typed;
     let initial = Box::new(alloc, initial)?;
@@ -192,7 +196,9 @@ pub fn constructor(
     above: &mut Made,
     block: &mut Made,
 ) -> Result<Node, NoMemory>
-    ensures { (texts : List (List ℕ)) → IfOk result (λ n. node_at texts n ≡ ConstructorDecl (spot place) (params_in (made_at texts params.old)) (is_row (made_at texts above.old)) (row_in (made_at texts above.old)) (node_in (made_at texts block.old))) }
+    ensures { (texts : List (List ℕ)) → IfOk result (λ n. node_at texts n
+        ≡ ConstructorDecl (spot place) (params_in (made_at texts params.old)) (is_row (made_at texts above.old)) (row_in (made_at texts above.old))
+        (node_in (made_at texts block.old))) }
 {
     let calls_super = is_row(above);
     let params = params_of(alloc, params);
@@ -210,7 +216,9 @@ pub fn method(
     returned: &mut Made,
     block: &mut Made,
 ) -> Result<Node, NoMemory>
-    ensures { (texts : List (List ℕ)) → IfOk result (λ n. node_at texts n ≡ MethodDecl (spot place) (text_at texts name) (params_in (made_at texts params.old)) (type_in (made_at texts returned.old)) (node_in (made_at texts block.old))) }
+    ensures { (texts : List (List ℕ)) → IfOk result (λ n. node_at texts n
+        ≡ MethodDecl (spot place) (text_at texts name) (params_in (made_at texts params.old)) (type_in (made_at texts returned.old))
+        (node_in (made_at texts block.old))) }
 {
     let params = params_of(alloc, params);
     let block = Box::new(alloc, node_in(block))?;
@@ -227,7 +235,8 @@ pub fn field_or_constructor(
     third: &mut Made,
     fourth: &mut Made,
 ) -> Result<Node, NoMemory>
-    ensures { (texts : List (List ℕ)) → text_at texts nameless ≡ [] → IfOk result (λ n. node_at texts n ≡ field_or_constructor kind place (made_at texts second.old) (made_at texts third.old) (made_at texts fourth.old)) }
+    ensures { (texts : List (List ℕ)) → text_at texts nameless ≡ []
+        → IfOk result (λ n. node_at texts n ≡ field_or_constructor kind place (made_at texts second.old) (made_at texts third.old) (made_at texts fourth.old)) }
 {
     match kind {
         Kind::Field => field(alloc, place, param_in(nameless, second), node_in(third)),
@@ -307,7 +316,8 @@ pub fn param_before(
 
 /// A first parameter, and a row behind it.
 pub fn parameters(alloc: Global, nameless: Name, kids: &mut [Value]) -> Result<Value, NoMemory>
-    ensures { (texts : List (List ℕ)) → text_at texts nameless ≡ [] → IfOk result (λ v. value_at texts v ≡ parameters (kids_of (map (value_at texts) kids.old))) }
+    ensures { (texts : List (List ℕ)) → text_at texts nameless ≡ []
+        → IfOk result (λ v. value_at texts v ≡ parameters (kids_of (map (value_at texts) kids.old))) }
 {
     match kids {
         [first, rest] => param_before(
@@ -322,7 +332,8 @@ pub fn parameters(alloc: Global, nameless: Name, kids: &mut [Value]) -> Result<V
 
 /// A parameter behind a comma, and a row behind it.
 pub fn more_parameters(alloc: Global, nameless: Name, kids: &mut [Value]) -> Result<Value, NoMemory>
-    ensures { (texts : List (List ℕ)) → text_at texts nameless ≡ [] → IfOk result (λ v. value_at texts v ≡ more_parameters (kids_of (map (value_at texts) kids.old))) }
+    ensures { (texts : List (List ℕ)) → text_at texts nameless ≡ []
+        → IfOk result (λ v. value_at texts v ≡ more_parameters (kids_of (map (value_at texts) kids.old))) }
 {
     match kids {
         [comma, first, rest] => param_before(

@@ -24,7 +24,8 @@ chain_of : (a : Value) (row x y : Node) → row ≡ Then x y → value a.place (
 chain_of a row x y e = rw e refl
 
 -- an operand with parts behind it is a chain
-pub chained_more : (texts : List (List ℕ)) (a : Value) (ns : List HeldNode) (first parts : Node) → (length ns ≡ 0 → ⊥) → first ≡ node_in a.made → parts ≡ row_back texts ns → value a.place (Tree (Chain (spot a.place) first parts)) ≡ chained a (row_back texts ns)
+pub chained_more : (texts : List (List ℕ)) (a : Value) (ns : List HeldNode) (first parts : Node) → (length ns ≡ 0 → ⊥) → first ≡ node_in a.made
+    → parts ≡ row_back texts ns → value a.place (Tree (Chain (spot a.place) first parts)) ≡ chained a (row_back texts ns)
 chained_more texts a ns first parts h e f =
     let b = begins texts (reverse ns) (no_nodes ns h) in
     rw (e, f) (chain_of a (row_back texts ns) b.0 b.1 b.2)
@@ -33,7 +34,8 @@ postfix_of : (a : Value) (row x y : Node) → row ≡ Then x y → value a.place
 postfix_of a row x y e = rw e refl
 
 -- an operand with suffixes behind it is a postfix expression
-pub suffixed_more : (texts : List (List ℕ)) (a : Value) (ns : List HeldNode) (first suffixes : Node) → (length ns ≡ 0 → ⊥) → first ≡ node_in a.made → suffixes ≡ row_back texts ns → value a.place (Tree (Postfix (spot a.place) first suffixes)) ≡ suffixed a (row_back texts ns)
+pub suffixed_more : (texts : List (List ℕ)) (a : Value) (ns : List HeldNode) (first suffixes : Node) → (length ns ≡ 0 → ⊥) → first ≡ node_in a.made
+    → suffixes ≡ row_back texts ns → value a.place (Tree (Postfix (spot a.place) first suffixes)) ≡ suffixed a (row_back texts ns)
 suffixed_more texts a ns first suffixes h e f =
     let b = begins texts (reverse ns) (no_nodes ns h) in
     rw (e, f) (postfix_of a (row_back texts ns) b.0 b.1 b.2)

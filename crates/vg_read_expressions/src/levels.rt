@@ -7,10 +7,10 @@ ghost use Rattle.vg_tree.specs.HeldMade.{made_at, value_at, row_back};
 use std::alloc::Global;
 use std::mem;
 use vg_base::{NoMemory, Place};
+use vg_syntax::Kind;
 use vg_tree::contents::{kind_in, node_in, operators_in, row_in, taken};
 use vg_tree::made::{Made, Value};
 use vg_tree::rows::{row_before, row_of, unwritten};
-use vg_syntax::Kind;
 use vg_tree::{Node, TypeTree};
 
 /// An operand, and the parts of a chain behind it: without parts the operand stays as it is.

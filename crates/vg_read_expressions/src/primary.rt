@@ -5,11 +5,11 @@ ghost use Rattle.vg_tree.specs.Held.{text_at, node_at};
 ghost use Rattle.vg_tree.specs.HeldMade.{value_at};
 
 use vg_base::{Name, Place};
+use vg_syntax::Kind;
+use vg_tree::Node;
 use vg_tree::contents::{all_in, kind_in, text_in};
 use vg_tree::made::{Made, Value};
 use vg_tree::rows::unwritten;
-use vg_syntax::Kind;
-use vg_tree::Node;
 
 /// The node of a literal or a name, by the kind of its token.
 pub fn literal(kind: Kind, place: Place, name: Name) -> Node

@@ -7,10 +7,10 @@ ghost use Rattle.vg_tree.specs.HeldMade.{made_at, value_at, row_back};
 use std::alloc::Global;
 use std::mem;
 use vg_base::{Name, NoMemory, Place};
+use vg_syntax::Kind;
 use vg_tree::contents::{kind_in, node_in, row_in, taken, text_in};
 use vg_tree::made::{Made, Value};
 use vg_tree::rows::{row_before, row_of, unwritten};
-use vg_syntax::Kind;
 use vg_tree::{Node, TypeTree};
 
 /// An operand, and the suffixes behind it: without suffixes the operand stays as it is.

@@ -2,18 +2,19 @@
 ghost use Rattle.std.specs.Prelude.{◌≡◌, List, [], ℕ, IfOk, map};
 ghost use Rattle.vg_syntax.specs.Tree.{Arm, If, For, Local};
 ghost use Rattle.vg_syntax.specs.Made.{node_in, arms_in, otherwise_in, first_in, condition_in, next_in};
-ghost use Rattle.vg_syntax.specs.Reads.{kids_of, spot, block, jump, statement_of_two, statement_of_three, statement_of_four, statement, else_part, else_arm, header, assigned, simple};
+ghost use Rattle.vg_syntax.specs.Reads.{kids_of, spot, block, jump, statement_of_two, statement_of_three, statement_of_four, statement, else_part, else_arm};
+ghost use Rattle.vg_syntax.specs.Reads.{header, assigned, simple};
 ghost use Rattle.vg_tree.specs.Held.{text_at, param_at, node_at};
 ghost use Rattle.vg_tree.specs.HeldMade.{arms_back, made_at, value_at};
 
 use std::alloc::Global;
 use vg_base::{Name, NoMemory, Place};
+use vg_syntax::Kind;
 use vg_tree::arms::{row_of_arms, with_arm};
 use vg_tree::contents::{all_in, arms_in, fields_in, kind_in, node_in, param_in, row_in, taken};
 use vg_tree::made::{Made, Value};
 use vg_tree::nothing::is_nothing;
 use vg_tree::rows::{row_of, unwritten};
-use vg_syntax::Kind;
 use vg_tree::{Node, Param};
 
 /// Statements in braces.
@@ -59,7 +60,9 @@ pub fn for_of(
     header: &mut Made,
     body: &mut Made,
 ) -> Result<Node, NoMemory>
-    ensures { (texts : List (List ℕ)) → IfOk result (λ n. node_at texts n ≡ For (spot place) (first_in (made_at texts header.old)) (condition_in (made_at texts header.old)) (next_in (made_at texts header.old)) (node_in (made_at texts body.old))) }
+    ensures { (texts : List (List ℕ)) → IfOk result (λ n. node_at texts n
+        ≡ For (spot place) (first_in (made_at texts header.old)) (condition_in (made_at texts header.old)) (next_in (made_at texts header.old))
+        (node_in (made_at texts body.old))) }
 {
     let (first, condition, next) = fields_in(header);
     let first = Box::new(alloc, first)?;
@@ -77,7 +80,8 @@ pub fn statement_of_three(
     second: &mut Made,
     third: &mut Made,
 ) -> Result<Node, NoMemory>
-    ensures { (texts : List (List ℕ)) → IfOk result (λ n. node_at texts n ≡ statement_of_three kind place (made_at texts second.old) (made_at texts third.old)) }
+    ensures { (texts : List (List ℕ)) → IfOk result (λ n. node_at texts n
+        ≡ statement_of_three kind place (made_at texts second.old) (made_at texts third.old)) }
 {
     match kind {
         Kind::While => {
@@ -101,7 +105,9 @@ pub fn if_of(
     body: &mut Made,
     rest: &mut Made,
 ) -> Result<Node, NoMemory>
-    ensures { (texts : List (List ℕ)) → IfOk result (λ n. node_at texts n ≡ If (spot place) (Arm (node_in (made_at texts condition.old)) (node_in (made_at texts body.old)) (arms_in (made_at texts rest.old))) (otherwise_in (made_at texts rest.old))) }
+    ensures { (texts : List (List ℕ)) → IfOk result (λ n. node_at texts n
+        ≡ If (spot place) (Arm (node_in (made_at texts condition.old)) (node_in (made_at texts body.old)) (arms_in (made_at texts rest.old)))
+        (otherwise_in (made_at texts rest.old))) }
 {
     let (further, otherwise) = arms_in(alloc, rest);
     let condition = node_in(condition);
@@ -114,7 +120,8 @@ pub fn if_of(
 
 /// A local: its name and type, and its first value.
 pub fn local(alloc: Global, place: Place, typed: Param, initial: Node) -> Result<Node, NoMemory>
-    ensures { (texts : List (List ℕ)) → IfOk result (λ n. node_at texts n ≡ Local (spot place) (param_at texts typed).name (param_at texts typed).type (node_at texts initial)) }
+    ensures { (texts : List (List ℕ)) → IfOk result (λ n. node_at texts n
+        ≡ Local (spot place) (param_at texts typed).name (param_at texts typed).type (node_at texts initial)) }
 {
     let Param { name, type_ } = typed;
     let initial = Box::new(alloc, initial)?;
@@ -131,7 +138,8 @@ pub fn statement_of_four(
     third: &mut Made,
     fourth: &mut Made,
 ) -> Result<Node, NoMemory>
-    ensures { (texts : List (List ℕ)) → text_at texts nameless ≡ [] → IfOk result (λ n. node_at texts n ≡ statement_of_four kind place (made_at texts second.old) (made_at texts third.old) (made_at texts fourth.old)) }
+    ensures { (texts : List (List ℕ)) → text_at texts nameless ≡ []
+        → IfOk result (λ n. node_at texts n ≡ statement_of_four kind place (made_at texts second.old) (made_at texts third.old) (made_at texts fourth.old)) }
 {
     match kind {
         Kind::If => if_of(alloc, place, second, third, fourth),
@@ -141,7 +149,8 @@ pub fn statement_of_four(
 
 /// A statement.
 pub fn statement(alloc: Global, nameless: Name, kids: &mut [Value]) -> Result<Value, NoMemory>
-    ensures { (texts : List (List ℕ)) → text_at texts nameless ≡ [] → IfOk result (λ v. value_at texts v ≡ statement (kids_of (map (value_at texts) kids.old))) }
+    ensures { (texts : List (List ℕ)) → text_at texts nameless ≡ []
+        → IfOk result (λ v. value_at texts v ≡ statement (kids_of (map (value_at texts) kids.old))) }
 {
     match kids {
         [only] => Ok(taken(only)),

@@ -1,5 +1,6 @@
 -- A text keeps its name however many texts get one later.
-use Rattle.std.proofs.Common.{◌≡◌, ℕ, suc, ◌+◌, ◌≤◌, Bool, true, false, List, [], ◌∷◌, ◌++◌, length, length-append, Some, refl, sym, ap, ◌∙◌, subst, arith, append_assoc, append-nil, slice_get, cond}
+use Rattle.std.proofs.Common.{◌≡◌, ℕ, suc, ◌+◌, ◌≤◌, Bool, true, false, List, [], ◌∷◌, ◌++◌, length, length-append, Some, refl, sym, ap, ◌∙◌, subst, arith}
+use Rattle.std.proofs.Common.{append_assoc, append-nil, slice_get, cond}
 use Rattle.std.specs.Prelude.{if◌then◌else◌, not, ◌||◌}
 use Rattle.std.specs.List.{list_any}
 use Rattle.std.specs.Str.{bytes_eq}
@@ -41,13 +42,15 @@ found text [] more = refl
 found text (t ∷ old) more = by_test (bytes_eq text t) refl (found text old more)
   where
     by_test : (p : Bool) → bytes_eq text t ≡ p → slice_get (with_text text old ++ more) (number_of text old) ≡ Some text
-        → slice_get ((if p || list_any (bytes_eq text) old then t ∷ old else t ∷ old ++ text ∷ []) ++ more) (cond (not p) (1 + number_of text old) 0) ≡ Some text
+        → slice_get ((if p || list_any (bytes_eq text) old then t ∷ old else t ∷ old ++ text ∷ []) ++ more) (cond (not p) (1 + number_of text old) 0)
+        ≡ Some text
     by_test true e h = ap Some (sym ((bytes_eq-Decides text t).0 e))
     by_test false e h =
         let next : 1 + number_of text old ≡ suc (number_of text old) = omega arith in
         ap (λ l. slice_get (l ++ more) (1 + number_of text old)) (behind_first t text old (list_any (bytes_eq text) old))
         ∙ ap (slice_get (t ∷ (with_text text old ++ more))) next ∙ h
 
-pub text_found : (text : List ℕ) (old new texts : List (List ℕ)) (name : ℕ) → new ≡ with_text text old → name ≡ number_of text old → Grown new texts → text_at texts name ≡ text
+pub text_found : (text : List ℕ) (old new texts : List (List ℕ)) (name : ℕ) → new ≡ with_text text old → name ≡ number_of text old → Grown new texts
+    → text_at texts name ≡ text
 text_found text old new texts name e n g =
     ap (λ i. text_at texts i) n ∙ ap (λ l. text_at l (number_of text old)) (g.1 ∙ ap (λ l. l ++ g.0) e) ∙ ap text_or_none (found text old g.0)

@@ -27,9 +27,11 @@ reduced_kids n c vs ks h =
     ∙ ap (λ l. l ++ made n (kids_of (drop (length vs) (vs ++ ks))) ∷ []) (take-append_seam vs ks)
     ∙ ap (λ l. vs ++ made n (kids_of l) ∷ []) (drop-append_seam vs ks)
 
-run_parse : (bytes : List ℕ) (p : Parse) (ts : List Token) (ss : List Step) (vs : List Value) → run bytes (steps_of p ++ ss) (leaves p ++ ts) vs ≡ run bytes ss ts (vs ++ values bytes p)
+run_parse : (bytes : List ℕ) (p : Parse) (ts : List Token) (ss : List Step) (vs : List Value)
+    → run bytes (steps_of p ++ ss) (leaves p ++ ts) vs ≡ run bytes ss ts (vs ++ values bytes p)
 run_parse bytes Nil ts ss vs = ap (run bytes ss ts) (sym (append-nil vs))
-run_parse bytes (Tok t p) ts ss vs = run_parse bytes p ts ss (vs ++ leaf bytes t ∷ []) ∙ ap (run bytes ss ts) (append_assoc vs (leaf bytes t ∷ []) (values bytes p))
+run_parse bytes (Tok t p) ts ss vs =
+    run_parse bytes p ts ss (vs ++ leaf bytes t ∷ []) ∙ ap (run bytes ss ts) (append_assoc vs (leaf bytes t ∷ []) (values bytes p))
 run_parse bytes (Sub n a kids p) ts ss vs =
     ap (λ l. run bytes l ((leaves kids ++ leaves p) ++ ts) vs) (append_assoc (steps_of kids) (Make n (width kids) ∷ steps_of p) ss)
     ∙ ap (λ l. run bytes (steps_of kids ++ (Make n (width kids) ∷ (steps_of p ++ ss))) l vs) (append_assoc (leaves kids) (leaves p) ts)
@@ -44,10 +46,12 @@ run_whole bytes p =
     ∙ ap (λ l. run bytes (steps_of p ++ []) l []) (sym (append-nil (leaves p)))
     ∙ run_parse bytes p [] [] []
 
-pub derived : (bytes : List ℕ) (ts : List Token) (steps : List Step) → IsTokens bytes ts → AreSteps ts steps × Shallow ts → IsText bytes × Reads bytes (tree_in (run bytes steps ts []))
+pub derived : (bytes : List ℕ) (ts : List Token) (steps : List Step) → IsTokens bytes ts → AreSteps ts steps × Shallow ts
+    → IsText bytes × Reads bytes (tree_in (run bytes steps ts []))
 derived bytes ts steps h a =
     let p = a.0.0 in
-    let e : values bytes p ≡ run bytes steps ts [] = sym (run_whole bytes p) ∙ ap (λ l. run bytes (steps_of p) l []) a.0.1.1 ∙ ap (λ s. run bytes s ts []) a.0.2 in
+    let e : values bytes p ≡ run bytes steps ts [] = sym (run_whole bytes p) ∙ ap (λ l. run bytes (steps_of p) l []) a.0.1.1
+    ∙ ap (λ s. run bytes s ts []) a.0.2 in
     ((ts, h, (p, a.0.1), a.1), (ts, p, h, a.0.1, ap tree_in e))
 
 pub sentence : (ts : List Token) (steps : List Step) → AreSteps ts steps × Shallow ts → Sentence ts

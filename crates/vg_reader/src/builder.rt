@@ -29,7 +29,8 @@ pub(crate) fn build(
     requires spelled { AllByRecursion (IsSpelled bytes.now) derivation.now.tokens.items }
     requires nameless { (texts : List (List ℕ)) → Grown names.old texts → text_at texts nameless ≡ [] }
     requires room { length names.old + length derivation.now.tokens.items < 2 ^ 32 - 1 }
-    ensures values { IfOk result (λ v. (texts : List (List ℕ)) → Grown names.new texts → map (value_at texts) v.items ≡ run bytes.now derivation.now.steps.items derivation.now.tokens.items []) }
+    ensures values { IfOk result (λ v. (texts : List (List ℕ)) → Grown names.new texts
+        → map (value_at texts) v.items ≡ run bytes.now derivation.now.steps.items derivation.now.tokens.items []) }
     ensures names { Grown names.old names.new }
     ensures few { length names.new ≤ length names.old + length derivation.now.tokens.items }
 {
@@ -65,7 +66,8 @@ fn reduce(
     part: Part,
     count: usize,
 ) -> Result<(), NoMemory>
-    ensures { (texts : List (List ℕ)) → text_at texts nameless ≡ [] → OnOk result (map (value_at texts) values.new.items ≡ reduced part count (map (value_at texts) values.old.items)) }
+    ensures { (texts : List (List ℕ)) → text_at texts nameless ≡ []
+        → OnOk result (map (value_at texts) values.new.items ≡ reduced part count (map (value_at texts) values.old.items)) }
 {
     if count == 0 && is_rest(part) {
         values.push(unwritten(Made::Row(Vec::new(alloc))))?;
@@ -80,7 +82,8 @@ fn reduce(
 
 // Whether a part of the last two values is the first of them.
 fn is_there(part: Part, values: &[Value]) -> bool
-    ensures { (texts : List (List ℕ)) → result ≡ true → map (value_at texts) (take (length values.now - 1) values.now) ≡ reduced part 2 (map (value_at texts) values.now) }
+    ensures { (texts : List (List ℕ)) → result ≡ true → map (value_at texts) (take (length values.now - 1) values.now)
+        ≡ reduced part 2 (map (value_at texts) values.now) }
 {
     match values.last() {
         Some(rest) => values.len() > 1 && is_first_kid(part, rest),
@@ -96,7 +99,8 @@ fn make_last(
     part: Part,
     count: usize,
 ) -> Result<(), NoMemory>
-    ensures { (texts : List (List ℕ)) → text_at texts nameless ≡ [] → OnOk result (map (value_at texts) values.new.items ≡ reduced part count (map (value_at texts) values.old.items)) }
+    ensures { (texts : List (List ℕ)) → text_at texts nameless ≡ []
+        → OnOk result (map (value_at texts) values.new.items ≡ reduced part count (map (value_at texts) values.old.items)) }
 {
     let at = values.len().saturating_sub(count);
     let (_, kids) = values.as_mut_slice().split_at_mut(at);

@@ -5,8 +5,8 @@ ghost use Rattle.vg_syntax.specs.Made.{Row, Value as MadeValue, row_in};
 ghost use Rattle.vg_syntax.specs.Reads.{Kids, Zero, Two, unwritten, level, made};
 ghost use Rattle.vg_tree.specs.HeldMade.{made_at, value_at};
 
-use vg_tree::made::{Made, Value};
 use vg_syntax::Part;
+use vg_tree::made::{Made, Value};
 
 /// Whether a part is what stands behind the first operand of a level, so that without kids it is an empty row.
 pub fn is_rest(part: Part) -> bool

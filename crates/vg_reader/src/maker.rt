@@ -11,17 +11,17 @@ use vg_read_declarations::declarations::{
     declaration, entry, extended, handler, member, more_parameters, parameters, register,
     super_call, typed, whole,
 };
-use vg_read_expressions::fresh::{new_level, new_levels, new_of_name, new_part};
 use vg_read_expressions::levels::{level, operators, rest_of_level, unary};
 use vg_read_expressions::primary::primary;
 use vg_read_expressions::suffixes::{postfix, suffixes};
+use vg_read_new::fresh::{new_level, new_levels, new_of_name, new_part};
+use vg_read_statements::statements::{block, else_arm, else_part, header, simple, statement};
+use vg_syntax::{Kind, Part};
 use vg_tree::made::{Made, Value};
 use vg_tree::rows::{behind_sign, enclosed, more_rowed, optional, rowed};
 use vg_tree::types::{
     atom, dimensions, more_types, other_atom, plain, result_type, type_of, types,
 };
-use vg_read_statements::statements::{block, else_arm, else_part, header, simple, statement};
-use vg_syntax::{Kind, Part};
 
 /// The value of a token: its place, its kind, and the name of its text.
 pub fn leaf(kind: Kind, place: Place, text: Name) -> Value
@@ -40,7 +40,8 @@ pub fn make(
     part: Part,
     kids: &mut [Value],
 ) -> Result<Value, NoMemory>
-    ensures { (texts : List (List ℕ)) → text_at texts nameless ≡ [] → IfOk result (λ v. value_at texts v ≡ made part (kids_of (map (value_at texts) kids.old))) }
+    ensures { (texts : List (List ℕ)) → text_at texts nameless ≡ []
+        → IfOk result (λ v. value_at texts v ≡ made part (kids_of (map (value_at texts) kids.old))) }
 {
     let value = match part {
         Part::Text => return whole(alloc, kids),

@@ -1,5 +1,6 @@
 // From the bytes of a text to its tree.
 ghost use Rattle.std.specs.Prelude.{◌≡◌, ◌≤◌, ◌<◌, ◌^◌, ◌+◌, ℕ, List, [], ◌∷◌, IfOk, length, map};
+ghost use Rattle.vg_base.specs.Limits.{text_limit};
 ghost use Rattle.vg_syntax.specs.Reads.{tree_in};
 ghost use Rattle.vg_tree.specs.Held.{tree_at};
 ghost use Rattle.vg_tree.specs.Lookups.{node_count};
@@ -11,17 +12,18 @@ use crate::builder::build;
 use crate::derivation::derive_text;
 use crate::fault::ReadFault;
 use std::alloc::Global;
-use vg_base::Names;
-use vg_tree::Value;
+use vg_base::{Names, Refusal};
 use vg_tree::contents::node_in;
-use vg_tree::{Node, Tree};
+use vg_tree::{Node, Tree, Value};
 
 /// The tree of a text of at most 262,144 bytes, or where the bytes cease to be a text of the language with at most 64 open brackets at each place.
 ///
-/// Each spelling of a token gets a name in `names`, which may hold fewer than 4,000,000,000 before, and so does the empty text. Those that it held stay, whatever
-/// the answer, at most one comes for each byte beside the empty text's, and the tree stays the same however many come later. Its time and its memory are linear in the text, and it does not recurse.
-pub fn read(alloc: Global, bytes: &[u8], names: &mut Names) -> Result<Tree, ReadFault>
-    requires short { length bytes.now ≤ 262144 }
+/// Each spelling of a token gets a name in `names`, which may hold fewer than 4,000,000,000 before, and so does the empty text. Those that it held stay,
+/// whatever
+/// the answer, at most one comes for each byte beside the empty text's, and the tree stays the same however many come later. Its time and its memory are
+/// linear in the text, and it does not recurse.
+pub fn read(alloc: Global, bytes: &[u8], names: &mut Names) -> Result<Tree, Refusal<ReadFault>>
+    requires short { length bytes.now ≤ text_limit }
     requires room { length names.old < 4000000000 }
     ensures answer { ReadsAs bytes.now names.new result }
     ensures names { Grown names.old names.new }

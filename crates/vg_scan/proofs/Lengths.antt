@@ -1,4 +1,6 @@
 -- How many bytes the tokens take: at least one, and no more than there are.
+-- By cases on the first byte, as the lexeme itself: a word, a number, a character, a string, a sign. A literal is walked
+-- element by element; for reserved words and signs the tables are computed, since each text in them has a known length.
 use Rattle.std.proofs.Common.{◌≡◌, ℕ, ◌+◌, ◌-◌, ◌<◌, ◌≤◌, Bool, true, false, not, zero, suc, List, [], ◌∷◌, length, take, drop, Option, Some, None, refl, sym}
 use Rattle.std.proofs.Common.{ap, ◌∙◌, arith}
 use Rattle.std.specs.Prelude.{◌&&◌, ◌==◌, if◌then◌else◌, bytes_eq, slice_get}

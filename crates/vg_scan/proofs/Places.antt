@@ -6,6 +6,7 @@ use Rattle.std.proofs.lemmas.List.Folds.{list_any-append}
 use Rattle.std.proofs.lemmas.List.{take-append-drop}
 use Rattle.std.proofs.Math.Seq.{take-append-add}
 use Rattle.vg_base.specs.declared.place.Place.{Place}
+use Rattle.vg_base.specs.Limits.{text_limit}
 use Rattle.vg_syntax.specs.Bytes.{is_line_end}
 use Rattle.vg_syntax.specs.Places.{line_ends, last_line, place_behind}
 use Rattle.vg_scan.specs.Walk.{next_place, walked}
@@ -28,7 +29,7 @@ one_more xs b =
   where
     same : (e : Bool) (n m n' m' : ℕ) → n' ≡ (if e then n + 1 else n) → m' ≡ (if e then 0 else m + 1)
         → (let place : Place = if e then record { line = 1 + n + 1; col = 1 } else record { line = 1 + n; col = 1 + m + 1 } in place)
-            ≡ record { line = 1 + n'; col = 1 + m' }
+        ≡ record { line = 1 + n'; col = 1 + m' }
     same true n m n' m' f g = rw (f, g) (ap (λ k. record { line = k; col = 1 }) (omega arith))
     same false n m n' m' f g = rw (f, g) (ap (λ k. record { line = 1 + n; col = k }) (omega arith))
 
@@ -64,14 +65,14 @@ later bytes from to p h within e =
         let same : length (take m xs) + (n - m) ≡ n = omega (arith, length-take m xs) in
         sym (take-append-add (take m xs) (drop m xs) (n - m)) ∙ ap (λ k. take k (take m xs ++ drop m xs)) same ∙ ap (take n) (take-append-drop m xs)
 
-pub line_short : (bytes : List ℕ) (from to : ℕ) (p : Place) → from ≤ to → to ≤ length bytes → length bytes ≤ 262144 → p ≡ place_behind (take from bytes)
+pub line_short : (bytes : List ℕ) (from to : ℕ) (p : Place) → from ≤ to → to ≤ length bytes → length bytes ≤ text_limit → p ≡ place_behind (take from bytes)
     → p.line + length (take (to - from) (drop from bytes)) < 4294967296
 line_short bytes from to p h within short e =
     let line : p.line ≡ (place_behind (take from bytes)).line = ap (λ (q : Place). q.line) e in
     let same : length (take (to - from) (drop from bytes)) ≡ to - from = simp (length-take, length-drop) (omega arith) in
     omega (arith, line, same, line_within (take from bytes), length-take from bytes)
 
-pub col_short : (bytes : List ℕ) (from to : ℕ) (p : Place) → from ≤ to → to ≤ length bytes → length bytes ≤ 262144 → p ≡ place_behind (take from bytes)
+pub col_short : (bytes : List ℕ) (from to : ℕ) (p : Place) → from ≤ to → to ≤ length bytes → length bytes ≤ text_limit → p ≡ place_behind (take from bytes)
     → p.col + length (take (to - from) (drop from bytes)) < 4294967296
 col_short bytes from to p h within short e =
     let col : p.col ≡ (place_behind (take from bytes)).col = ap (λ (q : Place). q.col) e in

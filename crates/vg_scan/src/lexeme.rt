@@ -2,7 +2,8 @@
 ghost use Rattle.std.specs.Prelude.{◌≡◌, ◌≤◌, ◌<◌, ◌+◌, ◌^◌, IsTrue, IfSome, length, take};
 ghost use Rattle.std.specs.List.{list_all};
 ghost use Rattle.vg_syntax.specs.Bytes.{is_letter, is_digit, is_hex_digit, is_word_byte, is_printable};
-ghost use Rattle.vg_syntax.specs.Lexemes.{no_token, run_length, word, number, is_number, is_hexadecimal, is_escape, is_hex_escape, escape_length, element_length, char_literal, string_end, string_literal, sign, lexeme};
+ghost use Rattle.vg_syntax.specs.Lexemes.{no_token, run_length, word, number, is_number, is_hexadecimal, is_escape, is_hex_escape, escape_length};
+ghost use Rattle.vg_syntax.specs.Lexemes.{element_length, char_literal, string_end, string_literal, sign, lexeme};
 
 use crate::spelling::{double_sign_kind, reserved_kind, single_sign_kind};
 use vg_syntax::{Kind, Lexeme};

@@ -1,5 +1,6 @@
 // From bytes to tokens.
 ghost use Rattle.std.specs.Prelude.{◌≡◌, ◌≤◌, ◌<◌, ◌+◌, ◌^◌, ℕ, List, IfOk, length, take};
+ghost use Rattle.vg_base.specs.Limits.{text_limit};
 ghost use Rattle.vg_syntax.specs.declared.token.Token.{Token};
 ghost use Rattle.vg_syntax.specs.Places.{place_behind};
 ghost use Rattle.vg_syntax.specs.Tokens.{IsTokens, token_at};
@@ -16,7 +17,7 @@ use vg_syntax::Token;
 /// Every text has them: what begins no token is one of kind `Unknown`, to the end of the text. Want of memory is the
 /// only error. The text is walked once, forward.
 pub fn scan(alloc: Global, bytes: &[u8]) -> Result<Vec<Token>, NoMemory>
-    requires { length bytes.now ≤ 262144 }
+    requires { length bytes.now ≤ text_limit }
     ensures { IfOk result (λ v. IsTokens bytes.now v.items) }
 {
     let mut tokens = Vec::new(alloc);
@@ -38,7 +39,7 @@ pub fn scan(alloc: Global, bytes: &[u8]) -> Result<Vec<Token>, NoMemory>
 
 /// The place behind the last byte of a text of at most 262,144 bytes.
 pub fn end_place(bytes: &[u8]) -> Place
-    requires { length bytes.now ≤ 262144 }
+    requires { length bytes.now ≤ text_limit }
     ensures { result ≡ place_behind bytes.now }
 {
     walked(Place { line: 1, col: 1 }, bytes)
@@ -52,7 +53,7 @@ pub fn exactly_one_token_list()
 
 // The token that begins at `start`.
 fn token_at(bytes: &[u8], start: usize, place: Place) -> Token
-    requires short { length bytes.now ≤ 262144 }
+    requires short { length bytes.now ≤ text_limit }
     requires within { start < length bytes.now }
     requires place { place ≡ place_behind (take start bytes.now) }
     ensures value { result ≡ token_at bytes.now start }
@@ -73,7 +74,7 @@ fn token_at(bytes: &[u8], start: usize, place: Place) -> Token
 fn place_later(bytes: &[u8], from: usize, to: usize, place: Place) -> Place
     requires order { from ≤ to }
     requires within { to ≤ length bytes.now }
-    requires short { length bytes.now ≤ 262144 }
+    requires short { length bytes.now ≤ text_limit }
     requires place { place ≡ place_behind (take from bytes.now) }
     ensures { result ≡ place_behind (take to bytes.now) }
 {
@@ -111,6 +112,3 @@ fn next_place(place: Place, b: u8) -> Place
         }
     }
 }
-
-#[cfg(test)]
-mod tests;

@@ -1,4 +1,6 @@
 -- The bytes of a token are ASCII, but for those that begin no token.
+-- As the lexeme is defined: words and numbers by their bytes, literals element by element, and signs and reserved words by
+-- computing that all texts of their tables are ASCII.
 use Rattle.std.proofs.Common.{◌≡◌, ℕ, ◌+◌, ◌-◌, ◌<◌, Bool, true, false, not, zero, suc, List, [], ◌∷◌, length, take, drop, Option, Some, None, refl, sym}
 use Rattle.std.proofs.Common.{subst, arith}
 use Rattle.std.specs.Prelude.{◌&&◌, ◌==◌, if◌then◌else◌, bytes_eq, nat_lt}

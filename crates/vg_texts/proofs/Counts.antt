@@ -1,6 +1,9 @@
 -- The tree of a text has fewer than 2^32 nodes.
+-- A parse has no more tokens and parts than the room of Room gives its tokens, each of them makes at most three nodes (Few), and a
+-- text has no more tokens than bytes.
 use Rattle.std.proofs.Common.{◌≡◌, ℕ, zero, suc, ◌+◌, ◌*◌, ◌<◌, ◌≤◌, Bool, true, false, List, [], ◌∷◌, ◌++◌, length, sym, ap, arith}
 use Rattle.std.specs.Prelude.{if◌then◌else◌}
+use Rattle.vg_base.specs.Limits.{text_limit}
 use Rattle.vg_syntax.specs.declared.token.Token.{Token}
 use Rattle.vg_syntax.specs.declared.grammar.Symbol.{Symbol}
 use Rattle.vg_syntax.specs.declared.grammar.Symbol.TheVariants.{Sign, Use}
@@ -90,7 +93,7 @@ tree_total [] = omega arith
 tree_total (v ∷ []) = let x = node_few v.made in let y = count_numbered 0 (node_in v.made) in omega (arith, x, y)
 tree_total (v ∷ w ∷ vs) = omega arith
 
-pub few_nodes : (bytes : List ℕ) (tree : Node) → length bytes ≤ 262144 → Reads bytes tree → count_nodes tree < 4294967296
+pub few_nodes : (bytes : List ℕ) (tree : Node) → length bytes ≤ text_limit → Reads bytes tree → count_nodes tree < 4294967296
 few_nodes bytes tree h r =
     let ts = r.0 in
     let p = r.1 in

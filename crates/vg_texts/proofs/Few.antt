@@ -1,4 +1,6 @@
 -- What a part makes has at most three nodes more than its kids.
+-- One lemma for each function that makes a part of its kids, by its cases; the sums are linear arithmetic. The last lemma
+-- chooses among them by the part.
 use Rattle.std.proofs.Common.{◌≡◌, ℕ, ◌+◌, ◌≤◌, List, refl, arith}
 use Rattle.vg_base.specs.declared.place.Place.{Place}
 use Rattle.vg_syntax.specs.declared.kind.Kind.{Kind}

@@ -1,4 +1,6 @@
 -- No rule of the grammar has a token of kind Unknown.
+-- Each alternative of each part is looked at by computation: none has a sign of kind Unknown. So no token of a parse has that
+-- kind.
 use Rattle.std.proofs.Common.{◌≡◌, ℕ, Bool, true, false, not, ◌&&◌, ◌==◌, List, [], ◌∷◌, ◌++◌, Some, None, zero, suc, refl, sym, ap, ◌∙◌, subst}
 use Rattle.std.specs.List.{AllByRecursion}
 use Rattle.vg_syntax.specs.declared.kind.Kind.{Kind}

@@ -1,4 +1,6 @@
 -- A text has one answer.
+-- Where two answers stand at two places, the later one says that some text begins with all before it, which the earlier one
+-- denies, or the brackets are not deep there. At one place the two answers deny each other.
 use Rattle.std.proofs.Common.{◌≡◌, ℕ, zero, suc, ◌+◌, ◌<◌, ◌≤◌, List, [], ◌∷◌, ◌++◌, length, Option, Some, None, refl, sym, ap, ◌∙◌, subst, arith}
 use Rattle.std.proofs.Common.{append_assoc, ◌⊎◌, inl, inr, ⊎_elim, take, drop, slice_get, take-append-drop}
 use Rattle.std.specs.Option.{option_and_then}

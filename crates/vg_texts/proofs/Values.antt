@@ -1,4 +1,6 @@
 -- The values of rows of parses: one text has one row of values.
+-- Two parses of one row of tokens have the same alternative at each part, since the next token chooses it (Theory), so they
+-- make the same values, from the first part to the last.
 use Rattle.std.proofs.Common.{◌≡◌, ℕ, zero, suc, ◌+◌, ◌≤◌, List, [], ◌∷◌, ◌++◌, length, refl, sym, ap, ◌∙◌, subst, arith, take, drop}
 use Rattle.std.proofs.Math.Seq.{take-append_seam, drop-append_seam}
 use Rattle.vg_syntax.specs.declared.kind.Kind.{Kind}

@@ -87,7 +87,7 @@ here texts name _ i rest e = absurd cc
 
 later : (texts : List (List ℕ)) (name : ℕ) (n : held.Node) (i : ℕ) (rest : Node) → IsOnly texts name → names_class name n ≡ false
     → class_in (text_at texts name) (numbered i (Then (node_at texts n) rest))
-        ≡ class_in (text_at texts name) (numbered (i + count_nodes (node_at texts n)) rest)
+    ≡ class_in (text_at texts name) (numbered (i + count_nodes (node_at texts n)) rest)
 unfolding is_held_class
 later texts name (held.ClassDecl' place other above p members) i rest only e = passes _ _ _ (other_texts texts other name only e)
 later texts name n i rest only e =

@@ -15,7 +15,7 @@ two_kids texts (x ∷ y ∷ z ∷ ks) a b l m = absurd (omega (arith, m))
 -- the kids of a slice of three
 pub three_kids : (texts : List (List ℕ)) (ks : List HeldValue) (a b d : HeldValue) → 3 ≤ length ks → length ks < 4
     → kids_of (map (value_at texts) ks) ≡ Three (value_at texts (slice_index_or ks 0 a)) (value_at texts (slice_index_or ks 1 b))
-        (value_at texts (slice_index_or ks 2 d))
+    (value_at texts (slice_index_or ks 2 d))
 three_kids texts [] a b d l m = absurd (omega (arith, l))
 three_kids texts (x ∷ []) a b d l m = absurd (omega (arith, l))
 three_kids texts (x ∷ y ∷ []) a b d l m = absurd (omega (arith, l))
@@ -25,7 +25,7 @@ three_kids texts (x ∷ y ∷ z ∷ w ∷ ks) a b d l m = absurd (omega (arith, 
 -- the kids of a slice of four
 pub four_kids : (texts : List (List ℕ)) (ks : List HeldValue) (a b d e : HeldValue) → 4 ≤ length ks → length ks < 5
     → kids_of (map (value_at texts) ks) ≡ Four (value_at texts (slice_index_or ks 0 a)) (value_at texts (slice_index_or ks 1 b))
-        (value_at texts (slice_index_or ks 2 d)) (value_at texts (slice_index_or ks 3 e))
+    (value_at texts (slice_index_or ks 2 d)) (value_at texts (slice_index_or ks 3 e))
 four_kids texts [] a b d e l m = absurd (omega (arith, l))
 four_kids texts (x ∷ []) a b d e l m = absurd (omega (arith, l))
 four_kids texts (x ∷ y ∷ []) a b d e l m = absurd (omega (arith, l))
@@ -36,7 +36,7 @@ four_kids texts (x ∷ y ∷ z ∷ w ∷ v ∷ ks) a b d e l m = absurd (omega (
 -- the kids of a slice of five
 pub five_kids : (texts : List (List ℕ)) (ks : List HeldValue) (a b d e f : HeldValue) → 5 ≤ length ks → length ks < 6
     → kids_of (map (value_at texts) ks) ≡ Five (value_at texts (slice_index_or ks 0 a)) (value_at texts (slice_index_or ks 1 b))
-        (value_at texts (slice_index_or ks 2 d)) (value_at texts (slice_index_or ks 3 e)) (value_at texts (slice_index_or ks 4 f))
+    (value_at texts (slice_index_or ks 2 d)) (value_at texts (slice_index_or ks 3 e)) (value_at texts (slice_index_or ks 4 f))
 five_kids texts [] a b d e f l m = absurd (omega (arith, l))
 five_kids texts (x ∷ []) a b d e f l m = absurd (omega (arith, l))
 five_kids texts (x ∷ y ∷ []) a b d e f l m = absurd (omega (arith, l))

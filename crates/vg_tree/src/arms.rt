@@ -4,9 +4,9 @@ ghost use Rattle.vg_syntax.specs.Tree.{Arm};
 ghost use Rattle.vg_tree.specs.Held.{node_at};
 ghost use Rattle.vg_tree.specs.HeldMade.{arms_back};
 
+use crate::Node;
 use std::alloc::Global;
 use vg_base::NoMemory;
-use crate::Node;
 
 /// The node of a row of pairs that is made.
 pub fn row_of_arms(arms: Vec<Node>) -> Node
@@ -24,7 +24,8 @@ pub fn with_arm(
     condition: Node,
     block: Node,
 ) -> Result<Vec<Node>, NoMemory>
-    ensures { (texts : List (List ℕ)) → IfOk result (λ v. arms_back texts v.items ≡ Arm (node_at texts condition) (node_at texts block) (arms_back texts arms.items)) }
+    ensures { (texts : List (List ℕ)) → IfOk result (λ v. arms_back texts v.items
+        ≡ Arm (node_at texts condition) (node_at texts block) (arms_back texts arms.items)) }
 {
     let mut arms = arms;
     let condition = Box::new(alloc, condition)?;

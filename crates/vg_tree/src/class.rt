@@ -13,7 +13,8 @@ use vg_base::{Name, NodeId};
 // The first class of this name in a row of declarations, the first of which has the number 1.
 pub(crate) fn class_in(declarations: &Node, name: Name) -> Option<NodeId>
     requires { 1 + count_nodes (node_at [] declarations.now) < 2 ^ 32 }
-    ensures { (texts : List (List ℕ)) → IsOnly texts name → option_map (λ id. id.0) result ≡ class_in (text_at texts name) (numbered 1 (node_at texts declarations.now)) }
+    ensures { (texts : List (List ℕ)) → IsOnly texts name → option_map (λ id. id.0) result
+        ≡ class_in (text_at texts name) (numbered 1 (node_at texts declarations.now)) }
 {
     let row = match row_of(declarations) {
         None => return None,
@@ -32,7 +33,8 @@ pub(crate) fn class_in(declarations: &Node, name: Name) -> Option<NodeId>
 // The declarations of a text.
 pub(crate) fn declarations_of(root: &Node) -> Option<&Node>
     ensures some { is_some result ≡ is_text root.now }
-    ensures first { IfSome result (λ row. (texts : List (List ℕ)) (name : List ℕ) → first_class name (numbered 0 (node_at texts root.now)) ≡ class_in name (numbered 1 (node_at texts row.now))) }
+    ensures first { IfSome result (λ row. (texts : List (List ℕ)) (name : List ℕ)
+        → first_class name (numbered 0 (node_at texts root.now)) ≡ class_in name (numbered 1 (node_at texts row.now))) }
     ensures count { IfSome result (λ row. 1 + count_nodes (node_at [] row.now) ≡ count_nodes (node_at [] root.now)) }
 {
     match root {

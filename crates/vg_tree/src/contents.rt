@@ -1,16 +1,17 @@
 // What one of a part's kids holds, taken out of it; of another kind it holds nothing. The text of the name `nameless` is to be empty.
 ghost use Rattle.std.specs.Prelude.{◌≡◌, List, [], ℕ, map, reverse, length};
 ghost use Rattle.std.specs.Option.{option_map};
-ghost use Rattle.vg_syntax.specs.Made.{text_in, kind_in, node_in, row_in, type_in, types_in, param_in, params_in, operators_in, component_in, method_in, arms_in, otherwise_in, count_in, suffixes_in, first_in, condition_in, next_in, above_in, is_row};
+ghost use Rattle.vg_syntax.specs.Made.{text_in, kind_in, node_in, row_in, type_in, types_in, param_in, params_in, operators_in, component_in, method_in};
+ghost use Rattle.vg_syntax.specs.Made.{arms_in, otherwise_in, count_in, suffixes_in, first_in, condition_in, next_in, above_in, is_row};
 ghost use Rattle.vg_tree.specs.Held.{text_at, type_at, param_at, node_at};
 ghost use Rattle.vg_tree.specs.HeldMade.{row_back, arms_back, types_back, made_at};
 
 use crate::made::{Made, Value};
+use crate::{Node, Param, TypeTree};
 use std::alloc::Global;
 use std::mem;
 use vg_base::{Name, Place};
 use vg_syntax::Kind;
-use crate::{Node, Param, TypeTree};
 
 /// The whole value.
 pub fn taken(kid: &mut Value) -> Value

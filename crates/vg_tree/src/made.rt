@@ -1,7 +1,7 @@
 // What the tokens and the parts of a parse stand for while its tree is made.
+use crate::{Node, Param, TypeTree};
 use vg_base::{Name, Place};
 use vg_syntax::Kind;
-use crate::{Node, Param, TypeTree};
 
 /// What a token or a part of the grammar stands for.
 ///

@@ -127,7 +127,8 @@ impl Node {
     /// The children of a node, in order of the text. A row, a pair and a leaf have none.
     pub fn children(&self) -> [Option<&Node>; 4]
         ensures four { length result ≡ 4 }
-        ensures outline { has_number self.now ≡ true → outline (node_at [] self.now) ≡ Inner 0 (weight_of self.now) (kids_outline (map (option_map (λ kid. kid.now)) result)) }
+        ensures outline { has_number self.now ≡ true → outline (node_at [] self.now)
+            ≡ Inner 0 (weight_of self.now) (kids_outline (map (option_map (λ kid. kid.now)) result)) }
     {
         match self {
             Node::Text(_, a) => [Some(a), None, None, None],

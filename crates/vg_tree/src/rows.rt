@@ -6,11 +6,11 @@ ghost use Rattle.vg_syntax.specs.Reads.{value, kids_of, unwritten, rowed, more_r
 ghost use Rattle.vg_tree.specs.Held.{node_at};
 ghost use Rattle.vg_tree.specs.HeldMade.{row_back, made_at, value_at};
 
+use crate::Node;
 use crate::contents::{all_in, node_in, row_in, taken};
 use crate::made::{Made, Value};
 use std::alloc::Global;
 use vg_base::{NoMemory, Place};
-use crate::Node;
 
 /// The node of a row that is made.
 pub fn row_of(nodes: Vec<Node>) -> Node

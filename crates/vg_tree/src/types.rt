@@ -2,17 +2,18 @@
 ghost use Rattle.std.specs.Prelude.{◌≡◌, List, [], ℕ, length, IfOk, map};
 ghost use Rattle.vg_syntax.specs.Tree.{MoreTypes};
 ghost use Rattle.vg_syntax.specs.Made.{Types, types_in, arrays};
-ghost use Rattle.vg_syntax.specs.Reads.{kids_of, value, result_type, type_of, types, more_types, plain, dimensions, atom_of, atom, simple_type, raw_or_inner, other_atom};
+ghost use Rattle.vg_syntax.specs.Reads.{kids_of, value, result_type, type_of, types, more_types, plain, dimensions, atom_of, atom, simple_type, raw_or_inner};
+ghost use Rattle.vg_syntax.specs.Reads.{other_atom};
 ghost use Rattle.vg_tree.specs.Held.{text_at, type_at};
 ghost use Rattle.vg_tree.specs.HeldMade.{types_back, made_at, value_at};
 
+use crate::TypeTree;
 use crate::contents::{all_in, kind_in, levels_in, taken, text_in, type_in, types_in};
 use crate::made::{Made, Value};
 use crate::rows::unwritten;
 use std::alloc::Global;
 use vg_base::{Name, NoMemory, Place};
 use vg_syntax::Kind;
-use crate::TypeTree;
 
 /// The type of a row that is made.
 pub fn row_of_types(types: Vec<TypeTree>) -> TypeTree
@@ -69,7 +70,8 @@ pub fn type_before(
     first: TypeTree,
     rest: &mut Made,
 ) -> Result<Value, NoMemory>
-    ensures { (texts : List (List ℕ)) → IfOk result (λ v. value_at texts v ≡ value place (Types (MoreTypes (type_at texts first) (types_in (made_at texts rest.old))))) }
+    ensures { (texts : List (List ℕ)) → IfOk result (λ v. value_at texts v
+        ≡ value place (Types (MoreTypes (type_at texts first) (types_in (made_at texts rest.old))))) }
 {
     let mut types = types_in(alloc, rest);
     types.push(first)?;
@@ -174,7 +176,8 @@ pub fn simple_type(kind: Kind) -> TypeTree
 
 /// A raw type by its width, or the type in parentheses.
 pub fn raw_or_inner(nameless: Name, kind: Kind, inner: &mut Made, last: &Made) -> TypeTree
-    ensures { (texts : List (List ℕ)) → text_at texts nameless ≡ [] → type_at texts result ≡ raw_or_inner kind (made_at texts inner.old) (made_at texts last.now) }
+    ensures { (texts : List (List ℕ)) → text_at texts nameless ≡ []
+        → type_at texts result ≡ raw_or_inner kind (made_at texts inner.old) (made_at texts last.now) }
 {
     match kind {
         Kind::Raw => TypeTree::Raw(text_in(nameless, last)),

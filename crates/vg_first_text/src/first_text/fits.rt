@@ -1,6 +1,6 @@
 // Which names and numbers make a program of constants, and its writes.
-ghost use Rattle.std.specs.Prelude.{◌≡◌, ◌↔◌, ◌≤◌, ◌<◌, true, IsTrue, IfSome, IfNone, IfOk, OnOk, IsErrOf, map};
-ghost use Rattle.std.specs.HashMap.{get};
+ghost use Rattle.std.specs.Prelude.{◌≡◌, ◌↔◌, ◌≤◌, ◌<◌, true, IsTrue, IfSome, IfNone, IfOk, OnOk, Err, map};
+ghost use Rattle.indexmap.specs.IndexMap.{get};
 ghost use Rattle.vg_meaning.specs.Device.{IsDeviceAddress};
 ghost use Rattle.vg_first_text.specs.FirstText.{IsRegisterNumber, IsByteNumber, AreRegisters, AreFirstNames, FirstFits, IsAssignment, write_of, writes_of};
 ghost use Rattle.vg_first_text.specs.FirstViews.{assignment_view, register_view, program_view, same_name, TellsAddresses, AreAssignments};
@@ -8,23 +8,24 @@ ghost use Rattle.vg_syntax.specs.Hexadecimal.{digit_value, more_digits, hex_valu
 ghost use Rattle.vg_syntax.specs.Lexemes.{is_hexadecimal};
 
 use crate::device_write::DeviceWrite;
-use crate::first_text::FirstFault;
+use crate::first_text::NotFirst;
 use crate::first_text::parts::{Assignment, Program, Register};
+use indexmap::IndexMap;
 use std::alloc::Global;
-use std::collections::HashMap;
+use vg_base::Refusal;
 use vg_scan::is_hexadecimal;
 
 /// The writes of a program of constants.
 pub(crate) fn program_writes(
     alloc: Global,
     program: &Program<'_>,
-) -> Result<Vec<DeviceWrite>, FirstFault>
+) -> Result<Vec<DeviceWrite>, Refusal<NotFirst>>
     ensures fits { OnOk result (FirstFits (program_view program.now)) }
     ensures writes { IfOk result (λ w. w.items ≡ writes_of (program_view program.now)) }
-    ensures not { IsErrOf result FirstFault.NotFirst → FirstFits (program_view program.now) → ⊥ }
+    ensures not { (why : NotFirst) → result ≡ Err (Refusal.Fault why) → FirstFits (program_view program.now) → ⊥ }
 {
     if !names_fit(program) || program.assignments.len() > 100 {
-        return Err(FirstFault::NotFirst);
+        return Err(Refusal::Fault(NotFirst));
     }
     let addresses = register_addresses(alloc, program.registers.as_slice())?;
     assignment_writes(alloc, program, &addresses)
@@ -49,18 +50,18 @@ fn names_fit(program: &Program<'_>) -> bool
 fn register_addresses<'a>(
     alloc: Global,
     registers: &[Register<'a>],
-) -> Result<HashMap<&'a [u8], u8>, FirstFault>
+) -> Result<IndexMap<&'a [u8], u8>, Refusal<NotFirst>>
     ensures fit { OnOk result (AreRegisters (map register_view registers.now)) }
     ensures told { IfOk result (λ m. TellsAddresses (get same_name m) (map register_view registers.now)) }
-    ensures not { IsErrOf result FirstFault.NotFirst → AreRegisters (map register_view registers.now) → ⊥ }
+    ensures not { (why : NotFirst) → result ≡ Err (Refusal.Fault why) → AreRegisters (map register_view registers.now) → ⊥ }
 {
-    let mut addresses = HashMap::new(alloc);
+    let mut addresses = IndexMap::new(alloc);
     for register in registers {
         let Some(address) = register_address(register.digits) else {
-            return Err(FirstFault::NotFirst);
+            return Err(Refusal::Fault(NotFirst));
         };
         if addresses.insert(register.name, address)?.is_some() {
-            return Err(FirstFault::NotFirst);
+            return Err(Refusal::Fault(NotFirst));
         }
     }
     Ok(addresses)
@@ -70,17 +71,17 @@ fn register_addresses<'a>(
 fn assignment_writes<'a>(
     alloc: Global,
     program: &Program<'a>,
-    addresses: &HashMap<&'a [u8], u8>,
-) -> Result<Vec<DeviceWrite>, FirstFault>
+    addresses: &IndexMap<&'a [u8], u8>,
+) -> Result<Vec<DeviceWrite>, Refusal<NotFirst>>
     requires { TellsAddresses (get same_name addresses.now) (map register_view program.now.registers.items) }
     ensures fit { OnOk result (AreAssignments (program_view program.now)) }
     ensures writes { IfOk result (λ w. w.items ≡ writes_of (program_view program.now)) }
-    ensures not { IsErrOf result FirstFault.NotFirst → AreAssignments (program_view program.now) → ⊥ }
+    ensures not { (why : NotFirst) → result ≡ Err (Refusal.Fault why) → AreAssignments (program_view program.now) → ⊥ }
 {
     let mut writes = Vec::new(alloc);
     for assignment in program.assignments.as_slice() {
         let Some(write) = assignment_write(program, assignment, addresses) else {
-            return Err(FirstFault::NotFirst);
+            return Err(Refusal::Fault(NotFirst));
         };
         writes.push(write)?;
     }
@@ -91,10 +92,11 @@ fn assignment_writes<'a>(
 fn assignment_write<'a>(
     program: &Program<'a>,
     assignment: &Assignment<'a>,
-    addresses: &HashMap<&'a [u8], u8>,
+    addresses: &IndexMap<&'a [u8], u8>,
 ) -> Option<DeviceWrite>
     requires { TellsAddresses (get same_name addresses.now) (map register_view program.now.registers.items) }
-    ensures some { IfSome result (λ w. IsAssignment program.now.device.now (map register_view program.now.registers.items) (assignment_view assignment.now) × (w ≡ write_of (map register_view program.now.registers.items) (assignment_view assignment.now))) }
+    ensures some { IfSome result (λ w. IsAssignment program.now.device.now (map register_view program.now.registers.items) (assignment_view assignment.now)
+        × (w ≡ write_of (map register_view program.now.registers.items) (assignment_view assignment.now))) }
     ensures none { IfNone result (IsAssignment program.now.device.now (map register_view program.now.registers.items) (assignment_view assignment.now) → ⊥) }
 {
     if assignment.device != program.device {

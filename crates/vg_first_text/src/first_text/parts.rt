@@ -1,13 +1,14 @@
 // The parts of a program of constants, by their spelling.
-ghost use Rattle.std.specs.Prelude.{◌≡◌, ◌++◌, ◌∷◌, ℕ, IfSome, IfNone, IfOk, IsErrOf, List, map, flat_map};
-ghost use Rattle.vg_first_text.specs.FirstText.{First, FirstAssignment, FirstRegister, head_pieces, assignment_pieces, middle_pieces, register_pieces, tail_pieces, first_pieces};
+ghost use Rattle.std.specs.Prelude.{◌≡◌, ◌++◌, ◌∷◌, ℕ, IfSome, IfNone, IfOk, Err, List, map, flat_map};
+ghost use Rattle.vg_first_text.specs.FirstText.{First, FirstAssignment, FirstRegister, head_pieces, assignment_pieces, middle_pieces, register_pieces};
+ghost use Rattle.vg_first_text.specs.FirstText.{tail_pieces, first_pieces};
 ghost use Rattle.vg_first_text.specs.FirstViews.{assignment_view, register_view, program_view, IsBehindAssignments, IsBehindRegisters};
 ghost use Rattle.vg_first_text.specs.Pieces.{Piece, pieces};
 
-use crate::first_text::FirstFault;
+use crate::first_text::NotFirst;
 use crate::first_text::shape::{are_of_kinds, split_kinds, text_of};
 use std::alloc::Global;
-use vg_base::NoMemory;
+use vg_base::{NoMemory, Refusal};
 use vg_syntax::{Kind, Token};
 
 // component C { method m ( ) {
@@ -112,20 +113,20 @@ pub(crate) fn read_program<'a>(
     alloc: Global,
     bytes: &'a [u8],
     tokens: &'a [Token],
-) -> Result<Program<'a>, FirstFault>
+) -> Result<Program<'a>, Refusal<NotFirst>>
     ensures ok { IfOk result (λ p. pieces bytes.entry.now tokens.entry.now ≡ first_pieces (program_view p)) }
-    ensures not { IsErrOf result FirstFault.NotFirst → (f : First) → pieces bytes.entry.now tokens.entry.now ≡ first_pieces f → ⊥ }
+    ensures not { (why : NotFirst) → result ≡ Err (Refusal.Fault why) → (f : First) → pieces bytes.entry.now tokens.entry.now ≡ first_pieces f → ⊥ }
 {
     let Some((head, behind_head)) = read_head(bytes, tokens) else {
-        return Err(FirstFault::NotFirst);
+        return Err(Refusal::Fault(NotFirst));
     };
     let (assignments, behind_assignments) = read_assignments(alloc, bytes, behind_head)?;
     let Some((device, behind_middle)) = read_middle(bytes, behind_assignments) else {
-        return Err(FirstFault::NotFirst);
+        return Err(Refusal::Fault(NotFirst));
     };
     let (registers, behind_registers) = read_registers(alloc, bytes, behind_middle)?;
     let Some(tail) = read_tail(bytes, behind_registers) else {
-        return Err(FirstFault::NotFirst);
+        return Err(Refusal::Fault(NotFirst));
     };
     Ok(Program {
         head,
@@ -138,8 +139,10 @@ pub(crate) fn read_program<'a>(
 
 // The names before the assignments, and the tokens behind them.
 fn read_head<'a>(bytes: &'a [u8], tokens: &'a [Token]) -> Option<(Head<'a>, &'a [Token])>
-    ensures some { IfSome result (λ r. pieces bytes.entry.now tokens.entry.now ≡ head_pieces r.0.component.now r.0.method.now ++ pieces bytes.entry.now r.1.now) }
-    ensures none { IfNone result ((component method : List ℕ) (more : List Piece) → pieces bytes.entry.now tokens.entry.now ≡ head_pieces component method ++ more → ⊥) }
+    ensures some { IfSome result (λ r. pieces bytes.entry.now tokens.entry.now
+        ≡ head_pieces r.0.component.now r.0.method.now ++ pieces bytes.entry.now r.1.now) }
+    ensures none { IfNone result ((component method : List ℕ) (more : List Piece)
+        → pieces bytes.entry.now tokens.entry.now ≡ head_pieces component method ++ more → ⊥) }
 {
     let Some((front, rest)) = split_kinds(tokens, &HEAD) else {
         return None;
@@ -160,7 +163,8 @@ fn read_assignments<'a>(
     bytes: &'a [u8],
     tokens: &'a [Token],
 ) -> Result<(Vec<Assignment<'a>>, &'a [Token]), NoMemory>
-    ensures all { IfOk result (λ r. pieces bytes.entry.now tokens.entry.now ≡ flat_map assignment_pieces (map assignment_view r.0.items) ++ pieces bytes.entry.now r.1.now) }
+    ensures all { IfOk result (λ r. pieces bytes.entry.now tokens.entry.now
+        ≡ flat_map assignment_pieces (map assignment_view r.0.items) ++ pieces bytes.entry.now r.1.now) }
     ensures rest { IfOk result (λ r. IsBehindAssignments (pieces bytes.entry.now r.1.now)) }
 {
     let mut found = Vec::new(alloc);
@@ -214,7 +218,8 @@ fn read_registers<'a>(
     bytes: &'a [u8],
     tokens: &'a [Token],
 ) -> Result<(Vec<Register<'a>>, &'a [Token]), NoMemory>
-    ensures all { IfOk result (λ r. pieces bytes.entry.now tokens.entry.now ≡ flat_map register_pieces (map register_view r.0.items) ++ pieces bytes.entry.now r.1.now) }
+    ensures all { IfOk result (λ r. pieces bytes.entry.now tokens.entry.now
+        ≡ flat_map register_pieces (map register_view r.0.items) ++ pieces bytes.entry.now r.1.now) }
     ensures rest { IfOk result (λ r. IsBehindRegisters (pieces bytes.entry.now r.1.now)) }
 {
     let mut found = Vec::new(alloc);
@@ -247,7 +252,8 @@ fn read_register<'a>(bytes: &'a [u8], tokens: &'a [Token]) -> Option<(Register<'
 // The names behind the registers, where nothing follows.
 fn read_tail<'a>(bytes: &'a [u8], tokens: &'a [Token]) -> Option<Tail<'a>>
     ensures some { IfSome result (λ r. pieces bytes.entry.now tokens.entry.now ≡ tail_pieces r.program.now r.key.now r.component.now r.method.now) }
-    ensures none { IfNone result ((program key component method : List ℕ) → pieces bytes.entry.now tokens.entry.now ≡ tail_pieces program key component method → ⊥) }
+    ensures none { IfNone result ((program key component method : List ℕ) → pieces bytes.entry.now tokens.entry.now ≡ tail_pieces program key component method
+        → ⊥) }
 {
     if !are_of_kinds(tokens, &TAIL) {
         return None;

@@ -6,4 +6,6 @@ use Rattle.vg_read_expressions.proofs.suffixes.suffixed.Goals as goal
 
 pub returns : goal.returns
 returns c texts =
-    suffixed_more texts (value_at texts c.args.operand.now) c.args.suffixes.items _ _ (λ e. not_zero c.args.suffixes.len (sym c.is_empty.ensures ∙ c.if-is_empty.false) (omega arith)) (ap (node_at texts) c.in_ok-primary.ensures.ok ∙ c.node_in.ensures texts) (ap (node_at texts) c.in_ok-row.ensures.ok ∙ c.row_of.ensures texts)
+    suffixed_more texts (value_at texts c.args.operand.now) c.args.suffixes.items _ _
+    (λ e. not_zero c.args.suffixes.len (sym c.is_empty.ensures ∙ c.if-is_empty.false) (omega arith))
+    (ap (node_at texts) c.in_ok-primary.ensures.ok ∙ c.node_in.ensures texts) (ap (node_at texts) c.in_ok-row.ensures.ok ∙ c.row_of.ensures texts)

@@ -4,4 +4,14 @@ use Rattle.vg_read_statements.proofs.statements.header.Goals as goal
 
 pub returns-in-len5 : goal.returns-in-len5
 returns-in-len5 c texts =
-    rw (five_kids texts c.args.kids.now c.result-item.result c.result-item-then-kids-lt6.result c.result-item-then-kids-lt6-2.result c.result-item-then-kids-lt6-3.result c.result-item.result c.in-len5.len_at_least c.in-len5.len_below, ← c.result-item.is, ← c.result-item-then-kids-lt6.is, ← c.result-item-then-kids-lt6-2.is, ← c.result-item-then-kids-lt6-3.is, c.node_in.ensures texts, c.node_in-in-len5.ensures texts, c.node_in-in-len5-2.ensures texts) refl
+    rw (
+      five_kids texts c.args.kids.now c.result-item.result c.result-item-then-kids-lt6.result c.result-item-then-kids-lt6-2.result
+          c.result-item-then-kids-lt6-3.result c.result-item.result c.in-len5.len_at_least c.in-len5.len_below,
+      ← c.result-item.is,
+      ← c.result-item-then-kids-lt6.is,
+      ← c.result-item-then-kids-lt6-2.is,
+      ← c.result-item-then-kids-lt6-3.is,
+      c.node_in.ensures texts,
+      c.node_in-in-len5.ensures texts,
+      c.node_in-in-len5-2.ensures texts,
+    ) refl

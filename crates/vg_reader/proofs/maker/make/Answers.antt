@@ -1,6 +1,9 @@
 use Rattle.std.proofs.Common.{ap, ◌∙◌}
 use Rattle.vg_tree.specs.HeldMade.{value_at}
-use Rattle.vg_reader.proofs.maker.make.Goals.{in-Extends, in-ClassBody, in-DeviceBody, in-Register, in-ProgramBody, in-Entry, in-Key, in-Handler, in-Initial, in-Result, in-SuperCall, in-Parameters, in-Typed, in-TypeArguments, in-PlainResult, in-Atom, in-OtherAtom, in-Condition, in-Else, in-ForHeader, in-ForTest, in-MaybeSimple, in-MaybeExpression, in-Assigned, in-Index, in-Arguments, in-NewOfName, in-Primary}
+use Rattle.vg_reader.proofs.maker.make.Goals.{in-Extends, in-ClassBody, in-DeviceBody, in-Register, in-ProgramBody, in-Entry, in-Key, in-Handler, in-Initial}
+use Rattle.vg_reader.proofs.maker.make.Goals.{in-Result, in-SuperCall, in-Parameters, in-Typed, in-TypeArguments, in-PlainResult, in-Atom, in-OtherAtom}
+use Rattle.vg_reader.proofs.maker.make.Goals.{in-Condition, in-Else, in-ForHeader, in-ForTest, in-MaybeSimple, in-MaybeExpression, in-Assigned, in-Index}
+use Rattle.vg_reader.proofs.maker.make.Goals.{in-Arguments, in-NewOfName, in-Primary}
 use Rattle.vg_reader.proofs.maker.make.Goals as goal
 
 pub returns-in-Text : goal.returns-in-Text

@@ -1,9 +1,10 @@
 use Rattle.std.proofs.Common.{◌≡◌, [], sym, ap, ◌∙◌, subst, arith}
+use Rattle.vg_syntax.specs.Outline.{size}
 use Rattle.vg_syntax.specs.Reads.{Reads, tree_in}
+use Rattle.vg_syntax.proofs.Numbering.{count_numbered}
 use Rattle.vg_tree.specs.Held.{node_at, tree_at}
 use Rattle.vg_tree.proofs.Alike.{alike}
 use Rattle.vg_reader.specs.Derivation.{tree_of}
-use Rattle.vg_tree.proofs.Numbers.{count_numbered}
 use Rattle.vg_texts.proofs.Counts.{few_nodes}
 use Rattle.vg_reader.proofs.Named.{grown_none, grown_twice, held_one, text_found}
 use Rattle.vg_texts.proofs.Spelled.{all_spelled, few_tokens}
@@ -13,7 +14,8 @@ pub build-requires-clause-spelled : goal.build-requires-clause-spelled
 build-requires-clause-spelled c = all_spelled c.args.bytes.now c.in_ok-derivation.derivation.tokens.items c.in_ok-derivation.ensures.tokens
 
 pub build-requires-clause-nameless : goal.build-requires-clause-nameless
-build-requires-clause-nameless c = λ texts g. text_found _ c.args.names.now c.intern.new.self texts c.in_ok-nameless.nameless c.in_ok-nameless.ensures.held c.in_ok-nameless.ensures.name g
+build-requires-clause-nameless c =
+    λ texts g. text_found _ c.args.names.now c.intern.new.self texts c.in_ok-nameless.nameless c.in_ok-nameless.ensures.held c.in_ok-nameless.ensures.name g
 
 pub build-requires-clause-room : goal.build-requires-clause-room
 build-requires-clause-room c =
@@ -45,9 +47,10 @@ returns-clause-small c =
     let root = c.tree_in.result.root in
     let e : tree_at texts c.tree_in.result ≡ tree_of c.args.bytes.now c.in_ok-derivation.derivation =
     c.tree_in.ensures texts ∙ ap tree_in (c.in_ok-values.ensures.values texts (grown_none texts)) in
-    let few = few_nodes c.args.bytes.now (tree_at texts c.tree_in.result) c.requires.short (subst (Reads c.args.bytes.now) (sym e) c.in_ok-derivation.ensures.tree.1) in
+    let few = few_nodes c.args.bytes.now (tree_at texts c.tree_in.result) c.requires.short
+    (subst (Reads c.args.bytes.now) (sym e) c.in_ok-derivation.ensures.tree.1) in
     let numbers = count_numbered 0 (node_at texts root) in
-    let same = (alike texts root).nodes in
+    let same = ap size (alike texts root) in
     omega (arith, few, numbers, same)
 
 pub returns-in_err-values-clause-few : goal.returns-in_err-values-clause-few

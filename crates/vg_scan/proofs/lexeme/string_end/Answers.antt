@@ -8,5 +8,5 @@ loop-first-preserved c =
     let n = c.element_length-element.result in
     let behind = c.split_at.ensures.back in
     let on = goes_on c.loop-first.passed n _ c.loop-first.rest.now c.in-Some.ensures.value c.if-first-eq34.false c.element_length-element.ensures.value
-        c.if-element-eq0.false in
+    c.if-element-eq0.false in
     (ap (string_end 0 (c.loop-first.passed + n)) behind ∙ sym on ∙ c.loop-first.invariant.0, omega arith)

@@ -8,5 +8,5 @@ pub returns-then-start-bytes : goal.returns-then-start-bytes
 returns-then-start-bytes c =
     let all : c.loop-place.end + gap Code (drop c.loop-place.end c.args.bytes.now) ≡ length c.args.bytes.now =
     ap (λ r. c.loop-place.end + gap Code r) (sym c.split_at.ensures.back) ∙ ap (λ n. c.loop-place.end + n) (sym c.gap_length.ensures.value)
-        ∙ c.if-start-bytes.true in
+    ∙ c.if-start-bytes.true in
     ends _ _ _ c.loop-place.invariant.reading (nothing_left _ _ all)

@@ -12,8 +12,8 @@ pub loop-declaration-preserved : goal.loop-declaration-preserved
 loop-declaration-preserved c =
     seeking_on c.args.name c.args.declarations.now c.declaration-item.result _ c.loop-declaration.next _
     (subst (λ l. Seeking c.args.name c.args.declarations.now l c.loop-declaration.next)
-        (left_of c.in-Some.row.now c.loop-declaration.declaration-index c.declaration-item.result c.loop-declaration-test.true (sym c.declaration-item.is))
-        c.loop-declaration.invariant)
+    (left_of c.in-Some.row.now c.loop-declaration.declaration-index c.declaration-item.result c.loop-declaration-test.true (sym c.declaration-item.is))
+    c.loop-declaration.invariant)
     (sym c.is_class.ensures ∙ c.if-is_class.false)
     (c.pass-next.ensures.next ∙ ap (λ i. i + count_nodes (node_at _ c.declaration-item.result)) c.walk_from.ensures.next)
 
@@ -21,8 +21,8 @@ pub returns-then-is_class : goal.returns-then-is_class
 returns-then-is_class c =
     seeking_here c.args.name c.args.declarations.now c.declaration-item.result _ c.loop-declaration.next
     (subst (λ l. Seeking c.args.name c.args.declarations.now l c.loop-declaration.next)
-        (left_of c.in-Some.row.now c.loop-declaration.declaration-index c.declaration-item.result c.loop-declaration-test.true (sym c.declaration-item.is))
-        c.loop-declaration.invariant)
+    (left_of c.in-Some.row.now c.loop-declaration.declaration-index c.declaration-item.result c.loop-declaration-test.true (sym c.declaration-item.is))
+    c.loop-declaration.invariant)
     (sym c.is_class.ensures ∙ c.if-is_class.true)
 
 pub returns-in-None : goal.returns-in-None

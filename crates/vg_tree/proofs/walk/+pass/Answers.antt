@@ -24,8 +24,8 @@ pub pass-arms-preserved : goal.pass-arms-preserved
 pass-arms-preserved t c =
     passing_on _ _ _ _ _ _ _ _
     (subst (λ r. Passing c.args.target c.args.so_far c.arms.passed (outline (node_at [] c.args.node.now)) (outline (arm_row [] r)))
-        (left_of c.as_slice-node-items-in-Arms.result.now c.arms.node-index c.node-item-in-arms.result c.arms-test.true (sym c.node-item-in-arms.is))
-        c.arms.invariant)
+    (left_of c.as_slice-node-items-in-Arms.result.now c.arms.node-index c.node-item-in-arms.result c.arms-test.true (sym c.node-item-in-arms.is))
+    c.arms.invariant)
     (arm_joins c.node-item-in-arms.result (arm_row [] (drop (c.arms.node-index + 1) c.as_slice-node-items-in-Arms.result.now)))
     c.pass_arm-passed.ensures.next c.pass_arm-passed.ensures.code c.pass_arm-passed.ensures.found c.pass_arm-passed.ensures.sound
 
@@ -33,9 +33,9 @@ pub pass_inner-children-preserved : goal.pass_inner-children-preserved
 pass_inner-children-preserved t c =
     passing_on _ _ _ _ _ _ _ _
     (subst (λ r. Passing c.args.target c.begun-passed.result c.children.passed
-        (kids_outline (map (option_map (λ kid. kid.now)) c.children-child-items.result)) (kids_outline (map (option_map (λ kid. kid.now)) r)))
+    (kids_outline (map (option_map (λ kid. kid.now)) c.children-child-items.result)) (kids_outline (map (option_map (λ kid. kid.now)) r)))
     (left_at c.children-child-items.result c.children.child-index c.child-item.result
-        (subst (λ n. c.children.child-index < n) (sym c.children-child-items.ensures.four) c.children-test.true)) c.children.invariant)
+    (subst (λ n. c.children.child-index < n) (sym c.children-child-items.ensures.four) c.children-test.true)) c.children.invariant)
     (kid_joins (option_map (λ kid. kid.now) (get_or c.children-child-items.result c.children.child-index c.child-item.result))
-        (map (option_map (λ kid. kid.now)) (drop (c.children.child-index + 1) c.children-child-items.result)))
+    (map (option_map (λ kid. kid.now)) (drop (c.children.child-index + 1) c.children-child-items.result)))
     c.pass_child-passed.ensures.next c.pass_child-passed.ensures.code c.pass_child-passed.ensures.found c.pass_child-passed.ensures.sound

@@ -1,5 +1,5 @@
 use Rattle.std.proofs.Common.{map, take}
-use Rattle.std.specs.HashMap.{get}
+use Rattle.indexmap.specs.IndexMap.{get}
 use Rattle.vg_first_text.specs.FirstText.{AreRegisters}
 use Rattle.vg_first_text.specs.FirstViews.{register_view, same_name, TellsAddresses}
 use Rattle.vg_first_text.proofs.first_text.fits.register_addresses.Given as goal

@@ -7,6 +7,7 @@ use Rattle.vg_tree.specs.declared.made.Made.{Made as HeldMade}
 use Rattle.vg_tree.specs.declared.made.Made.TheVariants as held
 use Rattle.vg_tree.specs.HeldMade.{made_at}
 
-pub no_call_behind : (texts : List (List ℕ)) (place : Place) (m : HeldMade) (b : Made) → ((ns : _) → m ≡ held.Row ns → ⊥) → level_or_suffix place (made_at texts m) b ≡ bracketed place b
+pub no_call_behind : (texts : List (List ℕ)) (place : Place) (m : HeldMade) (b : Made) → ((ns : _) → m ≡ held.Row ns → ⊥)
+    → level_or_suffix place (made_at texts m) b ≡ bracketed place b
 no_call_behind texts place (held.Row ns) b h = absurd (h ns refl)
 no_call_behind texts place _ b h = refl

@@ -127,7 +127,8 @@ pub fn level_or_suffix(
 
 /// The levels behind the size of a new array, and the suffixes behind them.
 pub fn new_levels(alloc: Global, nameless: Name, kids: &mut [Value]) -> Result<Value, NoMemory>
-    ensures { (texts : List (List ℕ)) → text_at texts nameless ≡ [] → IfOk result (λ v. value_at texts v ≡ new_levels (kids_of (map (value_at texts) kids.old))) }
+    ensures { (texts : List (List ℕ)) → text_at texts nameless ≡ []
+        → IfOk result (λ v. value_at texts v ≡ new_levels (kids_of (map (value_at texts) kids.old))) }
 {
     match kids {
         [dot, name, rest] => {

@@ -1,0 +1,41 @@
+//! A table of texts, checked against the reader: one question about a text a line comes in, with what it must answer; each line that differs goes out, and
+//! how many there are.
+#![tactic(auto)]
+
+mod answers;
+mod line;
+mod outline;
+mod spelled;
+
+use answers::answer_of;
+use line::TextLine;
+use spelled::spelled;
+use std::io;
+
+fn main(rt: HostRuntime) -> io::Result<()> {
+    let alloc = rt.alloc();
+    let mut whole = Vec::new(alloc);
+    let mut rows = 0u64;
+    let mut differ = 0u64;
+    for text in rt.lines(alloc) {
+        let text = text?;
+        let Some(line) = TextLine::of(text.as_str()) else {
+            continue;
+        };
+        if line.question == "whole" {
+            let Ok(bytes) = spelled(alloc, line.text) else {
+                return Err(io::ErrorKind::OutOfMemory.into());
+            };
+            whole = bytes;
+        }
+        let Ok(answer) = answer_of(alloc, line, whole.as_slice()) else {
+            return Err(io::ErrorKind::OutOfMemory.into());
+        };
+        rows = rows.saturating_add(1);
+        if answer.as_str() != line.answer {
+            differ = differ.saturating_add(1);
+            println!(rt; "differs: {}", text.as_str())?;
+        }
+    }
+    println!(rt; "{rows} rows, {differ} differ")
+}
