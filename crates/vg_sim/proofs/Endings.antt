@@ -7,7 +7,7 @@ use Rattle.vg_script.specs.Traces.{ending_line}
 use Rattle.avr_isa.specs.declared.ending.MachineEnd.{MachineEnd}
 use Rattle.avr_isa.specs.Machine.{State}
 use Rattle.avr_sim.specs.Run.{trace_lines}
-use Rattle.avr_sim.proofs.Told.{appends_nothing, appends_both, appends_front}
+use Rattle.avr_sim.proofs.Told.{appends_nothing, appends_front}
 use Rattle.vg_sim.specs.Shown.{end_line, lines_of}
 
 -- a run in which a put failed
@@ -24,9 +24,3 @@ pub failed_end : (m : State) (end : Option MachineEnd) (line : EndLine) (a b c :
 failed_end m end line a b c e l trace h =
     subst (λ x. AppendsFront a c (trace_lines m.outside.trace ++ x)) (append-nil (ending_line line) ∙ line_of m end line e l)
     (appends_front a b c (trace_lines m.outside.trace) (ending_line line) [] trace h)
-
--- a run whose lines were all put
-pub whole_run : (m : State) (end : Option MachineEnd) (line : EndLine) (a b c : Option (List ℕ)) → end ≡ m.ended → line ≡ end_line end
-    → AppendsAll a b (trace_lines m.outside.trace) → AppendsAll b c (ending_line line) → AppendsAll a c (lines_of m)
-whole_run m end line a b c e l trace h =
-    subst (λ x. AppendsAll a c (trace_lines m.outside.trace ++ x)) (line_of m end line e l) (appends_both a b c (trace_lines m.outside.trace) (ending_line line) trace h)

@@ -1,12 +1,8 @@
-use Rattle.std.proofs.Common.{Result, Ok, Err, subst}
-use Rattle.std.specs.Prelude.{OnErr}
+use Rattle.std.proofs.Common.{subst}
 use Rattle.vg_io.specs.Piece.{AppendsAll, AppendsFront}
 use Rattle.avr_sim.proofs.Following.{ended_from_reset, told_trace}
+use Rattle.avr_sim.proofs.Told.{on_err}
 use Rattle.avr_sim.proofs.machine.Machine.run.Goals as goal
-
-on_err : {A E : Type 0} (r : Result A E) (P : Type 0) → P → OnErr r P
-on_err (Ok a) P p = tt
-on_err (Err e) P p = p
 
 pub returns-in_err-go-clause-failed : goal.returns-in_err-go-clause-failed
 returns-in_err-go-clause-failed g c =
