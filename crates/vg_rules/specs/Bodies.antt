@@ -7,7 +7,8 @@ use Rattle.vg_syntax.specs.Lexemes.{is_hexadecimal}
 use Rattle.vg_source.specs.Names.{Name}
 use Rattle.vg_source.specs.Types.{StaticType, IntType, BoolType, ArrayType, FunctionType, NoType, MoreTypes}
 use Rattle.vg_source.specs.Literals.{number_of}
-use Rattle.vg_source.specs.Declared.{Member, written_type, class_named, component_named, device_named, class_member, component_member}
+use Rattle.vg_syntax.specs.Classes.{class_named}
+use Rattle.vg_source.specs.Declared.{Member, written_type, component_named, device_named, class_member, component_member}
 use Rattle.vg_source.specs.Resolved.{Owner, InClass, InComponent, NoOwner, Scope, Head, NoHead, IsValue, OwnMethod, ItsMethod, Context, Fresh, Onto}
 use Rattle.vg_source.specs.Resolved.{head_of, settled, find_local, resolved}
 use Rattle.vg_rules.specs.Breach.{Breach, asks, ◌or◌}

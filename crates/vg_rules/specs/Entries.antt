@@ -1,9 +1,9 @@
 -- The rules on the entries of the program declaration.
-use Rattle.std.specs.Prelude.{ℕ, zero, suc, ◌==◌, ◌&&◌, ◌||◌, not, nat_le, Bool, true, false, List, [], ◌∷◌, codes, Option, Some, None, if◌then◌else◌}
+use Rattle.std.specs.Prelude.{ℕ, zero, suc, ◌==◌, ◌&&◌, ◌||◌, not, nat_le, Bool, true, false, List, [], ◌∷◌, codes, Option, Some, None, if◌then◌else◌, bytes_eq}
 use Rattle.std.specs.List.{list_all}
 use Rattle.vg_syntax.specs.Tree.{Node, Then, ProgramDecl, EntryDecl}
 use Rattle.vg_syntax.specs.Bytes.{is_digit}
-use Rattle.vg_source.specs.Names.{same_name}
+use Rattle.vg_source.specs.Names.{}
 use Rattle.vg_source.specs.Types.{NoType}
 use Rattle.vg_source.specs.Literals.{number_of}
 use Rattle.vg_source.specs.Declared.{Member, AMethod, component_member}
@@ -11,7 +11,7 @@ use Rattle.vg_rules.specs.Breach.{Breach, asks, ◌or◌}
 
 -- The key of the entry that is called first.
 abbrev pub is_main : (key : List ℕ) → Bool
-is_main key = same_name key (codes "main")
+is_main key = bytes_eq key (codes "main")
 
 -- How many entries have the key `main`: by rule 3 one has it.
 abbrev pub mains : Node → ℕ

@@ -1,7 +1,7 @@
 -- Which value may stand where a type is wanted.
-use Rattle.std.specs.Prelude.{◌==◌, ◌&&◌, Bool, true, false}
+use Rattle.std.specs.Prelude.{◌==◌, ◌&&◌, Bool, true, false, bytes_eq}
 use Rattle.vg_syntax.specs.Tree.{Node}
-use Rattle.vg_source.specs.Names.{Name, same_name, is_among}
+use Rattle.vg_source.specs.Names.{Name, is_among}
 use Rattle.vg_source.specs.Types.{StaticType, IntType, BoolType, CharType, RawType, NullType, ClassType, ArrayType, FunctionType, NoType, MoreTypes}
 use Rattle.vg_source.specs.Declared.{chain_of}
 
@@ -12,7 +12,7 @@ same_type BoolType BoolType = true
 same_type CharType CharType = true
 same_type (RawType j) (RawType k) = j == k
 same_type NullType NullType = true
-same_type (ClassType c) (ClassType d) = same_name c d
+same_type (ClassType c) (ClassType d) = bytes_eq c d
 same_type (ArrayType t) (ArrayType u) = same_type t u
 same_type (FunctionType ps r) (FunctionType qs s) = same_type ps qs && same_type r s
 same_type NoType NoType = true

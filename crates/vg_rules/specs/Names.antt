@@ -2,7 +2,8 @@
 use Rattle.std.specs.Prelude.{ℕ, zero, suc, ◌&&◌, not, Bool, true, List, ◌∷◌, Option, Some, None, is_some}
 use Rattle.vg_syntax.specs.Tree.{Spot, Node, Then, ClassDecl, ComponentDecl, DeviceDecl, ProgramDecl}
 use Rattle.vg_source.specs.Names.{Name, is_among}
-use Rattle.vg_source.specs.Declared.{class_named, chain_from, length_of}
+use Rattle.vg_syntax.specs.Classes.{class_named}
+use Rattle.vg_source.specs.Declared.{chain_from, length_of}
 use Rattle.vg_rules.specs.Breach.{Breach, asks, ◌or◌}
 
 -- Rule 1 for one declaration, behind declarations of these names.

@@ -1,8 +1,8 @@
 -- The rules on what each class, component and device declares for itself.
-use Rattle.std.specs.Prelude.{ℕ, ◌==◌, ◌&&◌, ◌||◌, not, nat_le, Bool, true, false, List, [], ◌∷◌, Option, Some, None}
+use Rattle.std.specs.Prelude.{ℕ, ◌==◌, ◌&&◌, ◌||◌, not, nat_le, Bool, true, false, List, [], ◌∷◌, Option, Some, None, bytes_eq}
 use Rattle.vg_syntax.specs.Tree.{Param, Node, Then, ClassDecl, ComponentDecl, DeviceDecl, RegisterDecl, FieldDecl, MethodDecl, ConstructorDecl}
 use Rattle.vg_syntax.specs.Lexemes.{is_hexadecimal}
-use Rattle.vg_source.specs.Names.{Name, same_name, is_among}
+use Rattle.vg_source.specs.Names.{Name, is_among}
 use Rattle.vg_source.specs.Literals.{number_of}
 use Rattle.vg_rules.specs.Breach.{Breach, asks, ◌or◌}
 use Rattle.vg_rules.specs.Written.{type_keeps, param_types_keep}
@@ -10,7 +10,7 @@ use Rattle.vg_rules.specs.Written.{type_keeps, param_types_keep}
 -- A parameter has this name.
 abbrev pub is_param : List Param → Name → Bool
 is_param [] x = false
-is_param (p ∷ ps) x = same_name p.name x || is_param ps x
+is_param (p ∷ ps) x = bytes_eq p.name x || is_param ps x
 
 -- Rule 11 for parameters: their names differ.
 abbrev pub params_differ : List Param → Bool

@@ -3,7 +3,7 @@ use Rattle.std.specs.Prelude.{ℕ, zero, suc, ◌&&◌, not, nat_le, Bool, true,
 use Rattle.vg_syntax.specs.Tree.{TypeTree, RawType, ClassType, ArrayType, FunctionType, MoreTypes, Param, Node}
 use Rattle.vg_syntax.specs.Lexemes.{is_hexadecimal}
 use Rattle.vg_source.specs.Literals.{number_of}
-use Rattle.vg_source.specs.Declared.{class_named}
+use Rattle.vg_syntax.specs.Classes.{class_named}
 
 -- The levels of an array type.
 abbrev pub levels : TypeTree → ℕ
