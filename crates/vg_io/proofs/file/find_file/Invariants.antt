@@ -1,6 +1,6 @@
 use Rattle.std.proofs.Common.{◌≡◌, drop}
 use Rattle.vg_io.specs.Files.{file_under}
-use Rattle.vg_io.proofs.file.Files.find.Given as goal
+use Rattle.vg_io.proofs.file.find_file.Given as goal
 
 -- no file so far has the name
 abbrev pub invariant-loop-file : goal.invariant-loop-file
