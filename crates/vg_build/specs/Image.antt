@@ -1,5 +1,5 @@
 -- What it means that an image does what the bytes of a source text say.
-use Rattle.std.specs.Prelude.{ℕ, ◌≡◌, ◌+◌, ◌≤◌, List, Option}
+use Rattle.std.specs.Prelude.{ℕ, ◌≡◌, ◌+◌, ◌≤◌, List, Option, None}
 use Rattle.vg_syntax.specs.Tree.{Node}
 use Rattle.vg_syntax.specs.Reads.{Reads}
 use Rattle.vg_first_text.specs.declared.device_write.DeviceWrite.{DeviceWrite}
@@ -8,8 +8,9 @@ use Rattle.vg_first_text.specs.FirstText.{IsFirst}
 use Rattle.avr_isa.specs.Agrees.{Agrees, NeverReaches}
 use Rattle.vg_hex.specs.HexText.{hex_text}
 use Rattle.vg_hex.specs.HexImage.{HexImage}
+use Rattle.vg_build.specs.declared.build.Built.{Built}
 use Rattle.vg_build.specs.declared.layout.Layout.{Layout}
-use Rattle.vg_build.specs.Layout.{stated}
+use Rattle.vg_build.specs.Layout.{layout_text, stated}
 
 -- The bytes of the static area of a program of constants: it has no field that lives in SRAM.
 abbrev pub static_of : List DeviceWrite → ℕ
@@ -33,3 +34,9 @@ pub record IsImageOf (bytes : List ℕ) (asked : Option ℕ) (image : List ℕ) 
   -- the HEX text spells this image, and no other
   pub spelled : HexImage (hex_text image) image
   pub only : (other : List ℕ) → HexImage (hex_text image) other → other ≡ image
+
+-- what is built of the bytes: an image that does what they say, its HEX text, and the text of its layout
+pub record IsBuiltOf (bytes : List ℕ) (built : Built) : Type 0 where
+  pub image : IsImageOf bytes None built.image built.layout
+  pub hex : built.hex ≡ hex_text built.image
+  pub note : built.note ≡ layout_text built.layout

@@ -1,16 +1,14 @@
 // From the bytes of a source text to its image.
-ghost use Rattle.std.specs.Prelude.{◌≡◌, ◌↔◌, ◌≤◌, ◌⊎◌, ℕ, List, length, Some, None, Err, IfOk, IsOk};
+ghost use Rattle.std.specs.Prelude.{◌≡◌, ◌↔◌, ◌≤◌, ◌⊎◌, ℕ, List, length, Some, Err, IfErr, IfOk, IsOk};
 ghost use Rattle.vg_base.specs.Limits.{text_limit};
 ghost use Rattle.vg_base.specs.declared.place.Place.{Place};
 ghost use Rattle.vg_syntax.specs.Faults.{NoTreeIn, TooDeepIn};
 ghost use Rattle.vg_first_text.specs.declared.device_write.DeviceWrite.{DeviceWrite as Write};
 ghost use Rattle.vg_first_text.specs.FirstSession.{AreDevices};
 ghost use Rattle.vg_first_text.specs.FirstText.{IsFirst};
-ghost use Rattle.vg_hex.specs.HexText.{hex_text};
-ghost use Rattle.vg_build.specs.Answer.{IsNotBuilt, IsSettled, fault_in, first_place};
-ghost use Rattle.vg_build.specs.Image.{IsImageOf};
-ghost use Rattle.vg_build.specs.Layout.{layout_text};
-ghost use Rattle.vg_build.specs.Mirrors.{BuiltBy, IsMadeOf, ReadBy};
+ghost use Rattle.vg_build.specs.Answer.{Answers, IsCause, IsNotBuilt, IsSettled, fault_in, first_place};
+ghost use Rattle.vg_build.specs.Image.{IsBuiltOf};
+ghost use Rattle.vg_build.specs.Mirrors.{IsMadeOf, ReadBy};
 ghost use Rattle.vg_build.specs.declared.fault.Fault as fault;
 
 use crate::fault::Fault;
@@ -42,12 +40,11 @@ pub struct Built {
 pub fn build(alloc: Global, text: &[u8]) -> Result<Built, Refusal<Fault>>
     requires { length text.now ≤ text_limit }
 
-    // The image, its HEX text and its layout.
-    ensures headline { IfOk result (λ built. IsImageOf text.now None built.image built.layout) }
-    ensures hex { IfOk result (λ built. built.hex ≡ hex_text built.image) }
-    ensures note { IfOk result (λ built. built.note ≡ layout_text built.layout) }
+    // The image, its HEX text and its layout, or why there are none.
+    ensures headline { IfOk result (λ built. IsBuiltOf text.now built) }
+    ensures refused { IfErr result (λ why. IsCause why text.now) }
 
-    // Which texts are refused, and which are built.
+    // Exactly which texts are refused, and which are built.
     ensures no_tree { IsSettled result → (place : Place) → (fault_in result ≡ Some (fault.Fault.NoTree place)) ↔ NoTreeIn text.now place }
     ensures too_deep { IsSettled result → (place : Place) → (fault_in result ≡ Some (fault.Fault.TooDeep place)) ↔ TooDeepIn text.now place }
     ensures not_built { IsSettled result → (fault_in result ≡ Some (fault.Fault.NotBuilt first_place)) ↔ IsNotBuilt text.now }
@@ -60,7 +57,7 @@ pub fn build(alloc: Global, text: &[u8]) -> Result<Built, Refusal<Fault>>
 // The same, said case by case.
 fn built(alloc: Global, text: &[u8]) -> Result<Built, Refusal<Fault>>
     requires { length text.now ≤ text_limit }
-    ensures { BuiltBy text.now result }
+    ensures { Answers text.now result }
 {
     match check_text(alloc, text) {
         Ok(()) => {}
