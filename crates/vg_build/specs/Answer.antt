@@ -6,7 +6,7 @@ use Rattle.vg_base.specs.declared.refusal.Refusal.TheVariants as refusal
 use Rattle.vg_syntax.specs.Faults.{IsText, NoTreeIn, TooDeepIn}
 use Rattle.vg_first_text.specs.declared.device_write.DeviceWrite.{DeviceWrite}
 use Rattle.vg_first_text.specs.FirstText.{IsFirst}
-use Rattle.vg_build.specs.declared.build.Built.{Built}
+use Rattle.vg_build.specs.declared.building.Built.{Built}
 use Rattle.vg_build.specs.declared.fault.Fault.{Fault}
 use Rattle.vg_build.specs.declared.fault.Fault.TheVariants.{NoTree, TooDeep, NotBuilt}
 use Rattle.vg_build.specs.Image.{IsBuiltOf}

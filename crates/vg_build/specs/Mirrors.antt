@@ -9,7 +9,7 @@ use Rattle.vg_first_text.specs.FirstSession.{first_session}
 use Rattle.avr_isa.specs.Agrees.{Agrees, NeverReaches}
 use Rattle.vg_hex.specs.HexText.{hex_text}
 use Rattle.vg_hex.specs.HexImage.{HexImage}
-use Rattle.vg_build.specs.declared.build.Built.{Built}
+use Rattle.vg_build.specs.declared.building.Built.{Built}
 use Rattle.vg_build.specs.declared.fault.Fault.{Fault}
 use Rattle.vg_build.specs.declared.layout.Layout.{Layout}
 use Rattle.vg_build.specs.Answer.{IsCause}

@@ -11,7 +11,7 @@ use Rattle.vg_fetch.specs.Told.{ForFile, ForFiles}
 use Rattle.vg_fetch.specs.declared.fetch.NoFile.{NoFile}
 use Rattle.vg_fetch.specs.declared.fetch.NoFile.TheVariants as missing
 use Rattle.vg_build.specs.Answer.{Answer, Answers}
-use Rattle.vg_build.specs.declared.build.Built.{Built}
+use Rattle.vg_build.specs.declared.building.Built.{Built}
 use Rattle.vg_hex.specs.HexImage.{fault_in}
 use Rattle.vg_script.specs.Script.{first_bad}
 use Rattle.vg_sim.specs.Shown.{ForRun, lines_of}

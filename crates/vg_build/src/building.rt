@@ -51,11 +51,11 @@ pub fn build(alloc: Global, text: &[u8]) -> Result<Built, Refusal<Fault>>
     ensures not_built_first { (place : Place) → fault_in result ≡ Some (fault.Fault.NotBuilt place) → place ≡ first_place }
     ensures complete { (writes : List Write) → IsFirst text.now writes → IsOk result ⊎ (result ≡ Err Refusal.NoMemory) }
 {
-    built(alloc, text)
+    answer_to(alloc, text)
 }
 
 // The same, said case by case.
-fn built(alloc: Global, text: &[u8]) -> Result<Built, Refusal<Fault>>
+fn answer_to(alloc: Global, text: &[u8]) -> Result<Built, Refusal<Fault>>
     requires { length text.now ≤ text_limit }
     ensures { Answers text.now result }
 {
