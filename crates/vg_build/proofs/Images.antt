@@ -39,7 +39,7 @@ pub built_of : (bytes : List ℕ) (built : Built) (writes given : List DeviceWri
 built_of bytes built writes given same (tree, reads) first made =
     let first' = subst (λ ws. IsFirst bytes ws) (sym same) first in
     record {
-      image = image_of_text bytes built.image built.layout given tree (sym made.layout) reads first' made.agrees made.never made.spelled;
+      image = image_of_text bytes built.image built.layout given tree (sym made.layout) reads first' (made.agrees 0x0100 4096 refl (omega arith)) (made.never 0x0100 4096 refl (omega arith)) made.spelled;
       hex = made.hex;
       note = made.note;
     }

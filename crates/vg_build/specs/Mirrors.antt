@@ -1,5 +1,5 @@
 -- Mirrors: predicates by cases that follow the code's own functions. No clause of an exported function cites one.
-use Rattle.std.specs.Prelude.{ℕ, ◌≡◌, List, Result, Ok, Err}
+use Rattle.std.specs.Prelude.{ℕ, ◌≡◌, ◌+◌, ◌≤◌, List, Result, Ok, Err}
 use Rattle.vg_base.specs.declared.refusal.Refusal.{Refusal}
 use Rattle.vg_syntax.specs.Faults.{IsText}
 use Rattle.vg_syntax.specs.Tree.{Node}
@@ -22,8 +22,8 @@ all_sram = record { static_bytes = 0; floor = 0x0100; stack = 4096 }
 -- what is made of writes, without the text that they come from
 pub record IsMadeOf (writes : List DeviceWrite) (built : Built) : Type 0 where
   pub layout : built.layout ≡ all_sram
-  pub agrees : Agrees (first_session writes) built.image 0x0100 4096
-  pub never : NeverReaches built.image 0x0100
+  pub agrees : (floor stack : ℕ) → floor + stack ≡ 0x1100 → 2 ≤ stack → Agrees (first_session writes) built.image floor stack
+  pub never : (floor stack : ℕ) → floor + stack ≡ 0x1100 → 2 ≤ stack → NeverReaches built.image floor
   pub hex : built.hex ≡ hex_text built.image
   pub spelled : HexImage (hex_text built.image) built.image
   pub note : built.note ≡ layout_text built.layout

@@ -154,20 +154,19 @@ put_completes (Err (refusal.Fault why)) s out note h (inl ok) = absurd ok
 put_completes (Err (refusal.Fault why)) s out note h (inr e) = cc
 put_completes (Err refusal.NoMemory) s out note h k = inl (subst IsDoneOrNoMemory (sym h.0) tt)
 
-or_shelf : (A B shelf : Type 0) → A ⊎ B → A ⊎ (shelf ⊎ B)
-or_shelf A B shelf (inl a) = inl a
-or_shelf A B shelf (inr b) = inr (inr b)
+or_rest : (A B shelf rest : Type 0) → (B → rest) → A ⊎ B → A ⊎ (shelf ⊎ rest)
+or_rest A B shelf rest f (inl a) = inl a
+or_rest A B shelf rest f (inr b) = inr (inr (f b))
 
-pub complete_by : (s : Status) (told : Option (List File)) (file : List ℕ) (out note : Change) (shelf : Type 0) → BuildBy s told file out note
-    → (s ≡ ReadFault → shelf) → ForFile told file (λ bytes. (writes : List DeviceWrite) → IsFirst bytes writes → length bytes ≤ text_limit
-    → IsDoneOrNoMemory s ⊎ (shelf ⊎ (Fails out ⊎ Fails note)))
-complete_by s told file out note shelf (inl h) read =
-    unless_long told file _ (missing_completes h.0.reason s _ shelf (Fails out ⊎ Fails note) h.0.tells h.0.too_long read)
-complete_by s told file out note shelf (inr h) read =
+pub complete_by : (s : Status) (told : Option (List File)) (file : List ℕ) (out note : Change) (shelf rest : Type 0) → BuildBy s told file out note
+    → (s ≡ ReadFault → shelf) → (Fails out ⊎ Fails note → rest)
+    → ForFile told file (λ bytes. (writes : List DeviceWrite) → IsFirst bytes writes → length bytes ≤ text_limit → IsDoneOrNoMemory s ⊎ (shelf ⊎ rest))
+complete_by s told file out note shelf rest (inl h) read fails =
+    unless_long told file _ (missing_completes h.0.reason s _ shelf rest h.0.tells h.0.too_long read)
+complete_by s told file out note shelf rest (inr h) read fails =
     of_file told file h.bytes
-    (λ bytes. (writes : List DeviceWrite) → IsFirst bytes writes → length bytes ≤ text_limit → IsDoneOrNoMemory s ⊎ (shelf ⊎ (Fails out ⊎ Fails note)))
-    h.whole
-    (λ writes first short. or_shelf _ _ shelf (put_completes h.answer s out note h.puts (complete_of h.bytes h.answer h.says writes first)))
+    (λ bytes. (writes : List DeviceWrite) → IsFirst bytes writes → length bytes ≤ text_limit → IsDoneOrNoMemory s ⊎ (shelf ⊎ rest)) h.whole
+    (λ writes first short. or_rest _ _ shelf rest fails (put_completes h.answer s out note h.puts (complete_of h.bytes h.answer h.says writes first)))
 
 -- WHAT IS PUT
 

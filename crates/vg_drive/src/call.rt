@@ -18,7 +18,8 @@ ghost use Rattle.vg_hex.specs.HexText.{hex_text};
 ghost use Rattle.vg_hex.specs.HexImage.{HexImage, fault_in};
 ghost use Rattle.vg_hex.specs.declared.fault.HexFault.{HexFault};
 ghost use Rattle.vg_script.specs.Script.{IsScript, Lists, first_bad};
-ghost use Rattle.vg_sim.specs.Shown.{ForRun, lines_of, run_of};
+ghost use Rattle.avr_sim.specs.Run.{simulated};
+ghost use Rattle.vg_sim.specs.Shown.{ForRun, lines_of};
 ghost use Rattle.vg_drive.specs.Answers.{AppendsBegun, AppendsFrontAndAll, AppendsFronts, ForImage, ForTexts};
 ghost use Rattle.vg_drive.specs.Commands.{IsAnswerOf, OnBuild, OnSim, requests_of, second_text};
 ghost use Rattle.vg_drive.specs.Lines.{fault_line};
@@ -89,7 +90,7 @@ pub fn run<S: Shelf, O: Sink, N: Sink>(
         ForRun h s steps (λ m. AppendsFront (O.told out.old) (O.told out.new) (lines_of m)))) }
     ensures sim_complete { OnSim (command_of (words_in words.now)) (λ hex script steps. ForFiles (S.told shelf.old) hex script (λ h s.
         (image : List ℕ) (lists : Lists) → HexImage h image → IsScript s lists → length h ≤ image_text_limit → length s ≤ image_text_limit
-        → ((result ≡ status_of_ending (run_of image lists steps).ended) ⊎ (result ≡ Status.NoMemory))
+        → ((result ≡ status_of_ending (simulated image lists.reads lists.interrupts steps).ended) ⊎ (result ≡ Status.NoMemory))
         ⊎ (Rose (S.faults shelf.old) (S.faults shelf.new) ⊎ Rose (O.faults out.old) (O.faults out.new)))) }
 
     // What may fail, and what nothing was put for.
