@@ -2,7 +2,7 @@
 ghost use Rattle.std.specs.Prelude.{◌≡◌, List, [], ℕ, map, IfOk};
 ghost use Rattle.vg_syntax.specs.Made.{Word};
 ghost use Rattle.vg_syntax.specs.Reads.{value, kids_of, made};
-ghost use Rattle.vg_reader.specs.Makers.{made_by, made_row, made_type, made_declaration, made_statement, made_expression, made_new};
+ghost use Rattle.vg_reader.specs.Makers.{made_row, made_type, made_declaration, made_statement, made_expression, made_new};
 ghost use Rattle.vg_tree.specs.Held.{text_at};
 ghost use Rattle.vg_tree.specs.HeldMade.{value_at};
 

@@ -19,5 +19,5 @@ returns-in-Ok-clause-tokens c = (
 pub returns-in-Err-Fault-clause-tree : goal.returns-in-Err-Fault-clause-tree
 returns-in-Err-Fault-clause-tree c =
     refused c.args.bytes.now c.in_ok-tokens.tokens.items _ _ c.in-Err-Fault.stop c.fault_at.result c.in_ok-tokens.ensures c.deref.ensures.value
-        c.deref-in-Err-Fault.ensures.value
-        (subst (λ r. Derived c.deref.result.now (Err r)) c.in-Err-Fault.field-0-is c.in-Err-Fault.ensures) c.fault_at.ensures
+    c.deref-in-Err-Fault.ensures.value
+    (subst (λ r. Derived c.deref.result.now (Err r)) c.in-Err-Fault.field-0-is c.in-Err-Fault.ensures) c.fault_at.ensures
