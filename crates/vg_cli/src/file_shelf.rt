@@ -5,8 +5,8 @@ ghost use Rattle.vg_io.specs.Count.{Rose};
 use std::alloc::Global;
 use std::fs::{File, Files};
 use std::io::Read;
-use vg_base::NoMemory;
-use vg_io::{FetchFault, Fetches, Shelf};
+use vg_base::{NoMemory, Row};
+use vg_io::{Asked, FetchFault, Shelf, note_fetch};
 
 /// The bytes that one read may take.
 const CHUNK: usize = 4096;
@@ -16,7 +16,7 @@ const CHUNK: usize = 4096;
 pub struct FileShelf<'a, R: Files> {
     files: &'a R,
     alloc: Global,
-    asked: Fetches,
+    asked: Row<Asked>,
     faults: u64,
 }
 
@@ -28,7 +28,7 @@ impl<'a, R: Files> FileShelf<'a, R> {
         FileShelf {
             files,
             alloc,
-            asked: Fetches::new(alloc),
+            asked: Row::new(alloc),
             faults: 0,
         }
     }
@@ -44,13 +44,12 @@ impl<'a, R: Files> Shelf for FileShelf<'a, R> {
     fn fetch(&mut self, name: &str, limit: usize) -> Result<Vec<u8>, FetchFault> {
         match read_file(self.files, self.alloc, name, limit) {
             Ok(bytes) => {
-                self.asked
-                    .record_fetch(self.alloc, name, limit, Some(bytes.len()))?;
+                note_fetch(&mut self.asked, self.alloc, name, limit, Some(bytes.len()))?;
                 Ok(bytes)
             }
             Err(FetchFault::NoMemory) => Err(FetchFault::NoMemory),
             Err(FetchFault::Failed) => {
-                self.asked.record_fetch(self.alloc, name, limit, None)?;
+                note_fetch(&mut self.asked, self.alloc, name, limit, None)?;
                 self.faults = self.faults.saturating_add(1);
                 Err(FetchFault::Failed)
             }

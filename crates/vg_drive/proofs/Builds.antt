@@ -1,174 +1,260 @@
--- What an answer of `build` says: where a text is refused, and where it is built.
-use Rattle.std.proofs.Common.{◌≡◌, ℕ, ◌≤◌, ◌⊎◌, ◌↔◌, List, length, Option, Some, None, refl, ap, subst, arith, inl, inr}
+-- What an answer of `build` says: each clause of vg_build, lifted from the bytes and their answer to the file and the status.
+-- A file is missing, or the answer to its bytes was put: what the status says of either is in Statuses and in the first lemmas here.
+use Rattle.std.proofs.Common.{◌≡◌, ℕ, ◌≤◌, ◌<◌, ◌⊎◌, ◌↔◌, List, [], ◌++◌, length, Option, Some, None, Ok, Err, refl, sym, ap, ◌∙◌, subst, arith, inl, inr, append-nil}
+use Rattle.std.proofs.lemmas.List.{take_all}
+use Rattle.std.specs.Prelude.{IsOk}
+use Rattle.vg_base.specs.Limits.{text_limit}
 use Rattle.vg_base.specs.declared.place.Place.{Place}
+use Rattle.vg_base.specs.declared.refusal.Refusal.TheVariants as refusal
 use Rattle.vg_io.specs.Files.{bytes_under}
+use Rattle.vg_io.specs.Piece.{AppendsAll, AppendsFront}
 use Rattle.vg_io.specs.declared.file.File.{File}
 use Rattle.vg_fetch.specs.Told.{ForFile}
+use Rattle.vg_fetch.specs.declared.fetch.NoFile.{NoFile}
+use Rattle.vg_fetch.specs.declared.fetch.NoFile.TheVariants as missing
 use Rattle.vg_first_text.specs.declared.device_write.DeviceWrite.{DeviceWrite}
-use Rattle.vg_syntax.specs.Faults.{NoTreeIn, TooDeepIn}
 use Rattle.vg_first_text.specs.FirstText.{IsFirst}
-use Rattle.vg_texts.proofs.Once.{no_fault, not_deep, one_cause, one_end, one_bracket}
-use Rattle.vg_first_laws.proofs.Texts.{first_has_no_fault, first_is_not_deep}
-use Rattle.vg_drive.specs.declared.status.Fault.{Fault}
-use Rattle.vg_drive.specs.declared.status.Fault.TheVariants.{NoTree, TooDeep, NotBuilt}
+use Rattle.vg_syntax.specs.Faults.{NoTreeIn, TooDeepIn}
+use Rattle.vg_hex.specs.HexText.{hex_text}
+use Rattle.vg_build.specs.Answer as of_bytes
+use Rattle.vg_build.specs.Answer.{Answer, Answers, IsNotBuilt, fault_in, first_place}
+use Rattle.vg_build.specs.Image.{IsBuiltOf, IsImageOf}
+use Rattle.vg_build.specs.Layout.{layout_text, stated}
+use Rattle.vg_build.specs.declared.building.Built.{Built}
+use Rattle.vg_build.specs.declared.fault.Fault.{Fault}
+use Rattle.vg_build.specs.declared.fault.Fault.TheVariants.{NoTree, TooDeep, NotBuilt}
+use Rattle.vg_build.specs.declared.layout.Layout.{Layout}
+use Rattle.vg_build.proofs.Faults.{complete_of, first_of, no_tree_of, not_built_of, too_deep_of}
 use Rattle.vg_drive.specs.declared.status.Status.{Status}
-use Rattle.vg_drive.specs.declared.status.Status.TheVariants.{Done, Refused, Usage, ReadFault, WriteFault, NoMemory, TooLong, Stopped, Wants, Budget, HexRefused, ScriptRefused, BadInstruction}
-use Rattle.vg_drive.specs.Answers.{ForImage, IsNotBuilt}
-use Rattle.vg_drive.specs.Codes.{IsDoneOrNoMemory, IsSettled, first_place}
-use Rattle.vg_drive.specs.Commands.{IsAnswerOfBuild}
-use Rattle.vg_drive.specs.Mirrors.{BuildBy, HasFault, StandsFirst}
+use Rattle.vg_drive.specs.declared.status.Status.TheVariants.{Done, Refused, ReadFault, WriteFault, NoMemory}
+use Rattle.vg_drive.specs.Answers.{AppendsBegun, ForImage}
+use Rattle.vg_drive.specs.Commands.{IsAnswerOfBuild, constants_layout}
+use Rattle.vg_drive.specs.Mirrors.{BuildBy, Change, Fails, GainsAll, GainsFront, IsSame, PutBy, PutFails}
+use Rattle.vg_drive.specs.Statuses.{IsBeforePuts, IsDoneOrNoMemory, IsSettled, IsShown, status_without_file}
+use Rattle.vg_drive.proofs.Statuses.{missing_no_refusal, missing_no_write, missing_not_shown, missing_of_build, missing_unsettled}
+use Rattle.vg_drive.proofs.Statuses.{refusal_no_write, refusal_not_shown, refusal_of_build}
 
--- the text of an image is one of writes
-first_of : (P : List ℕ → Type 0) (files : List File) (file : List ℕ) → ForImage (Some files) file P → (writes : List DeviceWrite) × IsFirst (bytes_under files file) writes
-first_of P files file (image, is, holds) = (is.writes, is.first)
+-- THE ANSWER TO THE BYTES, BY THE STATUS
 
-built_no_tree : (P : List ℕ → Type 0) (files : List File) (file : List ℕ) (place : Place) → ForImage (Some files) file P → NoTreeIn (bytes_under files file) place → ⊥
-built_no_tree P files file place image h =
-    let f = first_of P files file image in first_has_no_fault _ _ f.1 place h
+settled_answer : (r : Answer) (s : Status) (out note : Change) → PutBy r s out note → IsSettled s → of_bytes.IsSettled r
+settled_answer (Ok built) s out note h settled = tt
+settled_answer (Err (refusal.Fault why)) s out note h settled = tt
+settled_answer (Err refusal.NoMemory) s out note h settled = absurd (subst IsSettled h.0 settled)
 
-built_too_deep : (P : List ℕ → Type 0) (files : List File) (file : List ℕ) (place : Place) → ForImage (Some files) file P → TooDeepIn (bytes_under files file) place → ⊥
-built_too_deep P files file place image h =
-    let f = first_of P files file image in first_is_not_deep _ _ f.1 place h
+same_fault : (p q : Fault) → Refused p ≡ Refused q → p ≡ q
+same_fault p q e = cc
 
-built_is_first : (P : List ℕ → Type 0) (files : List File) (file : List ℕ) → ForImage (Some files) file P → IsNotBuilt (bytes_under files file) → ⊥
-built_is_first P files file image h = let f = first_of P files file image in h.1 f.0 f.1
+same_some : (p q : Fault) → Some p ≡ Some q → p ≡ q
+same_some p q e = cc
 
-place_of_no_tree : (p q : Place) → Refused (NoTree p) ≡ Refused (NoTree q) → p ≡ q
-place_of_no_tree p q e = cc
+-- the status names exactly the fault of the answer
+refused_iff : (r : Answer) (s : Status) (out note : Change) → PutBy r s out note → (why : Fault) → (s ≡ Refused why) ↔ (fault_in r ≡ Some why)
+refused_iff (Ok built) s out note (inl h) why = (λ e. let d = h.0 in cc, λ k. cc)
+refused_iff (Ok built) s out note (inr h) why = (λ e. let d = h.0 in cc, λ k. cc)
+refused_iff (Err (refusal.Fault w)) s out note h why =
+    (λ e. ap Some (same_fault w why (sym h.0 ∙ e)), λ k. h.0 ∙ ap Refused (same_some w why k))
+refused_iff (Err refusal.NoMemory) s out note h why = (λ e. let d : s ≡ NoMemory = h.0 in cc, λ k. cc)
 
-place_of_too_deep : (p q : Place) → Refused (TooDeep p) ≡ Refused (TooDeep q) → p ≡ q
-place_of_too_deep p q e = cc
+-- Done: all was put
+done_is : (r : Answer) (s : Status) (out note : Change) → PutBy r s out note → IsShown s
+    → (built : Built) × (r ≡ Ok built) × GainsAll out built.hex × GainsAll note built.note
+done_is (Ok built) s out note (inl h) shown = (built, refl, h.1)
+done_is (Ok built) s out note (inr h) shown = absurd (subst IsShown h.0 shown)
+done_is (Err why) s out note h shown = absurd (refusal_not_shown why (subst IsShown h.0 shown))
 
--- where a text is refused as none
-no_tree_fault : (fault : Fault) (bytes : List ℕ) → HasFault fault bytes → (place : Place) → (Refused fault ≡ Refused (NoTree place)) ↔ NoTreeIn bytes place
-no_tree_fault (NoTree p) bytes h place =
-    (λ e. subst (λ q. NoTreeIn bytes q) (place_of_no_tree p place e) h, λ k. ap (λ q. Refused (NoTree q)) (one_end bytes p place h k))
-no_tree_fault (TooDeep p) bytes h place = (λ e. cc, λ k. absurd (one_cause bytes place p k h))
-no_tree_fault (NotBuilt p) bytes h place = (λ e. cc, λ k. absurd (no_fault bytes place h.0 k))
+-- WriteFault: one of the two puts failed
+failed_is : (r : Answer) (s : Status) (out note : Change) → PutBy r s out note → s ≡ WriteFault
+    → (built : Built) × (r ≡ Ok built) × PutFails built out note
+failed_is (Ok built) s out note (inl h) e = let d = h.0 in cc
+failed_is (Ok built) s out note (inr h) e = (built, refl, h.1)
+failed_is (Err why) s out note h e = absurd (refusal_no_write why (sym h.0 ∙ e))
 
-pub no_tree_by : (s : Status) (told : Option (List File)) (file : List ℕ) (old new : Option (List ℕ)) (rose : Type 0) → BuildBy s told file old new rose → IsSettled s → ForFile told file (λ bytes. (place : Place) → (s ≡ Refused (NoTree place)) ↔ NoTreeIn bytes place)
-no_tree_by s None file old new rose h settled = tt
-no_tree_by Done (Some files) file old new rose h settled = λ place. (λ e. cc, λ k. absurd (built_no_tree _ files file place h k))
-no_tree_by WriteFault (Some files) file old new rose h settled = λ place. (λ e. cc, λ k. absurd (built_no_tree _ files file place h k))
-no_tree_by (Refused fault) (Some files) file old new rose h settled = no_tree_fault fault _ h.0
-no_tree_by Usage (Some files) file old new rose h settled = absurd settled
-no_tree_by ReadFault (Some files) file old new rose h settled = absurd settled
-no_tree_by NoMemory (Some files) file old new rose h settled = absurd settled
-no_tree_by TooLong (Some files) file old new rose h settled = absurd settled
-no_tree_by (Stopped code) (Some files) file old new rose h settled = absurd h
-no_tree_by (Wants address) (Some files) file old new rose h settled = absurd h
-no_tree_by Budget (Some files) file old new rose h settled = absurd h
-no_tree_by (HexRefused fault) (Some files) file old new rose h settled = absurd h
-no_tree_by (ScriptRefused line) (Some files) file old new rose h settled = absurd h
-no_tree_by (BadInstruction pc word) (Some files) file old new rose h settled = absurd h
+before_same : (r : Answer) (s : Status) (out note : Change) → PutBy r s out note → IsBeforePuts s → IsSame out × IsSame note
+before_same (Ok built) s out note (inl h) before = absurd (subst IsBeforePuts h.0 before)
+before_same (Ok built) s out note (inr h) before = absurd (subst IsBeforePuts h.0 before)
+before_same (Err why) s out note h before = h.1
 
--- where a text is refused as too deep
-too_deep_fault : (fault : Fault) (bytes : List ℕ) → HasFault fault bytes → (place : Place) → (Refused fault ≡ Refused (TooDeep place)) ↔ TooDeepIn bytes place
-too_deep_fault (NoTree p) bytes h place = (λ e. cc, λ k. absurd (one_cause bytes p place h k))
-too_deep_fault (TooDeep p) bytes h place =
-    (λ e. subst (λ q. TooDeepIn bytes q) (place_of_too_deep p place e) h, λ k. ap (λ q. Refused (TooDeep q)) (one_bracket bytes p place h k))
-too_deep_fault (NotBuilt p) bytes h place = (λ e. cc, λ k. absurd (not_deep bytes place h.0 k))
+put_answer : (r : Answer) (s : Status) (out note : Change) → PutBy r s out note → IsAnswerOfBuild s
+put_answer (Ok built) s out note (inl h) = subst IsAnswerOfBuild (sym h.0) tt
+put_answer (Ok built) s out note (inr h) = subst IsAnswerOfBuild (sym h.0) tt
+put_answer (Err why) s out note h = subst IsAnswerOfBuild (sym h.0) (refusal_of_build why)
 
-pub too_deep_by : (s : Status) (told : Option (List File)) (file : List ℕ) (old new : Option (List ℕ)) (rose : Type 0) → BuildBy s told file old new rose → IsSettled s → ForFile told file (λ bytes. (place : Place) → (s ≡ Refused (TooDeep place)) ↔ TooDeepIn bytes place)
-too_deep_by s None file old new rose h settled = tt
-too_deep_by Done (Some files) file old new rose h settled = λ place. (λ e. cc, λ k. absurd (built_too_deep _ files file place h k))
-too_deep_by WriteFault (Some files) file old new rose h settled = λ place. (λ e. cc, λ k. absurd (built_too_deep _ files file place h k))
-too_deep_by (Refused fault) (Some files) file old new rose h settled = too_deep_fault fault _ h.0
-too_deep_by Usage (Some files) file old new rose h settled = absurd settled
-too_deep_by ReadFault (Some files) file old new rose h settled = absurd settled
-too_deep_by NoMemory (Some files) file old new rose h settled = absurd settled
-too_deep_by TooLong (Some files) file old new rose h settled = absurd settled
-too_deep_by (Stopped code) (Some files) file old new rose h settled = absurd h
-too_deep_by (Wants address) (Some files) file old new rose h settled = absurd h
-too_deep_by Budget (Some files) file old new rose h settled = absurd h
-too_deep_by (HexRefused fault) (Some files) file old new rose h settled = absurd h
-too_deep_by (ScriptRefused line) (Some files) file old new rose h settled = absurd h
-too_deep_by (BadInstruction pc word) (Some files) file old new rose h settled = absurd h
+-- THE BYTES OF THE FILE
 
--- where a text is refused as not built
-not_built_fault : (fault : Fault) (bytes : List ℕ) → HasFault fault bytes → StandsFirst fault → (Refused fault ≡ Refused (NotBuilt first_place)) ↔ IsNotBuilt bytes
-not_built_fault (NoTree p) bytes h stands = (λ e. cc, λ k. absurd (no_fault bytes p k.0 h))
-not_built_fault (TooDeep p) bytes h stands = (λ e. cc, λ k. absurd (not_deep bytes p k.0 h))
-not_built_fault (NotBuilt p) bytes h stands = (λ e. h, λ k. ap (λ q. Refused (NotBuilt q)) stands)
+of_file : (told : Option (List File)) (file bytes : List ℕ) (P : List ℕ → Type 0) → ForFile told file (λ b. b ≡ bytes) → P bytes → ForFile told file P
+of_file None file bytes P whole h = tt
+of_file (Some files) file bytes P whole h = subst P (sym whole) h
 
-pub not_built_by : (s : Status) (told : Option (List File)) (file : List ℕ) (old new : Option (List ℕ)) (rose : Type 0) → BuildBy s told file old new rose → IsSettled s → ForFile told file (λ bytes. (s ≡ Refused (NotBuilt first_place)) ↔ IsNotBuilt bytes)
-not_built_by s None file old new rose h settled = tt
-not_built_by Done (Some files) file old new rose h settled = (λ e. cc, λ k. absurd (built_is_first _ files file h k))
-not_built_by WriteFault (Some files) file old new rose h settled = (λ e. cc, λ k. absurd (built_is_first _ files file h k))
-not_built_by (Refused fault) (Some files) file old new rose h settled = not_built_fault fault _ h.0 h.1.0
-not_built_by Usage (Some files) file old new rose h settled = absurd settled
-not_built_by ReadFault (Some files) file old new rose h settled = absurd settled
-not_built_by NoMemory (Some files) file old new rose h settled = absurd settled
-not_built_by TooLong (Some files) file old new rose h settled = absurd settled
-not_built_by (Stopped code) (Some files) file old new rose h settled = absurd h
-not_built_by (Wants address) (Some files) file old new rose h settled = absurd h
-not_built_by Budget (Some files) file old new rose h settled = absurd h
-not_built_by (HexRefused fault) (Some files) file old new rose h settled = absurd h
-not_built_by (ScriptRefused line) (Some files) file old new rose h settled = absurd h
-not_built_by (BadInstruction pc word) (Some files) file old new rose h settled = absurd h
+of_image : (told : Option (List File)) (file bytes : List ℕ) (built : Built) (P : List ℕ → Layout → Type 0) → ForFile told file (λ b. b ≡ bytes)
+    → IsBuiltOf bytes built → P built.image built.layout → ForImage told file P
+of_image None file bytes built P whole is h = (built.image, built.layout, h)
+of_image (Some files) file bytes built P whole is h =
+    (built.image, built.layout, subst (λ b. IsImageOf b None built.image built.layout) (sym whole) is.image, h)
 
-place_of_not_built : (p q : Place) → Refused (NotBuilt p) ≡ Refused (NotBuilt q) → p ≡ q
-place_of_not_built p q e = cc
+-- REFUSALS
 
-stands_first : (fault : Fault) (place : Place) → StandsFirst fault → Refused fault ≡ Refused (NotBuilt place) → place ≡ first_place
-stands_first (NoTree p) place stands e = cc
-stands_first (TooDeep p) place stands e = cc
-stands_first (NotBuilt p) place stands e = subst (λ q. q ≡ first_place) (place_of_not_built p place e) stands
+-- two equivalences in a row
+chain : (A B C : Type 0) → A ↔ B → B ↔ C → A ↔ C
+chain A B C f g = (λ a. g.0 (f.0 a), λ c. f.1 (g.1 c))
 
--- a form that is not built stands at the first place
-pub first_by : (s : Status) (told : Option (List File)) (file : List ℕ) (old new : Option (List ℕ)) (rose : Type 0) → BuildBy s told file old new rose → (place : Place) → s ≡ Refused (NotBuilt place) → place ≡ first_place
-first_by (Refused fault) told file old new rose h place e = stands_first fault place h.1.0 e
-first_by Done told file old new rose h place e = cc
-first_by Usage told file old new rose h place e = cc
-first_by ReadFault told file old new rose h place e = cc
-first_by WriteFault told file old new rose h place e = cc
-first_by NoMemory told file old new rose h place e = cc
-first_by TooLong told file old new rose h place e = cc
-first_by (Stopped code) told file old new rose h place e = cc
-first_by (Wants address) told file old new rose h place e = cc
-first_by Budget told file old new rose h place e = cc
-first_by (HexRefused fault) told file old new rose h place e = cc
-first_by (ScriptRefused line) told file old new rose h place e = cc
-first_by (BadInstruction pc word) told file old new rose h place e = cc
+pub no_tree_by : (s : Status) (told : Option (List File)) (file : List ℕ) (out note : Change) → BuildBy s told file out note → IsSettled s
+    → ForFile told file (λ bytes. (place : Place) → (s ≡ Refused (NoTree place)) ↔ NoTreeIn bytes place)
+no_tree_by s told file out note (inl h) settled = absurd (missing_unsettled h.0.reason (subst IsSettled h.0.tells settled))
+no_tree_by s told file out note (inr h) settled =
+    of_file told file h.bytes (λ bytes. (place : Place) → (s ≡ Refused (NoTree place)) ↔ NoTreeIn bytes place) h.whole
+    (λ place. chain _ _ _ (refused_iff h.answer s out note h.puts (NoTree place))
+    (no_tree_of h.bytes h.answer h.says (settled_answer h.answer s out note h.puts settled) place))
 
--- a text of writes has no fault
-first_not_refused : (fault : Fault) (bytes : List ℕ) (writes : List DeviceWrite) → HasFault fault bytes → IsFirst bytes writes → ⊥
-first_not_refused (NoTree p) bytes writes h first = first_has_no_fault bytes writes first p h
-first_not_refused (TooDeep p) bytes writes h first = first_is_not_deep bytes writes first p h
-first_not_refused (NotBuilt p) bytes writes h first = h.1 writes first
+pub too_deep_by : (s : Status) (told : Option (List File)) (file : List ℕ) (out note : Change) → BuildBy s told file out note → IsSettled s
+    → ForFile told file (λ bytes. (place : Place) → (s ≡ Refused (TooDeep place)) ↔ TooDeepIn bytes place)
+too_deep_by s told file out note (inl h) settled = absurd (missing_unsettled h.0.reason (subst IsSettled h.0.tells settled))
+too_deep_by s told file out note (inr h) settled =
+    of_file told file h.bytes (λ bytes. (place : Place) → (s ≡ Refused (TooDeep place)) ↔ TooDeepIn bytes place) h.whole
+    (λ place. chain _ _ _ (refused_iff h.answer s out note h.puts (TooDeep place))
+    (too_deep_of h.bytes h.answer h.says (settled_answer h.answer s out note h.puts settled) place))
 
--- a text of writes within the limit is built, unless memory is wanting or a count rose
-pub complete_by : (s : Status) (told : Option (List File)) (file : List ℕ) (old new : Option (List ℕ)) (rose shelf out note : Type 0) → BuildBy s told file old new rose → (s ≡ ReadFault → shelf) → (s ≡ WriteFault → out ⊎ note) → ForFile told file (λ bytes. (writes : List DeviceWrite) → IsFirst bytes writes → length bytes ≤ 262144 → IsDoneOrNoMemory s ⊎ (shelf ⊎ (out ⊎ note)))
-complete_by s None file old new rose shelf out note h read write = tt
-complete_by Done (Some files) file old new rose shelf out note h read write = λ writes first short. inl tt
-complete_by NoMemory (Some files) file old new rose shelf out note h read write = λ writes first short. inl tt
-complete_by (Refused fault) (Some files) file old new rose shelf out note h read write =
-    λ writes first short. absurd (first_not_refused fault _ writes h.0 first)
-complete_by Usage (Some files) file old new rose shelf out note h read write = absurd h
-complete_by ReadFault (Some files) file old new rose shelf out note h read write =
-    λ writes first short. inr (inl (read refl))
-complete_by WriteFault (Some files) file old new rose shelf out note h read write =
-    λ writes first short. inr (inr (write refl))
-complete_by TooLong (Some files) file old new rose shelf out note h read write =
-    λ writes first short. let long = h.0 in let no : ⊥ = omega (arith, long, short) in absurd no
-complete_by (Stopped code) (Some files) file old new rose shelf out note h read write = absurd h
-complete_by (Wants address) (Some files) file old new rose shelf out note h read write = absurd h
-complete_by Budget (Some files) file old new rose shelf out note h read write = absurd h
-complete_by (HexRefused fault) (Some files) file old new rose shelf out note h read write = absurd h
-complete_by (ScriptRefused line) (Some files) file old new rose shelf out note h read write = absurd h
-complete_by (BadInstruction pc word) (Some files) file old new rose shelf out note h read write = absurd h
+pub not_built_by : (s : Status) (told : Option (List File)) (file : List ℕ) (out note : Change) → BuildBy s told file out note → IsSettled s
+    → ForFile told file (λ bytes. (s ≡ Refused (NotBuilt first_place)) ↔ IsNotBuilt bytes)
+not_built_by s told file out note (inl h) settled = absurd (missing_unsettled h.0.reason (subst IsSettled h.0.tells settled))
+not_built_by s told file out note (inr h) settled =
+    of_file told file h.bytes (λ bytes. (s ≡ Refused (NotBuilt first_place)) ↔ IsNotBuilt bytes) h.whole
+    (chain _ _ _ (refused_iff h.answer s out note h.puts (NotBuilt first_place))
+    (not_built_of h.bytes h.answer h.says (settled_answer h.answer s out note h.puts settled)))
 
-pub answers_by : (s : Status) (told : Option (List File)) (file : List ℕ) (old new : Option (List ℕ)) (rose : Type 0) → BuildBy s told file old new rose → IsAnswerOfBuild s
-answers_by Done told file old new rose h = tt
-answers_by (Refused fault) told file old new rose h = tt
-answers_by Usage told file old new rose h = h
-answers_by ReadFault told file old new rose h = tt
-answers_by WriteFault told file old new rose h = tt
-answers_by NoMemory told file old new rose h = tt
-answers_by TooLong told file old new rose h = tt
-answers_by (Stopped code) told file old new rose h = h
-answers_by (Wants address) told file old new rose h = h
-answers_by Budget told file old new rose h = h
-answers_by (HexRefused fault) told file old new rose h = h
-answers_by (ScriptRefused line) told file old new rose h = h
-answers_by (BadInstruction pc word) told file old new rose h = h
+pub first_by : (s : Status) (told : Option (List File)) (file : List ℕ) (out note : Change) → BuildBy s told file out note
+    → (place : Place) → s ≡ Refused (NotBuilt place) → place ≡ first_place
+first_by s told file out note (inl h) place e = absurd (missing_no_refusal h.0.reason (NotBuilt place) (sym h.0.tells ∙ e))
+first_by s told file out note (inr h) place e =
+    first_of h.bytes h.answer h.says place ((refused_iff h.answer s out note h.puts (NotBuilt place)).0 e)
+
+-- COMPLETENESS
+
+missing_completes : (reason : NoFile) (s : Status) (long shelf rest : Type 0) → s ≡ status_without_file reason → (reason ≡ missing.Long → long)
+    → (s ≡ ReadFault → shelf) → (IsDoneOrNoMemory s ⊎ (shelf ⊎ rest)) ⊎ long
+missing_completes missing.Failed s long shelf rest tells too_long read = inl (inr (inl (read tells)))
+missing_completes missing.Wanting s long shelf rest tells too_long read = inl (inl (subst IsDoneOrNoMemory (sym tells) tt))
+missing_completes missing.Long s long shelf rest tells too_long read = inr (too_long refl)
+
+not_both : (n : ℕ) → text_limit < n → n ≤ text_limit → ⊥
+not_both n long short = omega (arith, long, short)
+
+-- what holds of every file that is not too long
+unless_long : (told : Option (List File)) (file : List ℕ) (X : Type 0) → X ⊎ ForFile told file (λ bytes. text_limit < length bytes)
+    → ForFile told file (λ bytes. (writes : List DeviceWrite) → IsFirst bytes writes → length bytes ≤ text_limit → X)
+unless_long None file X h = tt
+unless_long (Some files) file X (inl x) = λ writes first short. x
+unless_long (Some files) file X (inr long) = λ writes first short. absurd (not_both _ long short)
+
+put_completes : (r : Answer) (s : Status) (out note : Change) → PutBy r s out note → IsOk r ⊎ (r ≡ Err refusal.NoMemory)
+    → IsDoneOrNoMemory s ⊎ (Fails out ⊎ Fails note)
+put_completes (Ok built) s out note (inl h) k = inl (subst IsDoneOrNoMemory (sym h.0) tt)
+put_completes (Ok built) s out note (inr (e, inl f)) k = inr (inl f.1.0)
+put_completes (Ok built) s out note (inr (e, inr f)) k = inr (inr f.1.1)
+put_completes (Err (refusal.Fault why)) s out note h (inl ok) = absurd ok
+put_completes (Err (refusal.Fault why)) s out note h (inr e) = cc
+put_completes (Err refusal.NoMemory) s out note h k = inl (subst IsDoneOrNoMemory (sym h.0) tt)
+
+or_rest : (A B shelf rest : Type 0) → (B → rest) → A ⊎ B → A ⊎ (shelf ⊎ rest)
+or_rest A B shelf rest f (inl a) = inl a
+or_rest A B shelf rest f (inr b) = inr (inr (f b))
+
+pub complete_by : (s : Status) (told : Option (List File)) (file : List ℕ) (out note : Change) (shelf rest : Type 0) → BuildBy s told file out note
+    → (s ≡ ReadFault → shelf) → (Fails out ⊎ Fails note → rest)
+    → ForFile told file (λ bytes. (writes : List DeviceWrite) → IsFirst bytes writes → length bytes ≤ text_limit → IsDoneOrNoMemory s ⊎ (shelf ⊎ rest))
+complete_by s told file out note shelf rest (inl h) read fails =
+    unless_long told file _ (missing_completes h.0.reason s _ shelf rest h.0.tells h.0.too_long read)
+complete_by s told file out note shelf rest (inr h) read fails =
+    of_file told file h.bytes
+    (λ bytes. (writes : List DeviceWrite) → IsFirst bytes writes → length bytes ≤ text_limit → IsDoneOrNoMemory s ⊎ (shelf ⊎ rest)) h.whole
+    (λ writes first short. or_rest _ _ shelf rest fails (put_completes h.answer s out note h.puts (complete_of h.bytes h.answer h.says writes first)))
+
+-- WHAT IS PUT
+
+not_missing : (s : Status) (reason : NoFile) → s ≡ status_without_file reason → IsShown s → ⊥
+not_missing s reason tells shown = missing_not_shown reason (subst IsShown tells shown)
+
+pub headline_by : (s : Status) (told : Option (List File)) (file : List ℕ) (out note : Change) → BuildBy s told file out note → s ≡ Done
+    → ForImage told file (λ image layout. GainsAll out (hex_text image) × AppendsBegun note.before note.after (layout_text layout))
+headline_by s told file out note (inl h) e = absurd (not_missing s h.0.reason h.0.tells (subst IsShown (sym e) tt))
+headline_by s told file out note (inr h) e =
+    let (built, same, hex, lines) = done_is h.answer s out note h.puts (subst IsShown (sym e) tt) in
+    let is : IsBuiltOf h.bytes built = subst (λ r. Answers h.bytes r) same h.says in
+    of_image told file h.bytes built (λ image layout. GainsAll out (hex_text image) × AppendsBegun note.before note.after (layout_text layout)) h.whole is
+    (subst (λ t. GainsAll out t) is.hex hex, ([], subst (λ t. GainsAll note t) (is.note ∙ sym (append-nil (layout_text built.layout))) lines))
+
+-- a piece is a front of itself
+pub all_is_front : (old new : Option (List ℕ)) (piece : List ℕ) → AppendsAll old new piece → AppendsFront old new piece
+all_is_front None new piece all = all
+all_is_front (Some old) new piece all =
+    (length piece, all ∙ ap (λ p. Some (old ++ p)) (sym (take_all (length piece) piece (omega arith))))
+
+-- nothing is a front of each piece
+pub no_front : (old new : Option (List ℕ)) (piece : List ℕ) → new ≡ old → AppendsFront old new piece
+no_front None new piece e = e
+no_front (Some old) new piece e = (0, e ∙ ap Some (sym (append-nil old)))
+
+out_of_put : (built : Built) (out note : Change) → PutFails built out note → GainsFront out built.hex × (Fails out ⊎ GainsAll out built.hex)
+out_of_put built out note (inl f) = (f.0, inl f.1.0)
+out_of_put built out note (inr f) = (all_is_front out.before out.after built.hex f.0, inr f.0)
+
+note_of_put : (built : Built) (out note : Change) → PutFails built out note → GainsFront note built.note
+note_of_put built out note (inl f) = no_front note.before note.after built.note f.1.1
+note_of_put built out note (inr f) = f.1.0
+
+fails_of_put : (built : Built) (out note : Change) → PutFails built out note → Fails out ⊎ Fails note
+fails_of_put built out note (inl f) = inl f.1.0
+fails_of_put built out note (inr f) = inr f.1.1
+
+pub out_front_by : (s : Status) (told : Option (List File)) (file : List ℕ) (out note : Change) → BuildBy s told file out note → s ≡ WriteFault
+    → ForImage told file (λ image layout. GainsFront out (hex_text image) × (Fails out ⊎ GainsAll out (hex_text image)))
+out_front_by s told file out note (inl h) e = absurd (missing_no_write h.0.reason (sym h.0.tells ∙ e))
+out_front_by s told file out note (inr h) e =
+    let (built, same, fails) = failed_is h.answer s out note h.puts e in
+    let is : IsBuiltOf h.bytes built = subst (λ r. Answers h.bytes r) same h.says in
+    of_image told file h.bytes built (λ image layout. GainsFront out (hex_text image) × (Fails out ⊎ GainsAll out (hex_text image))) h.whole is
+    (subst (λ t. GainsFront out t × (Fails out ⊎ GainsAll out t)) is.hex (out_of_put built out note fails))
+
+pub write_fault_by : (s : Status) (told : Option (List File)) (file : List ℕ) (out note : Change) → BuildBy s told file out note → s ≡ WriteFault
+    → Fails out ⊎ Fails note
+write_fault_by s told file out note (inl h) e = absurd (missing_no_write h.0.reason (sym h.0.tells ∙ e))
+write_fault_by s told file out note (inr h) e =
+    let (built, same, fails) = failed_is h.answer s out note h.puts e in fails_of_put built out note fails
+
+pub before_by : (s : Status) (told : Option (List File)) (file : List ℕ) (out note : Change) → BuildBy s told file out note → IsBeforePuts s
+    → IsSame out × IsSame note
+before_by s told file out note (inl h) before = (h.0.out_same, h.1)
+before_by s told file out note (inr h) before = before_same h.answer s out note h.puts before
+
+pub answers_by : (s : Status) (told : Option (List File)) (file : List ℕ) (out note : Change) → BuildBy s told file out note → IsAnswerOfBuild s
+answers_by s told file out note (inl h) = subst IsAnswerOfBuild (sym h.0.tells) (missing_of_build h.0.reason)
+answers_by s told file out note (inr h) = put_answer h.answer s out note h.puts
+
+-- THE SECOND SINK
+
+-- a program of constants has no static area, so all SRAM is for its stack
+layout_is : (bytes image : List ℕ) (layout : Layout) → IsImageOf bytes None image layout → layout ≡ constants_layout
+layout_is bytes image layout is =
+    let none : layout.static_bytes ≡ 0 = is.static_is in
+    let all : layout.stack ≡ 4096 = is.stack_is ∙ ap (λ n. stated None n) none in
+    let floor : layout.floor ≡ 0x0100 = let sum = is.floor_is in omega (arith, all, sum) in
+    ap (λ n. record layout { static_bytes = n }) none ∙ ap (λ n. record layout { static_bytes = 0; floor = n }) floor
+    ∙ ap (λ n. record { static_bytes = 0; floor = 0x0100; stack = n }) all
+
+note_is : (bytes : List ℕ) (built : Built) → IsBuiltOf bytes built → built.note ≡ layout_text constants_layout
+note_is bytes built is = is.note ∙ ap layout_text (layout_is bytes built.image built.layout is.image)
+
+pub second_by : (s : Status) (told : Option (List File)) (file : List ℕ) (out note : Change) → BuildBy s told file out note → IsShown s
+    → GainsAll note (layout_text constants_layout)
+second_by s told file out note (inl h) shown = absurd (not_missing s h.0.reason h.0.tells shown)
+second_by s told file out note (inr h) shown =
+    let (built, same, hex, lines) = done_is h.answer s out note h.puts shown in
+    let is : IsBuiltOf h.bytes built = subst (λ r. Answers h.bytes r) same h.says in
+    subst (λ t. GainsAll note t) (note_is h.bytes built is) lines
+
+pub second_front_by : (s : Status) (told : Option (List File)) (file : List ℕ) (out note : Change) → BuildBy s told file out note → s ≡ WriteFault
+    → GainsFront note (layout_text constants_layout)
+second_front_by s told file out note (inl h) e = absurd (missing_no_write h.0.reason (sym h.0.tells ∙ e))
+second_front_by s told file out note (inr h) e =
+    let (built, same, fails) = failed_is h.answer s out note h.puts e in
+    let is : IsBuiltOf h.bytes built = subst (λ r. Answers h.bytes r) same h.says in
+    subst (λ t. GainsFront note t) (note_is h.bytes built is) (note_of_put built out note fails)

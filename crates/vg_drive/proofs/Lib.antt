@@ -1,4 +1,4 @@
-pub mod Texts
+pub mod Statuses
 pub mod Fetches
 pub mod Builds
 pub mod Sims

@@ -1,20 +1,27 @@
 -- What a command asks the shelf for, what it writes to its second sink, and what its answers may be.
 use Rattle.std.specs.Prelude.{ℕ, ◌≡◌, List, [], ◌∷◌, Option, Some, None}
+use Rattle.vg_base.specs.Limits.{image_text_limit, text_limit}
 use Rattle.vg_words.specs.Commands.{Command, Build, Sim}
 use Rattle.vg_fetch.specs.Asking.{Request}
-use Rattle.vg_drive.specs.Lines.{layout_text}
+use Rattle.vg_build.specs.Layout.{layout_text}
+use Rattle.vg_build.specs.declared.layout.Layout.{Layout}
 use Rattle.vg_drive.specs.declared.status.Status.{Status}
 use Rattle.vg_drive.specs.declared.status.Status.TheVariants.{Done, Refused, Usage, ReadFault, WriteFault, NoMemory, TooLong}
 
--- `build FILE` asks for FILE, with at most 262,144 bytes, and `sim HEX SCRIPT` for HEX and then SCRIPT, with at most 1,048,576 bytes each
+-- `build FILE` asks for FILE, and `sim HEX SCRIPT` for HEX and then SCRIPT, each with its limit
 abbrev pub requests_of : Option Command → List Request
 requests_of None = []
-requests_of (Some (Build file)) = record { name = file; limit = 262144 } ∷ []
-requests_of (Some (Sim hex script steps)) = record { name = hex; limit = 1048576 } ∷ record { name = script; limit = 1048576 } ∷ []
+requests_of (Some (Build file)) = record { name = file; limit = text_limit } ∷ []
+requests_of (Some (Sim hex script steps)) =
+    record { name = hex; limit = image_text_limit } ∷ record { name = script; limit = image_text_limit } ∷ []
 
--- `build` writes the layout to its second sink, and `sim` nothing
+-- the layout of an image of constants: no static bytes, and all SRAM from 0x0100 on for the stack
+abbrev pub constants_layout : Layout
+constants_layout = record { static_bytes = 0; floor = 0x0100; stack = 4096 }
+
+-- `build` writes the layout to its second sink, which is `static 0100 0` and `stack 0100 4096`; `sim` writes nothing
 abbrev pub second_text : Option Command → List ℕ
-second_text (Some (Build file)) = layout_text
+second_text (Some (Build file)) = layout_text constants_layout
 second_text _ = []
 
 -- where the command is `build`: P holds of its file

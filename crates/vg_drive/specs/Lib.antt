@@ -1,5 +1,5 @@
 pub mod Commands
-pub mod Codes
+pub mod Statuses
 pub mod Lines
 pub mod Answers
 pub mod Mirrors

@@ -3,14 +3,10 @@ use Rattle.std.specs.Prelude.{ℕ, List, [], ◌++◌, codes, decimal}
 use Rattle.vg_base.specs.declared.place.Place.{Place}
 use Rattle.vg_hex.specs.declared.fault.HexFault.{HexFault}
 use Rattle.vg_hex.specs.declared.fault.HexFault.TheVariants.{Form, Sum, Twice, Beyond, NoEnd}
-use Rattle.vg_drive.specs.declared.status.Fault.{Fault}
-use Rattle.vg_drive.specs.declared.status.Fault.TheVariants.{NoTree, TooDeep, NotBuilt}
+use Rattle.vg_build.specs.declared.fault.Fault.{Fault}
+use Rattle.vg_build.specs.declared.fault.Fault.TheVariants.{NoTree, TooDeep, NotBuilt}
 use Rattle.vg_drive.specs.declared.status.Status.{Status}
 use Rattle.vg_drive.specs.declared.status.Status.TheVariants.{Refused, Usage, ReadFault, WriteFault, NoMemory, TooLong, HexRefused, ScriptRefused}
-
--- the layout of an image of constants: no static bytes from 0x0100 on, and all SRAM from there for the stack
-abbrev pub layout_text : List ℕ
-layout_text = codes "static 0100 0\nstack 0100 4096\n"
 
 -- a place: its line, a colon and its column
 abbrev pub place_text : Place → List ℕ

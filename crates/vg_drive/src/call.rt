@@ -1,5 +1,6 @@
 // The top call.
 ghost use Rattle.std.specs.Prelude.{◌≡◌, ◌↔◌, ◌≤◌, ◌⊎◌, ℕ, List, length, Some, None};
+ghost use Rattle.vg_base.specs.Limits.{image_text_limit, text_limit};
 ghost use Rattle.vg_base.specs.declared.place.Place.{Place};
 ghost use Rattle.vg_io.specs.Count.{Rose};
 ghost use Rattle.vg_io.specs.Piece.{AppendsAll, AppendsFront};
@@ -10,22 +11,24 @@ ghost use Rattle.vg_fetch.specs.Told.{ForFile, ForFiles};
 ghost use Rattle.vg_first_text.specs.declared.device_write.DeviceWrite.{DeviceWrite};
 ghost use Rattle.vg_syntax.specs.Faults.{NoTreeIn, TooDeepIn};
 ghost use Rattle.vg_first_text.specs.FirstText.{IsFirst};
+ghost use Rattle.vg_build.specs.Answer.{IsNotBuilt, first_place};
+ghost use Rattle.vg_build.specs.Layout.{layout_text};
+ghost use Rattle.vg_build.specs.declared.fault.Fault as fault;
 ghost use Rattle.vg_hex.specs.HexText.{hex_text};
 ghost use Rattle.vg_hex.specs.HexImage.{HexImage, fault_in};
 ghost use Rattle.vg_hex.specs.declared.fault.HexFault.{HexFault};
 ghost use Rattle.vg_script.specs.Script.{IsScript, Lists, first_bad};
-ghost use Rattle.avr_isa.specs.Machine.{machine};
-ghost use Rattle.vg_sim.specs.Shown.{ForRun, ending_of, lines_of};
-ghost use Rattle.vg_drive.specs.Answers.{AppendsFronts, AppendsFrontAndAll, ForImage, ForTexts, IsNotBuilt};
-ghost use Rattle.vg_drive.specs.Codes.{IsBeforePuts, IsDoneOrNoMemory, IsSettled, IsShown, first_place, status_of};
+ghost use Rattle.avr_sim.specs.Run.{simulated};
+ghost use Rattle.vg_sim.specs.Shown.{ForRun, lines_of};
+ghost use Rattle.vg_drive.specs.Answers.{AppendsBegun, AppendsFrontAndAll, AppendsFronts, ForImage, ForTexts};
 ghost use Rattle.vg_drive.specs.Commands.{IsAnswerOf, OnBuild, OnSim, requests_of, second_text};
 ghost use Rattle.vg_drive.specs.Lines.{fault_line};
-ghost use Rattle.vg_drive.specs.Mirrors.{AnswerBy, CauseBy, FetchedBy, NotedBy};
-ghost use Rattle.vg_drive.specs.declared.status.Fault as fault;
+ghost use Rattle.vg_drive.specs.Mirrors.{AnswerBy, FetchedBy, change};
+ghost use Rattle.vg_drive.specs.Statuses.{IsBeforePuts, IsDoneOrNoMemory, IsSettled, IsShown, status_of_ending};
 
-use crate::build::build;
+use crate::build::run_build;
 use crate::fault_line::fault_line;
-use crate::sim::sim;
+use crate::sim::run_sim;
 use crate::status::Status;
 use std::alloc::Global;
 use vg_io::{Shelf, Sink};
@@ -64,13 +67,13 @@ pub fn run<S: Shelf, O: Sink, N: Sink>(
         (result ≡ Status.Refused (fault.Fault.NotBuilt first_place)) ↔ IsNotBuilt bytes)) }
     ensures not_built_first { (place : Place) → result ≡ Status.Refused (fault.Fault.NotBuilt place) → place ≡ first_place }
     ensures complete { OnBuild (command_of (words_in words.now)) (λ file. ForFile (S.told shelf.old) file (λ bytes.
-        (writes : List DeviceWrite) → IsFirst bytes writes → length bytes ≤ 262144 → IsDoneOrNoMemory result
+        (writes : List DeviceWrite) → IsFirst bytes writes → length bytes ≤ text_limit → IsDoneOrNoMemory result
         ⊎ (Rose (S.faults shelf.old) (S.faults shelf.new) ⊎ (Rose (O.faults out.old) (O.faults out.new) ⊎ Rose (N.faults note.old) (N.faults note.new))))) }
 
-    // `build`: the image, whole on `out` with Done.
-    ensures headline { result ≡ Status.Done → OnBuild (command_of (words_in words.now)) (λ file. ForImage (S.told shelf.old) file (λ image.
-        AppendsAll (O.told out.old) (O.told out.new) (hex_text image))) }
-    ensures out_front { result ≡ Status.WriteFault → OnBuild (command_of (words_in words.now)) (λ file. ForImage (S.told shelf.old) file (λ image.
+    // `build`: the image, whole on `out` with Done, and its layout on `note`.
+    ensures headline { result ≡ Status.Done → OnBuild (command_of (words_in words.now)) (λ file. ForImage (S.told shelf.old) file (λ image layout.
+        AppendsAll (O.told out.old) (O.told out.new) (hex_text image) × AppendsBegun (N.told note.old) (N.told note.new) (layout_text layout))) }
+    ensures out_front { result ≡ Status.WriteFault → OnBuild (command_of (words_in words.now)) (λ file. ForImage (S.told shelf.old) file (λ image layout.
         AppendsFront (O.told out.old) (O.told out.new) (hex_text image)
         × (Rose (O.faults out.old) (O.faults out.new) ⊎ AppendsAll (O.told out.old) (O.told out.new) (hex_text image)))) }
 
@@ -82,12 +85,12 @@ pub fn run<S: Shelf, O: Sink, N: Sink>(
 
     // `sim`: the lines of the machine's trace and of its ending, whole on `out` with the answer of that ending.
     ensures shown { IsShown result → OnSim (command_of (words_in words.now)) (λ hex script steps. ForTexts (S.told shelf.old) hex script (λ h s.
-        ForRun h s steps (λ m. (Some result ≡ status_of (ending_of m.ended)) × AppendsAll (O.told out.old) (O.told out.new) (lines_of m)))) }
+        ForRun h s steps (λ m. (result ≡ status_of_ending m.ended) × AppendsAll (O.told out.old) (O.told out.new) (lines_of m)))) }
     ensures lines_front { result ≡ Status.WriteFault → OnSim (command_of (words_in words.now)) (λ hex script steps. ForTexts (S.told shelf.old) hex script (λ h s.
         ForRun h s steps (λ m. AppendsFront (O.told out.old) (O.told out.new) (lines_of m)))) }
     ensures sim_complete { OnSim (command_of (words_in words.now)) (λ hex script steps. ForFiles (S.told shelf.old) hex script (λ h s.
-        (image : List ℕ) (lists : Lists) → HexImage h image → IsScript s lists → length h ≤ 1048576 → length s ≤ 1048576
-        → ((Some result ≡ status_of (ending_of (machine image lists.reads lists.interrupts steps).ended)) ⊎ (result ≡ Status.NoMemory))
+        (image : List ℕ) (lists : Lists) → HexImage h image → IsScript s lists → length h ≤ image_text_limit → length s ≤ image_text_limit
+        → ((result ≡ status_of_ending (simulated image lists.reads lists.interrupts steps).ended) ⊎ (result ≡ Status.NoMemory))
         ⊎ (Rose (S.faults shelf.old) (S.faults shelf.new) ⊎ Rose (O.faults out.old) (O.faults out.new)))) }
 
     // What may fail, and what nothing was put for.
@@ -96,7 +99,8 @@ pub fn run<S: Shelf, O: Sink, N: Sink>(
 
     // The second text of the command and the fault line, which are whole where the count of `note` did not rise.
     ensures note_second { IsShown result → AppendsAll (N.told note.old) (N.told note.new) (second_text (command_of (words_in words.now))) }
-    ensures note_fronts { result ≡ Status.WriteFault → AppendsFronts (N.told note.old) (N.told note.new) (second_text (command_of (words_in words.now))) (fault_line result) }
+    ensures note_fronts { result ≡ Status.WriteFault
+        → AppendsFronts (N.told note.old) (N.told note.new) (second_text (command_of (words_in words.now))) (fault_line result) }
     ensures note_line_last { result ≡ Status.WriteFault → Rose (N.faults note.old) (N.faults note.new)
         ⊎ AppendsFrontAndAll (N.told note.old) (N.told note.new) (second_text (command_of (words_in words.now))) (fault_line result) }
     ensures note_line_front { IsBeforePuts result → AppendsFront (N.told note.old) (N.told note.new) (fault_line result) }
@@ -117,9 +121,9 @@ fn answer<S: Shelf, O: Sink, N: Sink>(
 ) -> Status
     ensures fetched { FetchedBy result (S.asked shelf.old) (S.asked shelf.new) (requests_of (command_of (words_in words.now))) }
     ensures read { result ≡ Status.ReadFault → Rose (S.faults shelf.old) (S.faults shelf.new) }
-    ensures holds { AnswerBy (command_of (words_in words.now)) result (S.told shelf.old) (O.told out.old) (O.told out.new) (Rose (O.faults out.old) (O.faults out.new)) }
-    ensures note { NotedBy (command_of (words_in words.now)) result (N.told note.old) (N.told note.new) }
-    ensures cause { result ≡ Status.WriteFault → CauseBy (command_of (words_in words.now)) (Rose (O.faults out.old) (O.faults out.new)) (Rose (N.faults note.old) (N.faults note.new)) }
+    ensures holds { AnswerBy (command_of (words_in words.now)) result (S.told shelf.old)
+        (change (O.told out.old) (O.told out.new) (O.faults out.old) (O.faults out.new))
+        (change (N.told note.old) (N.told note.new) (N.faults note.old) (N.faults note.new)) }
     ensures later { N.faults note.old ≤ N.faults note.new }
 {
     match command_of(words) {
@@ -138,14 +142,14 @@ fn obey<S: Shelf, O: Sink, N: Sink>(
 ) -> Status
     ensures fetched { FetchedBy result (S.asked shelf.old) (S.asked shelf.new) (requests_of (Some (command_in command.entry))) }
     ensures read { result ≡ Status.ReadFault → Rose (S.faults shelf.old) (S.faults shelf.new) }
-    ensures holds { AnswerBy (Some (command_in command.entry)) result (S.told shelf.old) (O.told out.old) (O.told out.new) (Rose (O.faults out.old) (O.faults out.new)) }
-    ensures note { NotedBy (Some (command_in command.entry)) result (N.told note.old) (N.told note.new) }
-    ensures cause { result ≡ Status.WriteFault → CauseBy (Some (command_in command.entry)) (Rose (O.faults out.old) (O.faults out.new)) (Rose (N.faults note.old) (N.faults note.new)) }
+    ensures holds { AnswerBy (Some (command_in command.entry)) result (S.told shelf.old)
+        (change (O.told out.old) (O.told out.new) (O.faults out.old) (O.faults out.new))
+        (change (N.told note.old) (N.told note.new) (N.faults note.old) (N.faults note.new)) }
     ensures later { N.faults note.old ≤ N.faults note.new }
 {
     match command {
-        Command::Build { file } => build(alloc, file, shelf, out, note),
-        Command::Sim { hex, script, steps } => sim(alloc, hex, script, steps, shelf, out),
+        Command::Build { file } => run_build(alloc, file, shelf, out, note),
+        Command::Sim { hex, script, steps } => run_sim(alloc, hex, script, steps, shelf, out),
     }
 }
 

@@ -2,10 +2,11 @@
 ghost use Rattle.std.specs.Prelude.{◌≡◌, ◌++◌, ℕ, decimal, codes, length, ◌≤◌};
 ghost use Rattle.vg_drive.specs.Lines.{fault_line, hex_line, refusal_line, place_text};
 
-use crate::status::{Fault, Status};
+use crate::status::Status;
 use arrayvec::ArrayString;
 use itoa::Buffer;
 use vg_base::Place;
+use vg_build::Fault;
 use vg_hex::HexFault;
 
 /// The bytes of the longest fault line: a place has two numbers of at most ten digits.
@@ -84,50 +85,4 @@ fn numbered_line(says: &str, number: u32) -> ArrayString<LONGEST_LINE>
     line.push_str(Buffer::new().format(number));
     line.push_str("\n");
     line
-}
-
-#[cfg(test)]
-mod tests {
-    use super::*;
-
-    // The longest line has the largest line and column.
-    #[test]
-    fn lines_say_the_answer(rt: HostRuntime) {
-        let far = Place {
-            line: 4294967295,
-            col: 4294967295,
-        };
-        let rows = [
-            (Status::Done, ""),
-            (
-                Status::Refused(Fault::NotBuilt(far)),
-                "not built at 4294967295:4294967295\n",
-            ),
-            (
-                Status::Refused(Fault::NoTree(Place { line: 3, col: 17 })),
-                "no tree at 3:17\n",
-            ),
-            (
-                Status::Refused(Fault::TooDeep(Place { line: 1, col: 96 })),
-                "too deep at 1:96\n",
-            ),
-            (Status::NoMemory, "no memory\n"),
-            (Status::HexRefused(HexFault::Form(1)), "hex form 1\n"),
-            (Status::HexRefused(HexFault::Sum(20)), "hex sum 20\n"),
-            (Status::HexRefused(HexFault::Twice(0)), "hex twice 0\n"),
-            (
-                Status::HexRefused(HexFault::Beyond(4294967295)),
-                "hex beyond 4294967295\n",
-            ),
-            (Status::HexRefused(HexFault::NoEnd), "hex no end\n"),
-            (Status::ScriptRefused(2), "script form 2\n"),
-            (Status::Stopped(1), ""),
-            (Status::Wants(57), ""),
-            (Status::Budget, ""),
-            (Status::BadInstruction { pc: 0, word: 65535 }, ""),
-        ];
-        for (status, line) in rows {
-            assert_eq!(rt; fault_line(&status).as_str(), line);
-        }
-    }
 }

@@ -1,6 +1,7 @@
 //! The top call: the words of a command come in, a shelf is asked for its files, and an image or a trace, a note and a status go out.
 #![tactic(auto)]
 
+mod answers;
 mod build;
 mod call;
 mod fault_line;
@@ -8,9 +9,5 @@ mod sim;
 mod status;
 
 pub use call::run;
-pub use status::{Fault, Status};
-
-#[cfg(test)]
-mod sim_tests;
-#[cfg(test)]
-mod tests;
+pub use fault_line::fault_line;
+pub use status::Status;

@@ -1,7 +1,7 @@
 // How a call ends.
 ghost use Rattle.std.specs.Prelude.{◌≡◌};
 
-use vg_base::Place;
+use vg_build::Fault;
 use vg_hex::HexFault;
 
 /// How a call of the program ends.
@@ -33,17 +33,6 @@ pub enum Status {
     ScriptRefused(u32),
     /// At this word address stands this word, which is no instruction or touches a data address that it must not.
     BadInstruction { pc: u16, word: u16 },
-}
-
-/// Why a source text was refused.
-#[derive(Clone, Copy, Debug, PartialEq, Eq)]
-pub enum Fault {
-    /// The token at this place, or the end, is the first that no text of the language has there.
-    NoTree(Place),
-    /// The bracket at this place is the first that is a 65th open one, in a text that could still go on.
-    TooDeep(Place),
-    /// The text is one of the language, and a form that is not built yet stands at this place.
-    NotBuilt(Place),
 }
 
 impl Status {

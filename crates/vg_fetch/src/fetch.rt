@@ -69,7 +69,8 @@ pub fn fetch_two<S: Shelf>(
     ensures told { S.told shelf.new ≡ S.told shelf.old }
     ensures cause { IsErrOf result NoFile.Failed → Rose (S.faults shelf.old) (S.faults shelf.new) }
     ensures later { S.faults shelf.old ≤ S.faults shelf.new }
-    ensures asked { Fetched (reason_of result) (S.asked shelf.old) (S.asked shelf.new) (record { name = first.now; limit = limit } ∷ record { name = second.now; limit = limit } ∷ []) }
+    ensures asked { Fetched (reason_of result) (S.asked shelf.old) (S.asked shelf.new)
+        (record { name = first.now; limit = limit } ∷ record { name = second.now; limit = limit } ∷ []) }
 {
     match fetch_within(shelf, first, limit) {
         Err(reason) => Err(reason),

@@ -2,7 +2,5 @@
 #![tactic(auto)]
 
 pub mod fetch;
-#[cfg(test)]
-mod tests;
 
 pub use fetch::{NoFile, fetch_file, fetch_two};

@@ -18,7 +18,7 @@ open_pieces : (bytes : List ℕ) (d : ℕ) (ts : List Token) → open_in d ts �
 open_pieces bytes d [] = refl
 open_pieces bytes d (t ∷ ts) =
     by_cases (λ e. open_pieces bytes e ts) (opened d t.kind) ∙ ap (λ k. option_and_then (λ e. open_behind e (pieces bytes ts)) (opened d k))
-        (sym (kind_of_piece t.kind (text_of bytes t)))
+    (sym (kind_of_piece t.kind (text_of bytes t)))
   where
     by_cases : ((e : ℕ) → open_in e ts ≡ open_behind e (pieces bytes ts)) → (o : Option ℕ)
         → option_and_then (λ e. open_in e ts) o ≡ option_and_then (λ e. open_behind e (pieces bytes ts)) o

@@ -75,7 +75,7 @@ module _ (bytes : List ℕ) where
   -- method m ( ) { assignments }
   method : (name : List ℕ) (xs : List FirstAssignment) (qs : List Piece)
       → Goes bytes (Plain kind.Method ∷ Named name ∷ Plain kind.LeftParen ∷ Plain kind.RightParen ∷ Plain kind.LeftBrace ∷
-          (flat_map assignment_pieces xs ++ Plain kind.RightBrace ∷ qs)) (Use part.Member ∷ []) qs
+      (flat_map assignment_pieces xs ++ Plain kind.RightBrace ∷ qs)) (Use part.Member ∷ []) qs
   method name xs qs =
       one_of bytes part.Member 1 _ _ _ refl
       (sign bytes (Plain kind.Method) _ _ _ (sign bytes (Named name) _ _ _
@@ -90,7 +90,7 @@ module _ (bytes : List ℕ) where
 
   component : (name method_name : List ℕ) (xs : List FirstAssignment) (qs : List Piece)
       → Goes bytes (Plain kind.Component ∷ Named name ∷ Plain kind.LeftBrace ∷ Plain kind.Method ∷ Named method_name ∷ Plain kind.LeftParen ∷
-          Plain kind.RightParen ∷ Plain kind.LeftBrace
+      Plain kind.RightParen ∷ Plain kind.LeftBrace
       ∷ (flat_map assignment_pieces xs ++ Plain kind.RightBrace ∷ Plain kind.RightBrace ∷ qs)) (Use part.Declaration ∷ []) qs
   component name method_name xs qs =
       one_of bytes part.Declaration 1 _ _ _ refl
@@ -104,7 +104,7 @@ module _ (bytes : List ℕ) where
 
   device : (name : List ℕ) (rs : List FirstRegister) (qs : List Piece)
       → Goes bytes (Plain kind.Device ∷ Named name ∷ Plain kind.LeftBrace ∷ (flat_map register_pieces rs ++ Plain kind.RightBrace ∷ qs))
-          (Use part.Declaration ∷ []) qs
+      (Use part.Declaration ∷ []) qs
   device name rs qs =
       one_of bytes part.Declaration 2 _ _ _ refl
       (sign bytes (Plain kind.Device) _ _ _ (sign bytes (Named name) _ _ _
@@ -114,7 +114,7 @@ module _ (bytes : List ℕ) where
 
   entry : (key component method : List ℕ) (qs : List Piece)
       → Goes bytes (Plain kind.Entry ∷ Named key ∷ Plain kind.Assign ∷ Named component ∷ Plain kind.Dot ∷ Named method ∷ Plain kind.Semicolon ∷ qs)
-          (Use part.Entry ∷ []) qs
+      (Use part.Entry ∷ []) qs
   entry key component method qs =
       one_of bytes part.Entry 0 _ _ _ refl
       (sign bytes (Plain kind.Entry) _ _ _
@@ -122,12 +122,12 @@ module _ (bytes : List ℕ) where
       (sign bytes (Plain kind.Assign) _ _ _
       (before bytes part.Handler _ _ _ _
       (one_of bytes part.Handler 0 _ _ _ refl (sign bytes (Named component) _ _ _
-          (sign bytes (Plain kind.Dot) _ _ _ (sign bytes (Named method) _ _ _ (nil bytes _)))))
+      (sign bytes (Plain kind.Dot) _ _ _ (sign bytes (Named method) _ _ _ (nil bytes _)))))
       (sign bytes (Plain kind.Semicolon) _ _ _ (nil bytes qs))))))
 
   program : (name key component method : List ℕ) (qs : List Piece)
       → Goes bytes (Plain kind.Program ∷ Named name ∷ Plain kind.LeftBrace ∷ Plain kind.Entry ∷ Named key ∷ Plain kind.Assign ∷ Named component ∷
-          Plain kind.Dot ∷ Named method ∷ Plain kind.Semicolon
+      Plain kind.Dot ∷ Named method ∷ Plain kind.Semicolon
       ∷ Plain kind.RightBrace ∷ qs) (Use part.Declaration ∷ []) qs
   program name key component method qs =
       one_of bytes part.Declaration 3 _ _ _ refl

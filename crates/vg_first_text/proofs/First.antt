@@ -3,7 +3,7 @@
 -- that cannot go on with it, so the parts are found one by one from the front, and no other program has these pieces.
 use Rattle.std.proofs.Common.{◌≡◌, ℕ, List, [], ◌∷◌, ◌++◌, map, drop, refl, sym, ap, ◌∙◌, subst, Bool, true, false, Some, None}
 use Rattle.std.specs.List.{flat_map, AllByRecursion}
-use Rattle.std.specs.Prelude.{if◌then◌else◌, bytes_eq, unwrap_or, Result, Ok, Err, IsErrAnd, IsErrOf}
+use Rattle.std.specs.Prelude.{if◌then◌else◌, bytes_eq, unwrap_or, Result, Ok, Err, IsErrAnd}
 use Rattle.vg_base.specs.declared.refusal.Refusal.{Refusal}
 use Rattle.vg_base.specs.declared.refusal.Refusal.TheVariants.{Fault}
 use Rattle.vg_first_text.specs.declared.first_text.NotFirst.{NotFirst}

@@ -83,7 +83,7 @@ made_expand front n m steps u rhs r c = record {
       let f : Fits x.kids rhs = subst (λ z. Fits x.kids z) i x.kids_fit in
       let g : to_come (sees rhs (Make n (length rhs) ∷ m)) (join x.kids x.behind) ≡ steps_of x.kids ++ step.Make n (width x.kids) ∷ to_come m x.behind =
       come_sees x.kids x.behind rhs (Make n (length rhs) ∷ m) f ∙ ap (λ w. steps_of x.kids ++ step.Make n w ∷ to_come m x.behind)
-          (sym (width_is x.kids rhs f)) in (
+      (sym (width_is x.kids rhs f)) in (
         join x.kids x.behind,
         subst (λ z. Fits (join x.kids x.behind) z) (sym (plain_sees rhs (Make n (length rhs) ∷ m)))
             (subst (λ z. Fits (join x.kids x.behind) (z ++ plain m)) i x.all_fit),

@@ -136,12 +136,12 @@ room_expand n s (Sign k) l (t ∷ rest) e =
     let one = r.least in
     let q : (number k == number t.kind) ≡ true = eq_test (number k) (number t.kind) same_number in
     subst (λ b. 1 + length (l ++ s) + 128 * length rest + (if b then 0 else 128) < 1 + length s + 128 * length rest +
-        (if full (chosen n (number t.kind)) then 7 * rank n else 128)) (sym q) (subst
-        (λ b. 1 + length (l ++ s) + 128 * length rest + 0 < 1 + length s + 128 * length rest + (if b then 7 * rank n else 128)) (sym g)
-        (omega (arith, app, len, one)))
+    (if full (chosen n (number t.kind)) then 7 * rank n else 128)) (sym q) (subst
+    (λ b. 1 + length (l ++ s) + 128 * length rest + 0 < 1 + length s + 128 * length rest + (if b then 7 * rank n else 128)) (sym g)
+    (omega (arith, app, len, one)))
 room_expand n s (Use m) l (t ∷ rest) e =
     let o = both (nat_le (length l) 4) (nat_lt (rank m) (rank n) && all_full m (firsts m))
-        (head_at n (rules n) (pick (rules n) (number t.kind)) (Use m ∷ l) (ranks n).heads e) in
+    (head_at n (rules n) (pick (rules n) (number t.kind)) (Use m ∷ l) (ranks n).heads e) in
     let p = both (nat_lt (rank m) (rank n)) (all_full m (firsts m)) o.1 in
     let in_m : mem (number t.kind) (firsts m) ≡ true = picks_it (rules n) (number t.kind) (Use m ∷ l) e in
     let fm = full_at m (firsts m) (number t.kind) p.1 in_m in
@@ -150,9 +150,9 @@ room_expand n s (Use m) l (t ∷ rest) e =
     let g : full (chosen n (number t.kind)) ≡ true = ap full e in
     let app = length-append l s in
     subst (λ b. 1 + length (l ++ s) + 128 * length rest + (if b then 7 * rank m else 128) < 1 + length s + 128 * length rest +
-        (if full (chosen n (number t.kind)) then 7 * rank n else 128)) (sym fm) (subst
-        (λ b. 1 + length (l ++ s) + 128 * length rest + 7 * rank m < 1 + length s + 128 * length rest + (if b then 7 * rank n else 128)) (sym g)
-        (omega (arith, app, len, lower)))
+    (if full (chosen n (number t.kind)) then 7 * rank n else 128)) (sym fm) (subst
+    (λ b. 1 + length (l ++ s) + 128 * length rest + 7 * rank m < 1 + length s + 128 * length rest + (if b then 7 * rank n else 128)) (sym g)
+    (omega (arith, app, len, lower)))
 
 pub room_any : (n : Part) (s rhs : List Symbol) (rest : List Token) → chosen n (look rest) ≡ Some rhs → room (rhs ++ s) rest < room (Use n ∷ s) rest
 room_any n s [] rest e = room_empty n s rest e

@@ -71,8 +71,16 @@ pub record Here (ts : List Token) (at : ℕ) (k : Kind) : Type 0 where
 pub here : (ts : List Token) (at : ℕ) (k : Kind) → is_at ts at k ≡ true → Here ts at k
 here [] at k h = absurd (false≢true h)
 here (t ∷ ts) zero k h =
-    record { token = t; rest = ts; kind = same_kind t.kind k (same (number t.kind) (number k) h); at_it = refl; front = refl; behind = refl; within = omega
-    arith }
+    record {
+      token = t;
+      rest = ts;
+      kind = same_kind t.kind k (same (number t.kind) (number k) h);
+      at_it = refl;
+      front = refl;
+      behind = refl;
+      within = omega
+          arith;
+    }
 here (t ∷ ts) (suc at) k h =
     let r = here ts at k h in
     let e : suc at + 1 ≡ suc (at + 1) = omega arith in
@@ -148,8 +156,8 @@ pub matches_room : (ts : List Token) (at : ℕ) (k : Kind) (s rest : List Symbol
 matches_room ts at k s rest e i =
     let h = here ts at k i in
     subst (λ l. room rest (drop (at + 1) ts) < room l (drop at ts)) (sym e)
-        (subst (λ l. room rest (drop (at + 1) ts) < room (Sign k ∷ rest) l) (sym h.at_it)
-        (subst (λ l. room rest l < room (Sign k ∷ rest) (h.token ∷ h.rest)) (sym h.behind) (room_match k rest h.token h.rest h.kind)))
+    (subst (λ l. room rest (drop (at + 1) ts) < room (Sign k ∷ rest) l) (sym h.at_it)
+    (subst (λ l. room rest l < room (Sign k ∷ rest) (h.token ∷ h.rest)) (sym h.behind) (room_match k rest h.token h.rest h.kind)))
 
 pub ends : (ts : List Token) (at deep : ℕ) (s : List Symbol) → At ts at s deep → s ≡ [] → at ≡ length ts → Sentence ts × Shallow ts
 ends ts at deep s a e f =

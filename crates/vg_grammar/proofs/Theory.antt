@@ -122,8 +122,13 @@ begins_use n s us vs a rhs r (inl h) (inl k) =
     inl (ap (λ l. l ++ vs) h.0 ∙ k.0, and_of (nullable n) _ (r.nulls h.1) k.1)
 begins_use n s us vs a rhs r (inl h) (inr k) =
     let e : firsts_seq (Use n ∷ s) ≡ firsts n ++ firsts_seq s = ap (λ b. firsts n ++ (if b then firsts_seq s else [])) (r.nulls h.1) in
-    inr (k.0, k.1, ap (λ l. l ++ vs) h.0 ∙ k.2, subst (λ l. mem (number k.0.kind) l ≡ true) (sym e)
-        (mem_append_right (firsts n) (firsts_seq s) (number k.0.kind) k.3))
+    inr (
+      k.0,
+      k.1,
+      ap (λ l. l ++ vs) h.0 ∙ k.2,
+      subst (λ l. mem (number k.0.kind) l ≡ true) (sym e)
+          (mem_append_right (firsts n) (firsts_seq s) (number k.0.kind) k.3),
+    )
 
 sign_first : (t : Token) (k : Kind) → t.kind ≡ k → mem (number t.kind) (k ∷ []) ≡ true
 sign_first t k e = or_left (number t.kind == number k) _ (same_test (number t.kind) (number k) (ap number e))

@@ -10,14 +10,11 @@ pub mod shelf;
 pub mod sink;
 pub mod steady_shelf;
 
-pub use asked::{Asked, Fetches};
-pub use file::{File, Files};
+pub use asked::{Asked, note_fetch};
+pub use file::{File, find_file, set_file};
 pub use memory_shelf::MemoryShelf;
 pub use memory_sink::MemorySink;
 pub use null_sink::NullSink;
 pub use shelf::{FetchFault, Shelf};
 pub use sink::{Failed, Sink};
 pub use steady_shelf::SteadyShelf;
-
-#[cfg(test)]
-mod tests;

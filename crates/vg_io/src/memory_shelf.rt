@@ -6,20 +6,20 @@ ghost use Rattle.vg_io.specs.Fetch.{GivesFront, Records};
 ghost use Rattle.vg_io.specs.Files.{bytes_under};
 ghost use Rattle.vg_io.specs.InMemory.{MemoryFiles, after_failed, after_given, fetch_fails};
 
-use crate::asked::Fetches;
-use crate::file::{Files, front_of};
+use crate::asked::{Asked, note_fetch};
+use crate::file::{File, find_file, front_of, set_file};
 use crate::shelf::{FetchFault, Shelf};
 use std::alloc::Global;
 use std::marker::Model;
-use vg_base::NoMemory;
+use vg_base::{NoMemory, Row};
 
 /// A shelf of files in memory. It tells what it holds, counts a missing name as a fault, and fails where it was told to.
 #[derive(Drop)]
 pub struct MemoryShelf {
     alloc: Global,
-    files: Files,
+    files: Row<File>,
     failing: Vec<u32>,
-    asked: Fetches,
+    asked: Row<Asked>,
     faults: u64,
 }
 
@@ -36,9 +36,9 @@ impl MemoryShelf {
     {
         MemoryShelf {
             alloc,
-            files: Files::new(alloc),
+            files: Row::new(alloc),
             failing: Vec::new(alloc),
-            asked: Fetches::new(alloc),
+            asked: Row::new(alloc),
             faults: 0,
         }
     }
@@ -48,7 +48,7 @@ impl MemoryShelf {
         ensures ok { OnOk result (self.new ≡ record self.old { files = record { name = name.now; bytes = bytes.now } ∷ self.old.files }) }
         ensures err { OnErr result (self.new ≡ self.old) }
     {
-        self.files.set(self.alloc, name, bytes)
+        set_file(&mut self.files, self.alloc, name, bytes)
     }
 
     /// Lists the fetch of this number to fail. The first fetch of a shelf has the number 0.
@@ -94,17 +94,16 @@ impl Shelf for MemoryShelf {
         let found = if self.is_listed() {
             None
         } else {
-            self.files.find(name)
+            find_file(&self.files, name)
         };
         match found {
             Some(bytes) => {
                 let front = front_of(self.alloc, bytes, limit)?;
-                self.asked
-                    .record_fetch(self.alloc, name, limit, Some(front.len()))?;
+                note_fetch(&mut self.asked, self.alloc, name, limit, Some(front.len()))?;
                 Ok(front)
             }
             None => {
-                self.asked.record_fetch(self.alloc, name, limit, None)?;
+                note_fetch(&mut self.asked, self.alloc, name, limit, None)?;
                 self.faults = self.faults.saturating_add(1);
                 Err(FetchFault::Failed)
             }

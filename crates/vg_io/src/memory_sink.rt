@@ -1,5 +1,5 @@
 // A sink in memory with a fixed room, of which one put may be set to fail.
-ghost use Rattle.std.specs.Prelude.{◌≡◌, ℕ, ◌≤◌, ◌+◌, ◌-◌, ◌++◌, [], Bool, true, false, Some, None, IfOk, IsErr, IsOk, OnOk, OnErr, IsTrue, ◌↔◌, length, take, is_err, vec_len, vec_capacity, min};
+ghost use Rattle.std.specs.Prelude.{◌≡◌, ℕ, ◌≤◌, ◌+◌, ◌-◌, ◌++◌, [], Some, None, IfOk, OnOk, OnErr, take, is_err, vec_len, vec_capacity};
 ghost use Rattle.vg_io.specs.Count.{Rose};
 ghost use Rattle.vg_io.specs.InMemory.{MemoryBytes, after_put, count_taken, is_set, put_fails, wanted};
 

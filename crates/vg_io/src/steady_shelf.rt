@@ -4,19 +4,19 @@ ghost use Rattle.vg_io.specs.Fetch.{asked_after, GivesFront, Records};
 ghost use Rattle.vg_io.specs.Files.{bytes_under};
 ghost use Rattle.vg_io.specs.InMemory.{SteadyFiles};
 
-use crate::asked::Fetches;
-use crate::file::{Files, front_of};
+use crate::asked::{Asked, note_fetch};
+use crate::file::{File, find_file, front_of, set_file};
 use crate::shelf::{FetchFault, Shelf};
 use std::alloc::Global;
 use std::marker::Model;
-use vg_base::NoMemory;
+use vg_base::{NoMemory, Row};
 
 /// A shelf of files in memory that never fails. It tells what it holds, and a name that it does not hold stands for the empty file.
 #[derive(Drop)]
 pub struct SteadyShelf {
     alloc: Global,
-    files: Files,
-    asked: Fetches,
+    files: Row<File>,
+    asked: Row<Asked>,
 }
 
 impl Model for SteadyShelf {
@@ -32,8 +32,8 @@ impl SteadyShelf {
     {
         SteadyShelf {
             alloc,
-            files: Files::new(alloc),
-            asked: Fetches::new(alloc),
+            files: Row::new(alloc),
+            asked: Row::new(alloc),
         }
     }
 
@@ -42,7 +42,7 @@ impl SteadyShelf {
         ensures ok { OnOk result (self.new ≡ record self.old { files = record { name = name.now; bytes = bytes.now } ∷ self.old.files }) }
         ensures err { OnErr result (self.new ≡ self.old) }
     {
-        self.files.set(self.alloc, name, bytes)
+        set_file(&mut self.files, self.alloc, name, bytes)
     }
 }
 
@@ -64,12 +64,11 @@ impl Shelf for SteadyShelf {
         ensures never { IsErrOf result FetchFault.Failed → ⊥ }
         ensures no_memory { IsErrOf result FetchFault.NoMemory → self.new ≡ self.old }
     {
-        let front = match self.files.find(name) {
+        let front = match find_file(&self.files, name) {
             Some(bytes) => front_of(self.alloc, bytes, limit)?,
             None => Vec::new(self.alloc),
         };
-        self.asked
-            .record_fetch(self.alloc, name, limit, Some(front.len()))?;
+        note_fetch(&mut self.asked, self.alloc, name, limit, Some(front.len()))?;
         Ok(front)
     }
 }

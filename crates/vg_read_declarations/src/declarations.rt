@@ -10,13 +10,13 @@ ghost use Rattle.vg_tree.specs.HeldMade.{made_at, value_at};
 
 use std::alloc::Global;
 use vg_base::{Name, NoMemory, Place};
+use vg_syntax::Kind;
 use vg_tree::contents::{
     above_in, all_in, component_in, is_row, kind_in, method_in, node_in, param_in, params_in,
     row_in, text_in, type_in,
 };
 use vg_tree::made::{Made, Value};
 use vg_tree::rows::{row_of, unwritten, with_front};
-use vg_syntax::Kind;
 use vg_tree::{Node, Param};
 
 /// A text: its first declaration, and the row behind it.

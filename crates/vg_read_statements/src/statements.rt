@@ -5,7 +5,7 @@ ghost use Rattle.vg_syntax.specs.Made.{node_in, arms_in, otherwise_in, first_in,
 ghost use Rattle.vg_syntax.specs.Reads.{kids_of, spot, block, jump, statement_of_two, statement_of_three, statement_of_four, statement, else_part, else_arm};
 ghost use Rattle.vg_syntax.specs.Reads.{header, assigned, simple};
 ghost use Rattle.vg_tree.specs.Held.{text_at, param_at, node_at};
-ghost use Rattle.vg_tree.specs.HeldMade.{arms_back, made_at, value_at};
+ghost use Rattle.vg_tree.specs.HeldMade.{made_at, value_at};
 
 use std::alloc::Global;
 use vg_base::{Name, NoMemory, Place};

@@ -1,6 +1,7 @@
 -- The steps of a parse make its values.
-use Rattle.std.proofs.Common.{◌≡◌, ℕ, suc, ◌-◌, List, [], ◌∷◌, ◌++◌, length, refl, sym, ap, ◌∙◌, arith, append_assoc, append-nil, length-append, take, drop}
+use Rattle.std.proofs.Common.{◌≡◌, ℕ, suc, ◌-◌, Err, subst, List, [], ◌∷◌, ◌++◌, length, refl, sym, ap, ◌∙◌, arith, append_assoc, append-nil, length-append, take, drop}
 use Rattle.std.proofs.Math.Seq.{take-append_seam, drop-append_seam}
+use Rattle.vg_base.specs.declared.refusal.Refusal.TheVariants.{Fault}
 use Rattle.vg_syntax.specs.declared.token.Token.{Token}
 use Rattle.vg_syntax.specs.declared.grammar.Part.{Part}
 use Rattle.vg_syntax.specs.Parses.{Parse, Nil, Tok, Sub, leaves, Sentence, Shallow}
@@ -11,8 +12,11 @@ use Rattle.vg_syntax.specs.Reads.{leaf, made, kids_of, values, tree_in, Reads}
 use Rattle.vg_grammar.specs.declared.derivation.Step.{Step}
 use Rattle.vg_grammar.specs.declared.derivation.Step.TheVariants.{Make}
 use Rattle.vg_grammar.specs.Derivation.{width, steps_of}
-use Rattle.vg_grammar.specs.Derivation.{AreSteps}
-use Rattle.vg_reader.specs.Derivation.{reduced, run}
+use Rattle.vg_grammar.specs.Derivation.{AreSteps, Derived}
+use Rattle.vg_grammar.specs.declared.derivation.Stop.{Stop}
+use Rattle.vg_grammar.specs.declared.derivation.Stop.TheVariants as stop
+use Rattle.vg_reader.specs.declared.fault.ReadFault.{ReadFault}
+use Rattle.vg_reader.specs.Derivation.{reduced, run, fault_at, Derives}
 
 values_width : (bytes : List ℕ) (p : Parse) → length (values bytes p) ≡ width p
 values_width bytes Nil = refl
@@ -56,3 +60,15 @@ derived bytes ts steps h a =
 
 pub sentence : (ts : List Token) (steps : List Step) → AreSteps ts steps × Shallow ts → Sentence ts
 sentence ts steps a = (a.0.0, a.0.1)
+
+refused_there : (bytes : List ℕ) (ts : List Token) (stop : Stop) → IsTokens bytes ts → Derived ts (Err (Fault stop))
+    → Derives bytes (Err (Fault (fault_at bytes ts stop)))
+refused_there bytes ts (stop.NoTree i) h d = (ts, i, h, d.0, d.1, refl)
+refused_there bytes ts (stop.TooDeep i) h d = (ts, i, h, d, refl)
+
+-- a fault of the tokens is one of the bytes
+pub refused : (bytes : List ℕ) (ts us vs : List Token) (stop : Stop) (found : ReadFault) → IsTokens bytes ts → us ≡ ts → vs ≡ ts
+    → Derived us (Err (Fault stop)) → found ≡ fault_at bytes vs stop → Derives bytes (Err (Fault found))
+refused bytes ts us vs stop found h e g d k =
+    let there = refused_there bytes ts stop h (subst (λ l. Derived l (Err (Fault stop))) e d) in
+    subst (λ f. Derives bytes (Err (Fault f))) (sym (k ∙ ap (λ l. fault_at bytes l stop) g)) there

@@ -1,3 +1,4 @@
+pub mod Makers
 pub mod Grown
 pub mod Derivation
 pub mod Answers

@@ -8,6 +8,7 @@ pub mod fault;
 mod leaves;
 mod maker;
 pub mod reader;
+mod sort;
 
 pub use derivation::{Derivation, derive_text};
 pub use fault::ReadFault;

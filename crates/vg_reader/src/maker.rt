@@ -2,9 +2,14 @@
 ghost use Rattle.std.specs.Prelude.{◌≡◌, List, [], ℕ, map, IfOk};
 ghost use Rattle.vg_syntax.specs.Made.{Word};
 ghost use Rattle.vg_syntax.specs.Reads.{value, kids_of, made};
+ghost use Rattle.vg_reader.specs.Makers.{made_row, made_type, made_declaration, made_statement, made_expression, made_new};
 ghost use Rattle.vg_tree.specs.Held.{text_at};
 ghost use Rattle.vg_tree.specs.HeldMade.{value_at};
 
+use crate::sort::{
+    DeclarationMaker, ExpressionMaker, Maker, NewMaker, RowMaker, StatementMaker, TypeMaker,
+    maker_of,
+};
 use std::alloc::Global;
 use vg_base::{Name, NoMemory, Place};
 use vg_read_declarations::declarations::{
@@ -34,7 +39,7 @@ pub fn leaf(kind: Kind, place: Place, text: Name) -> Value
 }
 
 /// What a part makes of the values of its kids. The text of the name `nameless` is to be empty: it stands where a name is missing, which it is in no parse.
-pub fn make(
+pub(crate) fn make(
     alloc: Global,
     nameless: Name,
     part: Part,
@@ -43,87 +48,125 @@ pub fn make(
     ensures { (texts : List (List ℕ)) → text_at texts nameless ≡ []
         → IfOk result (λ v. value_at texts v ≡ made part (kids_of (map (value_at texts) kids.old))) }
 {
-    let value = match part {
-        Part::Text => return whole(alloc, kids),
-        Part::Declarations => return rowed(alloc, kids),
-        Part::Declaration => return declaration(alloc, nameless, kids),
-        Part::Extends => extended(kids),
-        Part::ClassBody => enclosed(kids),
-        Part::Members => return rowed(alloc, kids),
-        Part::DeviceBody => enclosed(kids),
-        Part::Registers => return rowed(alloc, kids),
-        Part::Register => register(nameless, kids),
-        Part::ProgramBody => enclosed(kids),
-        Part::Entries => return rowed(alloc, kids),
-        Part::Entry => entry(nameless, kids),
-        Part::Key => optional(kids),
-        Part::Handler => handler(nameless, kids),
-        Part::Member => return member(alloc, nameless, kids),
-        Part::Initial => behind_sign(kids),
-        Part::Result => result_type(kids),
-        Part::SuperCall => super_call(kids),
-        Part::Parameters => enclosed(kids),
-        Part::ParameterList => return parameters(alloc, nameless, kids),
-        Part::MoreParameters => return more_parameters(alloc, nameless, kids),
-        Part::Typed => typed(nameless, kids),
-        Part::Type => return type_of(alloc, kids),
-        Part::TypeArguments => enclosed(kids),
-        Part::TypeList => return types(alloc, kids),
-        Part::MoreTypes => return more_types(alloc, kids),
-        Part::PlainResult => result_type(kids),
-        Part::Plain => return plain(alloc, kids),
-        Part::Dimensions => return dimensions(alloc, kids),
-        Part::Atom => atom(kids),
-        Part::OtherAtom => other_atom(nameless, kids),
-        Part::Block => return block(alloc, kids),
-        Part::Statements => return rowed(alloc, kids),
-        Part::Statement => return statement(alloc, nameless, kids),
-        Part::Condition => enclosed(kids),
-        Part::Else => else_part(alloc, kids),
-        Part::ElseArm => return else_arm(alloc, kids),
-        Part::ForHeader => header(kids),
-        Part::ForTest => enclosed(kids),
-        Part::MaybeSimple => optional(kids),
-        Part::MaybeExpression => optional(kids),
-        Part::Simple => return simple(alloc, kids),
-        Part::Assigned => behind_sign(kids),
-        Part::Expression => return level(alloc, kids),
-        Part::OrRest => return rest_of_level(alloc, kids),
-        Part::AndLevel => return level(alloc, kids),
-        Part::AndRest => return rest_of_level(alloc, kids),
-        Part::EqualityLevel => return level(alloc, kids),
-        Part::EqualityRest => return rest_of_level(alloc, kids),
-        Part::ComparisonLevel => return level(alloc, kids),
-        Part::ComparisonRest => return rest_of_level(alloc, kids),
-        Part::BitOrLevel => return level(alloc, kids),
-        Part::BitOrRest => return rest_of_level(alloc, kids),
-        Part::BitXorLevel => return level(alloc, kids),
-        Part::BitXorRest => return rest_of_level(alloc, kids),
-        Part::BitAndLevel => return level(alloc, kids),
-        Part::BitAndRest => return rest_of_level(alloc, kids),
-        Part::ShiftLevel => return level(alloc, kids),
-        Part::ShiftRest => return rest_of_level(alloc, kids),
-        Part::ConcatLevel => return level(alloc, kids),
-        Part::ConcatRest => return rest_of_level(alloc, kids),
-        Part::SumLevel => return level(alloc, kids),
-        Part::SumRest => return rest_of_level(alloc, kids),
-        Part::ProductLevel => return level(alloc, kids),
-        Part::ProductRest => return rest_of_level(alloc, kids),
-        Part::CastLevel => return level(alloc, kids),
-        Part::CastRest => return rest_of_level(alloc, kids),
-        Part::Unary => return unary(alloc, kids),
-        Part::Operators => return operators(alloc, kids),
-        Part::Postfix => return postfix(alloc, kids),
-        Part::Suffixes => return suffixes(alloc, nameless, kids),
-        Part::Index => enclosed(kids),
-        Part::Arguments => enclosed(kids),
-        Part::ArgumentList => return rowed(alloc, kids),
-        Part::MoreArguments => return more_rowed(alloc, kids),
-        Part::New => return new_part(alloc, nameless, kids),
-        Part::NewOfName => new_of_name(alloc, nameless, kids),
-        Part::NewLevels => return new_levels(alloc, nameless, kids),
-        Part::NewLevel => return new_level(alloc, kids),
-        Part::Primary => primary(nameless, kids),
-    };
-    Ok(value)
+    match maker_of(part) {
+        Maker::Row(by) => make_row(alloc, by, kids),
+        Maker::Type(by) => make_type(alloc, nameless, by, kids),
+        Maker::Declaration(by) => make_declaration(alloc, nameless, by, kids),
+        Maker::Statement(by) => make_statement(alloc, nameless, by, kids),
+        Maker::Expression(by) => make_expression(alloc, nameless, by, kids),
+        Maker::New(by) => make_new(alloc, nameless, by, kids),
+    }
+}
+
+fn make_row(alloc: Global, by: RowMaker, kids: &mut [Value]) -> Result<Value, NoMemory>
+    ensures { (texts : List (List ℕ)) → IfOk result (λ v. value_at texts v ≡ made_row by (kids_of (map (value_at texts) kids.old))) }
+{
+    match by {
+        RowMaker::Row => rowed(alloc, kids),
+        RowMaker::MoreRow => more_rowed(alloc, kids),
+        RowMaker::Enclosed => Ok(enclosed(kids)),
+        RowMaker::Optional => Ok(optional(kids)),
+        RowMaker::BehindSign => Ok(behind_sign(kids)),
+    }
+}
+
+fn make_type(
+    alloc: Global,
+    nameless: Name,
+    by: TypeMaker,
+    kids: &mut [Value],
+) -> Result<Value, NoMemory>
+    ensures { (texts : List (List ℕ)) → text_at texts nameless ≡ []
+        → IfOk result (λ v. value_at texts v ≡ made_type by (kids_of (map (value_at texts) kids.old))) }
+{
+    match by {
+        TypeMaker::Result => Ok(result_type(kids)),
+        TypeMaker::Whole => type_of(alloc, kids),
+        TypeMaker::Types => types(alloc, kids),
+        TypeMaker::MoreTypes => more_types(alloc, kids),
+        TypeMaker::Plain => plain(alloc, kids),
+        TypeMaker::Dimensions => dimensions(alloc, kids),
+        TypeMaker::Atom => Ok(atom(kids)),
+        TypeMaker::OtherAtom => Ok(other_atom(nameless, kids)),
+    }
+}
+
+fn make_declaration(
+    alloc: Global,
+    nameless: Name,
+    by: DeclarationMaker,
+    kids: &mut [Value],
+) -> Result<Value, NoMemory>
+    ensures { (texts : List (List ℕ)) → text_at texts nameless ≡ []
+        → IfOk result (λ v. value_at texts v ≡ made_declaration by (kids_of (map (value_at texts) kids.old))) }
+{
+    match by {
+        DeclarationMaker::Whole => whole(alloc, kids),
+        DeclarationMaker::Declaration => declaration(alloc, nameless, kids),
+        DeclarationMaker::Extended => Ok(extended(kids)),
+        DeclarationMaker::Register => Ok(register(nameless, kids)),
+        DeclarationMaker::Entry => Ok(entry(nameless, kids)),
+        DeclarationMaker::Handler => Ok(handler(nameless, kids)),
+        DeclarationMaker::Member => member(alloc, nameless, kids),
+        DeclarationMaker::SuperCall => Ok(super_call(kids)),
+        DeclarationMaker::Parameters => parameters(alloc, nameless, kids),
+        DeclarationMaker::MoreParameters => more_parameters(alloc, nameless, kids),
+        DeclarationMaker::Typed => Ok(typed(nameless, kids)),
+    }
+}
+
+fn make_statement(
+    alloc: Global,
+    nameless: Name,
+    by: StatementMaker,
+    kids: &mut [Value],
+) -> Result<Value, NoMemory>
+    ensures { (texts : List (List ℕ)) → text_at texts nameless ≡ []
+        → IfOk result (λ v. value_at texts v ≡ made_statement by (kids_of (map (value_at texts) kids.old))) }
+{
+    match by {
+        StatementMaker::Block => block(alloc, kids),
+        StatementMaker::Statement => statement(alloc, nameless, kids),
+        StatementMaker::Else => Ok(else_part(alloc, kids)),
+        StatementMaker::ElseArm => else_arm(alloc, kids),
+        StatementMaker::Header => Ok(header(kids)),
+        StatementMaker::Simple => simple(alloc, kids),
+    }
+}
+
+fn make_expression(
+    alloc: Global,
+    nameless: Name,
+    by: ExpressionMaker,
+    kids: &mut [Value],
+) -> Result<Value, NoMemory>
+    ensures { (texts : List (List ℕ)) → text_at texts nameless ≡ []
+        → IfOk result (λ v. value_at texts v ≡ made_expression by (kids_of (map (value_at texts) kids.old))) }
+{
+    match by {
+        ExpressionMaker::Level => level(alloc, kids),
+        ExpressionMaker::Rest => rest_of_level(alloc, kids),
+        ExpressionMaker::Unary => unary(alloc, kids),
+        ExpressionMaker::Operators => operators(alloc, kids),
+        ExpressionMaker::Postfix => postfix(alloc, kids),
+        ExpressionMaker::Suffixes => suffixes(alloc, nameless, kids),
+        ExpressionMaker::Primary => Ok(primary(nameless, kids)),
+    }
+}
+
+fn make_new(
+    alloc: Global,
+    nameless: Name,
+    by: NewMaker,
+    kids: &mut [Value],
+) -> Result<Value, NoMemory>
+    ensures { (texts : List (List ℕ)) → text_at texts nameless ≡ []
+        → IfOk result (λ v. value_at texts v ≡ made_new by (kids_of (map (value_at texts) kids.old))) }
+{
+    match by {
+        NewMaker::Fresh => new_part(alloc, nameless, kids),
+        NewMaker::OfName => Ok(new_of_name(alloc, nameless, kids)),
+        NewMaker::Levels => new_levels(alloc, nameless, kids),
+        NewMaker::Level => new_level(alloc, kids),
+    }
 }

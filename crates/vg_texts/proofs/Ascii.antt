@@ -142,7 +142,7 @@ string_front (suc left) passed (b ∷ bs) n (suc m) e s f =
     more m b bs (first_low left b bs f) (string_front left (passed + 1) bs n m e (omega (arith, s)) (rest_low left b bs f))
 string_front zero passed (b ∷ bs) n (suc m) e s f =
     by_byte (b == 34) (element_length 34 (b ∷ bs) == 0) (element_length 34 (b ∷ bs)) refl refl (element_front 34 (b ∷ bs)) e
-        (λ l g h. string_front l (passed + 1) bs n m g (omega (arith, s)) h)
+    (λ l g h. string_front l (passed + 1) bs n m g (omega (arith, s)) h)
   where
     by_byte : (quote none : Bool) (k : ℕ) → (b == 34) ≡ quote → (k == 0) ≡ none → Front k (b ∷ bs)
         → (if quote then Some (passed + 1) else if none then None else string_end (k - 1) (passed + 1) bs) ≡ Some n
@@ -200,7 +200,7 @@ sign_known text =
     found_known (kind_spelled (take 2 text) double_signs) 2 text (found_or (kind_spelled (take 1 text) single_signs) 1 (no_token text))
     (λ k e. spelled_low (take 2 text) double_signs refl k e)
     (found_known (kind_spelled (take 1 text) single_signs) 1 text (no_token text) (λ k e. spelled_low (take 1 text) single_signs refl k e)
-        (unknown (length text) text))
+    (unknown (length text) text))
 
 same_byte : (b q : ℕ) → (b == q) ≡ true → q ≡ b
 same_byte b q e = grind arith

@@ -45,7 +45,7 @@ size_room (suc fuel) (Sub n a kids p) (Use o ∷ s) f k h =
     let z = size_join x.kids x.behind in
     let w : size x.kids + size x.behind ≡ size kids + size p = ap inner (sym x.is) in
     let rest = size_room fuel (join x.kids x.behind) (x.rhs ++ s) (omega (arith, f, z, w))
-        (stacked_expand o s (pick (rules o) (look (leaves (Sub n a kids p)))) x.rhs x.is_chosen k) x.all_fit in
+    (stacked_expand o s (pick (rules o) (look (leaves (Sub n a kids p)))) x.rhs x.is_chosen k) x.all_fit in
     let same = ap (room (x.rhs ++ s)) x.same_leaves in
     let less = room_any o s x.rhs (leaves (Sub n a kids p)) x.is_chosen in
     omega (arith, rest, same, less, z, w)

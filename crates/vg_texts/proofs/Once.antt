@@ -133,7 +133,7 @@ one_end bytes p q n m =
 one_index : (ts : List Token) (i j : ℕ) → TooDeepAt ts i → TooDeepAt ts j → i ≡ j
 one_index ts i j d e =
     ⊎_elim (λ h. absurd (shallow_front ts (i + 1) j (omega (arith, h)) d.2 e.1))
-        (λ h. ⊎_elim (λ k. k) (λ k. absurd (shallow_front ts (j + 1) i (omega (arith, k)) e.2 d.1)) h) (compare i j)
+    (λ h. ⊎_elim (λ k. k) (λ k. absurd (shallow_front ts (j + 1) i (omega (arith, k)) e.2 d.1)) h) (compare i j)
 
 pub one_bracket : (bytes : List ℕ) (p q : Place) → TooDeepIn bytes p → TooDeepIn bytes q → p ≡ q
 one_bracket bytes p q d f =

@@ -80,14 +80,14 @@ same_values bytes (suc fuel) (Sub n a kids p) q (Use o ∷ s) f k h i e =
     let z = size_join x.kids x.behind in
     let w : size x.kids + size x.behind ≡ size kids + size p = ap inner (sym x.is) in
     let r = same_values bytes fuel (join x.kids x.behind) (join y.kids y.behind) (x.rhs ++ s) (omega (arith, f, z, w))
-        (stacked_expand o s (pick (rules o) (look (leaves (Sub n a kids p)))) x.rhs x.is_chosen k) x.all_fit
-        (subst (λ l. Fits (join y.kids y.behind) (l ++ s)) g y.all_fit) (x.same_leaves ∙ e ∙ sym y.same_leaves) in
+    (stacked_expand o s (pick (rules o) (look (leaves (Sub n a kids p)))) x.rhs x.is_chosen k) x.all_fit
+    (subst (λ l. Fits (join y.kids y.behind) (l ++ s)) g y.all_fit) (x.same_leaves ∙ e ∙ sym y.same_leaves) in
     let lx = values_length bytes x.kids x.rhs x.kids_fit in
     let ly = values_length bytes y.kids y.rhs y.kids_fit in
     let len : length (values bytes x.kids) ≡ length (values bytes y.kids) = lx ∙ ap length (sym g) ∙ sym ly in
     let v = fronts _ _ _ _ len (sym (values_join bytes x.kids x.behind) ∙ r ∙ values_join bytes y.kids y.behind) in
     ap (values bytes) x.is ∙ ap (λ l. made o (kids_of l) ∷ values bytes x.behind) v.0 ∙ ap (λ l. made o (kids_of (values bytes y.kids)) ∷ l) v.1
-        ∙ ap (values bytes) (sym y.is)
+    ∙ ap (values bytes) (sym y.is)
   where
     inner : Parse → ℕ
     inner Nil = 0

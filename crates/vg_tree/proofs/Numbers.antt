@@ -2,7 +2,7 @@
 use Rattle.std.proofs.Common.{◌≡◌, ℕ, ◌+◌, Bool, true, false, refl, ap, ◌∙◌, arith}
 use Rattle.std.specs.Prelude.{◌==◌, if◌then◌else◌}
 use Rattle.vg_syntax.specs.Tree.{Node}
-use Rattle.vg_syntax.specs.Outline.{Outline, Empty, Beside, Inner, outline, size, total}
+use Rattle.vg_syntax.specs.Outline.{Outline, Empty, Beside, Inner, outline, size}
 use Rattle.vg_syntax.specs.Numbering.{numbered}
 use Rattle.vg_syntax.proofs.Numbering.{renumbered, numbered_outline, total_renumbered}
 use Rattle.vg_tree.specs.Lookups.{at_number}

@@ -2,7 +2,7 @@
 use Rattle.std.proofs.Common.{◌≡◌, ℕ, List, Vec, Global, refl, ap, ◌∙◌}
 use Rattle.vg_tree.specs.declared.type_tree.TypeTree as held
 use Rattle.vg_tree.specs.declared.type_tree.TypeTree.TheViews as views
-use Rattle.vg_syntax.specs.Tree.{TypeTree, MoreTypes}
+use Rattle.vg_syntax.specs.Tree.{MoreTypes}
 use Rattle.vg_tree.specs.Held.{type_at, types_at, type_row}
 
 types_in_order : (texts : List (List ℕ)) (n : _) (k : held.Row_of-TypeTree n) → types_at texts k ≡ type_row texts (held.items-the_row-TypeTree n k)

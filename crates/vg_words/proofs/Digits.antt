@@ -24,4 +24,5 @@ pub too_large : (most value i : ℕ) (text : List ℕ) → i < length text → d
 too_large most value i text l e h =
     let longer = value * 10 + (get_or text i 0 - 48) in
     let k : decimal_behind longer (drop (i + 1) text) ≡ decimal text = sym (at_drop_more (decimal_behind value) text i 0 l) ∙ e in
-    none_for (list_all is_digit text) (nat_le (decimal text) most) (decimal text) (above (decimal text) most (omega (arith, k, h, grows longer (drop (i + 1) text))))
+    none_for (list_all is_digit text) (nat_le (decimal text) most) (decimal text)
+    (above (decimal text) most (omega (arith, k, h, grows longer (drop (i + 1) text))))

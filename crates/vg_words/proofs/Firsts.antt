@@ -16,7 +16,8 @@ option_first word (next ∷ rest) e f = rw (e, f) refl
 -- the same of the first of words
 pub begins_option : (words : List (String Global)) (word : String Global) (text : List ℕ) (first : First)
     → 1 ≤ length words → word ≡ get_or words 0 word → text ≡ string_bytes word → ends_options text ≡ false → is_option text ≡ true
-    → Begins first (option_items text (equals_at text) (items (words_in (take (length words - 1) (drop 1 words)))) (with_next text (words_in (take (length words - 1) (drop 1 words)))))
+    → Begins first (option_items text (equals_at text) (items (words_in (take (length words - 1) (drop 1 words))))
+    (with_next text (words_in (take (length words - 1) (drop 1 words)))))
     → Begins first (items (words_in words))
 begins_option [] word text first l w t e f h = absurd (omega (arith, l))
 begins_option (v ∷ words) word text first l w t e f h =

@@ -28,7 +28,8 @@ apart name h = not_below (prefix_len (λ b. not (b == 61)) name) (length name) (
 
 joined : (name value : List ℕ) → HasNoEquals name → equals_at (name ++ 61 ∷ value) ≡ Some (length name)
 joined name value h =
-    below (prefix_len (λ b. not (b == 61)) (name ++ 61 ∷ value)) (length (name ++ 61 ∷ value)) (length name) (equals_behind name value h) (omega (arith, length-append name (61 ∷ value)))
+    below (prefix_len (λ b. not (b == 61)) (name ++ 61 ∷ value)) (length (name ++ 61 ∷ value)) (length name) (equals_behind name value h)
+    (omega (arith, length-append name (61 ∷ value)))
 
 -- a name and its value in one word are an option, and not `--`
 joined_option : (name value : List ℕ) → is_option name ≡ true → is_option (name ++ 61 ∷ value) ≡ true

@@ -93,7 +93,8 @@ fn is_option(word: &str) -> bool
 
 // The item of an option in front of these words.
 fn first_option<'a>(word: &'a [u8], behind: &'a [String]) -> First<'a>
-    ensures begins { Begins result (option_items word.entry.now (equals_at word.entry.now) (items (words_in behind.entry.now)) (with_next word.entry.now (words_in behind.entry.now))) }
+    ensures begins { Begins result
+        (option_items word.entry.now (equals_at word.entry.now) (items (words_in behind.entry.now)) (with_next word.entry.now (words_in behind.entry.now))) }
     ensures shorter { LeavesBelow result (length behind.entry.now + 1) }
 {
     match equals_at(word) {

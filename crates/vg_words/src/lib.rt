@@ -6,8 +6,6 @@ pub mod items;
 pub mod number;
 pub mod options;
 pub mod plain;
-#[cfg(test)]
-mod tests;
 pub mod writing;
 
 pub use command::{Command, command_of};

@@ -1,5 +1,5 @@
 // Which names and numbers make a program of constants, and its writes.
-ghost use Rattle.std.specs.Prelude.{◌≡◌, ◌↔◌, ◌≤◌, ◌<◌, true, IsTrue, IfSome, IfNone, IfOk, OnOk, Err, map};
+ghost use Rattle.std.specs.Prelude.{◌≡◌, ◌↔◌, ◌≤◌, IsTrue, IfSome, IfNone, IfOk, OnOk, Err, map};
 ghost use Rattle.indexmap.specs.IndexMap.{get};
 ghost use Rattle.vg_meaning.specs.Device.{IsDeviceAddress};
 ghost use Rattle.vg_first_text.specs.FirstText.{IsRegisterNumber, IsByteNumber, AreRegisters, AreFirstNames, FirstFits, IsAssignment, write_of, writes_of};

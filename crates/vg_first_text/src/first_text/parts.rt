@@ -1,6 +1,6 @@
 // The parts of a program of constants, by their spelling.
-ghost use Rattle.std.specs.Prelude.{◌≡◌, ◌++◌, ◌∷◌, ℕ, IfSome, IfNone, IfOk, Err, List, map, flat_map};
-ghost use Rattle.vg_first_text.specs.FirstText.{First, FirstAssignment, FirstRegister, head_pieces, assignment_pieces, middle_pieces, register_pieces};
+ghost use Rattle.std.specs.Prelude.{◌≡◌, ◌++◌, ℕ, IfSome, IfNone, IfOk, Err, List, map, flat_map};
+ghost use Rattle.vg_first_text.specs.FirstText.{First, head_pieces, assignment_pieces, middle_pieces, register_pieces};
 ghost use Rattle.vg_first_text.specs.FirstText.{tail_pieces, first_pieces};
 ghost use Rattle.vg_first_text.specs.FirstViews.{assignment_view, register_view, program_view, IsBehindAssignments, IsBehindRegisters};
 ghost use Rattle.vg_first_text.specs.Pieces.{Piece, pieces};

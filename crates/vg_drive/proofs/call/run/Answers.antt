@@ -1,13 +1,19 @@
-use Rattle.vg_drive.proofs.Commands as of
+-- Each clause of the top call: what the answer says of its command, and then what the fault line adds to the second sink.
+-- A clause on `build` or `sim` is one lemma on its files (Builds, Sims), lifted to all words by on_build or on_sim.
+use Rattle.std.proofs.Common.{sym, subst}
+use Rattle.vg_drive.specs.Statuses.{IsShown}
+use Rattle.vg_drive.proofs.Builds as builds
+use Rattle.vg_drive.proofs.Sims as sims
+use Rattle.vg_drive.proofs.Commands.{answers_of, before_of, either_later, first_of, of_image, on_build, on_sim, rose_later, usage_of, write_fault_of}
 use Rattle.vg_drive.proofs.Fetches.{asks_all_by, asks_front_by, failed_by, too_long_by}
-use Rattle.vg_drive.proofs.Notes.{fronts_of, line_front_of, line_last_of, line_of, second_of}
+use Rattle.vg_drive.proofs.Notes.{begun_of, fronts_of, line_front_of, line_last_of, line_of, second_of}
 use Rattle.vg_drive.proofs.call.run.Goals as goal
 
 pub returns-clause-usage : goal.returns-clause-usage
-returns-clause-usage g c = of.usage_of _ _ _ _ _ _ c.answer-status.ensures.holds
+returns-clause-usage g c = usage_of _ _ _ _ _ c.answer-status.ensures.holds
 
 pub returns-clause-answers : goal.returns-clause-answers
-returns-clause-answers g c = of.answers_of _ _ _ _ _ _ c.answer-status.ensures.holds
+returns-clause-answers g c = answers_of _ _ _ _ _ c.answer-status.ensures.holds
 
 pub returns-clause-asked : goal.returns-clause-asked
 returns-clause-asked g c = asks_front_by _ _ _ _ c.answer-status.ensures.fetched
@@ -22,67 +28,79 @@ pub returns-clause-too_long : goal.returns-clause-too_long
 returns-clause-too_long g c = too_long_by _ _ _ _ c.answer-status.ensures.fetched
 
 pub returns-clause-no_tree : goal.returns-clause-no_tree
-returns-clause-no_tree g c = of.no_tree_of _ _ _ _ _ _ c.answer-status.ensures.holds
+returns-clause-no_tree g c =
+    λ settled. on_build _ _ _ _ _ _ c.answer-status.ensures.holds (λ file h. builds.no_tree_by _ _ file _ _ h settled)
 
 pub returns-clause-too_deep : goal.returns-clause-too_deep
-returns-clause-too_deep g c = of.too_deep_of _ _ _ _ _ _ c.answer-status.ensures.holds
+returns-clause-too_deep g c =
+    λ settled. on_build _ _ _ _ _ _ c.answer-status.ensures.holds (λ file h. builds.too_deep_by _ _ file _ _ h settled)
 
 pub returns-clause-not_built : goal.returns-clause-not_built
-returns-clause-not_built g c = of.not_built_of _ _ _ _ _ _ c.answer-status.ensures.holds
+returns-clause-not_built g c =
+    λ settled. on_build _ _ _ _ _ _ c.answer-status.ensures.holds (λ file h. builds.not_built_by _ _ file _ _ h settled)
 
 pub returns-clause-not_built_first : goal.returns-clause-not_built_first
-returns-clause-not_built_first g c = of.not_built_first_of _ _ _ _ _ _ c.answer-status.ensures.holds
+returns-clause-not_built_first g c = first_of _ _ _ _ _ c.answer-status.ensures.holds
 
 pub returns-clause-complete : goal.returns-clause-complete
 returns-clause-complete g c =
-    of.complete_of _ _ _ _ _ _ _ _ _ c.answer-status.ensures.holds c.answer-status.ensures.read
-    (λ e. of.cause_of _ _ _ _ _ _ (c.answer-status.ensures.cause e) c.put_fault_line.ensures.later)
+    on_build _ _ _ _ _ _ c.answer-status.ensures.holds
+    (λ file h. builds.complete_by _ _ file _ _ _ _ h c.answer-status.ensures.read (either_later _ _ _ _ c.put_fault_line.ensures.later))
 
 pub returns-clause-headline : goal.returns-clause-headline
-returns-clause-headline g c = of.headline_of _ _ _ _ _ _ c.answer-status.ensures.holds
+returns-clause-headline g c =
+    λ e. on_build _ _ _ _ _ _ c.answer-status.ensures.holds
+    (λ file h. of_image _ file _ _ (λ image layout k. (k.0, begun_of _ _ _ (c.put_fault_line.ensures.none (subst IsShown (sym e) tt)) k.1))
+    (builds.headline_by _ _ file _ _ h e))
 
 pub returns-clause-out_front : goal.returns-clause-out_front
-returns-clause-out_front g c = of.out_front_of _ _ _ _ _ _ c.answer-status.ensures.holds
+returns-clause-out_front g c =
+    λ e. on_build _ _ _ _ _ _ c.answer-status.ensures.holds (λ file h. builds.out_front_by _ _ file _ _ h e)
 
 pub returns-clause-hex_refused : goal.returns-clause-hex_refused
-returns-clause-hex_refused g c = of.hex_refused_of _ _ _ _ _ _ c.answer-status.ensures.holds
+returns-clause-hex_refused g c =
+    λ settled. on_sim _ _ _ _ _ _ c.answer-status.ensures.holds (λ hex script steps h. sims.hex_refused_by _ _ hex script steps _ h settled)
 
 pub returns-clause-script_refused : goal.returns-clause-script_refused
-returns-clause-script_refused g c = of.script_refused_of _ _ _ _ _ _ c.answer-status.ensures.holds
+returns-clause-script_refused g c =
+    λ settled. on_sim _ _ _ _ _ _ c.answer-status.ensures.holds (λ hex script steps h. sims.script_refused_by _ _ hex script steps _ h settled)
 
 pub returns-clause-shown : goal.returns-clause-shown
-returns-clause-shown g c = of.shown_of _ _ _ _ _ _ c.answer-status.ensures.holds
+returns-clause-shown g c =
+    λ shown. on_sim _ _ _ _ _ _ c.answer-status.ensures.holds (λ hex script steps h. sims.shown_by _ _ hex script steps _ h shown)
 
 pub returns-clause-lines_front : goal.returns-clause-lines_front
-returns-clause-lines_front g c = of.lines_front_of _ _ _ _ _ _ c.answer-status.ensures.holds
+returns-clause-lines_front g c =
+    λ e. on_sim _ _ _ _ _ _ c.answer-status.ensures.holds (λ hex script steps h. sims.lines_front_by _ _ hex script steps _ h e)
 
 pub returns-clause-sim_complete : goal.returns-clause-sim_complete
 returns-clause-sim_complete g c =
-    of.sim_complete_of _ _ _ _ _ _ _ _ _ c.answer-status.ensures.holds c.answer-status.ensures.read c.answer-status.ensures.cause
+    on_sim _ _ _ _ _ _ c.answer-status.ensures.holds
+    (λ hex script steps h. sims.complete_by _ _ hex script steps _ _ h c.answer-status.ensures.read)
 
 pub returns-clause-write_fault : goal.returns-clause-write_fault
 returns-clause-write_fault g c =
-    λ e. of.cause_of _ _ _ _ _ _ (c.answer-status.ensures.cause e) c.put_fault_line.ensures.later
+    λ e. either_later _ _ _ _ c.put_fault_line.ensures.later (write_fault_of _ _ _ _ _ c.answer-status.ensures.holds e)
 
 pub returns-clause-out_none : goal.returns-clause-out_none
-returns-clause-out_none g c = of.out_none_of _ _ _ _ _ _ c.answer-status.ensures.holds
+returns-clause-out_none g c = λ before. (before_of _ _ _ _ _ c.answer-status.ensures.holds before).0
 
 pub returns-clause-note_second : goal.returns-clause-note_second
 returns-clause-note_second g c =
-    λ shown. second_of _ _ _ _ _ (of.answers_of _ _ _ _ _ _ c.answer-status.ensures.holds) c.answer-status.ensures.note shown (c.put_fault_line.ensures.none shown)
+    λ shown. second_of _ _ _ _ _ _ c.answer-status.ensures.holds shown (c.put_fault_line.ensures.none shown)
 
 pub returns-clause-note_fronts : goal.returns-clause-note_fronts
 returns-clause-note_fronts g c =
-    fronts_of _ _ _ _ _ _ c.answer-status.ensures.note c.put_fault_line.ensures.front
+    fronts_of _ _ _ _ _ _ _ c.answer-status.ensures.holds c.put_fault_line.ensures.front
 
 pub returns-clause-note_line_last : goal.returns-clause-note_line_last
 returns-clause-note_line_last g c =
-    line_last_of _ _ _ _ _ _ _ _ c.answer-status.ensures.note c.put_fault_line.ensures.whole (of.rose_later _ _ _ c.answer-status.ensures.later)
+    line_last_of _ _ _ _ _ _ _ _ _ c.answer-status.ensures.holds c.put_fault_line.ensures.whole (rose_later _ _ _ c.answer-status.ensures.later)
 
 pub returns-clause-note_line_front : goal.returns-clause-note_line_front
 returns-clause-note_line_front g c =
-    line_front_of _ _ _ _ _ _ c.answer-status.ensures.note c.put_fault_line.ensures.front
+    line_front_of _ _ _ _ _ _ _ c.answer-status.ensures.holds c.put_fault_line.ensures.front
 
 pub returns-clause-note_line : goal.returns-clause-note_line
 returns-clause-note_line g c =
-    line_of _ _ _ _ _ _ _ _ c.answer-status.ensures.note c.put_fault_line.ensures.whole (of.rose_later _ _ _ c.answer-status.ensures.later)
+    line_of _ _ _ _ _ _ _ _ _ c.answer-status.ensures.holds c.put_fault_line.ensures.whole (rose_later _ _ _ c.answer-status.ensures.later)

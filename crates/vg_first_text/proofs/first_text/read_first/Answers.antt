@@ -1,4 +1,4 @@
-use Rattle.std.proofs.Common.{Err, sym, ap, subst}
+use Rattle.std.proofs.Common.{Err, sym, ap, subst, ◌∙◌}
 use Rattle.vg_first_text.specs.FirstSession.{AreDevices}
 use Rattle.vg_first_text.specs.FirstViews.{program_view}
 use Rattle.vg_syntax.specs.Tokens.{IsTokens}
@@ -20,7 +20,7 @@ returns-in_err-writes-clause-not c = λ why k.
 
 pub returns-clause-devices : goal.returns-clause-devices
 returns-clause-devices c =
-    subst AreDevices (sym c.in_ok-writes.ensures.writes)
+    subst AreDevices (sym (c.from_vec.ensures ∙ c.in_ok-writes.ensures.writes))
     (are_devices (program_view c.in_ok-program.program).device (program_view c.in_ok-program.program).registers
     (program_view c.in_ok-program.program).assignments
     c.in_ok-writes.ensures.fits.registers c.in_ok-writes.ensures.fits.assignments)

@@ -52,7 +52,7 @@ pub loop-mark-preserved : goal.loop-mark-preserved
 loop-mark-preserved c =
     let items : c.push-in-Sign.new.self.items ≡ c.loop-mark.steps.items ++ step.Take ∷ [] = search rules in
     matching _ _ _ _ _ _ _ _ _ c.loop-mark.invariant (top _ _ _ _ _ c.in-Some.ensures c.in-See.is c.in-Sign.is)
-        (sym c.is_at.ensures ∙ c.if-not-is_at.false) c.in-Some-opened.ensures items
+    (sym c.is_at.ensures ∙ c.if-not-is_at.false) c.in-Some-opened.ensures items
 
 pub returns-then-at-tokens : goal.returns-then-at-tokens
 returns-then-at-tokens c = ending _ _ _ _ _ c.loop-mark.invariant c.in_default.ensures c.if-at-tokens.true

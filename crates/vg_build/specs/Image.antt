@@ -1,0 +1,42 @@
+-- What it means that an image does what the bytes of a source text say.
+use Rattle.std.specs.Prelude.{ℕ, ◌≡◌, ◌+◌, ◌≤◌, List, Option, None}
+use Rattle.vg_syntax.specs.Tree.{Node}
+use Rattle.vg_syntax.specs.Reads.{Reads}
+use Rattle.vg_first_text.specs.declared.device_write.DeviceWrite.{DeviceWrite}
+use Rattle.vg_first_text.specs.FirstSession.{first_session}
+use Rattle.vg_first_text.specs.FirstText.{IsFirst}
+use Rattle.avr_isa.specs.Agrees.{Agrees, NeverReaches}
+use Rattle.vg_hex.specs.HexText.{hex_text}
+use Rattle.vg_hex.specs.HexImage.{HexImage}
+use Rattle.vg_build.specs.declared.building.Built.{Built}
+use Rattle.vg_build.specs.declared.layout.Layout.{Layout}
+use Rattle.vg_build.specs.Layout.{layout_text, stated}
+
+-- The bytes of the static area of a program of constants: it has no field that lives in SRAM.
+abbrev pub static_of : List DeviceWrite → ℕ
+static_of writes = 0
+
+-- The image does what the bytes say, where this stack is asked for, or none.
+pub record IsImageOf (bytes : List ℕ) (asked : Option ℕ) (image : List ℕ) (layout : Layout) : Type 0 where
+  -- the bytes are a text of the language with this tree, and a program of constants with these writes
+  pub tree : Node
+  pub reads : Reads bytes tree
+  pub writes : List DeviceWrite
+  pub first : IsFirst bytes writes
+  -- the static area is the program's, the stack is the stated one, both fit into SRAM, and the stack ends where SRAM does
+  pub static_is : layout.static_bytes ≡ static_of writes
+  pub stack_is : layout.stack ≡ stated asked layout.static_bytes
+  pub fits : layout.static_bytes + layout.stack ≤ 4096
+  pub floor_is : layout.floor + layout.stack ≡ 0x1100
+  -- on this flash the machine does what the program does, with its stack at or above the floor
+  pub agrees : Agrees (first_session writes) image layout.floor layout.stack
+  pub never : NeverReaches image layout.floor
+  -- the HEX text spells this image, and no other
+  pub spelled : HexImage (hex_text image) image
+  pub only : (other : List ℕ) → HexImage (hex_text image) other → other ≡ image
+
+-- what is built of the bytes: an image that does what they say, its HEX text, and the text of its layout
+pub record IsBuiltOf (bytes : List ℕ) (built : Built) : Type 0 where
+  pub image : IsImageOf bytes None built.image built.layout
+  pub hex : built.hex ≡ hex_text built.image
+  pub note : built.note ≡ layout_text built.layout

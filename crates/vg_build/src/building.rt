@@ -1,0 +1,114 @@
+// From the bytes of a source text to its image.
+ghost use Rattle.std.specs.Prelude.{◌≡◌, ◌↔◌, ◌≤◌, ◌⊎◌, ℕ, List, length, Some, Err, IfErr, IfOk, IsOk};
+ghost use Rattle.vg_base.specs.Limits.{text_limit};
+ghost use Rattle.vg_base.specs.declared.place.Place.{Place};
+ghost use Rattle.vg_syntax.specs.Faults.{NoTreeIn, TooDeepIn};
+ghost use Rattle.vg_first_text.specs.declared.device_write.DeviceWrite.{DeviceWrite as Write};
+ghost use Rattle.vg_first_text.specs.FirstSession.{AreDevices};
+ghost use Rattle.vg_first_text.specs.FirstText.{IsFirst};
+ghost use Rattle.vg_build.specs.Answer.{Answers, IsCause, IsNotBuilt, IsSettled, fault_in, first_place};
+ghost use Rattle.vg_build.specs.Image.{IsBuiltOf};
+ghost use Rattle.vg_build.specs.Mirrors.{IsMadeOf, ReadBy};
+ghost use Rattle.vg_build.specs.declared.fault.Fault as fault;
+
+use crate::fault::Fault;
+use crate::layout::{Layout, layout_text};
+use avr_isa::Image;
+use std::alloc::Global;
+use vg_base::{Names, NoMemory, Place, Refusal, Row};
+use vg_first_image::image_of;
+use vg_first_text::{DeviceWrite, read_first};
+use vg_hex::write;
+use vg_reader::{ReadFault, read};
+
+/// What is built of a source text.
+#[derive(Drop)]
+pub struct Built {
+    /// The bytes of the flash.
+    pub image: Image,
+    pub layout: Layout,
+    /// The HEX text of the image.
+    pub hex: Row<u8>,
+    /// The lines of the layout.
+    pub note: Row<u8>,
+}
+
+/// Builds the image of a source text of at most 262,144 bytes, whose stack has all of SRAM above the static area.
+///
+/// Today a text of the language is built where it is a program of constants: one component whose one method writes at most 100 bytes to device
+/// registers. Every other one is refused as not built, at its first place.
+pub fn build(alloc: Global, text: &[u8]) -> Result<Built, Refusal<Fault>>
+    requires { length text.now ≤ text_limit }
+
+    // The image, its HEX text and its layout, or why there are none.
+    ensures headline { IfOk result (λ built. IsBuiltOf text.now built) }
+    ensures refused { IfErr result (λ why. IsCause why text.now) }
+
+    // Exactly which texts are refused, and which are built.
+    ensures no_tree { IsSettled result → (place : Place) → (fault_in result ≡ Some (fault.Fault.NoTree place)) ↔ NoTreeIn text.now place }
+    ensures too_deep { IsSettled result → (place : Place) → (fault_in result ≡ Some (fault.Fault.TooDeep place)) ↔ TooDeepIn text.now place }
+    ensures not_built { IsSettled result → (fault_in result ≡ Some (fault.Fault.NotBuilt first_place)) ↔ IsNotBuilt text.now }
+    ensures not_built_first { (place : Place) → fault_in result ≡ Some (fault.Fault.NotBuilt place) → place ≡ first_place }
+    ensures complete { (writes : List Write) → IsFirst text.now writes → IsOk result ⊎ (result ≡ Err Refusal.NoMemory) }
+{
+    answer_to(alloc, text)
+}
+
+// The same, said case by case.
+fn answer_to(alloc: Global, text: &[u8]) -> Result<Built, Refusal<Fault>>
+    requires { length text.now ≤ text_limit }
+    ensures { Answers text.now result }
+{
+    match check_text(alloc, text) {
+        Ok(()) => {}
+        Err(refusal) => return Err(refusal),
+    }
+    let writes = match read_first(alloc, text) {
+        Ok(writes) => writes,
+        Err(Refusal::Fault(_)) => {
+            return Err(Refusal::Fault(Fault::NotBuilt(Place { line: 1, col: 1 })));
+        }
+        Err(Refusal::NoMemory) => return Err(Refusal::NoMemory),
+    };
+    match made_of(alloc, writes.as_slice()) {
+        Ok(built) => Ok(built),
+        Err(NoMemory) => Err(Refusal::NoMemory),
+    }
+}
+
+// Whether the bytes are a text of the language.
+fn check_text(alloc: Global, text: &[u8]) -> Result<(), Refusal<Fault>>
+    requires { length text.now ≤ text_limit }
+    ensures { ReadBy text.now result }
+{
+    match read(alloc, text, &mut Names::new(alloc)) {
+        Ok(_) => Ok(()),
+        Err(Refusal::Fault(ReadFault::NoTree(place))) => Err(Refusal::Fault(Fault::NoTree(place))),
+        Err(Refusal::Fault(ReadFault::TooDeep(place))) => {
+            Err(Refusal::Fault(Fault::TooDeep(place)))
+        }
+        Err(Refusal::NoMemory) => Err(Refusal::NoMemory),
+    }
+}
+
+// The image that makes these writes, with its texts. It keeps nothing in SRAM, so all of it is for the stack.
+fn made_of(alloc: Global, writes: &[DeviceWrite]) -> Result<Built, NoMemory>
+    requires devices { AreDevices writes.now }
+    requires short { length writes.now ≤ 100 }
+    ensures { IfOk result (IsMadeOf writes.now) }
+{
+    let image = image_of(alloc, writes)?;
+    let layout = Layout {
+        static_bytes: 0,
+        floor: 0x0100,
+        stack: 4096,
+    };
+    let hex = write(alloc, &image)?;
+    let note = layout_text(alloc, layout)?;
+    Ok(Built {
+        image,
+        layout,
+        hex,
+        note,
+    })
+}

@@ -1,0 +1,10 @@
+//! The command `build` behind its file: the bytes of a source text go in, and an image, its HEX text and its layout come out, or why there is none.
+#![tactic(auto)]
+
+mod building;
+mod fault;
+mod layout;
+
+pub use building::{Built, build};
+pub use fault::Fault;
+pub use layout::{Layout, layout_text};

@@ -1,0 +1,91 @@
+-- The answers of the top call: their numbers, what they tell of the answer of a command, and the kinds that clauses speak of.
+use Rattle.std.specs.Prelude.{ℕ, Option, Some, None}
+use Rattle.vg_base.specs.declared.refusal.Refusal.{Refusal}
+use Rattle.vg_base.specs.declared.refusal.Refusal.TheVariants as refusal
+use Rattle.avr_isa.specs.declared.ending.MachineEnd.{MachineEnd}
+use Rattle.avr_isa.specs.declared.ending.MachineEnd.TheVariants as machine_end
+use Rattle.vg_fetch.specs.declared.fetch.NoFile.{NoFile}
+use Rattle.vg_fetch.specs.declared.fetch.NoFile.TheVariants as missing
+use Rattle.vg_build.specs.declared.fault.Fault.{Fault}
+use Rattle.vg_sim.specs.declared.simulate.Simulated.{Simulated}
+use Rattle.vg_sim.specs.declared.simulate.Simulated.TheVariants as simulated
+use Rattle.vg_drive.specs.declared.status.Status.{Status}
+use Rattle.vg_drive.specs.declared.status.Status.TheVariants.{Done, Refused, Usage, ReadFault, WriteFault, NoMemory, TooLong}
+use Rattle.vg_drive.specs.declared.status.Status.TheVariants.{Stopped, Wants, Budget, HexRefused, ScriptRefused, BadInstruction}
+
+-- the number of each answer; 10 is left for a command to come
+abbrev pub code_of : Status → ℕ
+code_of Done = 0
+code_of (Refused fault) = 1
+code_of Usage = 2
+code_of ReadFault = 3
+code_of WriteFault = 4
+code_of NoMemory = 5
+code_of TooLong = 6
+code_of (Stopped code) = 7
+code_of (Wants address) = 8
+code_of Budget = 9
+code_of (HexRefused fault) = 11
+code_of (ScriptRefused line) = 12
+code_of (BadInstruction pc word) = 13
+
+-- the answer that tells why a file is missing
+abbrev pub status_without_file : NoFile → Status
+status_without_file missing.Failed = ReadFault
+status_without_file missing.Wanting = NoMemory
+status_without_file missing.Long = TooLong
+
+-- the answer that tells why nothing was built
+abbrev pub status_of_refusal : Refusal Fault → Status
+status_of_refusal (refusal.Fault why) = Refused why
+status_of_refusal refusal.NoMemory = NoMemory
+
+-- the answer that tells how a machine has ended, or that it has not
+abbrev pub status_of_ending : Option MachineEnd → Status
+status_of_ending None = Budget
+status_of_ending (Some machine_end.Idle) = Done
+status_of_ending (Some (machine_end.Stop code)) = Stopped code
+status_of_ending (Some (machine_end.Wants address)) = Wants address
+status_of_ending (Some (machine_end.Bad pc word)) = BadInstruction pc word
+
+-- the answer that tells how a simulation went
+abbrev pub status_of_simulated : Simulated → Status
+status_of_simulated (simulated.Ended end) = status_of_ending end
+status_of_simulated simulated.WriteFault = WriteFault
+status_of_simulated (simulated.HexRefused fault) = HexRefused fault
+status_of_simulated (simulated.ScriptRefused line) = ScriptRefused line
+status_of_simulated simulated.NoMemory = NoMemory
+
+-- all files were given whole, and memory sufficed
+abbrev pub IsSettled : Status → Type 0
+IsSettled Usage = ⊥
+IsSettled ReadFault = ⊥
+IsSettled NoMemory = ⊥
+IsSettled TooLong = ⊥
+IsSettled _ = Unit {0}
+
+-- nothing was to be put: refusals, and the other answers that come before the first put
+abbrev pub IsBeforePuts : Status → Type 0
+IsBeforePuts (Refused fault) = Unit {0}
+IsBeforePuts Usage = Unit {0}
+IsBeforePuts ReadFault = Unit {0}
+IsBeforePuts NoMemory = Unit {0}
+IsBeforePuts TooLong = Unit {0}
+IsBeforePuts (HexRefused fault) = Unit {0}
+IsBeforePuts (ScriptRefused line) = Unit {0}
+IsBeforePuts _ = ⊥
+
+-- all was put
+abbrev pub IsShown : Status → Type 0
+IsShown Done = Unit {0}
+IsShown (Stopped code) = Unit {0}
+IsShown (Wants address) = Unit {0}
+IsShown Budget = Unit {0}
+IsShown (BadInstruction pc word) = Unit {0}
+IsShown _ = ⊥
+
+-- a text that may be built was built, or memory was wanting
+abbrev pub IsDoneOrNoMemory : Status → Type 0
+IsDoneOrNoMemory Done = Unit {0}
+IsDoneOrNoMemory NoMemory = Unit {0}
+IsDoneOrNoMemory _ = ⊥

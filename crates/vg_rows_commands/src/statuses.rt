@@ -1,0 +1,68 @@
+// Rows of statuses.
+use crate::answers::push_part;
+use itoa::Buffer;
+use std::alloc::Global;
+use vg_base::{NoMemory, Place, Row};
+use vg_build::Fault;
+use vg_drive::{Status, fault_line};
+use vg_hex::HexFault;
+
+/// `status NAME NUMBER NUMBER`: the number of a status, and its fault line. A name that needs fewer numbers ignores the others.
+pub fn status_told(alloc: Global, words: &str) -> Result<Option<Row<u8>>, NoMemory> {
+    match status_of(words) {
+        Some(status) => told(alloc, &status),
+        None => Ok(None),
+    }
+}
+
+/// The number of a status, and its fault line.
+pub fn told(alloc: Global, status: &Status) -> Result<Option<Row<u8>>, NoMemory> {
+    let mut answer = Row::new(alloc);
+    push_part(&mut answer, Buffer::new().format(status.code()).as_bytes())?;
+    push_part(&mut answer, fault_line(status).as_str().as_bytes())?;
+    Ok(Some(answer))
+}
+
+// The status of a name and two numbers.
+fn status_of(words: &str) -> Option<Status> {
+    let mut words = words.split_whitespace();
+    let name = words.next()?;
+    let first = words.next()?.parse::<u32>().ok()?;
+    let second = words.next()?.parse::<u32>().ok()?;
+    match name {
+        "done" => Some(Status::Done),
+        "usage" => Some(Status::Usage),
+        "read-fault" => Some(Status::ReadFault),
+        "write-fault" => Some(Status::WriteFault),
+        "no-memory" => Some(Status::NoMemory),
+        "too-long" => Some(Status::TooLong),
+        "budget" => Some(Status::Budget),
+        "stopped" => Some(Status::Stopped(u8::try_from(first).ok()?)),
+        "wants" => Some(Status::Wants(u8::try_from(first).ok()?)),
+        "script" => Some(Status::ScriptRefused(first)),
+        "bad" => Some(Status::BadInstruction {
+            pc: u16::try_from(first).ok()?,
+            word: u16::try_from(second).ok()?,
+        }),
+        _ => refused(name, first, second),
+    }
+}
+
+// A refusal of a name and two numbers.
+fn refused(name: &str, first: u32, second: u32) -> Option<Status> {
+    let place = Place {
+        line: first,
+        col: second,
+    };
+    match name {
+        "no-tree" => Some(Status::Refused(Fault::NoTree(place))),
+        "too-deep" => Some(Status::Refused(Fault::TooDeep(place))),
+        "not-built" => Some(Status::Refused(Fault::NotBuilt(place))),
+        "hex-form" => Some(Status::HexRefused(HexFault::Form(first))),
+        "hex-sum" => Some(Status::HexRefused(HexFault::Sum(first))),
+        "hex-twice" => Some(Status::HexRefused(HexFault::Twice(first))),
+        "hex-beyond" => Some(Status::HexRefused(HexFault::Beyond(first))),
+        "hex-no-end" => Some(Status::HexRefused(HexFault::NoEnd)),
+        _ => None,
+    }
+}
