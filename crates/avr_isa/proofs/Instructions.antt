@@ -2,17 +2,17 @@
 use Rattle.std.proofs.Common.{◌≡◌, ◌≢◌, ℕ, ◌+◌, ◌*◌, ◌/◌, ◌%◌, ◌<◌, ◌≤◌, true, false, not, ◌&&◌, ◌==◌, if◌then◌else◌, List, [], ◌∷◌, Some, refl, ap, ◌∙◌, arith, slice_set}
 use Rattle.vg_meaning.specs.Device.{IsDeviceAddress}
 use Rattle.vg_meaning.specs.Outside.{Outside, with_event}
-use Rattle.vg_meaning.specs.Ending.{Idle}
 use Rattle.vg_meaning.specs.declared.event.Event.TheVariants.{Write, Enter}
 use Rattle.avr_instr.specs.declared.instr.Instr.{Instr}
 use Rattle.avr_instr.specs.declared.instr.Instr.TheVariants.{Ldi, Out, Sts, Jmp, Rjmp, Sei, Cli, Sleep as SleepInstr, Reti}
 use Rattle.avr_isa.specs.declared.effect.Effect.TheVariants.{WriteDevice, Sleep, Halt, Outside as Forbidden}
+use Rattle.avr_isa.specs.declared.ending.MachineEnd.TheVariants.{Idle, Bad}
 use Rattle.avr_isa.specs.Cpu.{CpuState, forward, is_enabled, enabled, disabled}
 use Rattle.avr_isa.specs.Change.{Change, going, staying, moved, register_of, with_sreg}
 use Rattle.avr_isa.specs.Access.{stored, can_push_two, can_pop_two, with_popped}
 use Rattle.avr_isa.specs.Flow.{jumped, far_from}
 use Rattle.avr_isa.specs.Effect.{change}
-use Rattle.avr_isa.specs.Machine.{State, Ends, Bad, entered, woken, done, word_here}
+use Rattle.avr_isa.specs.Machine.{State, entered, woken, done, word_here}
 use Rattle.avr_isa.specs.Stack.{lowest_by_push_two, lowest_by_store, lowest_behind}
 use Rattle.avr_isa.specs.Leads.{Leads}
 use Rattle.avr_isa.specs.Standing.{StandsAt}
@@ -97,7 +97,7 @@ sleeps : (flash : List ℕ) (cpu : CpuState) → is_enabled cpu.sreg ≡ true �
 sleeps flash cpu e = ap (λ b. if b then staying cpu Sleep else going (moved 1 cpu)) e
 
 -- SLEEP with no interrupt left
-pub sleep_idle_leads : (flash : List ℕ) (cpu : CpuState) (o : Outside) (l : ℕ) → StandsAt flash cpu.pc SleepInstr → is_enabled cpu.sreg ≡ true → o.interrupts ≡ [] → Leads flash (going_on cpu o l) (record { cpu = cpu; outside = o; lowest = l; ended = Some (Ends Idle) })
+pub sleep_idle_leads : (flash : List ℕ) (cpu : CpuState) (o : Outside) (l : ℕ) → StandsAt flash cpu.pc SleepInstr → is_enabled cpu.sreg ≡ true → o.interrupts ≡ [] → Leads flash (going_on cpu o l) (record { cpu = cpu; outside = o; lowest = l; ended = Some Idle })
 sleep_idle_leads flash cpu o l at on e =
     change_leads flash cpu o l SleepInstr _ _ at (sleeps flash cpu on) (ap (λ is. woken is (word_here flash cpu) (going_on cpu o l)) e)
 

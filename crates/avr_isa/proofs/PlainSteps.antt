@@ -1,11 +1,10 @@
 -- The plain machine makes the steps of the definition.
 use Rattle.std.proofs.Common.{◌≡◌, ℕ, List, Option, Some, None, false, refl, sym, ap, ◌∙◌}
-use Rattle.std.specs.Prelude.{is_some, option_map}
+use Rattle.std.specs.Prelude.{is_some}
 use Rattle.avr_instr.specs.declared.instr.Instr.{Instr}
 use Rattle.avr_isa.specs.declared.effect.Effect.{Effect}
 use Rattle.avr_isa.specs.declared.stack.StackUse.{StackUse}
-use Rattle.avr_isa.specs.declared.plain.RunEnd.{RunEnd}
-use Rattle.avr_isa.specs.RunEnd.{end_of}
+use Rattle.avr_isa.specs.declared.ending.MachineEnd.{MachineEnd}
 use Rattle.avr_instr.specs.Decoded.{decoded}
 use Rattle.avr_isa.specs.Cpu.{CpuState, flash_word, forward}
 use Rattle.avr_isa.specs.Effect.{change}
@@ -34,6 +33,6 @@ next-is flash s o pc word next e p w n d =
     ∙ ap (λ x. performed flash (instr_here flash s.cpu) x s) here
     ∙ sym (ap (λ x. next_by x flash s) e)
 
-pub none_none : (o : Option RunEnd) → is_some o ≡ false → option_map end_of o ≡ None
+pub none_none : (o : Option MachineEnd) → is_some o ≡ false → o ≡ None
 none_none None e = refl
 none_none (Some x) e = cc

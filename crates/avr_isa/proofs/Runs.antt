@@ -6,10 +6,11 @@ use Rattle.avr_isa.specs.declared.stack.StackUse.{StackUse}
 use Rattle.avr_isa.specs.declared.stack.StackUse.TheVariants.{Nothing, PushesByte, PushesWord, Stores}
 use Rattle.avr_isa.specs.declared.effect.Effect.{Effect}
 use Rattle.avr_isa.specs.declared.effect.Effect.TheVariants.{Next, ReadDevice, WriteDevice, Sleep, Halt, Outside as Forbidden}
+use Rattle.avr_isa.specs.declared.ending.MachineEnd.{MachineEnd}
 use Rattle.avr_isa.specs.Cpu.{CpuState}
 use Rattle.avr_isa.specs.Access.{can_push_two}
 use Rattle.avr_isa.specs.Effect.{change}
-use Rattle.avr_isa.specs.Machine.{State, MachineEnd, answered, woken, done, performed, word_here, instr_here, next_by, next_state, run_from}
+use Rattle.avr_isa.specs.Machine.{State, answered, woken, done, performed, word_here, instr_here, next_by, next_state, run_from}
 use Rattle.avr_isa.specs.Stack.{stack_use, lowest_by, lowest_by_push_two, lowest_by_store, lowest_behind}
 use Rattle.avr_isa.specs.Leads.{Leads}
 use Rattle.avr_isa.specs.Standing.{StandsAt}

@@ -1,5 +1,6 @@
 -- What the processor of the ATmega128 holds, and the flash that it reads.
-use Rattle.std.specs.Prelude.{ℕ, ◌+◌, ◌*◌, ◌/◌, ◌%◌, Bool, not, ◌==◌, List, replicate, slice_get, unwrap_or}
+use Rattle.std.specs.Prelude.{ℕ, ◌≡◌, ◌<◌, ◌+◌, ◌*◌, ◌/◌, ◌%◌, Bool, not, ◌==◌, List, length, replicate, slice_get, unwrap_or}
+use Rattle.std.specs.List.{AllByRecursion}
 
 -- the processor: a register, SREG and RAMPZ have a byte, SP is a data address, PC is a word address
 pub record CpuState : Type 0 where
@@ -10,13 +11,29 @@ pub record CpuState : Type 0 where
   pub rampz : ℕ
   pub pc : ℕ
 
--- what memory holds at power-on
-unfoldable pub power_on : ℕ → List ℕ
-power_on bytes = replicate bytes 0xA5
+-- what the registers and the SRAM hold at power-on: the chip leaves it open (ATmega128 datasheet, "SRAM Data Memory")
+pub record PowerOn : Type 0 where
+  pub registers : List ℕ
+  pub sram : List ℕ
 
--- the processor at reset
-abbrev pub at_reset : CpuState
-at_reset = record { registers = power_on 32; sram = power_on 4096; sreg = 0; sp = 0; rampz = 0; pc = 0 }
+-- there are 32 registers and 4,096 places of SRAM, and each of them holds a byte
+pub record IsPowerOn (memory : PowerOn) : Type 0 where
+  pub registers : length memory.registers ≡ 32
+  pub sram : length memory.sram ≡ 4096
+  pub register_bytes : AllByRecursion (λ b. b < 256) memory.registers
+  pub sram_bytes : AllByRecursion (λ b. b < 256) memory.sram
+
+-- so many bytes of 0xA5
+unfoldable pub marks : ℕ → List ℕ
+marks bytes = replicate bytes 0xA5
+
+-- the contents that the programs here take: 0xA5 everywhere
+abbrev pub marked : PowerOn
+marked = record { registers = marks 32; sram = marks 4096 }
+
+-- the processor at reset, with these contents at power-on
+abbrev pub at_reset : PowerOn → CpuState
+at_reset memory = record { registers = memory.registers; sram = memory.sram; sreg = 0; sp = 0; rampz = 0; pc = 0 }
 
 -- the byte of the flash at a byte address; behind the image the flash is erased
 abbrev pub flash_byte : List ℕ → ℕ → ℕ

@@ -40,8 +40,8 @@ subtracted_on cpu d b =
     resulting cpu d (difference_of a b borrow) (sticky cpu.sreg (flags_of_difference a b borrow))
 
 -- Rd ← value, by a logical operation
-abbrev pub joined : CpuState → (d value : ℕ) → Change
-joined cpu d value = resulting cpu d value (flags_of_logic cpu.sreg value)
+abbrev pub combined : CpuState → (d value : ℕ) → Change
+combined cpu d value = resulting cpu d value (flags_of_logic cpu.sreg value)
 
 -- Rd ← value, by a shift to the right
 abbrev pub shifted : CpuState → (d value : ℕ) → Change
@@ -64,9 +64,9 @@ change flash (Add d r) cpu = added cpu d (register_of cpu r) 0
 -- ADIW: Rd+1:Rd ← Rd+1:Rd + K
 change flash (Adiw d k) cpu = let a = pair_of cpu d in resulting_wide cpu d ((a + k) % 65536) (flags_of_wide_sum cpu.sreg a k)
 -- AND: Rd ← Rd · Rr
-change flash (And d r) cpu = joined cpu d (bit_and (register_of cpu d) (register_of cpu r))
+change flash (And d r) cpu = combined cpu d (bit_and (register_of cpu d) (register_of cpu r))
 -- ANDI: Rd ← Rd · K
-change flash (Andi d k) cpu = joined cpu d (bit_and (register_of cpu d) k)
+change flash (Andi d k) cpu = combined cpu d (bit_and (register_of cpu d) k)
 -- ASR: Rd ← Rd / 2, bit 7 stays
 change flash (Asr d) cpu = let a = register_of cpu d in shifted cpu d (a / 2 + a / 128 * 128)
 -- BRBC: if the bit s of SREG is 0 then PC ← PC + k + 1
@@ -88,7 +88,7 @@ change flash (Cpi d k) cpu = flagging cpu (flags_of_difference (register_of cpu 
 -- DEC: Rd ← Rd - 1
 change flash (Dec d) cpu = counted cpu d ((register_of cpu d + 255) % 256) 0x7F
 -- EOR: Rd ← Rd ⊕ Rr
-change flash (Eor d r) cpu = joined cpu d (bit_xor (register_of cpu d) (register_of cpu r))
+change flash (Eor d r) cpu = combined cpu d (bit_xor (register_of cpu d) (register_of cpu r))
 -- ICALL: STACK ← PC + 1, PC ← Z
 change flash Icall cpu = called cpu (forward 1 cpu.pc) (pair_of cpu 30)
 -- IJMP: PC ← Z
@@ -128,9 +128,9 @@ change flash (Neg d) cpu = let a = register_of cpu d in resulting cpu d (differe
 -- NOP
 change flash Nop cpu = going (moved 1 cpu)
 -- OR: Rd ← Rd v Rr
-change flash (Or d r) cpu = joined cpu d (bit_or (register_of cpu d) (register_of cpu r))
+change flash (Or d r) cpu = combined cpu d (bit_or (register_of cpu d) (register_of cpu r))
 -- ORI: Rd ← Rd v K
-change flash (Ori d k) cpu = joined cpu d (bit_or (register_of cpu d) k)
+change flash (Ori d k) cpu = combined cpu d (bit_or (register_of cpu d) k)
 -- OUT: I/O(A) ← Rr
 change flash (Out a r) cpu = stored cpu (moved 1 cpu) (a + 0x20) (register_of cpu r)
 -- POP: SP ← SP + 1, Rd ← STACK

@@ -7,7 +7,7 @@ pub mod Flow
 pub mod Effect
 pub mod Stack
 pub mod Machine
-pub mod RunEnd
 pub mod Leads
 pub mod Agrees
+pub mod Floor
 pub mod Standing

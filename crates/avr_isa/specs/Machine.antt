@@ -2,21 +2,17 @@
 use Rattle.std.specs.Prelude.{ℕ, zero, suc, ◌*◌, List, [], ◌∷◌, Option, Some, None, if◌then◌else◌}
 use Rattle.vg_meaning.specs.declared.event.Event.TheVariants.{Read, Write, Enter}
 use Rattle.vg_meaning.specs.Outside.{Outside, before, with_event}
-use Rattle.vg_meaning.specs.Ending.{Ending, Idle, Stop, Wants}
 use Rattle.avr_instr.specs.declared.instr.Instr.{Instr}
 use Rattle.avr_isa.specs.declared.effect.Effect.{Effect}
 use Rattle.avr_isa.specs.declared.effect.Effect.TheVariants.{Next, ReadDevice, WriteDevice, Sleep, Halt, Outside as Forbidden}
-use Rattle.avr_isa.specs.Cpu.{CpuState, at_reset, flash_word, forward, disabled}
+use Rattle.avr_isa.specs.declared.ending.MachineEnd.{MachineEnd}
+use Rattle.avr_isa.specs.declared.ending.MachineEnd.TheVariants.{Idle, Stop, Wants, Bad}
+use Rattle.avr_isa.specs.Cpu.{CpuState, PowerOn, at_reset, flash_word, forward, disabled}
 use Rattle.avr_instr.specs.Decoded.{decoded}
 use Rattle.avr_isa.specs.Change.{register_of, with_register}
 use Rattle.avr_isa.specs.Access.{can_push_two, with_pushed}
 use Rattle.avr_isa.specs.Effect.{change}
 use Rattle.avr_isa.specs.Stack.{lowest_behind, lowest_by_push_two}
-
--- how a run of the machine ends: as a session ends, or at a word that is no instruction or touches an address that it must not
-pub data MachineEnd : Type 0 where
-  Ends : (ending : Ending) → MachineEnd
-  Bad : (pc word : ℕ) → MachineEnd
 
 -- the machine: its processor, its outside, the lowest data address that its stack has reached, and how its run has ended
 pub record State : Type 0 where
@@ -30,7 +26,7 @@ ending_with s end = record s { ended = Some end }
 
 -- the next read goes into the waiting register; with none left the run ends, and the register waits on
 abbrev pub answered : List ℕ → (address register : ℕ) → State → State
-answered [] address register s = ending_with s (Ends (Wants address))
+answered [] address register s = ending_with s (Wants address)
 answered (value ∷ values) address register s = record s {
   cpu = with_register s.cpu register value;
   outside = with_event (record s.outside { reads = values }) (Read address value);
@@ -42,7 +38,7 @@ entered cpu vector = record (with_pushed cpu (forward 1 cpu.pc)) { pc = 2 * vect
 
 -- a SLEEP with the I flag set; with no interrupt left the run is idle
 abbrev pub woken : List ℕ → (word : ℕ) → State → State
-woken [] word s = ending_with s (Ends Idle)
+woken [] word s = ending_with s Idle
 woken (vector ∷ vectors) word s =
     let lowest = lowest_by_push_two s.cpu.sp s.lowest in
     if can_push_two s.cpu.sp
@@ -59,7 +55,7 @@ done Next word s = s
 done (ReadDevice address register) word s = answered s.outside.reads address register s
 done (WriteDevice address value) word s = record s { outside = with_event s.outside (Write address value) }
 done Sleep word s = woken s.outside.interrupts word s
-done Halt word s = ending_with s (Ends (Stop (register_of s.cpu 24)))
+done Halt word s = ending_with s (Stop (register_of s.cpu 24))
 done Forbidden word s = ending_with s (Bad s.cpu.pc word)
 
 -- one instruction
@@ -90,10 +86,10 @@ abbrev pub run_from : List ℕ → ℕ → State → State
 run_from flash zero s = s
 run_from flash (suc n) s = run_from flash n (next_state flash s)
 
--- the machine at reset; no byte of its stack is in use
-abbrev pub started : (reads interrupts : List ℕ) → State
-started reads interrupts = record { cpu = at_reset; outside = before reads interrupts; lowest = 0x1100; ended = None }
+-- the machine at reset, with these contents at power-on; no byte of its stack is in use
+abbrev pub started : PowerOn → (reads interrupts : List ℕ) → State
+started memory reads interrupts = record { cpu = at_reset memory; outside = before reads interrupts; lowest = 0x1100; ended = None }
 
 -- the machine on this flash after at most so many instructions from reset
-abbrev pub machine : (flash reads interrupts : List ℕ) → ℕ → State
-machine flash reads interrupts instructions = run_from flash instructions (started reads interrupts)
+abbrev pub machine : (flash : List ℕ) → PowerOn → (reads interrupts : List ℕ) → ℕ → State
+machine flash memory reads interrupts instructions = run_from flash instructions (started memory reads interrupts)

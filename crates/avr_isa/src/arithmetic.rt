@@ -2,7 +2,7 @@
 ghost use Rattle.std.specs.Prelude.{◌≡◌, ◌+◌, ◌-◌, ◌*◌, ◌/◌, ◌%◌, ◌<◌, ◌≤◌, ℕ, bit_and, bit_or, bit_xor};
 ghost use Rattle.avr_isa.specs.Change.{register_of, pair_of};
 ghost use Rattle.avr_isa.specs.Flags.{difference_of, flags_of_difference, flags_of_complement, flags_of_wide_sum, flags_of_wide_difference, carry_of, sticky};
-ghost use Rattle.avr_isa.specs.Effect.{flagging, resulting, resulting_wide, added, subtracted, subtracted_on, joined, shifted, counted, multiplied};
+ghost use Rattle.avr_isa.specs.Effect.{flagging, resulting, resulting_wide, added, subtracted, subtracted_on, combined, shifted, counted, multiplied};
 
 use crate::cpu::Cpu;
 use crate::effect::Effect;
@@ -130,8 +130,8 @@ pub(crate) fn negate(cpu: &mut Cpu, d: u8) -> Effect
 // Leaves the result of a logical operation.
 fn join(cpu: &mut Cpu, d: u8, value: u8) -> Effect
     requires { d < 32 }
-    ensures cpu { cpu.new ≡ (joined cpu.old d value).cpu }
-    ensures effect { result ≡ (joined cpu.old d value).effect }
+    ensures cpu { cpu.new ≡ (combined cpu.old d value).cpu }
+    ensures effect { result ≡ (combined cpu.old d value).effect }
 {
     let sreg = cpu.sreg();
     finish(cpu, d, value, flags::flags_of_logic(sreg, value))
@@ -140,8 +140,8 @@ fn join(cpu: &mut Cpu, d: u8, value: u8) -> Effect
 // Joins a register and a byte by and.
 pub(crate) fn and(cpu: &mut Cpu, d: u8, b: u8) -> Effect
     requires { d < 32 }
-    ensures cpu { cpu.new ≡ (joined cpu.old d (bit_and (register_of cpu.old d) b)).cpu }
-    ensures effect { result ≡ (joined cpu.old d (bit_and (register_of cpu.old d) b)).effect }
+    ensures cpu { cpu.new ≡ (combined cpu.old d (bit_and (register_of cpu.old d) b)).cpu }
+    ensures effect { result ≡ (combined cpu.old d (bit_and (register_of cpu.old d) b)).effect }
 {
     let value = cpu.register(d) & b;
     join(cpu, d, value)
@@ -150,8 +150,8 @@ pub(crate) fn and(cpu: &mut Cpu, d: u8, b: u8) -> Effect
 // Joins a register and a byte by or.
 pub(crate) fn or(cpu: &mut Cpu, d: u8, b: u8) -> Effect
     requires { d < 32 }
-    ensures cpu { cpu.new ≡ (joined cpu.old d (bit_or (register_of cpu.old d) b)).cpu }
-    ensures effect { result ≡ (joined cpu.old d (bit_or (register_of cpu.old d) b)).effect }
+    ensures cpu { cpu.new ≡ (combined cpu.old d (bit_or (register_of cpu.old d) b)).cpu }
+    ensures effect { result ≡ (combined cpu.old d (bit_or (register_of cpu.old d) b)).effect }
 {
     let value = cpu.register(d) | b;
     join(cpu, d, value)
@@ -160,8 +160,8 @@ pub(crate) fn or(cpu: &mut Cpu, d: u8, b: u8) -> Effect
 // Joins a register and a byte by exclusive or.
 pub(crate) fn exclusive_or(cpu: &mut Cpu, d: u8, b: u8) -> Effect
     requires { d < 32 }
-    ensures cpu { cpu.new ≡ (joined cpu.old d (bit_xor (register_of cpu.old d) b)).cpu }
-    ensures effect { result ≡ (joined cpu.old d (bit_xor (register_of cpu.old d) b)).effect }
+    ensures cpu { cpu.new ≡ (combined cpu.old d (bit_xor (register_of cpu.old d) b)).cpu }
+    ensures effect { result ≡ (combined cpu.old d (bit_xor (register_of cpu.old d) b)).effect }
 {
     let value = cpu.register(d) ^ b;
     join(cpu, d, value)

@@ -1,6 +1,6 @@
 // The processor.
 ghost use Rattle.std.specs.Prelude.{◌≡◌, ◌+◌, ◌-◌, ◌*◌, ◌/◌, ◌%◌, ◌<◌, ◌≤◌, ℕ, IfOk, IsTrue, ◌↔◌, length, slice_index, slice_set};
-ghost use Rattle.avr_isa.specs.Cpu.{CpuState, at_reset, forward, is_enabled, enabled, disabled};
+ghost use Rattle.avr_isa.specs.Cpu.{CpuState, at_reset, marked, forward, is_enabled, enabled, disabled};
 ghost use Rattle.avr_isa.specs.Change.{register_of, with_register, with_sreg, moved, pair_of, with_pair};
 
 use std::alloc::Global;
@@ -32,9 +32,10 @@ impl Model for Cpu {
 }
 
 impl Cpu {
-    /// The processor at reset: PC, SP, SREG and RAMPZ are 0, and registers and SRAM hold 0xA5.
+    /// The processor at reset: PC, SP, SREG and RAMPZ are 0. Of the contents that the chip may have at power-on, registers and
+    /// SRAM hold 0xA5.
     pub fn at_reset(alloc: Global) -> Result<Self, NoMemory>
-        ensures { IfOk result (λ cpu. cpu ≡ at_reset) }
+        ensures { IfOk result (λ cpu. cpu ≡ at_reset marked) }
     {
         Ok(Cpu {
             registers: [0xA5; 32],

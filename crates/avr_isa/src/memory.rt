@@ -193,7 +193,7 @@ pub(crate) fn pop(cpu: &mut Cpu, d: u8) -> Effect
 }
 
 // Whether both bytes of a word address that a call or an interrupt pushes lie in SRAM.
-pub(crate) fn can_push_two(cpu: &Cpu) -> bool
+pub fn can_push_two(cpu: &Cpu) -> bool
     ensures { result ≡ can_push_two cpu.now.sp }
 {
     0x100 < cpu.sp() && cpu.sp() < 0x1100
@@ -207,7 +207,7 @@ pub(crate) fn can_pop_two(cpu: &Cpu) -> bool
 }
 
 // Pushes a word address, low byte first.
-pub(crate) fn push_two(cpu: &mut Cpu, address: u16)
+pub fn push_two(cpu: &mut Cpu, address: u16)
     requires { IsTrue (can_push_two cpu.old.sp) }
     ensures { cpu.new ≡ with_pushed cpu.old address }
 {

@@ -1,13 +1,13 @@
 // A plain machine: slow, and close to its definition.
-ghost use Rattle.std.specs.Prelude.{◌≡◌, ◌+◌, ◌*◌, ◌/◌, ◌%◌, ◌<◌, ◌≤◌, ℕ, List, option_map, OnOk, IfOk, length, Some, None};
+ghost use Rattle.std.specs.Prelude.{◌≡◌, ◌+◌, ◌*◌, ◌/◌, ◌%◌, ◌<◌, ◌≤◌, ℕ, List, OnOk, IfOk, length, Some, None};
 ghost use Rattle.vg_meaning.specs.Outside.{Outside};
-ghost use Rattle.avr_isa.specs.Cpu.{CpuState};
+ghost use Rattle.avr_isa.specs.Cpu.{CpuState, marked};
 ghost use Rattle.avr_isa.specs.Change.{WaitsInRegister};
-ghost use Rattle.avr_isa.specs.Machine.{State, answered, woken, done, performed, next_state, run_from, started, machine, ending_with, entered, Ends, Bad};
-ghost use Rattle.avr_isa.specs.RunEnd.{end_of};
+ghost use Rattle.avr_isa.specs.Machine.{State, answered, woken, done, performed, next_state, run_from, started};
 
 use crate::cpu::Cpu;
 use crate::effect::Effect;
+use crate::ending::MachineEnd;
 use crate::image::Image;
 use crate::memory;
 use crate::stack::{StackUse, lowest_by, stack_use};
@@ -17,19 +17,6 @@ use std::alloc::Global;
 use std::marker::Model;
 use vg_base::NoMemory;
 use vg_meaning::Event;
-
-/// How a run of the machine has ended.
-#[derive(Clone, Copy, Debug, PartialEq, Eq)]
-pub enum RunEnd {
-    /// It sleeps, and no interrupt is left.
-    Idle,
-    /// It has stopped, with this code.
-    Stop(u8),
-    /// It reads the device register at this data address, and no read is left.
-    Wants(u8),
-    /// At this word address stands this word, which is no instruction or touches a data address that it must not.
-    Bad(u16, u16),
-}
 
 /// A machine: its processor, what its outside still holds and has seen, the lowest data address that its stack has reached, and its end.
 ///
@@ -41,19 +28,19 @@ pub struct PlainMachine<'a> {
     interrupts: &'a [u8],
     trace: Vec<Event>,
     lowest: u16,
-    ended: Option<RunEnd>,
+    ended: Option<MachineEnd>,
 }
 
 impl<'a> Model for PlainMachine<'a> {
     ghost Value = { State };
 
-    ghost view = { λ m. record { cpu = m.cpu; outside = record { reads = m.reads.now; interrupts = m.interrupts.now; trace = m.trace.items }; lowest = m.lowest; ended = option_map end_of m.ended } };
+    ghost view = { λ m. record { cpu = m.cpu; outside = record { reads = m.reads.now; interrupts = m.interrupts.now; trace = m.trace.items }; lowest = m.lowest; ended = m.ended } };
 }
 
 impl<'a> PlainMachine<'a> {
-    /// The machine at reset.
+    /// The machine at reset, with 0xA5 in its registers and its SRAM.
     pub fn new(alloc: Global, reads: &'a [u8], interrupts: &'a [u8]) -> Result<Self, NoMemory>
-        ensures { IfOk result (λ m. m ≡ started reads.now interrupts.now) }
+        ensures { IfOk result (λ m. m ≡ started marked reads.now interrupts.now) }
     {
         Ok(PlainMachine {
             cpu: Cpu::at_reset(alloc)?,
@@ -73,8 +60,8 @@ impl<'a> PlainMachine<'a> {
     }
 
     /// How the run has ended, if it has.
-    pub fn ended(&self) -> Option<RunEnd>
-        ensures { option_map end_of result ≡ self.now.ended }
+    pub fn ended(&self) -> Option<MachineEnd>
+        ensures { result ≡ self.now.ended }
     {
         self.ended
     }
@@ -98,7 +85,7 @@ impl<'a> PlainMachine<'a> {
         match decode(word, flash.word(pc.wrapping_add(1))) {
             Some(instr) => self.perform(flash, instr, word),
             None => {
-                self.ended = Some(RunEnd::Bad(pc, word));
+                self.ended = Some(MachineEnd::Bad { pc, word });
                 Ok(())
             }
         }
@@ -135,8 +122,8 @@ impl<'a> PlainMachine<'a> {
             Effect::ReadDevice(address, register) => return self.answer(address, register),
             Effect::WriteDevice(address, value) => self.trace.push(Event::Write(address, value))?,
             Effect::Sleep => return self.wake(word),
-            Effect::Halt => self.ended = Some(RunEnd::Stop(self.cpu.register(24))),
-            Effect::Outside => self.ended = Some(RunEnd::Bad(self.cpu.pc(), word)),
+            Effect::Halt => self.ended = Some(MachineEnd::Stop(self.cpu.register(24))),
+            Effect::Outside => self.ended = Some(MachineEnd::Bad { pc: self.cpu.pc(), word }),
         }
         Ok(())
     }
@@ -147,7 +134,7 @@ impl<'a> PlainMachine<'a> {
         ensures { OnOk result (self.new ≡ answered self.old.outside.reads address register self.old) }
     {
         match self.reads.split_first() {
-            None => self.ended = Some(RunEnd::Wants(address)),
+            None => self.ended = Some(MachineEnd::Wants(address)),
             Some((value, rest)) => {
                 self.cpu.set_register(register, *value);
                 self.trace.push(Event::Read(address, *value))?;
@@ -162,12 +149,12 @@ impl<'a> PlainMachine<'a> {
         ensures { OnOk result (self.new ≡ woken self.old.outside.interrupts word self.old) }
     {
         match self.interrupts.split_first() {
-            None => self.ended = Some(RunEnd::Idle),
+            None => self.ended = Some(MachineEnd::Idle),
             Some((vector, rest)) => {
                 let sp = self.cpu.sp();
                 self.lowest = lowest_by(StackUse::PushesWord(sp), sp, self.lowest);
                 if !memory::can_push_two(&self.cpu) {
-                    self.ended = Some(RunEnd::Bad(self.cpu.pc(), word));
+                    self.ended = Some(MachineEnd::Bad { pc: self.cpu.pc(), word });
                     return Ok(());
                 }
                 let behind = self.cpu.pc().wrapping_add(1);
@@ -181,6 +168,3 @@ impl<'a> PlainMachine<'a> {
         Ok(())
     }
 }
-
-#[cfg(test)]
-mod tests;

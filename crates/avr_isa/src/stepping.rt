@@ -105,6 +105,3 @@ pub fn step(cpu: &mut Cpu, flash: &Image, instr: Instr) -> Effect
         Instr::Subi(d, k) => arithmetic::subtract(cpu, d.number(), k),
     }
 }
-
-#[cfg(test)]
-mod tests;

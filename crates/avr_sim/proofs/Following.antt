@@ -1,26 +1,24 @@
 -- The machine of the definition and the one that runs agree in all but the trace so far and the depth of the stack.
 use Rattle.std.proofs.Common.{◌≡◌, ℕ, zero, suc, ◌+◌, ◌-◌, ◌<◌, Bool, true, false, List, [], ◌∷◌, ◌++◌, Option, Some, None, refl, sym, ap, ◌∙◌, subst, arith, append_assoc, append-nil}
-use Rattle.std.specs.Prelude.{if◌then◌else◌, is_some, option_map}
+use Rattle.std.specs.Prelude.{if◌then◌else◌, is_some}
 use Rattle.std.proofs.lemmas.Grind.{flat_map-append}
-use Rattle.vg_meaning.specs.Ending.{Stop}
 use Rattle.vg_meaning.specs.declared.event.Event.{Event}
 use Rattle.vg_meaning.specs.declared.event.Event.TheVariants.{Read, Write, Enter}
 use Rattle.avr_instr.specs.declared.instr.Instr.{Instr}
 use Rattle.avr_isa.specs.declared.effect.Effect.{Effect}
 use Rattle.avr_isa.specs.declared.effect.Effect.TheVariants.{Next, ReadDevice, WriteDevice, Sleep, Halt, Outside as Forbidden}
-use Rattle.avr_isa.specs.Cpu.{CpuState}
+use Rattle.avr_isa.specs.Cpu.{CpuState, marked}
 use Rattle.avr_isa.specs.Effect.{change}
 use Rattle.avr_isa.specs.Change.{register_of}
 use Rattle.avr_isa.specs.Access.{can_push_two}
-use Rattle.avr_isa.specs.Machine.{MachineEnd, Ends, Bad, State, done, performed, next_state, run_from, instr_here, word_here, started, machine, entered}
+use Rattle.avr_isa.specs.Machine.{State, done, performed, next_state, run_from, instr_here, word_here, started, entered}
 use Rattle.avr_isa.specs.Stack.{lowest_behind, lowest_by_push_two}
-use Rattle.avr_isa.specs.RunEnd.{end_of}
-use Rattle.avr_isa.specs.declared.plain.RunEnd.{RunEnd}
+use Rattle.avr_isa.specs.declared.ending.MachineEnd.{MachineEnd}
+use Rattle.avr_isa.specs.declared.ending.MachineEnd.TheVariants.{Stop, Bad}
 use Rattle.avr_isa.proofs.Runs.{stays}
 use Rattle.vg_io.specs.Piece.{AppendsAll, AppendsFront}
 use Rattle.vg_script.specs.Traces.{event_line}
-use Rattle.avr_sim.specs.declared.machine.MachineEnd.{MachineEnd as MachineAnswer}
-use Rattle.avr_sim.specs.Run.{Tells, trace_lines}
+use Rattle.avr_sim.specs.Run.{simulated, trace_lines}
 use Rattle.avr_sim.specs.Walk.{pending, unstacked}
 use Rattle.avr_sim.proofs.Told.{appends_nothing, appends_both, appends_front}
 
@@ -58,7 +56,7 @@ same_done Sleep word t u cpu reads (k ∷ ks) l l' = by_test (can_push_two cpu.s
         (if b then parts (entered cpu k) reads ks (u ++ Enter k ∷ []) (lowest_by_push_two cpu.sp l') None else parts cpu reads (k ∷ ks) u (lowest_by_push_two cpu.sp l') (Some (Bad cpu.pc word)))
     by_test true = same_event t u (Enter k) (entered cpu k) reads ks (lowest_by_push_two cpu.sp l) (lowest_by_push_two cpu.sp l') None
     by_test false = same_parts t u cpu reads (k ∷ ks) (lowest_by_push_two cpu.sp l) (lowest_by_push_two cpu.sp l') (Some (Bad cpu.pc word))
-same_done Halt word t u cpu reads interrupts l l' = same_parts t u cpu reads interrupts l l' (Some (Ends (Stop (register_of cpu 24))))
+same_done Halt word t u cpu reads interrupts l l' = same_parts t u cpu reads interrupts l l' (Some (Stop (register_of cpu 24)))
 same_done Forbidden word t u cpu reads interrupts l l' = same_parts t u cpu reads interrupts l l' (Some (Bad cpu.pc word))
 
 same_performed : (flash : List ℕ) (o : Option Instr) (word : ℕ) (t u : List Event) (cpu : CpuState) (reads interrupts : List ℕ) (l l' : ℕ)
@@ -115,10 +113,10 @@ same_run flash zero t s m h = h
 same_run flash (suc n) t s m h = same_run flash n t (next_state flash s) (next_state flash m) (same_step flash t s m h)
 
 -- the run of the code begins without a depth
-pub run_unstacked : (flash reads interrupts : List ℕ) (n : ℕ) (m : State) → m ≡ unstacked (started reads interrupts)
-    → ((run_from flash n m).ended ≡ (machine flash reads interrupts n).ended) × ((run_from flash n m).outside.trace ≡ (machine flash reads interrupts n).outside.trace)
+pub run_unstacked : (flash reads interrupts : List ℕ) (n : ℕ) (m : State) → m ≡ unstacked (started marked reads interrupts)
+    → ((run_from flash n m).ended ≡ (simulated flash reads interrupts n).ended) × ((run_from flash n m).outside.trace ≡ (simulated flash reads interrupts n).outside.trace)
 run_unstacked flash reads interrupts n m e =
-    let s = started reads interrupts in
+    let s = started marked reads interrupts in
     let h : Same [] s (unstacked s) = record { cpu = refl; reads = refl; interrupts = refl; trace = refl; ended = refl } in
     let r = same_run flash n [] s (unstacked s) h in
     (ap (λ x. (run_from flash n x).ended) e ∙ sym r.ended, ap (λ x. (run_from flash n x).outside.trace) e ∙ sym r.trace)
@@ -195,24 +193,24 @@ at_end flash n budget first m a b f e =
     ap (λ (x : State). x.outside.trace) whole ∙ f.same.trace ∙ ap (λ l. f.seen ++ l) f.put ∙ append-nil f.seen in
     (sym (ap (λ (x : State). x.ended) whole ∙ f.same.ended), subst (AppendsAll a b) (ap trace_lines (sym trace)) f.told)
 
-pub follow_ends : (flash : List ℕ) (n budget : ℕ) (first m : State) (o : Option RunEnd) (a b : Option (List ℕ)) → Follows flash n budget first m a b → option_map end_of o ≡ m.ended → is_some o ≡ true
+pub follow_ends : (flash : List ℕ) (n budget : ℕ) (first m : State) (o : Option MachineEnd) (a b : Option (List ℕ)) → Follows flash n budget first m a b → o ≡ m.ended → is_some o ≡ true
     → (m.ended ≡ (run_from flash budget first).ended) × AppendsAll a b (trace_lines (run_from flash budget first).outside.trace)
 follow_ends flash n budget first m None a b f e h = absurd (cc)
-follow_ends flash n budget first m (Some end) a b f e h = at_end flash n budget first m a b f (stays flash n f.state (end_of end) (f.same.ended ∙ sym e))
+follow_ends flash n budget first m (Some end) a b f e h = at_end flash n budget first m a b f (stays flash n f.state end (f.same.ended ∙ sym e))
 
 -- the run from reset, by what the code says of its own
-pub told_ending : (flash flash' reads interrupts reads' interrupts' : List ℕ) (budget : ℕ) (first m : State) (o : Option RunEnd) (result : MachineAnswer)
-    → flash' ≡ flash → reads' ≡ reads → interrupts' ≡ interrupts → first ≡ unstacked (started reads' interrupts')
-    → m.ended ≡ (run_from flash' budget first).ended → option_map end_of o ≡ m.ended → Tells (option_map end_of o) result → Tells (machine flash reads interrupts budget).ended result
-told_ending flash flash' reads interrupts reads' interrupts' budget first m o result l r i f e h t =
+pub ended_from_reset : (flash flash' reads interrupts reads' interrupts' : List ℕ) (budget : ℕ) (first m : State) (end : Option MachineEnd)
+    → flash' ≡ flash → reads' ≡ reads → interrupts' ≡ interrupts → first ≡ unstacked (started marked reads' interrupts')
+    → m.ended ≡ (run_from flash' budget first).ended → end ≡ m.ended → end ≡ (simulated flash reads interrupts budget).ended
+ended_from_reset flash flash' reads interrupts reads' interrupts' budget first m end l r i f e h =
     let k = run_unstacked flash' reads' interrupts' budget first f in
-    let same : (machine flash' reads' interrupts' budget).ended ≡ (machine flash reads interrupts budget).ended =
-    ap (λ x. (machine x reads' interrupts' budget).ended) l ∙ ap (λ x. (machine flash x interrupts' budget).ended) r ∙ ap (λ x. (machine flash reads x budget).ended) i in
-    subst (λ x. Tells x result) (h ∙ e ∙ k.0 ∙ same) t
+    h ∙ e ∙ k.0
+    ∙ ap (λ x. (simulated x reads' interrupts' budget).ended) l ∙ ap (λ x. (simulated flash x interrupts' budget).ended) r ∙ ap (λ x. (simulated flash reads x budget).ended) i
 
 pub told_trace : (flash flash' reads interrupts reads' interrupts' : List ℕ) (budget : ℕ) (first : State)
-    → flash' ≡ flash → reads' ≡ reads → interrupts' ≡ interrupts → first ≡ unstacked (started reads' interrupts')
-    → trace_lines (run_from flash' budget first).outside.trace ≡ trace_lines (machine flash reads interrupts budget).outside.trace
+    → flash' ≡ flash → reads' ≡ reads → interrupts' ≡ interrupts → first ≡ unstacked (started marked reads' interrupts')
+    → trace_lines (run_from flash' budget first).outside.trace ≡ trace_lines (simulated flash reads interrupts budget).outside.trace
 told_trace flash flash' reads interrupts reads' interrupts' budget first l r i f =
     let k = run_unstacked flash' reads' interrupts' budget first f in
-    ap trace_lines (k.1 ∙ ap (λ x. (machine x reads' interrupts' budget).outside.trace) l ∙ ap (λ x. (machine flash x interrupts' budget).outside.trace) r ∙ ap (λ x. (machine flash reads x budget).outside.trace) i)
+    ap trace_lines (k.1 ∙ ap (λ x. (simulated x reads' interrupts' budget).outside.trace) l ∙ ap (λ x. (simulated flash x interrupts' budget).outside.trace) r
+    ∙ ap (λ x. (simulated flash reads x budget).outside.trace) i)

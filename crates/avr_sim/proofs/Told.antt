@@ -1,5 +1,6 @@
--- What a sink holds behind several puts.
-use Rattle.std.proofs.Common.{◌≡◌, ℕ, List, [], ◌++◌, length, take, drop, Option, Some, None, refl, sym, ap, ◌∙◌, append_assoc, append-nil, take-append-drop}
+-- What a sink holds behind several puts, and what an error that is handed on shows.
+use Rattle.std.proofs.Common.{◌≡◌, ℕ, List, [], ◌++◌, length, take, drop, Option, Some, None, refl, sym, ap, ◌∙◌, append_assoc, append-nil, take-append-drop, Result, Ok, Err}
+use Rattle.std.specs.Prelude.{OnErr}
 use Rattle.std.proofs.Math.Seq.{take-append_seam}
 use Rattle.vg_io.specs.Piece.{AppendsAll, AppendsFront}
 
@@ -29,3 +30,8 @@ appends_front (Some a) (Some b) c x y z h k =
       k.1 ∙ ap (λ l. Some (l ++ take k.0 y)) e ∙ ap Some (append_assoc a x (take k.0 y))
           ∙ ap (λ l. Some (a ++ l)) (sym (take-append_seam front (drop k.0 y ++ z))) ∙ ap (λ l. Some (a ++ take (length front) l)) (sym whole),
     )
+
+-- what holds of an error that is handed on
+pub on_err : {A E : Type 0} (r : Result A E) (P : Type 0) → P → OnErr r P
+on_err (Ok a) P p = tt
+on_err (Err e) P p = p

@@ -3,7 +3,5 @@
 
 pub mod machine;
 mod running;
-#[cfg(test)]
-mod tests;
 
-pub use machine::{Machine, MachineEnd};
+pub use machine::Machine;

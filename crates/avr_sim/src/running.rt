@@ -1,14 +1,13 @@
 // A run of the machine whose events leave it one by one.
-ghost use Rattle.std.specs.Prelude.{◌≡◌, ◌+◌, ◌-◌, ◌*◌, ◌/◌, ◌%◌, ◌<◌, ◌≤◌, ℕ, List, [], IsTrue, Some, None, option_map, length};
-ghost use Rattle.avr_isa.specs.Cpu.{at_reset};
-ghost use Rattle.avr_isa.specs.Access.{can_push_two, with_pushed};
+ghost use Rattle.std.specs.Prelude.{◌≡◌, ◌<◌, ℕ, List, [], Some};
+ghost use Rattle.avr_isa.specs.Cpu.{at_reset, marked};
 ghost use Rattle.avr_isa.specs.Change.{WaitsInRegister};
-ghost use Rattle.avr_isa.specs.Machine.{State, answered, done, next_state, performed, started, woken};
-ghost use Rattle.avr_isa.specs.RunEnd.{end_of};
+ghost use Rattle.avr_isa.specs.Machine.{answered, done, next_state, performed, started, woken};
 ghost use Rattle.avr_sim.specs.Walk.{pending, unstacked};
 
 use avr_instr::{Instr, decode};
-use avr_isa::{Cpu, Effect, Image, RunEnd, step};
+use avr_isa::memory::{can_push_two, push_two};
+use avr_isa::{Cpu, Effect, Image, MachineEnd, step};
 use std::marker::Model;
 use vg_meaning::Event;
 
@@ -21,25 +20,23 @@ pub struct Running<'a> {
     reads: &'a [u8],
     interrupts: &'a [u8],
     event: Option<Event>,
-    ended: Option<RunEnd>,
+    ended: Option<MachineEnd>,
 }
 
 impl<'a> Model for Running<'a> {
-    ghost use Rattle.std.specs.Prelude.{option_map};
     ghost use Rattle.avr_isa.specs.Machine.{State};
-    ghost use Rattle.avr_isa.specs.RunEnd.{end_of};
     ghost use Rattle.avr_sim.specs.Walk.{pending};
 
     ghost Value = { State };
 
-    ghost view = { λ m. record { cpu = m.cpu; outside = record { reads = m.reads.now; interrupts = m.interrupts.now; trace = pending m.event }; lowest = 0; ended = option_map end_of m.ended } };
+    ghost view = { λ m. record { cpu = m.cpu; outside = record { reads = m.reads.now; interrupts = m.interrupts.now; trace = pending m.event }; lowest = 0; ended = m.ended } };
 }
 
 impl<'a> Running<'a> {
     /// A processor at reset, in front of a script. It takes no memory.
     pub fn from_reset(cpu: Cpu, reads: &'a [u8], interrupts: &'a [u8]) -> Self
-        requires { cpu ≡ at_reset }
-        ensures { result ≡ unstacked (started reads.now interrupts.now) }
+        requires { cpu ≡ at_reset marked }
+        ensures { result ≡ unstacked (started marked reads.now interrupts.now) }
     {
         Running {
             cpu,
@@ -51,8 +48,8 @@ impl<'a> Running<'a> {
     }
 
     /// How the run has ended, if it has.
-    pub fn ended(&self) -> Option<RunEnd>
-        ensures { option_map end_of result ≡ self.now.ended }
+    pub fn ended(&self) -> Option<MachineEnd>
+        ensures { result ≡ self.now.ended }
     {
         self.ended
     }
@@ -79,7 +76,7 @@ impl<'a> Running<'a> {
         let word = flash.word(pc);
         match decode(word, flash.word(pc.wrapping_add(1))) {
             Some(instr) => self.perform(flash, instr, word),
-            None => self.ended = Some(RunEnd::Bad(pc, word)),
+            None => self.ended = Some(MachineEnd::Bad { pc, word }),
         }
     }
 
@@ -103,8 +100,8 @@ impl<'a> Running<'a> {
             Effect::ReadDevice(address, register) => self.answer(address, register),
             Effect::WriteDevice(address, value) => self.event = Some(Event::Write(address, value)),
             Effect::Sleep => self.wake(word),
-            Effect::Halt => self.ended = Some(RunEnd::Stop(self.cpu.register(24))),
-            Effect::Outside => self.ended = Some(RunEnd::Bad(self.cpu.pc(), word)),
+            Effect::Halt => self.ended = Some(MachineEnd::Stop(self.cpu.register(24))),
+            Effect::Outside => self.ended = Some(MachineEnd::Bad { pc: self.cpu.pc(), word }),
         }
     }
 
@@ -115,7 +112,7 @@ impl<'a> Running<'a> {
         ensures { unstacked self.new ≡ unstacked (answered self.old.outside.reads address register self.old) }
     {
         match self.reads.split_first() {
-            None => self.ended = Some(RunEnd::Wants(address)),
+            None => self.ended = Some(MachineEnd::Wants(address)),
             Some((value, rest)) => {
                 self.cpu.set_register(register, *value);
                 self.event = Some(Event::Read(address, *value));
@@ -130,11 +127,10 @@ impl<'a> Running<'a> {
         ensures { unstacked self.new ≡ unstacked (woken self.old.outside.interrupts word self.old) }
     {
         match self.interrupts.split_first() {
-            None => self.ended = Some(RunEnd::Idle),
+            None => self.ended = Some(MachineEnd::Idle),
             Some((vector, rest)) => {
-                let sp = self.cpu.sp();
-                if sp <= 0x100 || sp >= 0x1100 {
-                    self.ended = Some(RunEnd::Bad(self.cpu.pc(), word));
+                if !can_push_two(&self.cpu) {
+                    self.ended = Some(MachineEnd::Bad { pc: self.cpu.pc(), word });
                     return;
                 }
                 let behind = self.cpu.pc().wrapping_add(1);
@@ -146,15 +142,4 @@ impl<'a> Running<'a> {
             }
         }
     }
-}
-
-// Pushes a word address, low byte first.
-fn push_two(cpu: &mut Cpu, address: u16)
-    requires { IsTrue (can_push_two cpu.old.sp) }
-    ensures { cpu.new ≡ with_pushed cpu.old address }
-{
-    let sp = cpu.sp();
-    cpu.set_sram(sp, (address % 256) as u8);
-    cpu.set_sram(sp - 1, (address / 256) as u8);
-    cpu.set_sp(sp - 2);
 }

@@ -3,7 +3,8 @@ use Rattle.std.specs.Prelude.{◌≡◌, refl, [], ◌∷◌, codes, Some, None}
 use Rattle.vg_meaning.specs.declared.event.Event.TheVariants.{Write}
 use Rattle.vg_meaning.specs.Ending.{Idle, Stop}
 use Rattle.vg_syntax.specs.declared.kind.Kind.TheVariants as kind
-use Rattle.vg_syntax.specs.Tree.{ArrayType, Assign, Block, Chain, CharType, ComponentDecl, DeviceDecl, EntryDecl, FieldDecl, Index, Member, MethodDecl, Name, NewArray, NoType, Node, Number, Postfix, ProgramDecl, RawType, RegisterDecl, Text, TypePart, Unary}
+use Rattle.vg_syntax.specs.Tree.{ArrayType, Assign, Block, Chain, CharType, ComponentDecl, DeviceDecl, EntryDecl, FieldDecl, Index, Member, MethodDecl}
+use Rattle.vg_syntax.specs.Tree.{Name, NewArray, NoType, Node, Number, Postfix, ProgramDecl, RawType, RegisterDecl, Text, TypePart, Unary}
 use Rattle.vg_source.specs.Program.{source_of}
 use Rattle.vg_examples.specs.Writing.{at, row, outcome_of}
 
@@ -16,7 +17,8 @@ index_below = Text (at 0 1 1) (row (
     (ComponentDecl (at 1 1 1) (codes "Main") (row (
     (FieldDecl (at 2 1 18) (codes "a") (ArrayType CharType) (NewArray (at 3 1 36) CharType (Number (at 4 1 45) (codes "3"))))
     ∷ (MethodDecl (at 5 1 49) (codes "main") [] NoType (Block (at 6 1 63) (row (
-    (Assign (at 7 1 65) (Postfix (at 8 1 65) (Name (at 9 1 65) (codes "M")) (row ((Member (at 10 1 66) (codes "PORTB")) ∷ []))) (Chain (at 11 1 75) (Postfix (at 12 1 75) (Name (at 13 1 75) (codes "a")) (row (
+    (Assign (at 7 1 65) (Postfix (at 8 1 65) (Name (at 9 1 65) (codes "M")) (row ((Member (at 10 1 66) (codes "PORTB")) ∷ [])))
+    (Chain (at 11 1 75) (Postfix (at 12 1 75) (Name (at 13 1 75) (codes "a")) (row (
     (Index (at 14 1 76) (Unary (at 15 1 77) (kind.Minus ∷ []) (Number (at 16 1 78) (codes "1"))))
     ∷ []))) (row ((TypePart (at 17 1 81) kind.Cast (RawType (codes "8"))) ∷ []))))
     ∷ []))))
@@ -38,7 +40,9 @@ index_above = Text (at 0 1 1) (row (
     (ComponentDecl (at 1 1 1) (codes "Main") (row (
     (FieldDecl (at 2 1 18) (codes "a") (ArrayType CharType) (NewArray (at 3 1 36) CharType (Number (at 4 1 45) (codes "3"))))
     ∷ (MethodDecl (at 5 1 49) (codes "main") [] NoType (Block (at 6 1 63) (row (
-    (Assign (at 7 1 65) (Postfix (at 8 1 65) (Name (at 9 1 65) (codes "M")) (row ((Member (at 10 1 66) (codes "PORTB")) ∷ []))) (Chain (at 11 1 75) (Postfix (at 12 1 75) (Name (at 13 1 75) (codes "a")) (row ((Index (at 14 1 76) (Number (at 15 1 77) (codes "3"))) ∷ []))) (row ((TypePart (at 16 1 80) kind.Cast (RawType (codes "8"))) ∷ []))))
+    (Assign (at 7 1 65) (Postfix (at 8 1 65) (Name (at 9 1 65) (codes "M")) (row ((Member (at 10 1 66) (codes "PORTB")) ∷ [])))
+    (Chain (at 11 1 75) (Postfix (at 12 1 75) (Name (at 13 1 75) (codes "a")) (row ((Index (at 14 1 76) (Number (at 15 1 77) (codes "3"))) ∷ [])))
+    (row ((TypePart (at 16 1 80) kind.Cast (RawType (codes "8"))) ∷ []))))
     ∷ []))))
     ∷ [])))
     ∷ (DeviceDecl (at 17 2 1) (codes "M") (row (
@@ -58,7 +62,9 @@ index_within = Text (at 0 1 1) (row (
     (ComponentDecl (at 1 1 1) (codes "Main") (row (
     (FieldDecl (at 2 1 18) (codes "a") (ArrayType CharType) (NewArray (at 3 1 36) CharType (Number (at 4 1 45) (codes "3"))))
     ∷ (MethodDecl (at 5 1 49) (codes "main") [] NoType (Block (at 6 1 63) (row (
-    (Assign (at 7 1 65) (Postfix (at 8 1 65) (Name (at 9 1 65) (codes "M")) (row ((Member (at 10 1 66) (codes "PORTB")) ∷ []))) (Chain (at 11 1 75) (Postfix (at 12 1 75) (Name (at 13 1 75) (codes "a")) (row ((Index (at 14 1 76) (Number (at 15 1 77) (codes "2"))) ∷ []))) (row ((TypePart (at 16 1 80) kind.Cast (RawType (codes "8"))) ∷ []))))
+    (Assign (at 7 1 65) (Postfix (at 8 1 65) (Name (at 9 1 65) (codes "M")) (row ((Member (at 10 1 66) (codes "PORTB")) ∷ [])))
+    (Chain (at 11 1 75) (Postfix (at 12 1 75) (Name (at 13 1 75) (codes "a")) (row ((Index (at 14 1 76) (Number (at 15 1 77) (codes "2"))) ∷ [])))
+    (row ((TypePart (at 16 1 80) kind.Cast (RawType (codes "8"))) ∷ []))))
     ∷ []))))
     ∷ [])))
     ∷ (DeviceDecl (at 17 2 1) (codes "M") (row (
@@ -78,7 +84,9 @@ index_empty = Text (at 0 1 1) (row (
     (ComponentDecl (at 1 1 1) (codes "Main") (row (
     (FieldDecl (at 2 1 18) (codes "a") (ArrayType CharType) (NewArray (at 3 1 36) CharType (Number (at 4 1 45) (codes "0"))))
     ∷ (MethodDecl (at 5 1 49) (codes "main") [] NoType (Block (at 6 1 63) (row (
-    (Assign (at 7 1 65) (Postfix (at 8 1 65) (Name (at 9 1 65) (codes "M")) (row ((Member (at 10 1 66) (codes "PORTB")) ∷ []))) (Chain (at 11 1 75) (Postfix (at 12 1 75) (Name (at 13 1 75) (codes "a")) (row ((Index (at 14 1 76) (Number (at 15 1 77) (codes "0"))) ∷ []))) (row ((TypePart (at 16 1 80) kind.Cast (RawType (codes "8"))) ∷ []))))
+    (Assign (at 7 1 65) (Postfix (at 8 1 65) (Name (at 9 1 65) (codes "M")) (row ((Member (at 10 1 66) (codes "PORTB")) ∷ [])))
+    (Chain (at 11 1 75) (Postfix (at 12 1 75) (Name (at 13 1 75) (codes "a")) (row ((Index (at 14 1 76) (Number (at 15 1 77) (codes "0"))) ∷ [])))
+    (row ((TypePart (at 16 1 80) kind.Cast (RawType (codes "8"))) ∷ []))))
     ∷ []))))
     ∷ [])))
     ∷ (DeviceDecl (at 17 2 1) (codes "M") (row (

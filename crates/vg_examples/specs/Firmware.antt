@@ -3,32 +3,38 @@ use Rattle.std.specs.Prelude.{◌≡◌, refl, [], ◌∷◌, codes, Some, None,
 use Rattle.vg_meaning.specs.declared.event.Event.TheVariants.{Read, Write, Enter}
 use Rattle.vg_meaning.specs.Ending.{Idle}
 use Rattle.vg_syntax.specs.declared.kind.Kind.TheVariants as kind
-use Rattle.vg_syntax.specs.Tree.{Arm, ArrayType, Assign, Block, BoolType, Call, Chain, CharType, ClassDecl, ClassType, ComponentDecl, ConstructorDecl, DeviceDecl, EntryDecl, Eval, False, FieldDecl, FunctionType, If, Index, IntType, Local, Member, MethodDecl, Name, NewObject, NoType, Node, Nothing, Null, Number, Part, Postfix, ProgramDecl, RawType, RegisterDecl, Return, StringLit, Text, TypePart, While}
+use Rattle.vg_syntax.specs.Tree.{Arm, ArrayType, Assign, Block, BoolType, Call, Chain, CharType, ClassDecl, ClassType, ComponentDecl, ConstructorDecl}
+use Rattle.vg_syntax.specs.Tree.{DeviceDecl, EntryDecl, Eval, False, FieldDecl, FunctionType, If, Index, IntType, Local, Member, MethodDecl, Name}
+use Rattle.vg_syntax.specs.Tree.{NewObject, NoType, Node, Nothing, Null, Number, Part, Postfix, ProgramDecl, RawType, RegisterDecl, Return, StringLit, Text}
+use Rattle.vg_syntax.specs.Tree.{TypePart, While}
 use Rattle.vg_source.specs.Program.{source_of}
 use Rattle.vg_examples.specs.Writing.{at, row, param, outcome_of}
 
 -- The button counts three equal reads before it reports.
 --   device M { register PINB = 0x36; register DDRB = 0x37; register PORTB = 0x38; register TX = 0x2C; }
---   class Task { field next: Task; field what: function();
---     constructor(w: function(), n: Task) { what = w; next = n; } }
---   class Button { field mask: raw.8; field same: int; field down: bool;
+--   class Task { field next: Task; field what: function(); constructor(w: function(), n: Task) { what = w; next = n; } }
+--   class Button {
+--     field mask: raw.8;
+--     field same: int;
+--     field down: bool;
 --     constructor(m: raw.8) { mask = m; }
 --     method poll(pins: raw.8): bool {
 --       local now: bool = (pins & mask) != 0x00;
---       if (now == down) { same = 0; return false; }
---       same = same + 1;
---       if (same < 3) { return false; }
---       down = now; same = 0;
---       return now; } }
+--       if (now == down) { same = 0; return false; } same = same + 1;
+--       if (same < 3) { return false; } down = now; same = 0; return now;
+--     }
+--   }
 --   component Main {
---     field button: Button = new Button(0x01); field tasks: Task;
---     field text: char[] = "on"; field lit: raw.8;
+--     field button: Button = new Button(0x01);
+--     field tasks: Task;
+--     field text: char[] = "on";
+--     field lit: raw.8;
 --     constructor() { tasks = new Task(Main.say, new Task(Main.flip, null)); }
 --     method flip() { lit = lit ^ 0x02; M.PORTB = lit; }
 --     method say() { local i: int = 0; while (i < text.length) { M.TX = text[i] :: raw.8; i = i + 1; } }
---     method tick() { if (button.poll(M.PINB)) { local t: Task = tasks;
---       while (t != null) { t.what(); t = t.next; } } }
---     method main() { M.DDRB = 0x02; M.PORTB = 0x00; } }
+--     method tick() { if (button.poll(M.PINB)) { local t: Task = tasks; while (t != null) { t.what(); t = t.next; } } }
+--     method main() { M.DDRB = 0x02; M.PORTB = 0x00; }
+--   }
 --   program Blink { entry main = Main.main; entry 15 = Main.tick; }
 abbrev pub firmware : Node
 firmware = Text (at 0 1 1) (row (
@@ -41,83 +47,106 @@ firmware = Text (at 0 1 1) (row (
     ∷ (ClassDecl (at 6 2 1) (codes "Task") None (row (
     (FieldDecl (at 7 2 14) (codes "next") (ClassType (codes "Task")) Nothing)
     ∷ (FieldDecl (at 8 2 32) (codes "what") (FunctionType NoType NoType) Nothing)
-    ∷ (ConstructorDecl (at 9 3 3) (param (codes "w") (FunctionType NoType NoType) ∷ param (codes "n") (ClassType (codes "Task")) ∷ []) false Nothing (Block (at 10 3 39) (row (
-    (Assign (at 11 3 41) (Name (at 12 3 41) (codes "what")) (Name (at 13 3 48) (codes "w")))
-    ∷ (Assign (at 14 3 51) (Name (at 15 3 51) (codes "next")) (Name (at 16 3 58) (codes "n")))
+    ∷ (ConstructorDecl (at 9 2 56) (param (codes "w") (FunctionType NoType NoType) ∷ param (codes "n") (ClassType (codes "Task")) ∷ []) false Nothing
+    (Block (at 10 2 92) (row (
+    (Assign (at 11 2 94) (Name (at 12 2 94) (codes "what")) (Name (at 13 2 101) (codes "w")))
+    ∷ (Assign (at 14 2 104) (Name (at 15 2 104) (codes "next")) (Name (at 16 2 111) (codes "n")))
     ∷ []))))
     ∷ [])))
-    ∷ (ClassDecl (at 17 4 1) (codes "Button") None (row (
-    (FieldDecl (at 18 4 16) (codes "mask") (RawType (codes "8")) Nothing)
-    ∷ (FieldDecl (at 19 4 35) (codes "same") IntType Nothing)
-    ∷ (FieldDecl (at 20 4 52) (codes "down") BoolType Nothing)
-    ∷ (ConstructorDecl (at 21 5 3) (param (codes "m") (RawType (codes "8")) ∷ []) false Nothing (Block (at 22 5 25) (row (
-    (Assign (at 23 5 27) (Name (at 24 5 27) (codes "mask")) (Name (at 25 5 34) (codes "m")))
+    ∷ (ClassDecl (at 17 3 1) (codes "Button") None (row (
+    (FieldDecl (at 18 4 3) (codes "mask") (RawType (codes "8")) Nothing)
+    ∷ (FieldDecl (at 19 5 3) (codes "same") IntType Nothing)
+    ∷ (FieldDecl (at 20 6 3) (codes "down") BoolType Nothing)
+    ∷ (ConstructorDecl (at 21 7 3) (param (codes "m") (RawType (codes "8")) ∷ []) false Nothing (Block (at 22 7 25) (row (
+    (Assign (at 23 7 27) (Name (at 24 7 27) (codes "mask")) (Name (at 25 7 34) (codes "m")))
     ∷ []))))
-    ∷ (MethodDecl (at 26 6 3) (codes "poll") (param (codes "pins") (RawType (codes "8")) ∷ []) BoolType (Block (at 27 6 34) (row (
-    (Local (at 28 7 5) (codes "now") BoolType (Chain (at 29 7 23) (Chain (at 30 7 24) (Name (at 31 7 24) (codes "pins")) (row ((Part (at 32 7 29) kind.And (Name (at 33 7 31) (codes "mask"))) ∷ []))) (row ((Part (at 34 7 37) kind.NotEqual (Number (at 35 7 40) (codes "0x00"))) ∷ []))))
-    ∷ (If (at 36 8 5) (Arm (Chain (at 37 8 9) (Name (at 38 8 9) (codes "now")) (row ((Part (at 39 8 13) kind.EqualEqual (Name (at 40 8 16) (codes "down"))) ∷ []))) (Block (at 41 8 22) (row (
-    (Assign (at 42 8 24) (Name (at 43 8 24) (codes "same")) (Number (at 44 8 31) (codes "0")))
-    ∷ (Return (at 45 8 34) (False (at 46 8 41)))
+    ∷ (MethodDecl (at 26 8 3) (codes "poll") (param (codes "pins") (RawType (codes "8")) ∷ []) BoolType (Block (at 27 8 34) (row (
+    (Local (at 28 9 5) (codes "now") BoolType
+    (Chain (at 29 9 23) (Chain (at 30 9 24) (Name (at 31 9 24) (codes "pins")) (row ((Part (at 32 9 29) kind.And (Name (at 33 9 31) (codes "mask"))) ∷ [])))
+    (row ((Part (at 34 9 37) kind.NotEqual (Number (at 35 9 40) (codes "0x00"))) ∷ []))))
+    ∷ (If (at 36 10 5) (Arm (Chain (at 37 10 9) (Name (at 38 10 9) (codes "now"))
+    (row ((Part (at 39 10 13) kind.EqualEqual (Name (at 40 10 16) (codes "down"))) ∷ []))) (Block (at 41 10 22) (row (
+    (Assign (at 42 10 24) (Name (at 43 10 24) (codes "same")) (Number (at 44 10 31) (codes "0")))
+    ∷ (Return (at 45 10 34) (False (at 46 10 41)))
     ∷ []))) Nothing) Nothing)
-    ∷ (Assign (at 47 9 5) (Name (at 48 9 5) (codes "same")) (Chain (at 49 9 12) (Name (at 50 9 12) (codes "same")) (row ((Part (at 51 9 17) kind.Plus (Number (at 52 9 19) (codes "1"))) ∷ []))))
-    ∷ (If (at 53 10 5) (Arm (Chain (at 54 10 9) (Name (at 55 10 9) (codes "same")) (row ((Part (at 56 10 14) kind.Less (Number (at 57 10 16) (codes "3"))) ∷ []))) (Block (at 58 10 19) (row ((Return (at 59 10 21) (False (at 60 10 28))) ∷ []))) Nothing) Nothing)
-    ∷ (Assign (at 61 11 5) (Name (at 62 11 5) (codes "down")) (Name (at 63 11 12) (codes "now")))
-    ∷ (Assign (at 64 11 17) (Name (at 65 11 17) (codes "same")) (Number (at 66 11 24) (codes "0")))
-    ∷ (Return (at 67 12 5) (Name (at 68 12 12) (codes "now")))
+    ∷ (Assign (at 47 10 50) (Name (at 48 10 50) (codes "same"))
+    (Chain (at 49 10 57) (Name (at 50 10 57) (codes "same")) (row ((Part (at 51 10 62) kind.Plus (Number (at 52 10 64) (codes "1"))) ∷ []))))
+    ∷ (If (at 53 11 5) (Arm (Chain (at 54 11 9) (Name (at 55 11 9) (codes "same"))
+    (row ((Part (at 56 11 14) kind.Less (Number (at 57 11 16) (codes "3"))) ∷ []))) (Block (at 58 11 19)
+    (row ((Return (at 59 11 21) (False (at 60 11 28))) ∷ []))) Nothing) Nothing)
+    ∷ (Assign (at 61 11 37) (Name (at 62 11 37) (codes "down")) (Name (at 63 11 44) (codes "now")))
+    ∷ (Assign (at 64 11 49) (Name (at 65 11 49) (codes "same")) (Number (at 66 11 56) (codes "0")))
+    ∷ (Return (at 67 11 59) (Name (at 68 11 66) (codes "now")))
     ∷ []))))
     ∷ [])))
-    ∷ (ComponentDecl (at 69 13 1) (codes "Main") (row (
-    (FieldDecl (at 70 14 3) (codes "button") (ClassType (codes "Button")) (NewObject (at 71 14 26) (codes "Button") (row ((Number (at 72 14 37) (codes "0x01")) ∷ []))))
-    ∷ (FieldDecl (at 73 14 44) (codes "tasks") (ClassType (codes "Task")) Nothing)
-    ∷ (FieldDecl (at 74 15 3) (codes "text") (ArrayType CharType) (StringLit (at 75 15 24) (codes "\"on\"")))
-    ∷ (FieldDecl (at 76 15 30) (codes "lit") (RawType (codes "8")) Nothing)
-    ∷ (ConstructorDecl (at 77 16 3) [] false Nothing (Block (at 78 16 17) (row (
-    (Assign (at 79 16 19) (Name (at 80 16 19) (codes "tasks")) (NewObject (at 81 16 27) (codes "Task") (row (
-    (Postfix (at 82 16 36) (Name (at 83 16 36) (codes "Main")) (row ((Member (at 84 16 40) (codes "say")) ∷ [])))
-    ∷ (NewObject (at 85 16 46) (codes "Task") (row (
-    (Postfix (at 86 16 55) (Name (at 87 16 55) (codes "Main")) (row ((Member (at 88 16 59) (codes "flip")) ∷ [])))
-    ∷ (Null (at 89 16 66))
+    ∷ (ComponentDecl (at 69 14 1) (codes "Main") (row (
+    (FieldDecl (at 70 15 3) (codes "button") (ClassType (codes "Button"))
+    (NewObject (at 71 15 26) (codes "Button") (row ((Number (at 72 15 37) (codes "0x01")) ∷ []))))
+    ∷ (FieldDecl (at 73 16 3) (codes "tasks") (ClassType (codes "Task")) Nothing)
+    ∷ (FieldDecl (at 74 17 3) (codes "text") (ArrayType CharType) (StringLit (at 75 17 24) (codes "\"on\"")))
+    ∷ (FieldDecl (at 76 18 3) (codes "lit") (RawType (codes "8")) Nothing)
+    ∷ (ConstructorDecl (at 77 19 3) [] false Nothing (Block (at 78 19 17) (row (
+    (Assign (at 79 19 19) (Name (at 80 19 19) (codes "tasks")) (NewObject (at 81 19 27) (codes "Task") (row (
+    (Postfix (at 82 19 36) (Name (at 83 19 36) (codes "Main")) (row ((Member (at 84 19 40) (codes "say")) ∷ [])))
+    ∷ (NewObject (at 85 19 46) (codes "Task") (row (
+    (Postfix (at 86 19 55) (Name (at 87 19 55) (codes "Main")) (row ((Member (at 88 19 59) (codes "flip")) ∷ [])))
+    ∷ (Null (at 89 19 66))
     ∷ [])))
     ∷ []))))
     ∷ []))))
-    ∷ (MethodDecl (at 90 17 3) (codes "flip") [] NoType (Block (at 91 17 17) (row (
-    (Assign (at 92 17 19) (Name (at 93 17 19) (codes "lit")) (Chain (at 94 17 25) (Name (at 95 17 25) (codes "lit")) (row ((Part (at 96 17 29) kind.Xor (Number (at 97 17 31) (codes "0x02"))) ∷ []))))
-    ∷ (Assign (at 98 17 37) (Postfix (at 99 17 37) (Name (at 100 17 37) (codes "M")) (row ((Member (at 101 17 38) (codes "PORTB")) ∷ []))) (Name (at 102 17 47) (codes "lit")))
+    ∷ (MethodDecl (at 90 20 3) (codes "flip") [] NoType (Block (at 91 20 17) (row (
+    (Assign (at 92 20 19) (Name (at 93 20 19) (codes "lit"))
+    (Chain (at 94 20 25) (Name (at 95 20 25) (codes "lit")) (row ((Part (at 96 20 29) kind.Xor (Number (at 97 20 31) (codes "0x02"))) ∷ []))))
+    ∷ (Assign (at 98 20 37) (Postfix (at 99 20 37) (Name (at 100 20 37) (codes "M")) (row ((Member (at 101 20 38) (codes "PORTB")) ∷ [])))
+    (Name (at 102 20 47) (codes "lit")))
     ∷ []))))
-    ∷ (MethodDecl (at 103 18 3) (codes "say") [] NoType (Block (at 104 18 16) (row (
-    (Local (at 105 18 18) (codes "i") IntType (Number (at 106 18 33) (codes "0")))
-    ∷ (While (at 107 18 36) (Chain (at 108 18 43) (Name (at 109 18 43) (codes "i")) (row (
-    (Part (at 110 18 45) kind.Less (Postfix (at 111 18 47) (Name (at 112 18 47) (codes "text")) (row ((Member (at 113 18 51) (codes "length")) ∷ []))))
-    ∷ []))) (Block (at 114 18 60) (row (
-    (Assign (at 115 18 62) (Postfix (at 116 18 62) (Name (at 117 18 62) (codes "M")) (row ((Member (at 118 18 63) (codes "TX")) ∷ []))) (Chain (at 119 18 69) (Postfix (at 120 18 69) (Name (at 121 18 69) (codes "text")) (row ((Index (at 122 18 73) (Name (at 123 18 74) (codes "i"))) ∷ []))) (row ((TypePart (at 124 18 77) kind.Cast (RawType (codes "8"))) ∷ []))))
-    ∷ (Assign (at 125 18 87) (Name (at 126 18 87) (codes "i")) (Chain (at 127 18 91) (Name (at 128 18 91) (codes "i")) (row ((Part (at 129 18 93) kind.Plus (Number (at 130 18 95) (codes "1"))) ∷ []))))
+    ∷ (MethodDecl (at 103 21 3) (codes "say") [] NoType (Block (at 104 21 16) (row (
+    (Local (at 105 21 18) (codes "i") IntType (Number (at 106 21 33) (codes "0")))
+    ∷ (While (at 107 21 36) (Chain (at 108 21 43) (Name (at 109 21 43) (codes "i")) (row (
+    (Part (at 110 21 45) kind.Less (Postfix (at 111 21 47) (Name (at 112 21 47) (codes "text")) (row ((Member (at 113 21 51) (codes "length")) ∷ []))))
+    ∷ []))) (Block (at 114 21 60) (row (
+    (Assign (at 115 21 62) (Postfix (at 116 21 62) (Name (at 117 21 62) (codes "M")) (row ((Member (at 118 21 63) (codes "TX")) ∷ [])))
+    (Chain (at 119 21 69) (Postfix (at 120 21 69) (Name (at 121 21 69) (codes "text")) (row ((Index (at 122 21 73) (Name (at 123 21 74) (codes "i"))) ∷ [])))
+    (row ((TypePart (at 124 21 77) kind.Cast (RawType (codes "8"))) ∷ []))))
+    ∷ (Assign (at 125 21 87) (Name (at 126 21 87) (codes "i"))
+    (Chain (at 127 21 91) (Name (at 128 21 91) (codes "i")) (row ((Part (at 129 21 93) kind.Plus (Number (at 130 21 95) (codes "1"))) ∷ []))))
     ∷ []))))
     ∷ []))))
-    ∷ (MethodDecl (at 131 19 3) (codes "tick") [] NoType (Block (at 132 19 17) (row (
-    (If (at 133 19 19) (Arm (Postfix (at 134 19 23) (Name (at 135 19 23) (codes "button")) (row (
-    (Member (at 136 19 29) (codes "poll"))
-    ∷ (Call (at 137 19 34) (row (
-    (Postfix (at 138 19 35) (Name (at 139 19 35) (codes "M")) (row ((Member (at 140 19 36) (codes "PINB")) ∷ [])))
+    ∷ (MethodDecl (at 131 22 3) (codes "tick") [] NoType (Block (at 132 22 17) (row (
+    (If (at 133 22 19) (Arm (Postfix (at 134 22 23) (Name (at 135 22 23) (codes "button")) (row (
+    (Member (at 136 22 29) (codes "poll"))
+    ∷ (Call (at 137 22 34) (row (
+    (Postfix (at 138 22 35) (Name (at 139 22 35) (codes "M")) (row ((Member (at 140 22 36) (codes "PINB")) ∷ [])))
     ∷ [])))
-    ∷ []))) (Block (at 141 19 44) (row (
-    (Local (at 142 19 46) (codes "t") (ClassType (codes "Task")) (Name (at 143 19 62) (codes "tasks")))
-    ∷ (While (at 144 20 5) (Chain (at 145 20 12) (Name (at 146 20 12) (codes "t")) (row ((Part (at 147 20 14) kind.NotEqual (Null (at 148 20 17))) ∷ []))) (Block (at 149 20 23) (row (
-    (Eval (at 150 20 25) (Postfix (at 151 20 25) (Name (at 152 20 25) (codes "t")) (row ((Member (at 153 20 26) (codes "what")) ∷ (Call (at 154 20 31) Nothing) ∷ []))))
-    ∷ (Assign (at 155 20 35) (Name (at 156 20 35) (codes "t")) (Postfix (at 157 20 39) (Name (at 158 20 39) (codes "t")) (row ((Member (at 159 20 40) (codes "next")) ∷ []))))
+    ∷ []))) (Block (at 141 22 44) (row (
+    (Local (at 142 22 46) (codes "t") (ClassType (codes "Task")) (Name (at 143 22 62) (codes "tasks")))
+    ∷ (While (at 144 22 69) (Chain (at 145 22 76) (Name (at 146 22 76) (codes "t")) (row ((Part (at 147 22 78) kind.NotEqual (Null (at 148 22 81))) ∷ [])))
+    (Block (at 149 22 87) (row (
+    (Eval (at 150 22 89) (Postfix (at 151 22 89) (Name (at 152 22 89) (codes "t"))
+    (row ((Member (at 153 22 90) (codes "what")) ∷ (Call (at 154 22 95) Nothing) ∷ []))))
+    ∷ (Assign (at 155 22 99) (Name (at 156 22 99) (codes "t"))
+    (Postfix (at 157 22 103) (Name (at 158 22 103) (codes "t")) (row ((Member (at 159 22 104) (codes "next")) ∷ []))))
     ∷ []))))
     ∷ []))) Nothing) Nothing)
     ∷ []))))
-    ∷ (MethodDecl (at 160 21 3) (codes "main") [] NoType (Block (at 161 21 17) (row (
-    (Assign (at 162 21 19) (Postfix (at 163 21 19) (Name (at 164 21 19) (codes "M")) (row ((Member (at 165 21 20) (codes "DDRB")) ∷ []))) (Number (at 166 21 28) (codes "0x02")))
-    ∷ (Assign (at 167 21 34) (Postfix (at 168 21 34) (Name (at 169 21 34) (codes "M")) (row ((Member (at 170 21 35) (codes "PORTB")) ∷ []))) (Number (at 171 21 44) (codes "0x00")))
+    ∷ (MethodDecl (at 160 23 3) (codes "main") [] NoType (Block (at 161 23 17) (row (
+    (Assign (at 162 23 19) (Postfix (at 163 23 19) (Name (at 164 23 19) (codes "M")) (row ((Member (at 165 23 20) (codes "DDRB")) ∷ [])))
+    (Number (at 166 23 28) (codes "0x02")))
+    ∷ (Assign (at 167 23 34) (Postfix (at 168 23 34) (Name (at 169 23 34) (codes "M")) (row ((Member (at 170 23 35) (codes "PORTB")) ∷ [])))
+    (Number (at 171 23 44) (codes "0x00")))
     ∷ []))))
     ∷ [])))
-    ∷ (ProgramDecl (at 172 22 1) (codes "Blink") (row (
-    (EntryDecl (at 173 22 17) (codes "main") (codes "Main") (codes "main"))
-    ∷ (EntryDecl (at 174 22 41) (codes "15") (codes "Main") (codes "tick"))
+    ∷ (ProgramDecl (at 172 25 1) (codes "Blink") (row (
+    (EntryDecl (at 173 25 17) (codes "main") (codes "Main") (codes "main"))
+    ∷ (EntryDecl (at 174 25 41) (codes "15") (codes "Main") (codes "tick"))
     ∷ [])))
     ∷ []))
 
 firmware_runs : outcome_of (source_of firmware) 1000 None (1 ∷ 1 ∷ 1 ∷ 1 ∷ []) (15 ∷ 15 ∷ 15 ∷ 15 ∷ []) 1000
-    ≡ Some (record { trace = Write 0x37 0x02 ∷ Write 0x38 0x00 ∷ Enter 15 ∷ Read 0x36 0x01 ∷ Enter 15 ∷ Read 0x36 0x01 ∷ Enter 15 ∷ Read 0x36 0x01 ∷ Write 0x2c 0x6f ∷ Write 0x2c 0x6e ∷ Write 0x38 0x02 ∷ Enter 15 ∷ Read 0x36 0x01 ∷ []; ending = Idle })
+    ≡ Some (record {
+      trace =
+          Write 0x37 0x02 ∷ Write 0x38 0x00 ∷ Enter 15 ∷ Read 0x36 0x01 ∷ Enter 15 ∷ Read 0x36 0x01 ∷ Enter 15 ∷ Read 0x36 0x01 ∷ Write 0x2c 0x6f ∷ Write 0x2c
+          0x6e ∷ Write 0x38 0x02 ∷ Enter 15 ∷ Read 0x36 0x01 ∷ [];
+      ending = Idle;
+    })
 firmware_runs = refl

@@ -2,7 +2,8 @@
 use Rattle.std.specs.Prelude.{◌≡◌, refl, [], ◌∷◌, codes, Some, None}
 use Rattle.vg_meaning.specs.declared.event.Event.TheVariants.{Write, Enter}
 use Rattle.vg_meaning.specs.Ending.{Idle, Beyond}
-use Rattle.vg_syntax.specs.Tree.{Assign, Block, ComponentDecl, DeviceDecl, EntryDecl, Member, MethodDecl, Name, NoType, Node, Number, Postfix, ProgramDecl, RegisterDecl, Text}
+use Rattle.vg_syntax.specs.Tree.{Assign, Block, ComponentDecl, DeviceDecl, EntryDecl, Member, MethodDecl, Name, NoType, Node, Number, Postfix, ProgramDecl}
+use Rattle.vg_syntax.specs.Tree.{RegisterDecl, Text}
 use Rattle.vg_source.specs.Program.{source_of}
 use Rattle.vg_examples.specs.Writing.{at, row, outcome_of}
 
@@ -14,10 +15,12 @@ abbrev pub handlers : Node
 handlers = Text (at 0 1 1) (row (
     (ComponentDecl (at 1 1 1) (codes "Main") (row (
     (MethodDecl (at 2 1 18) (codes "main") [] NoType (Block (at 3 1 32) (row (
-    (Assign (at 4 1 34) (Postfix (at 5 1 34) (Name (at 6 1 34) (codes "M")) (row ((Member (at 7 1 35) (codes "PORTB")) ∷ []))) (Number (at 8 1 44) (codes "0x01")))
+    (Assign (at 4 1 34) (Postfix (at 5 1 34) (Name (at 6 1 34) (codes "M")) (row ((Member (at 7 1 35) (codes "PORTB")) ∷ [])))
+    (Number (at 8 1 44) (codes "0x01")))
     ∷ []))))
     ∷ (MethodDecl (at 9 1 52) (codes "tick") [] NoType (Block (at 10 1 66) (row (
-    (Assign (at 11 1 68) (Postfix (at 12 1 68) (Name (at 13 1 68) (codes "M")) (row ((Member (at 14 1 69) (codes "PORTB")) ∷ []))) (Number (at 15 1 78) (codes "0x02")))
+    (Assign (at 11 1 68) (Postfix (at 12 1 68) (Name (at 13 1 68) (codes "M")) (row ((Member (at 14 1 69) (codes "PORTB")) ∷ [])))
+    (Number (at 15 1 78) (codes "0x02")))
     ∷ []))))
     ∷ [])))
     ∷ (DeviceDecl (at 16 2 1) (codes "M") (row (

@@ -2,7 +2,8 @@
 use Rattle.std.specs.Prelude.{◌≡◌, refl, [], ◌∷◌, codes, Some, None, false}
 use Rattle.vg_meaning.specs.Ending.{Idle}
 use Rattle.vg_syntax.specs.declared.kind.Kind.TheVariants as kind
-use Rattle.vg_syntax.specs.Tree.{Assign, Block, Chain, ComponentDecl, ConstructorDecl, DeviceDecl, EntryDecl, IntType, Local, MethodDecl, Name, NoType, Node, Nothing, Number, Part, ProgramDecl, RegisterDecl, Text, While}
+use Rattle.vg_syntax.specs.Tree.{Assign, Block, Chain, ComponentDecl, ConstructorDecl, DeviceDecl, EntryDecl, IntType, Local, MethodDecl, Name, NoType}
+use Rattle.vg_syntax.specs.Tree.{Node, Nothing, Number, Part, ProgramDecl, RegisterDecl, Text, While}
 use Rattle.vg_meaning.specs.Answer.{OutOfClock}
 use Rattle.vg_source.specs.Program.{source_of}
 use Rattle.vg_source.specs.Session.{started, Failed}
@@ -17,8 +18,10 @@ init_clock = Text (at 0 1 1) (row (
     (ComponentDecl (at 1 1 1) (codes "Main") (row (
     (ConstructorDecl (at 2 1 18) [] false Nothing (Block (at 3 1 32) (row (
     (Local (at 4 1 34) (codes "i") IntType (Number (at 5 1 49) (codes "0")))
-    ∷ (While (at 6 1 52) (Chain (at 7 1 59) (Name (at 8 1 59) (codes "i")) (row ((Part (at 9 1 61) kind.Less (Number (at 10 1 63) (codes "9"))) ∷ []))) (Block (at 11 1 66) (row (
-    (Assign (at 12 1 68) (Name (at 13 1 68) (codes "i")) (Chain (at 14 1 72) (Name (at 15 1 72) (codes "i")) (row ((Part (at 16 1 74) kind.Plus (Number (at 17 1 76) (codes "1"))) ∷ []))))
+    ∷ (While (at 6 1 52) (Chain (at 7 1 59) (Name (at 8 1 59) (codes "i")) (row ((Part (at 9 1 61) kind.Less (Number (at 10 1 63) (codes "9"))) ∷ [])))
+    (Block (at 11 1 66) (row (
+    (Assign (at 12 1 68) (Name (at 13 1 68) (codes "i"))
+    (Chain (at 14 1 72) (Name (at 15 1 72) (codes "i")) (row ((Part (at 16 1 74) kind.Plus (Number (at 17 1 76) (codes "1"))) ∷ []))))
     ∷ []))))
     ∷ []))))
     ∷ (MethodDecl (at 18 1 83) (codes "main") [] NoType (Block (at 19 1 97) Nothing))

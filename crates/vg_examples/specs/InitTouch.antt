@@ -1,6 +1,7 @@
 -- A device write at initialisation.
 use Rattle.std.specs.Prelude.{◌≡◌, refl, [], ◌∷◌, codes, false}
-use Rattle.vg_syntax.specs.Tree.{Assign, Block, ComponentDecl, ConstructorDecl, DeviceDecl, EntryDecl, Member, MethodDecl, Name, NoType, Node, Nothing, Number, Postfix, ProgramDecl, RegisterDecl, Text}
+use Rattle.vg_syntax.specs.Tree.{Assign, Block, ComponentDecl, ConstructorDecl, DeviceDecl, EntryDecl, Member, MethodDecl, Name, NoType, Node, Nothing}
+use Rattle.vg_syntax.specs.Tree.{Number, Postfix, ProgramDecl, RegisterDecl, Text}
 use Rattle.vg_meaning.specs.Answer.{Touches}
 use Rattle.vg_source.specs.Program.{source_of}
 use Rattle.vg_source.specs.Session.{started, Failed}
@@ -14,7 +15,8 @@ abbrev pub init_touch : Node
 init_touch = Text (at 0 1 1) (row (
     (ComponentDecl (at 1 1 1) (codes "Main") (row (
     (ConstructorDecl (at 2 1 18) [] false Nothing (Block (at 3 1 32) (row (
-    (Assign (at 4 1 34) (Postfix (at 5 1 34) (Name (at 6 1 34) (codes "M")) (row ((Member (at 7 1 35) (codes "PORTB")) ∷ []))) (Number (at 8 1 44) (codes "0x01")))
+    (Assign (at 4 1 34) (Postfix (at 5 1 34) (Name (at 6 1 34) (codes "M")) (row ((Member (at 7 1 35) (codes "PORTB")) ∷ [])))
+    (Number (at 8 1 44) (codes "0x01")))
     ∷ []))))
     ∷ (MethodDecl (at 9 1 52) (codes "main") [] NoType (Block (at 10 1 66) Nothing))
     ∷ [])))

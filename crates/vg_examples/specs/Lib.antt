@@ -26,3 +26,4 @@ pub mod Literals
 pub mod Control
 pub mod Dispatch
 pub mod Idioms
+pub mod Illegal

@@ -1,7 +1,8 @@
 -- A negative length at initialisation.
 use Rattle.std.specs.Prelude.{◌≡◌, refl, [], ◌∷◌, codes, Some}
 use Rattle.vg_syntax.specs.declared.kind.Kind.TheVariants as kind
-use Rattle.vg_syntax.specs.Tree.{ArrayType, Block, CharType, ComponentDecl, DeviceDecl, EntryDecl, FieldDecl, MethodDecl, NewArray, NoType, Node, Nothing, Number, ProgramDecl, RegisterDecl, Text, Unary}
+use Rattle.vg_syntax.specs.Tree.{ArrayType, Block, CharType, ComponentDecl, DeviceDecl, EntryDecl, FieldDecl, MethodDecl, NewArray, NoType, Node, Nothing}
+use Rattle.vg_syntax.specs.Tree.{Number, ProgramDecl, RegisterDecl, Text, Unary}
 use Rattle.vg_meaning.specs.Answer.{Stops}
 use Rattle.vg_source.specs.Program.{source_of}
 use Rattle.vg_source.specs.Session.{started, Failed}
@@ -14,7 +15,8 @@ use Rattle.vg_examples.specs.Writing.{at, row}
 abbrev pub negative_length : Node
 negative_length = Text (at 0 1 1) (row (
     (ComponentDecl (at 1 1 1) (codes "Main") (row (
-    (FieldDecl (at 2 1 18) (codes "a") (ArrayType CharType) (NewArray (at 3 1 36) CharType (Unary (at 4 1 45) (kind.Minus ∷ []) (Number (at 5 1 46) (codes "1")))))
+    (FieldDecl (at 2 1 18) (codes "a") (ArrayType CharType)
+    (NewArray (at 3 1 36) CharType (Unary (at 4 1 45) (kind.Minus ∷ []) (Number (at 5 1 46) (codes "1")))))
     ∷ (MethodDecl (at 6 1 50) (codes "main") [] NoType (Block (at 7 1 64) Nothing))
     ∷ [])))
     ∷ (DeviceDecl (at 8 2 1) (codes "M") (row (

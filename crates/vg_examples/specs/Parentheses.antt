@@ -3,7 +3,9 @@ use Rattle.std.specs.Prelude.{◌≡◌, refl, [], ◌∷◌, codes, Some, None}
 use Rattle.vg_meaning.specs.declared.event.Event.TheVariants.{Read, Write}
 use Rattle.vg_meaning.specs.Ending.{Idle, Stop}
 use Rattle.vg_syntax.specs.declared.kind.Kind.TheVariants as kind
-use Rattle.vg_syntax.specs.Tree.{Arm, Assign, Block, Call, Chain, ClassDecl, ClassType, ComponentDecl, DeviceDecl, EntryDecl, Eval, FieldDecl, If, IntType, Local, Member, MethodDecl, Name, NoType, Node, Nothing, Null, Number, Part, Postfix, ProgramDecl, RawType, RegisterDecl, Text, TypePart}
+use Rattle.vg_syntax.specs.Tree.{Arm, Assign, Block, Call, Chain, ClassDecl, ClassType, ComponentDecl, DeviceDecl, EntryDecl, Eval, FieldDecl, If, IntType}
+use Rattle.vg_syntax.specs.Tree.{Local, Member, MethodDecl, Name, NoType, Node, Nothing, Null, Number, Part, Postfix, ProgramDecl, RawType, RegisterDecl}
+use Rattle.vg_syntax.specs.Tree.{Text, TypePart}
 use Rattle.vg_source.specs.Program.{source_of}
 use Rattle.vg_examples.specs.Writing.{at, row, param, outcome_of}
 
@@ -69,34 +71,44 @@ called_value = Text (at 0 1 1) (row (
     ∷ []))
 
 -- A component, a device, a local and a name in parentheses; and null is null.
---   component Main { method f() { M.PORTB = 0x06; }
---     method main() { local x: int; (M).PORTB = 0x05; (Main).f(); (f)(); (x) = 7; M.PORTB = (x) :: raw.8; if (null == null) { M.PORTB = 0x08; } } }
+--   component Main {
+--     method f() { M.PORTB = 0x06; }
+--     method main() {
+--       local x: int; (M).PORTB = 0x05; (Main).f(); (f)(); (x) = 7; M.PORTB = (x) :: raw.8;
+--       if (null == null) { M.PORTB = 0x08; }
+--     }
+--   }
 --   device M { register PINB = 0x36; register PORTB = 0x38; register INA = 0x39; }
 --   program P { entry main = Main.main; }
 abbrev pub in_parentheses : Node
 in_parentheses = Text (at 0 1 1) (row (
     (ComponentDecl (at 1 1 1) (codes "Main") (row (
-    (MethodDecl (at 2 1 18) (codes "f") [] NoType (Block (at 3 1 29) (row (
-    (Assign (at 4 1 31) (Postfix (at 5 1 31) (Name (at 6 1 31) (codes "M")) (row ((Member (at 7 1 32) (codes "PORTB")) ∷ []))) (Number (at 8 1 41) (codes "0x06")))
+    (MethodDecl (at 2 2 3) (codes "f") [] NoType (Block (at 3 2 14) (row (
+    (Assign (at 4 2 16) (Postfix (at 5 2 16) (Name (at 6 2 16) (codes "M")) (row ((Member (at 7 2 17) (codes "PORTB")) ∷ [])))
+    (Number (at 8 2 26) (codes "0x06")))
     ∷ []))))
-    ∷ (MethodDecl (at 9 2 3) (codes "main") [] NoType (Block (at 10 2 17) (row (
-    (Local (at 11 2 19) (codes "x") IntType Nothing)
-    ∷ (Assign (at 12 2 33) (Postfix (at 13 2 33) (Name (at 14 2 34) (codes "M")) (row ((Member (at 15 2 36) (codes "PORTB")) ∷ []))) (Number (at 16 2 45) (codes "0x05")))
-    ∷ (Eval (at 17 2 51) (Postfix (at 18 2 51) (Name (at 19 2 52) (codes "Main")) (row ((Member (at 20 2 57) (codes "f")) ∷ (Call (at 21 2 59) Nothing) ∷ []))))
-    ∷ (Eval (at 22 2 63) (Postfix (at 23 2 63) (Name (at 24 2 64) (codes "f")) (row ((Call (at 25 2 66) Nothing) ∷ []))))
-    ∷ (Assign (at 26 2 70) (Name (at 27 2 71) (codes "x")) (Number (at 28 2 76) (codes "7")))
-    ∷ (Assign (at 29 2 79) (Postfix (at 30 2 79) (Name (at 31 2 79) (codes "M")) (row ((Member (at 32 2 80) (codes "PORTB")) ∷ []))) (Chain (at 33 2 89) (Name (at 34 2 90) (codes "x")) (row ((TypePart (at 35 2 93) kind.Cast (RawType (codes "8"))) ∷ []))))
-    ∷ (If (at 36 2 103) (Arm (Chain (at 37 2 107) (Null (at 38 2 107)) (row ((Part (at 39 2 112) kind.EqualEqual (Null (at 40 2 115))) ∷ []))) (Block (at 41 2 121) (row (
-    (Assign (at 42 2 123) (Postfix (at 43 2 123) (Name (at 44 2 123) (codes "M")) (row ((Member (at 45 2 124) (codes "PORTB")) ∷ []))) (Number (at 46 2 133) (codes "0x08")))
+    ∷ (MethodDecl (at 9 3 3) (codes "main") [] NoType (Block (at 10 3 17) (row (
+    (Local (at 11 4 5) (codes "x") IntType Nothing)
+    ∷ (Assign (at 12 4 19) (Postfix (at 13 4 19) (Name (at 14 4 20) (codes "M")) (row ((Member (at 15 4 22) (codes "PORTB")) ∷ [])))
+    (Number (at 16 4 31) (codes "0x05")))
+    ∷ (Eval (at 17 4 37) (Postfix (at 18 4 37) (Name (at 19 4 38) (codes "Main")) (row ((Member (at 20 4 43) (codes "f")) ∷ (Call (at 21 4 45) Nothing) ∷ []))))
+    ∷ (Eval (at 22 4 49) (Postfix (at 23 4 49) (Name (at 24 4 50) (codes "f")) (row ((Call (at 25 4 52) Nothing) ∷ []))))
+    ∷ (Assign (at 26 4 56) (Name (at 27 4 57) (codes "x")) (Number (at 28 4 62) (codes "7")))
+    ∷ (Assign (at 29 4 65) (Postfix (at 30 4 65) (Name (at 31 4 65) (codes "M")) (row ((Member (at 32 4 66) (codes "PORTB")) ∷ [])))
+    (Chain (at 33 4 75) (Name (at 34 4 76) (codes "x")) (row ((TypePart (at 35 4 79) kind.Cast (RawType (codes "8"))) ∷ []))))
+    ∷ (If (at 36 5 5) (Arm (Chain (at 37 5 9) (Null (at 38 5 9)) (row ((Part (at 39 5 14) kind.EqualEqual (Null (at 40 5 17))) ∷ [])))
+    (Block (at 41 5 23) (row (
+    (Assign (at 42 5 25) (Postfix (at 43 5 25) (Name (at 44 5 25) (codes "M")) (row ((Member (at 45 5 26) (codes "PORTB")) ∷ [])))
+    (Number (at 46 5 35) (codes "0x08")))
     ∷ []))) Nothing) Nothing)
     ∷ []))))
     ∷ [])))
-    ∷ (DeviceDecl (at 47 3 1) (codes "M") (row (
-    (RegisterDecl (at 48 3 12) (codes "PINB") (codes "0x36"))
-    ∷ (RegisterDecl (at 49 3 34) (codes "PORTB") (codes "0x38"))
-    ∷ (RegisterDecl (at 50 3 57) (codes "INA") (codes "0x39"))
+    ∷ (DeviceDecl (at 47 8 1) (codes "M") (row (
+    (RegisterDecl (at 48 8 12) (codes "PINB") (codes "0x36"))
+    ∷ (RegisterDecl (at 49 8 34) (codes "PORTB") (codes "0x38"))
+    ∷ (RegisterDecl (at 50 8 57) (codes "INA") (codes "0x39"))
     ∷ [])))
-    ∷ (ProgramDecl (at 51 4 1) (codes "P") (row ((EntryDecl (at 52 4 13) (codes "main") (codes "Main") (codes "main")) ∷ [])))
+    ∷ (ProgramDecl (at 51 9 1) (codes "P") (row ((EntryDecl (at 52 9 13) (codes "main") (codes "Main") (codes "main")) ∷ [])))
     ∷ []))
 
 called_method_runs : outcome_of (source_of called_method) 1000 None (9 ∷ []) [] 1000

@@ -3,36 +3,43 @@ use Rattle.std.specs.Prelude.{◌≡◌, refl, [], ◌∷◌, codes, Some, None}
 use Rattle.vg_meaning.specs.declared.event.Event.TheVariants.{Write}
 use Rattle.vg_meaning.specs.Ending.{Idle, Deep}
 use Rattle.vg_syntax.specs.declared.kind.Kind.TheVariants as kind
-use Rattle.vg_syntax.specs.Tree.{Arm, Assign, Block, Call, Chain, ComponentDecl, DeviceDecl, EntryDecl, If, IntType, Member, MethodDecl, Name, NoType, Node, Nothing, Number, Part, Postfix, ProgramDecl, RawType, RegisterDecl, Return, Text, TypePart}
+use Rattle.vg_syntax.specs.Tree.{Arm, Assign, Block, Call, Chain, ComponentDecl, DeviceDecl, EntryDecl, If, IntType, Member, MethodDecl, Name, NoType, Node}
+use Rattle.vg_syntax.specs.Tree.{Nothing, Number, Part, Postfix, ProgramDecl, RawType, RegisterDecl, Return, Text, TypePart}
 use Rattle.vg_source.specs.Program.{source_of}
 use Rattle.vg_source.specs.Peak.{peak, costs}
 use Rattle.vg_examples.specs.Writing.{at, row, param, outcome_of, session_after}
 
 -- Six calls of down are active below main.
---   component Main { method down(n: int): int { if (n == 0) { return 0; } return down(n - 1) + 1; } method main() { M.PORTB = down(5) :: raw.8; } }
+--   component Main {
+--     method down(n: int): int { if (n == 0) { return 0; } return down(n - 1) + 1; }
+--     method main() { M.PORTB = down(5) :: raw.8; }
+--   }
 --   device M { register PINB = 0x36; register PORTB = 0x38; register INA = 0x39; }
 --   program P { entry main = Main.main; }
 abbrev pub recursion : Node
 recursion = Text (at 0 1 1) (row (
     (ComponentDecl (at 1 1 1) (codes "Main") (row (
-    (MethodDecl (at 2 1 18) (codes "down") (param (codes "n") IntType ∷ []) IntType (Block (at 3 1 43) (row (
-    (If (at 4 1 45) (Arm (Chain (at 5 1 49) (Name (at 6 1 49) (codes "n")) (row ((Part (at 7 1 51) kind.EqualEqual (Number (at 8 1 54) (codes "0"))) ∷ []))) (Block (at 9 1 57) (row ((Return (at 10 1 59) (Number (at 11 1 66) (codes "0"))) ∷ []))) Nothing) Nothing)
-    ∷ (Return (at 12 1 71) (Chain (at 13 1 78) (Postfix (at 14 1 78) (Name (at 15 1 78) (codes "down")) (row (
-    (Call (at 16 1 82) (row (
-    (Chain (at 17 1 83) (Name (at 18 1 83) (codes "n")) (row ((Part (at 19 1 85) kind.Minus (Number (at 20 1 87) (codes "1"))) ∷ [])))
+    (MethodDecl (at 2 2 3) (codes "down") (param (codes "n") IntType ∷ []) IntType (Block (at 3 2 28) (row (
+    (If (at 4 2 30) (Arm (Chain (at 5 2 34) (Name (at 6 2 34) (codes "n")) (row ((Part (at 7 2 36) kind.EqualEqual (Number (at 8 2 39) (codes "0"))) ∷ [])))
+    (Block (at 9 2 42) (row ((Return (at 10 2 44) (Number (at 11 2 51) (codes "0"))) ∷ []))) Nothing) Nothing)
+    ∷ (Return (at 12 2 56) (Chain (at 13 2 63) (Postfix (at 14 2 63) (Name (at 15 2 63) (codes "down")) (row (
+    (Call (at 16 2 67) (row (
+    (Chain (at 17 2 68) (Name (at 18 2 68) (codes "n")) (row ((Part (at 19 2 70) kind.Minus (Number (at 20 2 72) (codes "1"))) ∷ [])))
     ∷ [])))
-    ∷ []))) (row ((Part (at 21 1 90) kind.Plus (Number (at 22 1 92) (codes "1"))) ∷ []))))
+    ∷ []))) (row ((Part (at 21 2 75) kind.Plus (Number (at 22 2 77) (codes "1"))) ∷ []))))
     ∷ []))))
-    ∷ (MethodDecl (at 23 1 97) (codes "main") [] NoType (Block (at 24 1 111) (row (
-    (Assign (at 25 1 113) (Postfix (at 26 1 113) (Name (at 27 1 113) (codes "M")) (row ((Member (at 28 1 114) (codes "PORTB")) ∷ []))) (Chain (at 29 1 123) (Postfix (at 30 1 123) (Name (at 31 1 123) (codes "down")) (row ((Call (at 32 1 127) (row ((Number (at 33 1 128) (codes "5")) ∷ []))) ∷ []))) (row ((TypePart (at 34 1 131) kind.Cast (RawType (codes "8"))) ∷ []))))
+    ∷ (MethodDecl (at 23 3 3) (codes "main") [] NoType (Block (at 24 3 17) (row (
+    (Assign (at 25 3 19) (Postfix (at 26 3 19) (Name (at 27 3 19) (codes "M")) (row ((Member (at 28 3 20) (codes "PORTB")) ∷ [])))
+    (Chain (at 29 3 29) (Postfix (at 30 3 29) (Name (at 31 3 29) (codes "down"))
+    (row ((Call (at 32 3 33) (row ((Number (at 33 3 34) (codes "5")) ∷ []))) ∷ []))) (row ((TypePart (at 34 3 37) kind.Cast (RawType (codes "8"))) ∷ []))))
     ∷ []))))
     ∷ [])))
-    ∷ (DeviceDecl (at 35 2 1) (codes "M") (row (
-    (RegisterDecl (at 36 2 12) (codes "PINB") (codes "0x36"))
-    ∷ (RegisterDecl (at 37 2 34) (codes "PORTB") (codes "0x38"))
-    ∷ (RegisterDecl (at 38 2 57) (codes "INA") (codes "0x39"))
+    ∷ (DeviceDecl (at 35 5 1) (codes "M") (row (
+    (RegisterDecl (at 36 5 12) (codes "PINB") (codes "0x36"))
+    ∷ (RegisterDecl (at 37 5 34) (codes "PORTB") (codes "0x38"))
+    ∷ (RegisterDecl (at 38 5 57) (codes "INA") (codes "0x39"))
     ∷ [])))
-    ∷ (ProgramDecl (at 39 3 1) (codes "P") (row ((EntryDecl (at 40 3 13) (codes "main") (codes "Main") (codes "main")) ∷ [])))
+    ∷ (ProgramDecl (at 39 6 1) (codes "P") (row ((EntryDecl (at 40 6 13) (codes "main") (codes "Main") (codes "main")) ∷ [])))
     ∷ []))
 
 recursion_runs : outcome_of (source_of recursion) 1000 None [] [] 1000

@@ -1,6 +1,7 @@
 -- Room for stored values.
 use Rattle.std.specs.Prelude.{◌≡◌, refl, [], ◌∷◌, codes}
-use Rattle.vg_syntax.specs.Tree.{ArrayType, Block, CharType, ComponentDecl, DeviceDecl, EntryDecl, FieldDecl, MethodDecl, NewArray, NoType, Node, Nothing, Number, ProgramDecl, RegisterDecl, Text}
+use Rattle.vg_syntax.specs.Tree.{ArrayType, Block, CharType, ComponentDecl, DeviceDecl, EntryDecl, FieldDecl, MethodDecl, NewArray, NoType, Node, Nothing}
+use Rattle.vg_syntax.specs.Tree.{Number, ProgramDecl, RegisterDecl, Text}
 use Rattle.vg_meaning.specs.Answer.{OutOfRoom}
 use Rattle.vg_source.specs.Program.{source_of}
 use Rattle.vg_source.specs.Session.{started, Failed}

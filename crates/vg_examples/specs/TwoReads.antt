@@ -4,7 +4,8 @@ use Rattle.vg_meaning.specs.declared.event.Event.TheVariants.{Read, Write}
 use Rattle.vg_meaning.specs.Ending as ending
 use Rattle.vg_meaning.specs.Ending.{Idle}
 use Rattle.vg_syntax.specs.declared.kind.Kind.TheVariants as kind
-use Rattle.vg_syntax.specs.Tree.{Assign, Block, Chain, ComponentDecl, DeviceDecl, EntryDecl, IntType, Member, MethodDecl, Name, NoType, Node, Part, Postfix, ProgramDecl, RawType, RegisterDecl, Text, TypePart}
+use Rattle.vg_syntax.specs.Tree.{Assign, Block, Chain, ComponentDecl, DeviceDecl, EntryDecl, IntType, Member, MethodDecl, Name, NoType, Node, Part, Postfix}
+use Rattle.vg_syntax.specs.Tree.{ProgramDecl, RawType, RegisterDecl, Text, TypePart}
 use Rattle.vg_source.specs.Program.{source_of}
 use Rattle.vg_examples.specs.Writing.{at, row, outcome_of}
 
@@ -16,8 +17,12 @@ abbrev pub two_reads : Node
 two_reads = Text (at 0 1 1) (row (
     (ComponentDecl (at 1 1 1) (codes "Main") (row (
     (MethodDecl (at 2 1 18) (codes "main") [] NoType (Block (at 3 1 32) (row (
-    (Assign (at 4 1 34) (Postfix (at 5 1 34) (Name (at 6 1 34) (codes "M")) (row ((Member (at 7 1 35) (codes "PORTB")) ∷ []))) (Chain (at 8 1 44) (Chain (at 9 1 45) (Chain (at 10 1 45) (Postfix (at 11 1 45) (Name (at 12 1 45) (codes "M")) (row ((Member (at 13 1 46) (codes "PINB")) ∷ []))) (row ((TypePart (at 14 1 52) kind.Cast IntType) ∷ []))) (row (
-    (Part (at 15 1 59) kind.Plus (Chain (at 16 1 61) (Postfix (at 17 1 61) (Name (at 18 1 61) (codes "M")) (row ((Member (at 19 1 62) (codes "INA")) ∷ []))) (row ((TypePart (at 20 1 67) kind.Cast IntType) ∷ []))))
+    (Assign (at 4 1 34) (Postfix (at 5 1 34) (Name (at 6 1 34) (codes "M")) (row ((Member (at 7 1 35) (codes "PORTB")) ∷ [])))
+    (Chain (at 8 1 44) (Chain (at 9 1 45)
+    (Chain (at 10 1 45) (Postfix (at 11 1 45) (Name (at 12 1 45) (codes "M")) (row ((Member (at 13 1 46) (codes "PINB")) ∷ [])))
+    (row ((TypePart (at 14 1 52) kind.Cast IntType) ∷ []))) (row (
+    (Part (at 15 1 59) kind.Plus (Chain (at 16 1 61) (Postfix (at 17 1 61) (Name (at 18 1 61) (codes "M")) (row ((Member (at 19 1 62) (codes "INA")) ∷ [])))
+    (row ((TypePart (at 20 1 67) kind.Cast IntType) ∷ []))))
     ∷ []))) (row ((TypePart (at 21 1 75) kind.Cast (RawType (codes "8"))) ∷ []))))
     ∷ []))))
     ∷ [])))

@@ -1,21 +1,21 @@
 -- What the machine does on the image: the start, the writes, and the idle loop.
-use Rattle.std.proofs.Common.{◌≡◌, ◌≢◌, ℕ, ◌+◌, ◌-◌, ◌*◌, ◌/◌, ◌%◌, ◌<◌, ◌≤◌, Bool, true, false, List, [], ◌∷◌, ◌++◌, length, map, refl, sym, ap, ◌∙◌, subst, arith, append_assoc, append-nil, slice_index, slice_set, nat_lt, ◌==◌, if◌then◌else◌}
+use Rattle.std.proofs.Common.{◌≡◌, ◌≢◌, ℕ, ◌+◌, ◌-◌, ◌*◌, ◌/◌, ◌%◌, ◌<◌, ◌≤◌, Bool, true, false, List, [], ◌∷◌, ◌++◌, length, map, Some, refl, sym, ap, ◌∙◌, subst, arith, append_assoc, append-nil, slice_index, slice_set, nat_lt, ◌==◌, if◌then◌else◌}
 use Rattle.std.specs.List.{flat_map}
 use Rattle.std.proofs.lemmas.List.{get_or-set_same, get_or-set_other, length-set}
 use Rattle.vg_meaning.specs.declared.event.Event.{Event}
 use Rattle.vg_meaning.specs.declared.event.Event.TheVariants.{Write, Enter}
 use Rattle.vg_meaning.specs.Device.{IsDeviceAddress}
 use Rattle.vg_meaning.specs.Outside.{Outside, AreVectors, with_event}
-use Rattle.vg_meaning.specs.Ending.{Idle}
 use Rattle.avr_instr.specs.declared.instr.Instr.{Instr}
 use Rattle.avr_instr.specs.declared.instr.Instr.TheVariants.{Out, Sts, Rjmp, Cli, Reti}
+use Rattle.avr_isa.specs.declared.ending.MachineEnd.TheVariants.{Idle}
 use Rattle.avr_isa.specs.Cpu.{CpuState, forward, enabled, disabled}
 use Rattle.avr_isa.specs.Change.{register_of}
 use Rattle.avr_isa.specs.Flow.{far_from}
 use Rattle.avr_isa.specs.Machine.{State, run_from}
 use Rattle.avr_isa.specs.Stack.{lowest_by_push_two, lowest_by_store}
 use Rattle.avr_isa.specs.Leads.{Leads}
-use Rattle.avr_isa.specs.Agrees.{HasEnded}
+use Rattle.avr_isa.specs.Agrees.{IsAt}
 use Rattle.avr_isa.specs.Standing.{width, widths, StandsAt, AllStandAt}
 use Rattle.avr_isa.proofs.Standing.{front_stands, back_stands, widths-append}
 use Rattle.avr_isa.proofs.Runs.{going_on, leads_same, leads_on}
@@ -83,11 +83,11 @@ writes_lead flash (w ∷ ws) r m f sp pc rs is t l here dev len room =
 
 -- the run comes to its end idle, with this trace, and its stack stays in SRAM
 abbrev pub EndsIdle : List ℕ → State → List Event → Type 0
-EndsIdle flash s trace = (k : ℕ) × HasEnded (run_from flash k s) Idle trace 0x0100
+EndsIdle flash s trace = (k : ℕ) × IsAt (run_from flash k s) (Some Idle) trace 0x10FE
 
 pub ends_later : (flash : List ℕ) (s t : State) (trace : List Event) → Leads flash s t → EndsIdle flash t trace → EndsIdle flash s trace
 ends_later flash s t trace first e =
-    let j = first.by e.0 in (j.0, subst (λ u. HasEnded u Idle trace 0x0100) (sym j.2) e.1)
+    let j = first.by e.0 in (j.0, subst (λ u. IsAt u (Some Idle) trace 0x10FE) (sym j.2) e.1)
 
 -- each vector's slot returns
 abbrev pub SlotsReturn : List ℕ → Type 0
@@ -147,15 +147,15 @@ module _ (flash : List ℕ) (p : ℕ) (r rs : List ℕ) (here : AllStandAt flash
       (disabled (enabled g), leads_on flash _ _ _ returned (to_front (with_return m (p + 2)) (enabled g) is (t ++ Enter v ∷ []) l'))
 
   -- the loop takes all interrupts, and then it is idle
-  pub idles : (is : List ℕ) → AreVectors is → (m : List ℕ) (f : ℕ) (t : List Event) (l : ℕ) → length m ≡ 4096 → 0x0100 ≤ l → EndsIdle flash (state_at r m f 0x10FF p rs is t l) (t ++ map Enter is)
+  pub idles : (is : List ℕ) → AreVectors is → (m : List ℕ) (f : ℕ) (t : List Event) (l : ℕ) → length m ≡ 4096 → 0x10FE ≤ l → EndsIdle flash (state_at r m f 0x10FF p rs is t l) (t ++ map Enter is)
   idles [] v m f t l len above =
       let last = leads_on flash _ _ _ (to_sleep m f [] t l) (sleep_idle_leads flash _ _ l here.1.0 (is_enabled-enabled f) refl) in
-      ends_later flash _ _ (t ++ map Enter []) last (0, record { ended = refl; same_trace = sym (append-nil t); above = above })
+      ends_later flash _ _ (t ++ map Enter []) last (0, record { ends = refl; same_trace = sym (append-nil t); above = above })
   idles (v ∷ vs) in_range m f t l len above =
       let turn = turns m f v vs t l len in_range.0.0 in_range.0.1 in
       let m' = with_return m (p + 2) in
       let len' : length m' ≡ 4096 = length-set (slice_set m 4095 _) 4094 _ ∙ length-set m 4095 _ ∙ len in
-      let above' : 0x0100 ≤ lowest_by_push_two 0x10FF l = omega arith in
+      let above' : 0x10FE ≤ lowest_by_push_two 0x10FF l = omega arith in
       let rest = idles vs in_range.1 m' turn.0 (t ++ Enter v ∷ []) (lowest_by_push_two 0x10FF l) len' above' in
       ends_later flash _ _ _ turn.1 (subst (λ u. EndsIdle flash (state_at r m' turn.0 0x10FF p rs vs (t ++ Enter v ∷ []) (lowest_by_push_two 0x10FF l)) u) (append_assoc t (Enter v ∷ []) (map Enter vs)) rest)
 

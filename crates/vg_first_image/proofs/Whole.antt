@@ -1,5 +1,5 @@
 -- The image of a list of writes agrees with the session of that list, and its stack stays in SRAM.
-use Rattle.std.proofs.Common.{◌≡◌, ℕ, zero, suc, ◌+◌, ◌-◌, ◌*◌, ◌<◌, ◌≤◌, Bool, true, false, List, [], ◌∷◌, ◌++◌, length, map, replicate, refl, subst, arith, append_assoc, nat_lt}
+use Rattle.std.proofs.Common.{◌≡◌, ℕ, zero, suc, ◌+◌, ◌-◌, ◌*◌, ◌<◌, ◌≤◌, Bool, true, false, List, [], ◌∷◌, ◌++◌, length, map, replicate, inl, refl, subst, arith, append_assoc, nat_lt}
 use Rattle.std.specs.List.{flat_map, AllByRecursion}
 use Rattle.std.proofs.lemmas.List.{length-replicate}
 use Rattle.std.proofs.lemmas.Grind.{flat_map-append}
@@ -8,8 +8,8 @@ use Rattle.vg_meaning.specs.Outside.{AreVectors}
 use Rattle.avr_instr.specs.declared.instr.Instr.{Instr}
 use Rattle.avr_instr.specs.declared.instr.Instr.TheVariants.{Jmp, Reti}
 use Rattle.avr_instr.specs.Spelled.{InRange}
-use Rattle.avr_isa.specs.Cpu.{power_on}
-use Rattle.avr_isa.specs.Machine.{started, run_from}
+use Rattle.avr_isa.specs.Cpu.{PowerOn, IsPowerOn}
+use Rattle.avr_isa.specs.Machine.{started, machine}
 use Rattle.avr_isa.specs.Leads.{Leads}
 use Rattle.avr_isa.specs.Agrees.{Agrees, NeverReaches, Follows}
 use Rattle.avr_isa.specs.Standing.{instr_bytes, width, widths, StandsAt, AllStandAt}
@@ -81,39 +81,51 @@ runs flash n ws r m rs is count all dev short lr lm v =
     let loop = state_at s2.0 m 0 0x10FF p rs is (map write_event ws) 0x1100 in
     ends_later flash reset loop (map write_event ws ++ map Enter is) (leads_on flash reset (state_at r m 0 0 70 rs is [] 0x1100) loop jump (leads_on flash (state_at r m 0 0 70 rs is [] 0x1100) (state_at s1.0 m 0 0x10FF 74 rs is [] 0x1100) loop s1.2 s2.1)) s3
 
-length-power_on : (n : ℕ) → length (power_on n) ≡ n
-unfolding power_on
-length-power_on n = length-replicate n 0xA5
-
--- from reset, with n slot words
-ends_from_reset : (n : ℕ) (ws : List DeviceWrite) → n ≡ 68 → AreDevices ws → length ws ≤ 100 → (reads interrupts : List ℕ) → AreVectors interrupts → EndsIdle (flat_map instr_bytes (program_with n ws)) (started reads interrupts) (map write_event ws ++ map Enter interrupts)
-ends_from_reset n ws count dev short reads interrupts v =
+-- from reset, with n slot words, whatever memory holds at power-on
+ends_from_reset : (n : ℕ) (ws : List DeviceWrite) → n ≡ 68 → AreDevices ws → length ws ≤ 100 → (memory : PowerOn) (reads interrupts : List ℕ) → IsPowerOn memory → AreVectors interrupts
+    → EndsIdle (flat_map instr_bytes (program_with n ws)) (started memory reads interrupts) (map write_event ws ++ map Enter interrupts)
+ends_from_reset n ws count dev short memory reads interrupts p v =
     let code = program_with n ws in
     let few = program_short n ws count short in
     let here : AllStandAt (flat_map instr_bytes code) 0 code = emitted_stand code [] 0 refl (omega arith) (program_in_range n ws dev) in
-    runs (flat_map instr_bytes code) n ws (power_on 32) (power_on 4096) reads interrupts count here dev short (length-power_on 32) (length-power_on 4096) v
+    runs (flat_map instr_bytes code) n ws memory.registers memory.sram reads interrupts count here dev short p.registers p.sram v
 
-agrees_with : (n : ℕ) (ws : List DeviceWrite) → n ≡ 68 → AreDevices ws → length ws ≤ 100 → Agrees (first_session ws) (flat_map instr_bytes (program_with n ws)) 0x0100 4096
-agrees_with n ws count dev short = record { each = λ reads interrupts clock are_reads are_vectors. by_clock reads interrupts clock are_vectors }
+-- a stack of two bytes holds the return address of an interrupt
+floor_below : (floor stack : ℕ) → floor + stack ≡ 0x1100 → 2 ≤ stack → floor ≤ 0x10FE
+floor_below floor stack sum two = omega arith
+
+agrees_with : (n : ℕ) (ws : List DeviceWrite) → n ≡ 68 → AreDevices ws → length ws ≤ 100 → (floor stack : ℕ) → floor ≤ 0x10FE → Agrees (first_session ws) (flat_map instr_bytes (program_with n ws)) floor stack
+agrees_with n ws count dev short floor stack low = record { each = λ memory reads interrupts clock p are_reads are_vectors. inl (by_clock memory reads interrupts clock p are_vectors) }
   where
-    by_clock : (reads interrupts : List ℕ) (clock : ℕ) → AreVectors interrupts → Follows (λ k. run_from (flat_map instr_bytes (program_with n ws)) k (started reads interrupts)) clock 0x0100 (first_session ws reads interrupts clock).ending (first_session ws reads interrupts clock).trace
-    by_clock reads interrupts zero v = (0, omega arith, record { going = refl; same_trace = refl; above = omega arith })
-    by_clock reads interrupts (suc clock) v = ends_from_reset n ws count dev short reads interrupts v
+    by_clock : (memory : PowerOn) (reads interrupts : List ℕ) (clock : ℕ) → IsPowerOn memory → AreVectors interrupts
+        → (let seen = first_session ws reads interrupts clock in
+        Follows (machine (flat_map instr_bytes (program_with n ws)) memory reads interrupts) clock floor seen.ending seen.trace)
+    by_clock memory reads interrupts zero p v = (0, omega arith, record { ends = refl; same_trace = refl; above = omega (arith, low) })
+    by_clock memory reads interrupts (suc clock) p v =
+        let e = ends_from_reset n ws count dev short memory reads interrupts p v in
+        (e.0, record { ends = e.1.ends; same_trace = e.1.same_trace; above = omega (arith, low, e.1.above) })
 
-never_with : (n : ℕ) (ws : List DeviceWrite) → n ≡ 68 → AreDevices ws → length ws ≤ 100 → NeverReaches (flat_map instr_bytes (program_with n ws)) 0x0100
-never_with n ws count dev short = record {
-  each = λ reads interrupts k are_reads are_vectors.
-      let e = ends_from_reset n ws count dev short reads interrupts are_vectors in
-      never_lower (flat_map instr_bytes (program_with n ws)) (started reads interrupts) e.0 0x0100 _ e.1.ended e.1.above k;
+never_with : (n : ℕ) (ws : List DeviceWrite) → n ≡ 68 → AreDevices ws → length ws ≤ 100 → (floor : ℕ) → floor ≤ 0x10FE → NeverReaches (flat_map instr_bytes (program_with n ws)) floor
+never_with n ws count dev short floor low = record {
+  each = λ memory reads interrupts k p are_reads are_vectors.
+      let e = ends_from_reset n ws count dev short memory reads interrupts p are_vectors in
+      never_lower (flat_map instr_bytes (program_with n ws)) (started memory reads interrupts) e.0 floor _ e.1.ends (omega (arith, low, e.1.above)) k;
 }
 
-pub agrees : (ws : List DeviceWrite) → AreDevices ws → length ws ≤ 100 → Agrees (first_session ws) (flat_map instr_bytes (program ws)) 0x0100 4096
-unfolding slots
-agrees ws dev short = agrees_with 68 ws refl dev short
+-- the image agrees with its session for each stack of two bytes and more, and never reaches below its floor
+abbrev pub AgreesOnStacks : List DeviceWrite → List ℕ → Type 0
+AgreesOnStacks ws image = (floor stack : ℕ) → floor + stack ≡ 0x1100 → 2 ≤ stack → Agrees (first_session ws) image floor stack
 
-pub never : (ws : List DeviceWrite) → AreDevices ws → length ws ≤ 100 → NeverReaches (flat_map instr_bytes (program ws)) 0x0100
+abbrev pub StaysAbove : List ℕ → Type 0
+StaysAbove image = (floor stack : ℕ) → floor + stack ≡ 0x1100 → 2 ≤ stack → NeverReaches image floor
+
+pub agrees : (ws : List DeviceWrite) → AreDevices ws → length ws ≤ 100 → AgreesOnStacks ws (flat_map instr_bytes (program ws))
 unfolding slots
-never ws dev short = never_with 68 ws refl dev short
+agrees ws dev short floor stack sum two = agrees_with 68 ws refl dev short floor stack (floor_below floor stack sum two)
+
+pub never : (ws : List DeviceWrite) → AreDevices ws → length ws ≤ 100 → StaysAbove (flat_map instr_bytes (program ws))
+unfolding slots
+never ws dev short floor stack sum two = never_with 68 ws refl dev short floor (floor_below floor stack sum two)
 
 fits_with : (n : ℕ) (ws : List DeviceWrite) → n ≡ 68 → length ws ≤ 100 → length (flat_map instr_bytes (program_with n ws)) ≤ 131072
 fits_with n ws count short = omega (arith, length-code (program_with n ws), program_short n ws count short)

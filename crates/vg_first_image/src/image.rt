@@ -1,5 +1,5 @@
 // The image.
-ghost use Rattle.std.specs.Prelude.{◌≤◌, length, IfOk};
+ghost use Rattle.std.specs.Prelude.{◌≡◌, ◌≤◌, ◌+◌, ℕ, length, IfOk};
 ghost use Rattle.avr_isa.specs.Agrees.{Agrees, NeverReaches};
 ghost use Rattle.vg_first_text.specs.FirstSession.{AreDevices, first_session};
 
@@ -15,13 +15,13 @@ const START: u16 = 70;
 
 /// The image that makes the writes in their order and then waits for interrupts for ever.
 ///
-/// There are at most 100 writes. Each of the 34 interrupts has a slot that returns at once, and the stack may use all of SRAM,
-/// 4,096 bytes from byte address 0x0100 on. The error is want of memory.
+/// There are at most 100 writes. Each of the 34 interrupts has a slot that returns at once, so a stack of two bytes is enough: its
+/// floor is the data address of its lowest byte. The error is want of memory.
 pub fn image_of(alloc: Global, writes: &[DeviceWrite]) -> Result<Image, NoMemory>
     requires devices { AreDevices writes.now }
     requires short { length writes.now ≤ 100 }
-    ensures agrees { IfOk result (λ image. Agrees (first_session writes.now) image 0x0100 4096) }
-    ensures never { IfOk result (λ image. NeverReaches image 0x0100) }
+    ensures agrees { IfOk result (λ image. (floor stack : ℕ) → floor + stack ≡ 0x1100 → 2 ≤ stack → Agrees (first_session writes.now) image floor stack) }
+    ensures never { IfOk result (λ image. (floor stack : ℕ) → floor + stack ≡ 0x1100 → 2 ≤ stack → NeverReaches image floor) }
 {
     let mut code = Vec::new(alloc);
     put(&mut code, Instr::Jmp(START))?;

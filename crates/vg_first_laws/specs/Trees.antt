@@ -1,10 +1,9 @@
--- The tree of a program of constants, and what its session shows.
-use Rattle.std.specs.Prelude.{◌≡◌, ℕ, ◌+◌, List, [], ◌∷◌, Some}
-use Rattle.vg_meaning.specs.Seen.{Seen}
+-- The tree of a program of constants, and the heap that it is initialised to.
+use Rattle.std.specs.Prelude.{ℕ, ◌+◌, List, [], ◌∷◌}
 use Rattle.vg_first_text.specs.FirstText.{FirstAssignment, FirstRegister, First}
-use Rattle.vg_syntax.specs.Tree.{Spot, Node, Nothing, Then, NoType, Text, ComponentDecl, DeviceDecl, RegisterDecl, ProgramDecl, EntryDecl, MethodDecl, Block, Assign, Postfix, Name, Member, Number}
+use Rattle.vg_syntax.specs.Tree.{Spot, Node, Nothing, Then, NoType, Text, ComponentDecl, DeviceDecl, RegisterDecl, ProgramDecl, EntryDecl, MethodDecl}
+use Rattle.vg_syntax.specs.Tree.{Block, Assign, Postfix, Name, Member, Number}
 use Rattle.vg_source.specs.Values.{Heap}
-use Rattle.vg_source.specs.Session.{Session}
 
 -- An assignment, whose nodes have the spots from this one on.
 abbrev pub assignment_node : (ℕ → Spot) → ℕ → FirstAssignment → Node
@@ -35,8 +34,3 @@ first_tree at device program f = Text (at 0) (first_declarations at device progr
 -- No object is made, and no component has a field.
 abbrev pub empty_heap : Heap
 empty_heap = record { cells = []; globals = [] }
-
--- A session shows this trace and this ending.
-pub record Shows (s : Session) (o : Seen) : Type 0 where
-  pub trace : s.trace ≡ o.trace
-  pub ending : s.ending ≡ o.ending

@@ -1,51 +1,46 @@
 -- The written text is read as its image, and each text as one image.
-use Rattle.std.proofs.Common.{◌≡◌, ℕ, zero, suc, ◌+◌, ◌-◌, ◌*◌, ◌/◌, ◌%◌, ◌<◌, ◌≤◌, Bool, true, false, List, [], ◌∷◌, ◌++◌, length, take, drop, sum, Some, None, refl, sym, ap, ◌∙◌, subst, arith, append_assoc, append-nil, ◌⊎◌, inl, inr, length-append, length-take, length-drop, ◌==◌, get_or, ext_get_or}
+use Rattle.std.proofs.Common.{◌≡◌, ℕ, zero, suc, ◌+◌, ◌-◌, ◌*◌, ◌/◌, ◌%◌, ◌<◌, ◌≤◌, Bool, true, false, List, [], ◌∷◌, ◌++◌, length, take, drop, sum, slice_index, Some, None, refl, sym, ap, ◌∙◌, subst, arith, append_assoc, append-nil, ◌⊎◌, inl, inr, length-append, length-take, length-drop, ◌==◌, get_or, ext_get_or}
 use Rattle.std.proofs.Math.Seq.{take-append_seam}
 use Rattle.std.proofs.lemmas.List.Sums.{sum_by-append}
 use Rattle.std.specs.Prelude.{if◌then◌else◌, ◌&&◌, ◌||◌, nat_le}
-use Rattle.std.specs.List.{flat_map, AllByRecursion}
+use Rattle.std.specs.List.{AllByRecursion}
 use Rattle.std.proofs.lemmas.Bool.{false≢true}
-use Rattle.vg_lines.specs.Digits.{upper_digit, upper_pair, digit_value, joined, in_front, pairs}
+use Rattle.hex.specs.Hex.{IsBytes, decode_pairs, encode_with, encode_upper, upper_digits, hex_digit_value}
+use Rattle.hex.proofs.HexLemmas.{IsDigits-upper_digits, decode_of-encode_upper, length-encode_with}
 use Rattle.vg_lines.specs.Lines.{lines, with_first, begins_lf}
-use Rattle.vg_hex.specs.declared.row.Base.{Base}
-use Rattle.vg_hex.specs.declared.row.Base.TheVariants.{Unset, Linear}
-use Rattle.vg_hex.specs.declared.row.Row.TheVariants.{Data, NoForm}
+use Rattle.vg_hex.specs.declared.hex_record.Base.{Base}
+use Rattle.vg_hex.specs.declared.hex_record.Base.TheVariants.{Unset, Linear}
+use Rattle.vg_hex.specs.declared.hex_record.HexRecord.TheVariants.{Data, NoForm}
 use Rattle.vg_hex.specs.declared.fault.HexFault.{HexFault}
 use Rattle.vg_hex.specs.declared.fault.HexFault.TheVariants.{Beyond, Twice}
 use Rattle.vg_hex.specs.HexText.{check_of, record_line, data_line, base_line, records, end_line, hex_text}
-use Rattle.vg_hex.specs.Rows.{typed, summed, record_of, row_from, row_of}
-use Rattle.vg_hex.specs.HexImage.{Named, Byte, address_of, bytes_named, row_named, lines_named, behind_end, named, is_among, first_fault, fault_in, byte_at, reach, HexImage}
+use Rattle.vg_hex.specs.HexRecords.{typed, summed, from_bytes, from_digits, read_line}
+use Rattle.vg_hex.specs.HexImage.{Named, Byte, data_address, bytes_named, record_named, lines_named, behind_end, named, is_among, first_fault, fault_in, byte_at, reach, HexImage}
 
 abbrev IsByte : ℕ → Type 0
 IsByte b = b < 256
 
--- digits
-digit_again : (n : ℕ) → n < 16 → digit_value (upper_digit n) ≡ Some n
-digit_again n h = grind (arith, h)
-
-pairs_again : (bs : List ℕ) → AllByRecursion IsByte bs → pairs (flat_map upper_pair bs) ≡ Some bs
-pairs_again [] h = refl
-pairs_again (b ∷ bs) h =
-    let i = h.0 in
-    let e = digit_again (b / 16) (omega (arith, i)) in
-    let f = digit_again (b % 16) (omega arith) in
-    let g : b / 16 * 16 + b % 16 ≡ b = omega arith in
-    ap (λ o. in_front (joined o (digit_value (upper_digit (b % 16)))) (pairs (flat_map upper_pair bs))) e
-    ∙ ap (λ o. in_front (joined (Some (b / 16)) o) (pairs (flat_map upper_pair bs))) f
-    ∙ ap (λ o. in_front (Some (b / 16 * 16 + b % 16)) o) (pairs_again bs h.1)
-    ∙ ap (λ n. Some (n ∷ bs)) g
+-- the bytes of a list of bytes, by their places
+at_places : (bs : List ℕ) → AllByRecursion IsByte bs → IsBytes bs
+at_places [] h k = omega arith
+at_places (b ∷ bs) h zero = h.0
+at_places (b ∷ bs) h (suc k) = at_places bs h.1 k
 
 -- no digit is an end of a line
 Plain : ℕ → Type 0
 Plain c = 13 < c
 
-plain_digit : (n : ℕ) → Plain (upper_digit n)
-unfolding Plain
-plain_digit n = grind arith
+digit_plain : (c v : ℕ) → hex_digit_value c ≡ Some v → 13 < c
+digit_plain c v e = grind (arith, e)
 
-all_plain : (bs : List ℕ) → AllByRecursion Plain (flat_map upper_pair bs)
-all_plain [] = tt
-all_plain (b ∷ bs) = (plain_digit (b / 16), (plain_digit (b % 16), all_plain bs))
+plain_digit : (n : ℕ) → n < 16 → Plain (slice_index upper_digits n)
+unfolding Plain
+plain_digit n h = digit_plain (slice_index upper_digits n) n (IsDigits-upper_digits n h)
+
+all_plain : (bs : List ℕ) → AllByRecursion IsByte bs → AllByRecursion Plain (encode_upper bs)
+unfolding encode_with
+all_plain [] h = tt
+all_plain (b ∷ bs) h = let i = h.0 in (plain_digit (b / 16) (omega (arith, i)), (plain_digit (b % 16) (omega arith), all_plain bs h.1))
 
 line_first : (b : ℕ) (l : List ℕ) (rest : List (List ℕ)) (bs : List ℕ) → 13 < b → lines bs ≡ l ∷ rest → lines (b ∷ bs) ≡ (b ∷ l) ∷ rest
 line_first b l rest bs h e = no_end (b == 10) (b == 13) (grind (arith, h)) (grind (arith, h))
@@ -59,10 +54,6 @@ line_again : (l : List ℕ) (rest : List ℕ) → AllByRecursion Plain l → lin
 unfolding Plain
 line_again [] rest h = refl
 line_again (b ∷ l) rest h = line_first b l (lines rest) (l ++ 10 ∷ rest) h.0 (line_again l rest h.1)
-
-plain_line : (body : List ℕ) → AllByRecursion Plain (record_line body)
-unfolding Plain
-plain_line body = (omega arith, all_plain (body ++ check_of body ∷ []))
 
 all_append : (P : ℕ → Type 0) (a b : List ℕ) → AllByRecursion P a → AllByRecursion P b → AllByRecursion P (a ++ b)
 all_append P [] b h k = k
@@ -78,17 +69,27 @@ check_zero s = omega arith
 sum_zero : (body : List ℕ) → sum (body ++ check_of body ∷ []) % 256 ≡ 0
 sum_zero body = ap (λ n. n % 256) (sum_last body (check_of body)) ∙ check_zero (sum body)
 
-line_row : (body : List ℕ) → AllByRecursion IsByte body → row_of (record_line body) ≡ record_of (body ++ check_of body ∷ [])
-line_row body h = ap row_from (pairs_again (body ++ check_of body ∷ []) (all_append IsByte body (check_of body ∷ []) h (mod_small (256 - sum body % 256), tt)))
-  where
-    mod_small : (n : ℕ) → n % 256 < 256
-    mod_small n = omega arith
+mod_small : (n : ℕ) → n % 256 < 256
+mod_small n = omega arith
 
-data_row : (at : ℕ) (bytes : List ℕ) → at < 65536 → length bytes ≤ 16 → AllByRecursion IsByte bytes → row_of (data_line at bytes) ≡ Data at bytes
-data_row at bytes h k b =
+whole_bytes : (body : List ℕ) → AllByRecursion IsByte body → AllByRecursion IsByte (body ++ check_of body ∷ [])
+whole_bytes body h = all_append IsByte body (check_of body ∷ []) h (mod_small (256 - sum body % 256), tt)
+
+plain_line : (body : List ℕ) → AllByRecursion IsByte body → AllByRecursion Plain (record_line body)
+unfolding Plain
+plain_line body h = (omega arith, all_plain (body ++ check_of body ∷ []) (whole_bytes body h))
+
+line_record : (body : List ℕ) → AllByRecursion IsByte body → read_line (record_line body) ≡ from_bytes (body ++ check_of body ∷ [])
+line_record body h = ap from_digits (decode_of-encode_upper (body ++ check_of body ∷ []) (at_places (body ++ check_of body ∷ []) (whole_bytes body h)))
+
+data_bytes : (at : ℕ) (bytes : List ℕ) → at < 65536 → length bytes ≤ 16 → AllByRecursion IsByte bytes → AllByRecursion IsByte (length bytes ∷ at / 256 ∷ at % 256 ∷ 0 ∷ bytes)
+data_bytes at bytes h k b = (omega (arith, k), (omega (arith, h), (omega arith, (omega arith, b))))
+
+data_record : (at : ℕ) (bytes : List ℕ) → at < 65536 → length bytes ≤ 16 → AllByRecursion IsByte bytes → read_line (data_line at bytes) ≡ Data at bytes
+data_record at bytes h k b =
     let body = length bytes ∷ at / 256 ∷ at % 256 ∷ 0 ∷ bytes in
     let c = check_of body in
-    let e = line_row body (omega (arith, k), (omega (arith, h), (omega arith, (omega arith, b)))) in
+    let e = line_record body (data_bytes at bytes h k b) in
     let len = length-append bytes (c ∷ []) in
     let place : at / 256 * 256 + at % 256 ≡ at = omega arith in
     e ∙ chosen (length (bytes ++ c ∷ []) == length bytes + 1) (sum (body ++ c ∷ []) % 256 == 0) (at / 256 * 256 + at % 256) (take (length bytes) (bytes ++ c ∷ [])) (eq_test _ _ len) (eq_test _ _ (sum_zero body)) place (take-append_seam bytes (c ∷ []))
@@ -106,7 +107,7 @@ run_of : ℕ → List ℕ → List Named
 run_of a [] = []
 run_of a (b ∷ bs) = Byte a b ∷ run_of (a + 1) bs
 
-run_named : (base : Base) (at index a : ℕ) (bs : List ℕ) → ((i : ℕ) → index ≤ i → address_of base at i ≡ a + i) → bytes_named base at index bs ≡ run_of (a + index) bs
+run_named : (base : Base) (at index a : ℕ) (bs : List ℕ) → ((i : ℕ) → index ≤ i → data_address base at i ≡ a + i) → bytes_named base at index bs ≡ run_of (a + index) bs
 unfolding run_of
 run_named base at index a [] h = refl
 run_named base at index a (b ∷ bs) h =
@@ -118,14 +119,14 @@ run_named base at index a (b ∷ bs) h =
     le_refl n = omega arith
 
 -- a line in front of others
-line_named : (n : ℕ) (l rest : List ℕ) (base : Base) → AllByRecursion Plain l → lines_named n (lines (l ++ 10 ∷ rest)) base ≡ row_named n base (row_of l) (lines_named (n + 1) (lines rest)) (behind_end (n + 1) (lines rest))
+line_named : (n : ℕ) (l rest : List ℕ) (base : Base) → AllByRecursion Plain l → lines_named n (lines (l ++ 10 ∷ rest)) base ≡ record_named n base (read_line l) (lines_named (n + 1) (lines rest)) (behind_end (n + 1) (lines rest))
 line_named n l rest base h = ap (λ ls. lines_named n ls base) (line_again l rest h)
 
-data_named : (n at a : ℕ) (base : Base) (bytes rest : List ℕ) → at < 65536 → length bytes ≤ 16 → AllByRecursion IsByte bytes → ((i : ℕ) → 0 ≤ i → address_of base at i ≡ a + i) → lines_named n (lines (data_line at bytes ++ 10 ∷ rest)) base ≡ run_of a bytes ++ lines_named (n + 1) (lines rest) base
+data_named : (n at a : ℕ) (base : Base) (bytes rest : List ℕ) → at < 65536 → length bytes ≤ 16 → AllByRecursion IsByte bytes → ((i : ℕ) → 0 ≤ i → data_address base at i ≡ a + i) → lines_named n (lines (data_line at bytes ++ 10 ∷ rest)) base ≡ run_of a bytes ++ lines_named (n + 1) (lines rest) base
 data_named n at a base bytes rest h k b p =
     let here : a + 0 ≡ a = omega arith in
-    line_named n (data_line at bytes) rest base (plain_line (length bytes ∷ at / 256 ∷ at % 256 ∷ 0 ∷ bytes))
-    ∙ ap (λ r. row_named n base r (lines_named (n + 1) (lines rest)) (behind_end (n + 1) (lines rest))) (data_row at bytes h k b)
+    line_named n (data_line at bytes) rest base (plain_line (length bytes ∷ at / 256 ∷ at % 256 ∷ 0 ∷ bytes) (data_bytes at bytes h k b))
+    ∙ ap (λ r. record_named n base r (lines_named (n + 1) (lines rest)) (behind_end (n + 1) (lines rest))) (data_record at bytes h k b)
     ∙ ap (λ es. es ++ lines_named (n + 1) (lines rest) base) (run_named base at 0 a bytes p ∙ ap (λ m. run_of m bytes) here)
 
 base_plain : AllByRecursion Plain base_line
@@ -133,6 +134,7 @@ unfolding Plain
 base_plain = search arith
 
 base_named : (n : ℕ) (base : Base) (rest : List ℕ) → lines_named n (lines (base_line ++ 10 ∷ rest)) base ≡ lines_named (n + 1) (lines rest) (Linear 1)
+unfolding decode_pairs
 base_named n base rest = line_named n base_line rest base base_plain
 
 all_take : (n : ℕ) (bs : List ℕ) → AllByRecursion IsByte bs → AllByRecursion IsByte (take n bs)
@@ -161,10 +163,10 @@ base_step n at base rest h = by_test (at == 65536) refl h
     by_test false e (inl h) = (n, base, refl, inl (grind (arith, e, h), h.1))
     by_test false e (inr h) = (n, base, refl, inr (grind (arith, h), h.1))
 
-place_of : (at : ℕ) (new : Base) → at < 131072 → At at new → (i : ℕ) → address_of new (at % 65536) i ≡ at + i
+place_of : (at : ℕ) (new : Base) → at < 131072 → At at new → (i : ℕ) → data_address new (at % 65536) i ≡ at + i
 unfolding At
-place_of at new h (inl k) i = let a = k.0 in ap (λ b. address_of b (at % 65536) i) k.1 ∙ omega (arith, a)
-place_of at new h (inr k) i = let a = k.0 in ap (λ b. address_of b (at % 65536) i) k.1 ∙ omega (arith, a, h)
+place_of at new h (inl k) i = let a = k.0 in ap (λ b. data_address b (at % 65536) i) k.1 ∙ omega (arith, a)
+place_of at new h (inr k) i = let a = k.0 in ap (λ b. data_address b (at % 65536) i) k.1 ∙ omega (arith, a, h)
 
 next_base : (at : ℕ) (new : Base) → at % 16 ≡ 0 → At at new → Before (at + 16) new
 unfolding At Before
@@ -208,11 +210,15 @@ records_again (suc n) line at base bytes tail e h m b p =
     short (suc n) [] = omega arith
     short (suc n) (x ∷ l) = let h = short n l in omega (arith, h)
 
+end_named : (n : ℕ) (base : Base) → lines_named n (lines (end_line ++ 10 ∷ [])) base ≡ []
+unfolding decode_pairs
+end_named n base = refl
+
 named_again : (image : List ℕ) → length image ≤ 131072 → AllByRecursion IsByte image → named (hex_text image) ≡ run_of 0 image
 unfolding Before
 named_again image h b =
     let r = records_again ((length image + 15) / 16) 1 0 Unset image (end_line ++ 10 ∷ []) refl (omega (arith, h)) (omega arith) b (inl (omega arith, refl)) in
-    r.2 ∙ append-nil (run_of 0 image)
+    r.2 ∙ ap (λ es. run_of 0 image ++ es) (end_named r.0 r.1) ∙ append-nil (run_of 0 image)
 
 eq_false : (a b : ℕ) → (a ≡ b → ⊥) → (a == b) ≡ false
 eq_false a b h = grind (arith, h)
@@ -286,14 +292,10 @@ written_read text image bytes front start s f e same h b =
     subst (λ t. HexImage t image) (sym (whole ∙ ap hex_text same)) (read_again image h (subst (AllByRecursion (λ b. b < 256)) same b))
 
 -- a record takes at most 60 bytes of text, its base line with it
-length_pairs : (bs : List ℕ) → length (flat_map upper_pair bs) ≡ 2 * length bs
-length_pairs [] = refl
-length_pairs (b ∷ bs) = let h = length_pairs bs in omega (arith, h)
-
 length_data : (at : ℕ) (bytes : List ℕ) → length (data_line at bytes) ≡ 11 + 2 * length bytes
 length_data at bytes =
     let body = length bytes ∷ at / 256 ∷ at % 256 ∷ 0 ∷ bytes in
-    let e = length_pairs (body ++ check_of body ∷ []) in
+    let e = length-encode_with upper_digits (body ++ check_of body ∷ []) in
     let f = length-append body (check_of body ∷ []) in
     omega (arith, e, f)
 

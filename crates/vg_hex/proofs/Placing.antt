@@ -5,15 +5,15 @@ use Rattle.std.proofs.lemmas.Bool.{false≢true}
 use Rattle.std.proofs.lemmas.List.{get_or-set_same, get_or-set_other, length-set, length-replicate, length-map, nil_from_length}
 use Rattle.vg_hex.specs.declared.fault.HexFault.{HexFault}
 use Rattle.vg_hex.specs.declared.fault.HexFault.TheVariants.{Twice, Beyond, NoEnd}
-use Rattle.vg_hex.specs.declared.row.Base.{Base}
-use Rattle.vg_hex.specs.declared.row.Row.{Row}
-use Rattle.vg_hex.specs.declared.row.Row.TheVariants.{Blank, Data, Base as Based, End, Passed, NoSum, NoForm}
+use Rattle.vg_hex.specs.declared.hex_record.Base.{Base}
+use Rattle.vg_hex.specs.declared.hex_record.HexRecord.{HexRecord}
+use Rattle.vg_hex.specs.declared.hex_record.HexRecord.TheVariants.{Blank, Data, Base as Based, End, Passed, NoSum, NoForm}
 use Rattle.vg_hex.specs.declared.reader.Step.{Step}
 use Rattle.vg_hex.specs.declared.reader.Step.TheVariants.{Goes, Ends}
 use Rattle.vg_lines.specs.Lines.{lines}
-use Rattle.vg_hex.specs.Rows.{row_of}
-use Rattle.vg_hex.specs.HexImage.{Named, Byte, Bad, bytes_named, row_named, lines_named, behind_end, named, is_among, first_fault, fault_in, byte_at, reach, HexImage}
-use Rattle.vg_hex.specs.Walk.{is_some, is_taken, padded, placed, fault_at, first_of, fault_behind, slots_behind, row_fault, row_bytes, base_behind, Leaves, byte_in, bytes_in}
+use Rattle.vg_hex.specs.HexRecords.{read_line}
+use Rattle.vg_hex.specs.HexImage.{Named, Byte, Bad, bytes_named, record_named, lines_named, behind_end, named, is_among, first_fault, fault_in, byte_at, reach, HexImage}
+use Rattle.vg_hex.specs.Walk.{is_some, is_taken, padded, placed, fault_at, first_of, fault_behind, slots_behind, record_fault, record_bytes, base_behind, Leaves, byte_in, bytes_in}
 
 -- one empty slot more
 pub pad_more : (slots more : List (Option ℕ)) (n : ℕ) (all : List (Option ℕ)) → length slots < n → more ≡ slots ++ None ∷ [] → padded slots n ≡ all → padded more n ≡ all
@@ -80,7 +80,7 @@ same_fault slots seen (Byte a v ∷ es) h =
     by_tests false false true e rest = absurd (false≢true e)
     by_tests false false false e rest = rest
 
--- rows one behind another
+-- records one behind another
 fault_append : (slots : List (Option ℕ)) (xs ys : List Named) → fault_behind slots (xs ++ ys) ≡ first_of (fault_behind slots xs) (fault_behind (slots_behind slots xs) ys)
 fault_append slots [] ys = refl
 fault_append slots (Bad f ∷ xs) ys = refl
@@ -95,7 +95,7 @@ slots_append slots [] ys = refl
 slots_append slots (Bad f ∷ xs) ys = slots_append slots xs ys
 slots_append slots (Byte a v ∷ xs) ys = slots_append (placed slots a v) xs ys
 
-goes_named : (n : ℕ) (base next : Base) (row : Row) (rest : Base → List Named) (behind : List Named) → base_behind base row ≡ Some next → row_named n base row rest behind ≡ row_bytes base row ++ rest next
+goes_named : (n : ℕ) (base next : Base) (made : HexRecord) (rest : Base → List Named) (behind : List Named) → base_behind base made ≡ Some next → record_named n base made rest behind ≡ record_bytes base made ++ rest next
 goes_named n base next Blank rest behind e = ap rest (cc)
 goes_named n base next (Data at bytes) rest behind e = ap (λ b. bytes_named base at 0 bytes ++ rest b) (cc)
 goes_named n base next (Based new) rest behind e = ap rest (cc)
@@ -104,28 +104,28 @@ goes_named n base next Passed rest behind e = ap rest (cc)
 goes_named n base next NoSum rest behind e = cc
 goes_named n base next NoForm rest behind e = cc
 
-pub goes_fault : (n : ℕ) (base next : Base) (row : Row) (rest : Base → List Named) (behind : List Named) (old new : List (Option ℕ)) (step : Step) (all : Option HexFault)
-    → Leaves base row old new step → step ≡ Goes next → fault_behind old (row_named n base row rest behind) ≡ all → fault_behind new (rest next) ≡ all
-goes_fault n base next row rest behind old new step all h e whole =
-    let k : Leaves base row old new (Goes next) = subst (Leaves base row old new) e h in
+pub goes_fault : (n : ℕ) (base next : Base) (made : HexRecord) (rest : Base → List Named) (behind : List Named) (old new : List (Option ℕ)) (step : Step) (all : Option HexFault)
+    → Leaves base made old new step → step ≡ Goes next → fault_behind old (record_named n base made rest behind) ≡ all → fault_behind new (rest next) ≡ all
+goes_fault n base next made rest behind old new step all h e whole =
+    let k : Leaves base made old new (Goes next) = subst (Leaves base made old new) e h in
     ap (λ s. fault_behind s (rest next)) k.2
-    ∙ sym (ap (λ o. first_of o (fault_behind (slots_behind old (row_bytes base row)) (rest next))) k.1)
-    ∙ sym (fault_append old (row_bytes base row) (rest next))
-    ∙ ap (fault_behind old) (sym (goes_named n base next row rest behind k.0))
+    ∙ sym (ap (λ o. first_of o (fault_behind (slots_behind old (record_bytes base made)) (rest next))) k.1)
+    ∙ sym (fault_append old (record_bytes base made) (rest next))
+    ∙ ap (fault_behind old) (sym (goes_named n base next made rest behind k.0))
     ∙ whole
 
-pub goes_slots : (n : ℕ) (base next : Base) (row : Row) (rest : Base → List Named) (behind : List Named) (old new : List (Option ℕ)) (step : Step) (all : List (Option ℕ))
-    → Leaves base row old new step → step ≡ Goes next → slots_behind old (row_named n base row rest behind) ≡ all → slots_behind new (rest next) ≡ all
-goes_slots n base next row rest behind old new step all h e whole =
-    let k : Leaves base row old new (Goes next) = subst (Leaves base row old new) e h in
+pub goes_slots : (n : ℕ) (base next : Base) (made : HexRecord) (rest : Base → List Named) (behind : List Named) (old new : List (Option ℕ)) (step : Step) (all : List (Option ℕ))
+    → Leaves base made old new step → step ≡ Goes next → slots_behind old (record_named n base made rest behind) ≡ all → slots_behind new (rest next) ≡ all
+goes_slots n base next made rest behind old new step all h e whole =
+    let k : Leaves base made old new (Goes next) = subst (Leaves base made old new) e h in
     ap (λ s. slots_behind s (rest next)) k.2
-    ∙ sym (slots_append old (row_bytes base row) (rest next))
-    ∙ ap (slots_behind old) (sym (goes_named n base next row rest behind k.0))
+    ∙ sym (slots_append old (record_bytes base made) (rest next))
+    ∙ ap (slots_behind old) (sym (goes_named n base next made rest behind k.0))
     ∙ whole
 
--- a row with a fault is where the text has its first
-pub stops_fault : (n : ℕ) (base : Base) (row : Row) (rest : Base → List Named) (behind : List Named) (old : List (Option ℕ)) (f : HexFault) (all : Option HexFault)
-    → row_fault n old base row ≡ Some f → fault_behind old (row_named n base row rest behind) ≡ all → all ≡ Some f
+-- a record with a fault is where the text has its first
+pub stops_fault : (n : ℕ) (base : Base) (made : HexRecord) (rest : Base → List Named) (behind : List Named) (old : List (Option ℕ)) (f : HexFault) (all : Option HexFault)
+    → record_fault n old base made ≡ Some f → fault_behind old (record_named n base made rest behind) ≡ all → all ≡ Some f
 stops_fault n base (Data at bytes) rest behind old f all h whole =
     sym whole ∙ fault_append old (bytes_named base at 0 bytes) (rest base) ∙ ap (λ o. first_of o (fault_behind (slots_behind old (bytes_named base at 0 bytes)) (rest base))) h
 stops_fault n base NoSum rest behind old f all h whole = sym whole ∙ h
@@ -210,45 +210,45 @@ Left text rest n base slots =
 
 -- the first line taken apart
 first_fault_left : (text rest bytes behind : List ℕ) (n : ℕ) (base : Base) (slots : List (Option ℕ)) → lines rest ≡ bytes ∷ lines behind → Left text rest n base slots
-    → fault_behind slots (row_named n base (row_of bytes) (lines_named (n + 1) (lines behind)) (behind_end (n + 1) (lines behind))) ≡ fault_behind [] (named text)
+    → fault_behind slots (record_named n base (read_line bytes) (lines_named (n + 1) (lines behind)) (behind_end (n + 1) (lines behind))) ≡ fault_behind [] (named text)
 first_fault_left text rest bytes behind n base slots e left = ap (λ ls. fault_behind slots (lines_named n ls base)) (sym e) ∙ left.0
 
 first_slots_left : (text rest bytes behind : List ℕ) (n : ℕ) (base : Base) (slots : List (Option ℕ)) → lines rest ≡ bytes ∷ lines behind → Left text rest n base slots
-    → slots_behind slots (row_named n base (row_of bytes) (lines_named (n + 1) (lines behind)) (behind_end (n + 1) (lines behind))) ≡ slots_behind [] (named text)
+    → slots_behind slots (record_named n base (read_line bytes) (lines_named (n + 1) (lines behind)) (behind_end (n + 1) (lines behind))) ≡ slots_behind [] (named text)
 first_slots_left text rest bytes behind n base slots e left = ap (λ ls. slots_behind slots (lines_named n ls base)) (sym e) ∙ left.1
 
 pub line_goes : (text rest bytes behind : List ℕ) (n : ℕ) (base next : Base) (old new : List (Option ℕ)) (step : Step) → lines rest ≡ bytes ∷ lines behind
-    → Leaves base (row_of bytes) old new step → step ≡ Goes next → Left text rest n base old → Left text behind (n + 1) next new
+    → Leaves base (read_line bytes) old new step → step ≡ Goes next → Left text rest n base old → Left text behind (n + 1) next new
 line_goes text rest bytes behind n base next old new step e h s left = (
-  goes_fault n base next (row_of bytes) (lines_named (n + 1) (lines behind)) (behind_end (n + 1) (lines behind)) old new step (fault_behind [] (named text)) h s (first_fault_left text rest bytes behind n base old e left),
-  goes_slots n base next (row_of bytes) (lines_named (n + 1) (lines behind)) (behind_end (n + 1) (lines behind)) old new step (slots_behind [] (named text)) h s (first_slots_left text rest bytes behind n base old e left),
+  goes_fault n base next (read_line bytes) (lines_named (n + 1) (lines behind)) (behind_end (n + 1) (lines behind)) old new step (fault_behind [] (named text)) h s (first_fault_left text rest bytes behind n base old e left),
+  goes_slots n base next (read_line bytes) (lines_named (n + 1) (lines behind)) (behind_end (n + 1) (lines behind)) old new step (slots_behind [] (named text)) h s (first_slots_left text rest bytes behind n base old e left),
 )
 
 pub line_stops : (text rest bytes behind : List ℕ) (n : ℕ) (base : Base) (old : List (Option ℕ)) (f : HexFault) → lines rest ≡ bytes ∷ lines behind
-    → row_fault n old base (row_of bytes) ≡ Some f → Left text rest n base old → fault_in text ≡ Some f
+    → record_fault n old base (read_line bytes) ≡ Some f → Left text rest n base old → fault_in text ≡ Some f
 line_stops text rest bytes behind n base old f e h left =
-    fault_read text f (stops_fault n base (row_of bytes) (lines_named (n + 1) (lines behind)) (behind_end (n + 1) (lines behind)) old f (fault_behind [] (named text)) h (first_fault_left text rest bytes behind n base old e left))
+    fault_read text f (stops_fault n base (read_line bytes) (lines_named (n + 1) (lines behind)) (behind_end (n + 1) (lines behind)) old f (fault_behind [] (named text)) h (first_fault_left text rest bytes behind n base old e left))
 
 -- the end line
 ended : (text rest bytes behind : List ℕ) (n : ℕ) (base : Base) (old new : List (Option ℕ)) (step : Step) (last : List Named) → lines rest ≡ bytes ∷ lines behind
-    → Leaves base (row_of bytes) old new step → step ≡ Ends → behind_end (n + 1) (lines behind) ≡ last → Left text rest n base old
+    → Leaves base (read_line bytes) old new step → step ≡ Ends → behind_end (n + 1) (lines behind) ≡ last → Left text rest n base old
     → (fault_behind [] (named text) ≡ fault_behind old last) × (slots_behind [] (named text) ≡ slots_behind old last) × (new ≡ old)
 ended text rest bytes behind n base old new step last e h s b left =
-    let k : Leaves base (row_of bytes) old new Ends = subst (Leaves base (row_of bytes) old new) s h in
-    let rows : row_named n base (row_of bytes) (lines_named (n + 1) (lines behind)) (behind_end (n + 1) (lines behind)) ≡ last =
-    ap (λ r. row_named n base r (lines_named (n + 1) (lines behind)) (behind_end (n + 1) (lines behind))) k.0 ∙ b in (
+    let k : Leaves base (read_line bytes) old new Ends = subst (Leaves base (read_line bytes) old new) s h in
+    let rows : record_named n base (read_line bytes) (lines_named (n + 1) (lines behind)) (behind_end (n + 1) (lines behind)) ≡ last =
+    ap (λ r. record_named n base r (lines_named (n + 1) (lines behind)) (behind_end (n + 1) (lines behind))) k.0 ∙ b in (
       sym (first_fault_left text rest bytes behind n base old e left) ∙ ap (fault_behind old) rows,
       sym (first_slots_left text rest bytes behind n base old e left) ∙ ap (slots_behind old) rows,
       k.1,
     )
 
 pub end_stops : (text rest bytes behind : List ℕ) (n : ℕ) (base : Base) (old new : List (Option ℕ)) (step : Step) (f : HexFault) → lines rest ≡ bytes ∷ lines behind
-    → Leaves base (row_of bytes) old new step → step ≡ Ends → behind_end (n + 1) (lines behind) ≡ Bad f ∷ [] → Left text rest n base old → fault_in text ≡ Some f
+    → Leaves base (read_line bytes) old new step → step ≡ Ends → behind_end (n + 1) (lines behind) ≡ Bad f ∷ [] → Left text rest n base old → fault_in text ≡ Some f
 end_stops text rest bytes behind n base old new step f e h s b left =
     fault_read text f (ended text rest bytes behind n base old new step (Bad f ∷ []) e h s b left).0
 
 pub end_image : (text rest bytes behind image : List ℕ) (n : ℕ) (base : Base) (old new : List (Option ℕ)) (step : Step) → lines rest ≡ bytes ∷ lines behind
-    → Leaves base (row_of bytes) old new step → step ≡ Ends → behind_end (n + 1) (lines behind) ≡ [] → Left text rest n base old → image ≡ bytes_in new → HexImage text image
+    → Leaves base (read_line bytes) old new step → step ≡ Ends → behind_end (n + 1) (lines behind) ≡ [] → Left text rest n base old → image ≡ bytes_in new → HexImage text image
 end_image text rest bytes behind image n base old new step e h s b left i =
     let k = ended text rest bytes behind n base old new step [] e h s b left in
     image_read text image new k.0 (k.2 ∙ sym k.1) i

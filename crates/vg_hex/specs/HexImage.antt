@@ -3,11 +3,11 @@ use Rattle.std.specs.Prelude.{ℕ, ◌+◌, ◌*◌, ◌%◌, ◌<◌, ◌≡◌
 use Rattle.vg_lines.specs.Lines.{lines}
 use Rattle.vg_hex.specs.declared.fault.HexFault.{HexFault}
 use Rattle.vg_hex.specs.declared.fault.HexFault.TheVariants.{Form, Sum, Twice, Beyond, NoEnd}
-use Rattle.vg_hex.specs.declared.row.Base.{Base}
-use Rattle.vg_hex.specs.declared.row.Base.TheVariants.{Unset, Segment, Linear}
-use Rattle.vg_hex.specs.declared.row.Row.{Row}
-use Rattle.vg_hex.specs.declared.row.Row.TheVariants.{Blank, Data, Base as Based, End, Passed, NoSum, NoForm}
-use Rattle.vg_hex.specs.Rows.{row_of}
+use Rattle.vg_hex.specs.declared.hex_record.Base.{Base}
+use Rattle.vg_hex.specs.declared.hex_record.Base.TheVariants.{Unset, Segment, Linear}
+use Rattle.vg_hex.specs.declared.hex_record.HexRecord.{HexRecord}
+use Rattle.vg_hex.specs.declared.hex_record.HexRecord.TheVariants.{Blank, Data, Base as Based, End, Passed, NoSum, NoForm}
+use Rattle.vg_hex.specs.HexRecords.{read_line}
 
 -- what a text names, in its order: a byte at an address, or a line that has no reading
 pub data Named : Type 0 where
@@ -15,15 +15,15 @@ pub data Named : Type 0 where
   Bad : (fault : HexFault) → Named
 
 -- the address of the data byte of this index, in a record of this address behind this base line
-abbrev pub address_of : Base → ℕ → ℕ → ℕ
-address_of Unset at index = at + index
-address_of (Segment value) at index = value * 16 + (at + index) % 65536
-address_of (Linear value) at index = value * 65536 + (at + index)
+abbrev pub data_address : Base → ℕ → ℕ → ℕ
+data_address Unset at index = at + index
+data_address (Segment value) at index = value * 16 + (at + index) % 65536
+data_address (Linear value) at index = value * 65536 + (at + index)
 
 -- the data bytes of a record from this index on
 abbrev pub bytes_named : Base → ℕ → ℕ → List ℕ → List Named
 bytes_named base at index [] = []
-bytes_named base at index (b ∷ bs) = Byte (address_of base at index) b ∷ bytes_named base at (index + 1) bs
+bytes_named base at index (b ∷ bs) = Byte (data_address base at index) b ∷ bytes_named base at (index + 1) bs
 
 -- behind the end stand empty lines alone
 abbrev pub behind_end : ℕ → List (List ℕ) → List Named
@@ -32,19 +32,19 @@ behind_end n ([] ∷ ls) = behind_end (n + 1) ls
 behind_end n ((c ∷ l) ∷ ls) = Bad (Form n) ∷ []
 
 -- what the line of this number names, and then the lines behind it, by the base that it leaves
-abbrev pub row_named : ℕ → Base → Row → (Base → List Named) → List Named → List Named
-row_named n base Blank rest behind = rest base
-row_named n base (Data at bytes) rest behind = bytes_named base at 0 bytes ++ rest base
-row_named n base (Based new) rest behind = rest new
-row_named n base End rest behind = behind
-row_named n base Passed rest behind = rest base
-row_named n base NoSum rest behind = Bad (Sum n) ∷ []
-row_named n base NoForm rest behind = Bad (Form n) ∷ []
+abbrev pub record_named : ℕ → Base → HexRecord → (Base → List Named) → List Named → List Named
+record_named n base Blank rest behind = rest base
+record_named n base (Data at bytes) rest behind = bytes_named base at 0 bytes ++ rest base
+record_named n base (Based new) rest behind = rest new
+record_named n base End rest behind = behind
+record_named n base Passed rest behind = rest base
+record_named n base NoSum rest behind = Bad (Sum n) ∷ []
+record_named n base NoForm rest behind = Bad (Form n) ∷ []
 
 -- what the lines from this number on name
 abbrev pub lines_named : ℕ → List (List ℕ) → Base → List Named
 lines_named n [] base = Bad NoEnd ∷ []
-lines_named n (l ∷ ls) base = row_named n base (row_of l) (lines_named (n + 1) ls) (behind_end (n + 1) ls)
+lines_named n (l ∷ ls) base = record_named n base (read_line l) (lines_named (n + 1) ls) (behind_end (n + 1) ls)
 
 -- what a text names; lines have numbers from 1
 abbrev pub named : List ℕ → List Named

@@ -1,15 +1,14 @@
 -- The written text of an image.
 use Rattle.std.specs.Prelude.{ℕ, zero, suc, ◌+◌, ◌-◌, ◌/◌, ◌%◌, ◌==◌, List, [], ◌∷◌, ◌++◌, length, take, drop, sum, codes, if◌then◌else◌}
-use Rattle.std.specs.List.{flat_map}
-use Rattle.vg_lines.specs.Digits.{upper_pair}
+use Rattle.hex.specs.Hex.{encode_upper}
 
 -- the byte that makes the sum of all bytes of a record 0 modulo 256
 abbrev pub check_of : List ℕ → ℕ
 check_of body = (256 - sum body % 256) % 256
 
--- a record: a colon, then two digits for each byte, the check byte last
+-- a record: a colon, then two upper-case digits for each byte, the check byte last
 abbrev pub record_line : List ℕ → List ℕ
-record_line body = 58 ∷ flat_map upper_pair (body ++ check_of body ∷ [])
+record_line body = 58 ∷ encode_upper (body ++ check_of body ∷ [])
 
 -- a record of data: how many bytes, the low sixteen bits of the address, type 00, and the bytes
 abbrev pub data_line : ℕ → List ℕ → List ℕ

@@ -1,4 +1,4 @@
 pub mod HexText
-pub mod Rows
+pub mod HexRecords
 pub mod HexImage
 pub mod Walk

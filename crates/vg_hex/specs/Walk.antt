@@ -2,17 +2,12 @@
 use Rattle.std.specs.Prelude.{ℕ, ◌+◌, ◌-◌, ◌≡◌, Bool, true, false, List, [], ◌∷◌, ◌++◌, length, replicate, slice_set, map, nat_le, Option, Some, None, get_or, if◌then◌else◌}
 use Rattle.vg_hex.specs.declared.fault.HexFault.{HexFault}
 use Rattle.vg_hex.specs.declared.fault.HexFault.TheVariants.{Form, Sum, Twice, Beyond}
-use Rattle.vg_hex.specs.declared.row.Base.{Base}
-use Rattle.vg_hex.specs.declared.row.Row.{Row}
-use Rattle.vg_hex.specs.declared.row.Row.TheVariants.{Blank, Data, Base as Based, End, Passed, NoSum, NoForm}
+use Rattle.vg_hex.specs.declared.hex_record.Base.{Base}
+use Rattle.vg_hex.specs.declared.hex_record.HexRecord.{HexRecord}
+use Rattle.vg_hex.specs.declared.hex_record.HexRecord.TheVariants.{Blank, Data, Base as Based, End, Passed, NoSum, NoForm}
 use Rattle.vg_hex.specs.declared.reader.Step.{Step}
 use Rattle.vg_hex.specs.declared.reader.Step.TheVariants.{Goes, Ends}
 use Rattle.vg_hex.specs.HexImage.{Named, Byte, Bad, bytes_named}
-
--- bytes in front of those that are still to be spelled
-abbrev pub behind : List ℕ → Option (List ℕ) → Option (List ℕ)
-behind front None = None
-behind front (Some bs) = Some (front ++ bs)
 
 abbrev pub is_some : Option ℕ → Bool
 is_some None = false
@@ -50,31 +45,31 @@ slots_behind slots [] = slots
 slots_behind slots (Bad f ∷ es) = slots_behind slots es
 slots_behind slots (Byte a v ∷ es) = slots_behind (placed slots a v) es
 
--- the first fault of the row of this line
-abbrev pub row_fault : ℕ → List (Option ℕ) → Base → Row → Option HexFault
-row_fault n slots base (Data at bytes) = fault_behind slots (bytes_named base at 0 bytes)
-row_fault n slots base NoSum = Some (Sum n)
-row_fault n slots base NoForm = Some (Form n)
-row_fault n slots base _ = None
+-- the first fault of the record of this line
+abbrev pub record_fault : ℕ → List (Option ℕ) → Base → HexRecord → Option HexFault
+record_fault n slots base (Data at bytes) = fault_behind slots (bytes_named base at 0 bytes)
+record_fault n slots base NoSum = Some (Sum n)
+record_fault n slots base NoForm = Some (Form n)
+record_fault n slots base _ = None
 
--- what a row names
-abbrev pub row_bytes : Base → Row → List Named
-row_bytes base (Data at bytes) = bytes_named base at 0 bytes
-row_bytes base _ = []
+-- what a record names
+abbrev pub record_bytes : Base → HexRecord → List Named
+record_bytes base (Data at bytes) = bytes_named base at 0 bytes
+record_bytes base _ = []
 
--- the base behind a row that lets the text go on
-abbrev pub base_behind : Base → Row → Option Base
+-- the base behind a record that lets the text go on
+abbrev pub base_behind : Base → HexRecord → Option Base
 base_behind base Blank = Some base
 base_behind base (Data at bytes) = Some base
 base_behind base (Based new) = Some new
 base_behind base Passed = Some base
 base_behind base _ = None
 
--- what a row without a fault leaves
-abbrev pub Leaves : Base → Row → (old new : List (Option ℕ)) → Step → Type 0
-Leaves base row old new (Goes next) =
-    (base_behind base row ≡ Some next) × (fault_behind old (row_bytes base row) ≡ None) × (new ≡ slots_behind old (row_bytes base row))
-Leaves base row old new Ends = (row ≡ End) × (new ≡ old)
+-- what a record without a fault leaves
+abbrev pub Leaves : Base → HexRecord → (old new : List (Option ℕ)) → Step → Type 0
+Leaves base made old new (Goes next) =
+    (base_behind base made ≡ Some next) × (fault_behind old (record_bytes base made) ≡ None) × (new ≡ slots_behind old (record_bytes base made))
+Leaves base made old new Ends = (made ≡ End) × (new ≡ old)
 
 -- a slot's byte, and 0xFF where it is empty
 abbrev pub byte_in : Option ℕ → ℕ

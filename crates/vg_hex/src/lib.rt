@@ -4,10 +4,8 @@
 pub mod fault;
 pub mod laws;
 pub mod reader;
-pub mod row;
+pub mod hex_record;
 mod slots;
-#[cfg(test)]
-mod tests;
 pub mod writer;
 
 pub use fault::{HexFault, HexRefusal};

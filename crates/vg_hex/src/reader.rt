@@ -1,12 +1,12 @@
 // The image of a text.
 ghost use Rattle.std.specs.Prelude.{◌≡◌, ◌<◌, ◌≤◌, ◌+◌, ◌^◌, ℕ, List, [], ◌∷◌, ◌++◌, length, Option, None, Some, IfOk, OnOk};
 ghost use Rattle.vg_lines.specs.Lines.{lines};
-ghost use Rattle.vg_hex.specs.Rows.{row_of};
+ghost use Rattle.vg_hex.specs.HexRecords.{read_line};
 ghost use Rattle.vg_hex.specs.HexImage.{Named, Bad, HexImage, behind_end, fault_in};
-ghost use Rattle.vg_hex.specs.Walk.{Leaves, row_fault};
+ghost use Rattle.vg_hex.specs.Walk.{Leaves, record_fault};
 
 use crate::fault::{HexFault, HexRefusal};
-use crate::row::{Base, Row, row_of};
+use crate::hex_record::{Base, HexRecord, read_line};
 use crate::slots::Slots;
 use avr_isa::Image;
 use std::alloc::Global;
@@ -56,20 +56,20 @@ fn put_line(
     number: u32,
     line: &[u8],
 ) -> Result<Step, HexRefusal>
-    ensures leaves { IfOk result (λ step. Leaves base (row_of line.now) slots.old slots.new step) }
-    ensures fault { (f : HexFault) → result ≡ Err (HexRefusal.Fault f) → row_fault number slots.old base (row_of line.now) ≡ Some f }
+    ensures leaves { IfOk result (λ step. Leaves base (read_line line.now) slots.old slots.new step) }
+    ensures fault { (f : HexFault) → result ≡ Err (HexRefusal.Fault f) → record_fault number slots.old base (read_line line.now) ≡ Some f }
 {
-    match row_of(alloc, line)? {
-        Row::Blank => Ok(Step::Goes(base)),
-        Row::Data(at, bytes) => {
+    match read_line(alloc, line)? {
+        HexRecord::Blank => Ok(Step::Goes(base)),
+        HexRecord::Data(at, bytes) => {
             slots.put_data(base, at, bytes.as_slice())?;
             Ok(Step::Goes(base))
         }
-        Row::Base(next) => Ok(Step::Goes(next)),
-        Row::End => Ok(Step::Ends),
-        Row::Passed => Ok(Step::Goes(base)),
-        Row::NoSum => Err(HexRefusal::Fault(HexFault::Sum(number))),
-        Row::NoForm => Err(HexRefusal::Fault(HexFault::Form(number))),
+        HexRecord::Base(next) => Ok(Step::Goes(next)),
+        HexRecord::End => Ok(Step::Ends),
+        HexRecord::Passed => Ok(Step::Goes(base)),
+        HexRecord::NoSum => Err(HexRefusal::Fault(HexFault::Sum(number))),
+        HexRecord::NoForm => Err(HexRefusal::Fault(HexFault::Form(number))),
     }
 }
 

@@ -1,10 +1,10 @@
 // The bytes that a text has named so far, by address.
 ghost use Rattle.std.specs.Prelude.{◌≡◌, ◌<◌, ◌≤◌, ◌+◌, ◌^◌, ℕ, List, [], ◌∷◌, ◌++◌, length, take, Option, None, Some, IfOk, OnOk};
-ghost use Rattle.vg_hex.specs.HexImage.{address_of, bytes_named};
+ghost use Rattle.vg_hex.specs.HexImage.{data_address, bytes_named};
 ghost use Rattle.vg_hex.specs.Walk.{byte_in, bytes_in, fault_at, fault_behind, is_taken, padded, placed, slots_behind};
 
 use crate::fault::{HexFault, HexRefusal};
-use crate::row::Base;
+use crate::hex_record::Base;
 use avr_isa::Image;
 use std::alloc::Global;
 use std::marker::Model;
@@ -46,7 +46,7 @@ impl Slots {
     {
         let mut index = 0usize;
         for b in bytes {
-            self.put(address_of(base, at, index), *b)?;
+            self.put(data_address(base, at, index), *b)?;
             index += 1;
         }
         Ok(())
@@ -113,9 +113,9 @@ fn byte_in(slot: Option<u8>) -> u8
 }
 
 // The address of the data byte of this index, in a record of this address behind this base line.
-fn address_of(base: Base, at: u16, index: usize) -> u64
+fn data_address(base: Base, at: u16, index: usize) -> u64
     requires { index < 2 ^ 63 }
-    ensures { result ≡ address_of base at index }
+    ensures { result ≡ data_address base at index }
 {
     let place = at as u64 + index as u64;
     match base {

@@ -1,14 +1,13 @@
 // The text of an image.
 ghost use Rattle.std.specs.Prelude.{◌≡◌, ◌≤◌, ◌<◌, ◌++◌, ◌+◌, ◌*◌, ◌%◌, ◌/◌, ◌==◌, List, [], ◌∷◌, length, take, drop, IfOk, OnOk, if◌then◌else◌};
-ghost use Rattle.std.specs.List.{flat_map, AllByRecursion};
-ghost use Rattle.vg_lines.specs.Digits.{upper_pair};
+ghost use Rattle.std.specs.List.{AllByRecursion};
 ghost use Rattle.vg_hex.specs.HexImage.{HexImage};
 ghost use Rattle.vg_hex.specs.HexText.{hex_text, records, data_line, base_line, check_of};
 
 use avr_isa::Image;
+use hex::encode_upper;
 use std::alloc::Global;
 use vg_base::{NoMemory, Row};
-use vg_lines::upper_digit;
 
 /// The bytes of a whole record.
 const RECORD_BYTES: usize = 16;
@@ -23,13 +22,13 @@ pub fn write(alloc: Global, image: &Image) -> Result<Row<u8>, NoMemory>
 {
     let mut text = Row::new(alloc);
     let bytes = image.as_slice();
-    put_records(&mut text, bytes)?;
+    put_records(alloc, &mut text, bytes)?;
     text.append(b":00000001FF\n")?;
     Ok(text)
 }
 
 // The records of the bytes of an image.
-fn put_records(text: &mut Row<u8>, bytes: &[u8]) -> Result<(), NoMemory>
+fn put_records(alloc: Global, text: &mut Row<u8>, bytes: &[u8]) -> Result<(), NoMemory>
     requires { length bytes.now ≤ 131072 }
     ensures text { OnOk result (text.new ≡ text.old ++ records ((length bytes.now + 15) / 16) 0 bytes.now) }
     ensures small { AllByRecursion (λ b. b < 256) bytes.now }
@@ -38,7 +37,7 @@ fn put_records(text: &mut Row<u8>, bytes: &[u8]) -> Result<(), NoMemory>
     for k in 0..count {
         let at = k * RECORD_BYTES;
         put_base(text, at)?;
-        put_data(text, at % 65_536, piece_at(bytes, at))?;
+        put_data(alloc, text, at % 65_536, piece_at(bytes, at))?;
     }
     Ok(())
 }
@@ -69,44 +68,27 @@ fn piece_at(bytes: &[u8], at: usize) -> &[u8]
 }
 
 // A line of data.
-fn put_data(text: &mut Row<u8>, at: usize, bytes: &[u8]) -> Result<(), NoMemory>
+fn put_data(alloc: Global, text: &mut Row<u8>, at: usize, bytes: &[u8]) -> Result<(), NoMemory>
     requires place { at < 65536 }
     requires short { length bytes.now ≤ 16 }
     ensures { OnOk result (text.new ≡ text.old ++ (data_line at bytes.now ++ 10 ∷ [])) }
 {
-    text.append(b":")?;
     let head = [bytes.len() as u8, (at / 256) as u8, (at % 256) as u8, 0];
-    put_bytes(text, &head)?;
-    put_bytes(text, bytes)?;
-    put_byte(text, check_of(&head, bytes))?;
+    let mut body = Row::from_slice(alloc, &head)?;
+    body.append(bytes)?;
+    body.push(check_of(body.as_slice()))?;
+    text.append(b":")?;
+    text.append(encode_upper(alloc, body.as_slice())?.as_bytes())?;
     text.append(b"\n")
 }
 
 // The byte that makes the sum of a record 0 modulo 256.
-fn check_of(head: &[u8], bytes: &[u8]) -> u8
-    ensures { result ≡ check_of (head.now ++ bytes.now) }
+fn check_of(body: &[u8]) -> u8
+    ensures { result ≡ check_of body.now }
 {
     let mut total = 0u8;
-    for b in head {
-        total = total.wrapping_add(*b);
-    }
-    for b in bytes {
+    for b in body {
         total = total.wrapping_add(*b);
     }
     0u8.wrapping_sub(total)
-}
-
-fn put_bytes(text: &mut Row<u8>, bytes: &[u8]) -> Result<(), NoMemory>
-    ensures { OnOk result (text.new ≡ text.old ++ flat_map upper_pair bytes.now) }
-{
-    for b in bytes {
-        put_byte(text, *b)?;
-    }
-    Ok(())
-}
-
-fn put_byte(text: &mut Row<u8>, byte: u8) -> Result<(), NoMemory>
-    ensures { OnOk result (text.new ≡ text.old ++ upper_pair byte) }
-{
-    text.append(&[upper_digit(byte / 16), upper_digit(byte % 16)])
 }

@@ -1,11 +1,13 @@
--- The laws of traces: what is built of pieces that only add to the trace only adds to it.
+-- The laws of traces: what is built of pieces that only add to the trace only adds to it. Each law is by cases on the answer of the
+-- first part, and what two parts add is put together; loops go by induction on their turns, whole code by that on the code.
 use Rattle.std.specs.Prelude.{ℕ, zero, suc, Bool, true, false, List, [], ◌∷◌, ◌++◌}
 use Rattle.std.proofs.Common.{refl, sym, ap, ◌∙◌}
 use Rattle.std.proofs.lemmas.List.{append-nil, append_assoc}
 use Rattle.vg_meaning.specs.declared.event.Event.{Event}
 use Rattle.vg_meaning.specs.History.{Active, Recorder}
 use Rattle.vg_meaning.specs.World.{Phase, Starting, Running}
-use Rattle.vg_meaning.specs.Answer.{End, OutOfClock, OutOfDepth, Breaks, Continues, Returns, Over, Answer, Gives, Ends, Piece, go_on, over, and_then, unless, passes, stops}
+use Rattle.vg_meaning.specs.Answer.{End, OutOfClock, OutOfDepth, Breaks, Continues, Returns, Over, Answer, Gives, Ends, Piece, go_on, over, and_then}
+use Rattle.vg_meaning.specs.Answer.{unless, passes, stops}
 use Rattle.vg_meaning.specs.Clock.{tick_at, ticked}
 use Rattle.vg_meaning.specs.Calls.{closed, closing, unless_deep, note_call, opened, returned}
 use Rattle.vg_meaning.specs.Loops.{Test, Tested, Untested, choose, where_holds, turned, turns, loop}
@@ -82,7 +84,8 @@ module _ {S H : Type 0} where
   pub grows_next : (next more : Piece S H) → Grows next → Grows more → Grows (λ s w. and_then (next s w) more)
   grows_next next more hn hm s w = grows_then w.outside.trace (next s w) more (hn s w) hm
 
-  pub grows_body : (body next more : Piece S H) → Grows body → Grows next → Grows more → Grows (λ s1 w1. turned (body s1 w1) (λ s2 w2. and_then (next s2 w2) more))
+  pub grows_body : (body next more : Piece S H) → Grows body → Grows next → Grows more
+      → Grows (λ s1 w1. turned (body s1 w1) (λ s2 w2. and_then (next s2 w2) more))
   grows_body body next more hb hn hm s w = grows_turned w.outside.trace (body s w) (λ s2 w2. and_then (next s2 w2) more) (hb s w) (grows_next next more hn hm)
 
   -- one turn of a loop
@@ -90,12 +93,14 @@ module _ {S H : Type 0} where
       → Grows (ticked r (λ s1 w1. turned (body s1 w1) (λ s2 w2. and_then (next s2 w2) more)))
   grows_turn r body next more hb hn hm = grows_ticked r _ (grows_body body next more hb hn hm)
 
-  pub grows_turns : (r : Recorder H) (test : S → Test S) (c body next : Piece S H) → Grows c → Grows body → Grows next → (n : ℕ) → Grows (turns r n (where_holds c test) body next)
+  pub grows_turns : (r : Recorder H) (test : S → Test S) (c body next : Piece S H) → Grows c → Grows body → Grows next → (n : ℕ)
+      → Grows (turns r n (where_holds c test) body next)
   grows_turns r test c body next hc hb hn zero = grows_where_holds test c (over OutOfClock) hc (grows_over OutOfClock)
   grows_turns r test c body next hc hb hn (suc n) =
       grows_where_holds test c _ hc (grows_turn r body next (turns r n (where_holds c test) body next) hb hn (grows_turns r test c body next hc hb hn n))
 
-  pub grows_loop : (r : Recorder H) (test : S → Test S) (c body next : Piece S H) → Grows c → Grows body → Grows next → Grows (loop r (where_holds c test) body next)
+  pub grows_loop : (r : Recorder H) (test : S → Test S) (c body next : Piece S H) → Grows c → Grows body → Grows next
+      → Grows (loop r (where_holds c test) body next)
   grows_loop r test c body next hc hb hn s w = grows_turns r test c body next hc hb hn w.clock s w
 
   grows_read_from : (phase : Phase) (values : List ℕ) (address : ℕ) (p : ℕ → Piece S H) → ((v : ℕ) → Grows (p v)) → Grows (read_from phase values address p)
@@ -125,9 +130,11 @@ module _ {S H : Type 0} where
   grows_idles (suc n) p k s w = grows_then w.outside.trace (take_interrupt p s w) (idles n p) (grows_interrupt p k s w) (grows_idles n p k)
 
   -- code only adds to the trace where its steps do
-  pub grows_performed : {P : Type 0} (r : Recorder H) (test : S → Test S) (step : P → Piece S H) → ((p : P) → Grows (step p)) → (c : Code P) → Grows (performed r step test c)
+  pub grows_performed : {P : Type 0} (r : Recorder H) (test : S → Test S) (step : P → Piece S H) → ((p : P) → Grows (step p)) → (c : Code P)
+      → Grows (performed r step test c)
   grows_performed r test step h Nothing s w = extends_itself w.outside.trace
-  grows_performed r test step h (Then a b) s w = grows_then w.outside.trace (performed r step test a s w) (performed r step test b) (grows_performed r test step h a s w) (grows_performed r test step h b)
+  grows_performed r test step h (Then a b) s w =
+      grows_then w.outside.trace (performed r step test a s w) (performed r step test b) (grows_performed r test step h a s w) (grows_performed r test step h b)
   grows_performed r test step h (Do p) s w = h p s w
   grows_performed r test step h (If a b) s w = grows_choose (test s) _ _ (grows_performed r test step h a) (grows_performed r test step h b) s w
   grows_performed r test step h (Loop c body next) s w =

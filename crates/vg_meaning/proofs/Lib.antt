@@ -1,4 +1,5 @@
 pub mod Same
+pub mod Safe
 pub mod Told
 pub mod Grows
 pub mod Longer

@@ -1,4 +1,5 @@
--- The laws of more clock: a run with more ticks does the same, and goes on where it was out of clock.
+-- The laws of more clock: a run with more ticks does the same, and goes on where it was out of clock. Each law is by cases on how the
+-- first part does the same; where it is out of clock, what comes behind only adds to the trace. A loop goes by induction on its turns.
 use Rattle.std.specs.Prelude.{ℕ, zero, suc, ◌+◌, ◌≤◌, Bool, true, false, List, [], ◌∷◌}
 use Rattle.std.proofs.Common.{◌≡◌, sym, subst, arith}
 use Rattle.vg_meaning.specs.History.{Active, Recorder}
@@ -12,7 +13,8 @@ use Rattle.vg_meaning.specs.Interrupts.{interrupt_from, take_interrupt, idles}
 use Rattle.vg_meaning.specs.Code.{Code, Nothing, Then, Do, If, Loop, Break, Continue, Return, performed}
 use Rattle.vg_meaning.specs.Grows.{Grows}
 use Rattle.vg_meaning.specs.Longer.{longer, Longer, gives, ends, out, LongerPiece}
-use Rattle.vg_meaning.proofs.Grows.{extends_itself, grows_on, grows_then, grows_turned, grows_returned, grows_tick_at, grows_deep, grows_choose, grows_next, grows_body, grows_turn, grows_turns, grows_idles, grows_performed}
+use Rattle.vg_meaning.proofs.Grows.{extends_itself, grows_on, grows_then, grows_turned, grows_returned, grows_tick_at, grows_deep, grows_choose, grows_next}
+use Rattle.vg_meaning.proofs.Grows.{grows_body, grows_turn, grows_turns, grows_idles, grows_performed}
 
 module _ {S H : Type 0} (d : ℕ) where
   pub longer_then : (a b : Answer S H) (p q : Piece S H) → Longer d a b → LongerPiece d p q → Grows q → Longer d (and_then a p) (and_then b q)
@@ -46,7 +48,8 @@ module _ {S H : Type 0} (d : ℕ) where
   longer_returned _ _ p q (ends {why = Over why}) k g = ends
   longer_returned _ b p q (out {w = w} e) k g = out (grows_returned w.outside.trace b q e g)
 
-  pub longer_tick_at : (note : H → H) (n : ℕ) (p q : Piece S H) (s : S) (w : World H) → LongerPiece d p q → Grows q → Longer d (tick_at note n p s w) (tick_at note (n + d) q s (longer d w))
+  pub longer_tick_at : (note : H → H) (n : ℕ) (p q : Piece S H) (s : S) (w : World H) → LongerPiece d p q → Grows q
+      → Longer d (tick_at note n p s w) (tick_at note (n + d) q s (longer d w))
   longer_tick_at note zero p q s w k g = out (grows_tick_at note (zero + d) q g s (longer d w))
   longer_tick_at note (suc n) p q s w k g =
       let e : suc n + d ≡ suc (n + d) = omega arith in
@@ -79,7 +82,8 @@ module _ {S H : Type 0} (d : ℕ) where
   pub longer_write : (address value : ℕ) → LongerPiece {S = S} {H = H} d (write_device address value) (write_device address value)
   longer_write address value s w = longer_write_in w.phase address value s w
 
-  longer_interrupt_from : (vectors : List ℕ) (p q : ℕ → Piece S H) → ((k : ℕ) → LongerPiece d (p k) (q k)) → LongerPiece d (interrupt_from vectors p) (interrupt_from vectors q)
+  longer_interrupt_from : (vectors : List ℕ) (p q : ℕ → Piece S H) → ((k : ℕ) → LongerPiece d (p k) (q k))
+      → LongerPiece d (interrupt_from vectors p) (interrupt_from vectors q)
   longer_interrupt_from [] p q h s w = ends
   longer_interrupt_from (k ∷ ks) p q h s w = h k s _
 
@@ -95,12 +99,16 @@ module _ {S H : Type 0} (d : ℕ) where
   longer_choose (Tested false s1) p p1 q q1 h k s w = k s1 w
   longer_choose Untested p p1 q q1 h k s w = ends
 
-  longer_where_holds : (test : S → Test S) (c c' p q : Piece S H) → LongerPiece d c c' → LongerPiece d p q → Grows q → LongerPiece d (where_holds c test p) (where_holds c' test q)
+  longer_where_holds : (test : S → Test S) (c c' p q : Piece S H) → LongerPiece d c c' → LongerPiece d p q → Grows q
+      → LongerPiece d (where_holds c test p) (where_holds c' test q)
   longer_where_holds test c c' p q h k g s w =
-      longer_then _ _ _ _ (h s w) (λ s1 w1. longer_choose (test s1) p go_on q go_on k (λ s2 w2. gives) s1 w1) (λ s1 w1. grows_choose (test s1) q go_on g grows_on s1 w1)
+      longer_then _ _ _ _ (h s w) (λ s1 w1. longer_choose (test s1) p go_on q go_on k (λ s2 w2. gives) s1 w1)
+      (λ s1 w1. grows_choose (test s1) q go_on g grows_on s1 w1)
 
-  longer_turns : (r : Recorder H) (test : S → Test S) (c body next c' body' next' : Piece S H) → LongerPiece d c c' → LongerPiece d body body' → LongerPiece d next next'
-      → Grows c' → Grows body' → Grows next' → (n m : ℕ) → n ≤ m → LongerPiece d (turns r n (where_holds c test) body next) (turns r m (where_holds c' test) body' next')
+  longer_turns : (r : Recorder H) (test : S → Test S) (c body next c' body' next' : Piece S H) → LongerPiece d c c' → LongerPiece d body body'
+      → LongerPiece d next next'
+      → Grows c' → Grows body' → Grows next' → (n m : ℕ) → n ≤ m
+      → LongerPiece d (turns r n (where_holds c test) body next) (turns r m (where_holds c' test) body' next')
   longer_turns r test c body next c' body' next' hc hb hn gc gb gn zero zero le =
       longer_where_holds test c c' _ _ hc (λ s w. ends) (λ s w. extends_itself w.outside.trace)
   longer_turns r test c body next c' body' next' hc hb hn gc gb gn zero (suc m) le =
@@ -120,19 +128,25 @@ module _ {S H : Type 0} (d : ℕ) where
       more : Grows (turns r m (where_holds c' test) body' next')
       more = grows_turns r test c' body' next' gc gb gn m
 
-  pub longer_loop : (r : Recorder H) (test : S → Test S) (c body next c' body' next' : Piece S H) → LongerPiece d c c' → LongerPiece d body body' → LongerPiece d next next'
+  pub longer_loop : (r : Recorder H) (test : S → Test S) (c body next c' body' next' : Piece S H) → LongerPiece d c c' → LongerPiece d body body'
+      → LongerPiece d next next'
       → Grows c' → Grows body' → Grows next' → LongerPiece d (loop r (where_holds c test) body next) (loop r (where_holds c' test) body' next')
-  longer_loop r test c body next c' body' next' hc hb hn gc gb gn s w = longer_turns r test c body next c' body' next' hc hb hn gc gb gn w.clock (w.clock + d) (omega arith) s w
+  longer_loop r test c body next c' body' next' hc hb hn gc gb gn s w =
+      longer_turns r test c body next c' body' next' hc hb hn gc gb gn w.clock (w.clock + d) (omega arith) s w
 
   -- with more ticks code does the same, where its steps do
-  pub longer_performed : {P : Type 0} (r : Recorder H) (test : S → Test S) (step step' : P → Piece S H) → ((p : P) → LongerPiece d (step p) (step' p)) → ((p : P) → Grows (step' p))
+  pub longer_performed : {P : Type 0} (r : Recorder H) (test : S → Test S) (step step' : P → Piece S H) → ((p : P) → LongerPiece d (step p) (step' p))
+      → ((p : P) → Grows (step' p))
       → (c : Code P) → LongerPiece d (performed r step test c) (performed r step' test c)
   longer_performed r test step step' h g Nothing s w = gives
-  longer_performed r test step step' h g (Then a b) s w = longer_then _ _ _ _ (longer_performed r test step step' h g a s w) (longer_performed r test step step' h g b) (grows_performed r test step' g b)
+  longer_performed r test step step' h g (Then a b) s w =
+      longer_then _ _ _ _ (longer_performed r test step step' h g a s w) (longer_performed r test step step' h g b) (grows_performed r test step' g b)
   longer_performed r test step step' h g (Do p) s w = h p s w
-  longer_performed r test step step' h g (If a b) s w = longer_choose (test s) _ _ _ _ (longer_performed r test step step' h g a) (longer_performed r test step step' h g b) s w
+  longer_performed r test step step' h g (If a b) s w =
+      longer_choose (test s) _ _ _ _ (longer_performed r test step step' h g a) (longer_performed r test step step' h g b) s w
   longer_performed r test step step' h g (Loop c body next) s w =
-      longer_loop r test _ _ _ _ _ _ (longer_performed r test step step' h g c) (longer_performed r test step step' h g body) (longer_performed r test step step' h g next)
+      longer_loop r test _ _ _ _ _ _ (longer_performed r test step step' h g c) (longer_performed r test step step' h g body)
+      (longer_performed r test step step' h g next)
       (grows_performed r test step' g c) (grows_performed r test step' g body) (grows_performed r test step' g next) s w
   longer_performed r test step step' h g Break s w = ends
   longer_performed r test step step' h g Continue s w = ends

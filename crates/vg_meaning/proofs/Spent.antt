@@ -1,9 +1,11 @@
--- The laws of the spent clock: it never rises, and a run that is out of clock has none left.
+-- The laws of the spent clock: it never rises, and a run that is out of clock has none left. Each law is by cases on the answer of the
+-- first part, and inequalities of clocks are put together; a loop goes by induction on its turns, whole code by that on the code.
 use Rattle.std.specs.Prelude.{ℕ, zero, suc, ◌≤◌, Bool, true, false, List, [], ◌∷◌}
 use Rattle.std.proofs.Common.{◌≡◌, refl, sym, subst, arith}
 use Rattle.vg_meaning.specs.History.{Active, Recorder}
 use Rattle.vg_meaning.specs.World.{World, Phase, Starting, Running}
-use Rattle.vg_meaning.specs.Answer.{End, Stops, Wants, Touches, Done, OutOfClock, OutOfDepth, Wrong, Signal, Breaks, Continues, Returns, Over, Answer, Piece, go_on, over, and_then, unless, passes, kept, stops}
+use Rattle.vg_meaning.specs.Answer.{End, Stops, Wants, Touches, Done, OutOfClock, OutOfDepth, Wrong, Signal, Breaks, Continues, Returns, Over, Answer}
+use Rattle.vg_meaning.specs.Answer.{Piece, go_on, over, and_then, unless, passes, kept, stops}
 use Rattle.vg_meaning.specs.Clock.{tick_at, ticked}
 use Rattle.vg_meaning.specs.Calls.{closed, closing, unless_deep, note_call, opened, returned}
 use Rattle.vg_meaning.specs.Loops.{Test, Tested, Untested, choose, where_holds, turned, turns, loop}
@@ -70,7 +72,8 @@ module _ {S H : Type 0} where
   spent_turned n m _ p h (ends {why = Returns} le z) k = ends le z
   spent_turned n m _ p h (ends {why = Over why} le z) k = ends le z
 
-  spent_read_from : (n : ℕ) (phase : Phase) (values : List ℕ) (address : ℕ) (p : ℕ → Piece S H) → ((v : ℕ) → Spends n (p v)) → Spends n (read_from phase values address p)
+  spent_read_from : (n : ℕ) (phase : Phase) (values : List ℕ) (address : ℕ) (p : ℕ → Piece S H) → ((v : ℕ) → Spends n (p v))
+      → Spends n (read_from phase values address p)
   spent_read_from n Starting values address p k s w h = spent_over n (Touches address) refl s w h
   spent_read_from n Running [] address p k s w h = spent_over n (Wants address) refl s w h
   spent_read_from n Running (v ∷ vs) address p k s w h = k v s _ h
@@ -105,18 +108,21 @@ module _ {S H : Type 0} where
       → (n : ℕ) → n ≤ most → Spends n (turns r n (where_holds c test) body next)
   spent_turns r most test c body next hc hb hn zero le s w h =
       spent_then zero w.clock _ _ h (hc s w (omega (arith, h, le)))
-      (λ s1 w1 h1. spent_choose zero (test s1) (over OutOfClock) go_on (λ s2 w2 h2. ends (omega arith) (λ _. omega (arith, h2))) (λ s2 w2 h2. gives (omega arith)) s1 w1 h1)
+      (λ s1 w1 h1. spent_choose zero (test s1) (over OutOfClock) go_on (λ s2 w2 h2. ends (omega arith) (λ _. omega (arith, h2)))
+      (λ s2 w2 h2. gives (omega arith)) s1 w1 h1)
   spent_turns r most test c body next hc hb hn (suc n) le s w h =
       spent_then (suc n) w.clock _ _ h (hc s w (omega (arith, h, le))) (λ s1 w1 h1. spent_choose (suc n) (test s1) _ go_on
       (spent_ticked r n _ (λ s3 w3 h3. spent_turned n w3.clock _ _ h3 (hb s3 w3 (omega (arith, h3, le)))
       (λ s4 w4 h4. spent_then n w4.clock _ _ h4 (hn s4 w4 (omega (arith, h4, le))) (spent_turns r most test c body next hc hb hn n (omega (arith, le))))))
       (λ s2 w2 h2. gives (omega arith)) s1 w1 h1)
 
-  pub spent_loop : (r : Recorder H) (n : ℕ) (test : S → Test S) (c body next : Piece S H) → Spends n c → Spends n body → Spends n next → Spends n (loop r (where_holds c test) body next)
+  pub spent_loop : (r : Recorder H) (n : ℕ) (test : S → Test S) (c body next : Piece S H) → Spends n c → Spends n body → Spends n next
+      → Spends n (loop r (where_holds c test) body next)
   spent_loop r n test c body next hc hb hn s w h = spent_turns r n test c body next hc hb hn w.clock h s w (omega arith)
 
   -- code spends what its steps spend
-  pub spent_performed : {P : Type 0} (r : Recorder H) (n : ℕ) (test : S → Test S) (step : P → Piece S H) → ((p : P) → Spends n (step p)) → (c : Code P) → Spends n (performed r step test c)
+  pub spent_performed : {P : Type 0} (r : Recorder H) (n : ℕ) (test : S → Test S) (step : P → Piece S H) → ((p : P) → Spends n (step p)) → (c : Code P)
+      → Spends n (performed r step test c)
   spent_performed r n test step h Nothing s w le = gives (omega arith)
   spent_performed r n test step h (Then a b) s w le = spent_then n w.clock _ _ le (spent_performed r n test step h a s w le) (spent_performed r n test step h b)
   spent_performed r n test step h (Do p) s w le = h p s w le

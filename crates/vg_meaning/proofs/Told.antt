@@ -1,4 +1,5 @@
--- The laws of histories: a run that keeps less follows one that keeps more.
+-- The laws of histories: a run that keeps less follows one that keeps more. Each law is by cases on how the first part is followed,
+-- and what a recorder notes is rewritten by what takes one to the other; a loop goes by induction on its turns, whole code by that on the code.
 use Rattle.std.specs.Prelude.{ℕ, zero, suc, Bool, true, false, List, [], ◌∷◌, length, drop}
 use Rattle.std.proofs.Common.{◌≡◌, refl, sym, ap, ◌∙◌, subst}
 use Rattle.vg_meaning.specs.History.{Active, Recorder, full, depth_alone, depth_of, one_less}
@@ -35,7 +36,8 @@ module _ {S H K : Type 0} (f : H → K) where
   told_unless true c why p p' e k s w = subst (λ x. Told f (unless true why p s w) (unless x why p' s (told f w))) e ends
   told_unless false c why p p' e k s w = subst (λ x. Told f (unless false why p s w) (unless x why p' s (told f w))) e (k s w)
 
-  pub told_tick_at : (note : H → H) (note' : K → K) → ((h : H) → note' (f h) ≡ f (note h)) → (n : ℕ) (p : Piece S H) (p' : Piece S K) → ToldPiece f p p' → ToldPiece f (tick_at note n p) (tick_at note' n p')
+  pub told_tick_at : (note : H → H) (note' : K → K) → ((h : H) → note' (f h) ≡ f (note h)) → (n : ℕ) (p : Piece S H) (p' : Piece S K) → ToldPiece f p p'
+      → ToldPiece f (tick_at note n p) (tick_at note' n p')
   told_tick_at note note' e zero p p' k s w = ends
   told_tick_at note note' e (suc n) p p' k s w =
       let w1 : World H = record w { clock = n; history = note w.history } in
@@ -66,7 +68,8 @@ module _ {S H K : Type 0} (f : H → K) where
   told_read_from Running [] address p p' k s w = ends
   told_read_from Running (v ∷ vs) address p p' k s w = k v s _
 
-  pub told_read : (address : ℕ) (p : ℕ → Piece S H) (p' : ℕ → Piece S K) → ((v : ℕ) → ToldPiece f (p v) (p' v)) → ToldPiece f (read_device address p) (read_device address p')
+  pub told_read : (address : ℕ) (p : ℕ → Piece S H) (p' : ℕ → Piece S K) → ((v : ℕ) → ToldPiece f (p v) (p' v))
+      → ToldPiece f (read_device address p) (read_device address p')
   told_read address p p' k s w = told_read_from w.phase w.outside.reads address p p' k s w
 
   told_write_in : (phase : Phase) (address value : ℕ) → ToldPiece {S = S} f (write_in phase address value) (write_in phase address value)
@@ -88,7 +91,8 @@ module _ {S H K : Type 0} (f : H → K) where
   told_idles zero p p' h s w = told_interrupt p p' h s w
   told_idles (suc n) p p' h s w = told_then _ _ _ _ (told_interrupt p p' h s w) (told_idles n p p' h)
 
-told_call : {H K : Type 0} (f : H → K) (r : Recorder H) (q : Recorder K) → Tells f r q → (call : Active) (h : H) → note_call q call (f h) ≡ f (note_call r call h)
+told_call : {H K : Type 0} (f : H → K) (r : Recorder H) (q : Recorder K) → Tells f r q → (call : Active) (h : H)
+    → note_call q call (f h) ≡ f (note_call r call h)
 told_call f r q tells call h = ap q.tick (tells.open_call call h) ∙ tells.tick (r.open_call call h)
 
 module _ {S H K : Type 0} (f : H → K) (r : Recorder H) (q : Recorder K) (tells : Tells f r q) where
@@ -112,10 +116,12 @@ module _ {S H K : Type 0} (f : H → K) (r : Recorder H) (q : Recorder K) (tells
       told_then f _ _ _ _ (hc s w) (λ s1 w1. told_choose f (test s1) _ go_on _ go_on (λ s2 w2. ends) (λ s2 w2. gives) s1 w1)
   told_turns test c body next c' body' next' hc hb hn (suc n) s w =
       told_then f _ _ _ _ (hc s w) (λ s1 w1. told_choose f (test s1) _ go_on _ go_on
-      (told_ticked _ _ (λ s3 w3. told_turned f _ _ _ _ (hb s3 w3) (λ s4 w4. told_then f _ _ _ _ (hn s4 w4) (told_turns test c body next c' body' next' hc hb hn n))))
+      (told_ticked _ _ (λ s3 w3. told_turned f _ _ _ _ (hb s3 w3)
+      (λ s4 w4. told_then f _ _ _ _ (hn s4 w4) (told_turns test c body next c' body' next' hc hb hn n))))
       (λ s2 w2. gives) s1 w1)
 
-  pub told_loop : (test : S → Test S) (c body next : Piece S H) (c' body' next' : Piece S K) → ToldPiece f c c' → ToldPiece f body body' → ToldPiece f next next'
+  pub told_loop : (test : S → Test S) (c body next : Piece S H) (c' body' next' : Piece S K) → ToldPiece f c c' → ToldPiece f body body'
+      → ToldPiece f next next'
       → ToldPiece f (loop r (where_holds c test) body next) (loop q (where_holds c' test) body' next')
   told_loop test c body next c' body' next' hc hb hn s w = told_turns test c body next c' body' next' hc hb hn w.clock s w
 

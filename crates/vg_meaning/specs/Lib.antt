@@ -7,7 +7,9 @@ pub mod Loops
 pub mod Devices
 pub mod Interrupts
 pub mod Code
+pub mod Shapes
 pub mod Same
+pub mod Safe
 pub mod Told
 pub mod Grows
 pub mod Longer

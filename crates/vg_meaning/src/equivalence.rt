@@ -9,6 +9,7 @@ ghost use Rattle.vg_meaning.specs.Loops.{Test, choose, loop};
 ghost use Rattle.vg_meaning.specs.Devices.{read_device, write_device};
 ghost use Rattle.vg_meaning.specs.Interrupts.{take_interrupt, idles};
 ghost use Rattle.vg_meaning.specs.Code.{Code, performed, replaced};
+ghost use Rattle.vg_meaning.specs.Shapes.{Shapes, Fits};
 ghost use Rattle.vg_meaning.specs.Same.{
   Same,
   SamePiece,
@@ -18,8 +19,6 @@ ghost use Rattle.vg_meaning.specs.Same.{
   Inside,
   SameCondition,
   SameTest,
-  Shapes,
-  Fits,
   Left,
 };
 
@@ -130,7 +129,7 @@ pub fn passes_by_shape<P, Q, X, S, T, K, R: Shaped<P, X, S, T>>()
         → SamePiece (R.related x) (R.related y) (Left R.known R.related R.results) (step p) (performed r step' test' (move p)))
         → ((x y : X) → R.known.Truth x y → (s : S) (t : T) → R.related x s t → SameTest (R.related y) (test s) (test' t))
         → ((x : X) → R.known.Result x → (s : S) (t : T) → R.related x s t → R.results s t)
-        → (c : Code P) (x y : X) → Fits R.known c x y
+        → (looped : Bool) (c : Code P) (x y : X) → Fits R.known looped c x y
         → SamePiece (R.related x) (R.related y) (Left R.known R.related R.results)
         (performed r step test c) (performed r step' test' (replaced move c)) }
 {}

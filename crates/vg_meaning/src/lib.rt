@@ -6,6 +6,7 @@ pub mod equivalence;
 pub mod event;
 pub mod history;
 pub mod more_clock;
+pub mod safety;
 pub mod spent_clock;
 pub mod traces;
 

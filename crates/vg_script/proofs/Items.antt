@@ -2,11 +2,10 @@
 use Rattle.std.proofs.Common.{◌≡◌, ℕ, suc, ◌-◌, ◌<◌, Bool, true, false, List, [], ◌∷◌, ◌++◌, length, length-drop, take, drop, Option, Some, None, refl, sym, ap, ◌∙◌, subst, arith, append_assoc, append-nil, ◌==◌}
 use Rattle.std.specs.Prelude.{if◌then◌else◌}
 use Rattle.std.proofs.lemmas.List.{take_all}
-use Rattle.vg_lines.specs.Digits.{in_front}
 use Rattle.vg_script.specs.declared.reader.Taken.{Taken}
 use Rattle.vg_script.specs.declared.reader.Taken.TheVariants.{Good, Bad as Refused}
 use Rattle.vg_script.specs.declared.reader.Item.{Item}
-use Rattle.vg_script.specs.Script.{Line, spaced_pair, one_digit, two_digits, reads_in, interrupts_in, some, interrupts_line}
+use Rattle.vg_script.specs.Script.{in_front, Line, spaced_pair, one_digit, two_digits, reads_in, interrupts_in, some, interrupts_line}
 use Rattle.vg_script.specs.Walk.{behind, Takes, of_width, first_read, first_interrupt, TakesLine}
 
 -- what an item says of the items that it begins

@@ -4,10 +4,9 @@ use Rattle.std.specs.Prelude.{if◌then◌else◌, ◌&&◌, nat_le}
 use Rattle.std.specs.List.{flat_map}
 use Rattle.vg_meaning.specs.Outside.{IsVector, AreVectors}
 use Rattle.vg_lines.specs.Lines.{lines}
-use Rattle.vg_lines.specs.Digits.{in_front}
 use Rattle.vg_script.specs.declared.reader.Taken.{Taken}
 use Rattle.vg_script.specs.declared.reader.Taken.TheVariants.{Good, Bad as Refused}
-use Rattle.vg_script.specs.Script.{Line, Passed, Reads, Interrupts, Bad, one_digit, two_digits, interrupts_in, some, reads_line, interrupts_line, line_of, reads_of, interrupts_of, or_behind, bad_line, first_bad}
+use Rattle.vg_script.specs.Script.{in_front, Line, Passed, Reads, Interrupts, Bad, one_digit, two_digits, interrupts_in, some, reads_line, interrupts_line, line_of, reads_of, interrupts_of, or_behind, bad_line, first_bad}
 use Rattle.vg_script.specs.Walk.{TakesLine}
 
 -- a good line

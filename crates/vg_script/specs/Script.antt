@@ -1,8 +1,9 @@
 -- What a script says: the values of the reads to come, and the interrupts to come.
-use Rattle.std.specs.Prelude.{ℕ, ◌+◌, ◌-◌, ◌*◌, ◌≡◌, ◌==◌, ◌&&◌, List, [], ◌∷◌, nat_le, Option, Some, None, if◌then◌else◌}
+use Rattle.std.specs.Prelude.{ℕ, ◌+◌, ◌-◌, ◌*◌, ◌≡◌, ◌==◌, ◌&&◌, List, [], ◌∷◌, nat_le, Option, Some, None, Result, Ok, Err, if◌then◌else◌}
 use Rattle.std.specs.List.{flat_map}
 use Rattle.vg_lines.specs.Lines.{lines}
-use Rattle.vg_lines.specs.Digits.{pair_value, in_front}
+use Rattle.hex.specs.Hex.{decode_of}
+use Rattle.hex.specs.declared.error.FromHexError.{FromHexError}
 
 -- the two lists of a script
 pub record Lists : Type 0 where
@@ -16,9 +17,19 @@ pub data Line : Type 0 where
   Interrupts : (vectors : List ℕ) → Line
   Bad : Line
 
+-- the byte that was decoded, where one was
+abbrev pub one_byte : Result (List ℕ) FromHexError → Option ℕ
+one_byte (Ok (b ∷ [])) = Some b
+one_byte _ = None
+
 -- a read: a space, and two hexadecimal digits of either case
 abbrev pub spaced_pair : ℕ → ℕ → ℕ → Option ℕ
-spaced_pair space high low = if space == 32 then pair_value high low else None
+spaced_pair space high low = if space == 32 then one_byte (decode_of (high ∷ low ∷ [])) else None
+
+-- an item in front of others
+abbrev pub in_front : Option ℕ → Option (List ℕ) → Option (List ℕ)
+in_front (Some b) (Some bs) = Some (b ∷ bs)
+in_front _ _ = None
 
 -- reads one behind another
 abbrev pub reads_in : List ℕ → Option (List ℕ)

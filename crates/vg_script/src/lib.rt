@@ -3,8 +3,6 @@
 
 pub mod reader;
 pub mod script;
-#[cfg(test)]
-mod tests;
 pub mod traces;
 
 pub use reader::read_script;

@@ -5,9 +5,10 @@ ghost use Rattle.vg_script.specs.Script.{IsScript, first_bad, interrupts_in, lin
 ghost use Rattle.vg_script.specs.Walk.{Takes, TakesLine, first_interrupt, first_read, of_width};
 
 use crate::script::{Script, ScriptFault};
+use hex::decode_to_slice;
 use std::alloc::Global;
 use vg_base::NoMemory;
-use vg_lines::{first_line, pair_value};
+use vg_lines::first_line;
 
 /// The script of a text of at most 1,048,576 bytes.
 ///
@@ -121,9 +122,13 @@ fn spaced_pair(space: u8, high: u8, low: u8) -> Option<Item>
     if space != b' ' {
         return None;
     }
-    match pair_value(high, low) {
-        None => None,
-        Some(value) => Some(Item { value, width: 3 }),
+    let mut byte = [0u8; 1];
+    match decode_to_slice([high, low], &mut byte) {
+        Err(_) => None,
+        Ok(()) => Some(Item {
+            value: byte[0],
+            width: 3,
+        }),
     }
 }
 

@@ -1,13 +1,17 @@
 // The lines of traces.
-ghost use Rattle.std.specs.Prelude.{◌≡◌, ◌≤◌, ◌<◌, ◌++◌, ◌∷◌, [], ℕ, List, OnOk, OnErr, codes};
+ghost use Rattle.std.specs.Prelude.{◌≡◌, ◌≤◌, ◌++◌, ◌∷◌, [], ℕ, List, OnOk, OnErr, codes, decimal, length};
 ghost use Rattle.vg_io.specs.Count.{Rose};
 ghost use Rattle.vg_io.specs.Piece.{AppendsAll, AppendsFront};
-ghost use Rattle.vg_script.specs.Traces.{decimal, ending_line, event_line, word_digits};
-ghost use Rattle.vg_lines.specs.Digits.{lower_pair};
+ghost use Rattle.vg_script.specs.Traces.{byte_digits, ending_line, event_line, word_digits};
 
-use vg_meaning::Event;
+use arrayvec::ArrayString;
+use hex::encode_to_slice;
+use itoa::Buffer;
 use vg_io::{Failed, Sink};
-use vg_lines::lower_digit;
+use vg_meaning::Event;
+
+// The bytes of the longest line with a decimal number.
+const LONGEST_LINE: usize = 16;
 
 /// How a trace ends.
 #[derive(Clone, Copy, Debug, PartialEq, Eq)]
@@ -36,7 +40,7 @@ pub fn put_event<O: Sink>(event: Event, sink: &mut O) -> Result<(), Failed>
     match event {
         Event::Read(address, value) => sink.put(&device_line(b'r', address, value)),
         Event::Write(address, value) => sink.put(&device_line(b'w', address, value)),
-        Event::Enter(vector) => put_enter(vector, sink),
+        Event::Enter(vector) => sink.put(numbered_line("i ", vector).as_bytes()),
     }
 }
 
@@ -49,59 +53,41 @@ pub fn put_ending<O: Sink>(ending: EndLine, sink: &mut O) -> Result<(), Failed>
 {
     match ending {
         EndLine::Idle => sink.put(b"idle\n"),
-        EndLine::Stop(code) => put_stop(code, sink),
+        EndLine::Stop(code) => sink.put(numbered_line("stop ", code).as_bytes()),
         EndLine::Wants(address) => sink.put(&wants_line(address)),
         EndLine::Budget => sink.put(b"budget\n"),
         EndLine::Depth => sink.put(b"depth\n"),
-        EndLine::Bad { pc, word } => put_bad(pc, word, sink),
+        EndLine::Bad { pc, word } => sink.put(&bad_line(pc, word)),
     }
+}
+
+// What it says, and then a number.
+fn numbered_line(says: &str, number: u8) -> ArrayString<LONGEST_LINE>
+    requires { length says.now ≤ 8 }
+    ensures { result.bytes ≡ says.now ++ decimal number ++ codes "\n" }
+{
+    let mut line = ArrayString::new();
+    line.push_str(says);
+    line.push_str(Buffer::new().format(number));
+    line.push_str("\n");
+    line
 }
 
 // A letter, an address and a value.
 fn device_line(letter: u8, address: u8, value: u8) -> [u8; 8]
-    ensures { result ≡ letter ∷ 32 ∷ [] ++ lower_pair address ++ codes " " ++ lower_pair value ++ codes "\n" }
+    ensures { result ≡ letter ∷ 32 ∷ [] ++ byte_digits address ++ codes " " ++ byte_digits value ++ codes "\n" }
 {
-    [
-        letter,
-        b' ',
-        lower_digit(address / 16),
-        lower_digit(address % 16),
-        b' ',
-        lower_digit(value / 16),
-        lower_digit(value % 16),
-        b'\n',
-    ]
+    let a = byte_digits(address);
+    let v = byte_digits(value);
+    [letter, b' ', a[0], a[1], b' ', v[0], v[1], b'\n']
 }
 
 // The line of a Wants.
 fn wants_line(address: u8) -> [u8; 9]
-    ensures { result ≡ codes "wants " ++ lower_pair address ++ codes "\n" }
+    ensures { result ≡ codes "wants " ++ byte_digits address ++ codes "\n" }
 {
-    [
-        b'w',
-        b'a',
-        b'n',
-        b't',
-        b's',
-        b' ',
-        lower_digit(address / 16),
-        lower_digit(address % 16),
-        b'\n',
-    ]
-}
-
-// The four digits of a word.
-fn word_digits(word: u16) -> [u8; 4]
-    ensures { result ≡ word_digits word }
-{
-    let high = (word / 256) as u8;
-    let low = (word % 256) as u8;
-    [
-        lower_digit(high / 16),
-        lower_digit(high % 16),
-        lower_digit(low / 16),
-        lower_digit(low % 16),
-    ]
+    let a = byte_digits(address);
+    [b'w', b'a', b'n', b't', b's', b' ', a[0], a[1], b'\n']
 }
 
 // The line of a Bad.
@@ -115,50 +101,24 @@ fn bad_line(pc: u16, word: u16) -> [u8; 14]
     ]
 }
 
-// Puts the line of the taking of an interrupt.
-fn put_enter<O: Sink>(vector: u8, sink: &mut O) -> Result<(), Failed>
-    ensures ok { OnOk result (AppendsAll (O.told sink.old) (O.told sink.new) (codes "i " ++ decimal vector ++ codes "\n")) }
-    ensures failed { OnErr result (AppendsFront (O.told sink.old) (O.told sink.new) (codes "i " ++ decimal vector ++ codes "\n")) }
-    ensures later { O.faults sink.old ≤ O.faults sink.new }
-    ensures cause { OnErr result (Rose (O.faults sink.old) (O.faults sink.new)) }
+// The two digits of a byte.
+fn byte_digits(byte: u8) -> [u8; 2]
+    ensures { result ≡ byte_digits byte }
 {
-    let one = b'0' + vector % 10;
-    let ten = b'0' + vector / 10 % 10;
-    let hundred = b'0' + vector / 100;
-    if vector < 10 {
-        sink.put(&[b'i', b' ', one, b'\n'])
-    } else if vector < 100 {
-        sink.put(&[b'i', b' ', ten, one, b'\n'])
-    } else {
-        sink.put(&[b'i', b' ', hundred, ten, one, b'\n'])
+    let mut digits = [0u8; 2];
+    match encode_to_slice([byte], &mut digits) {
+        Ok(()) => digits,
+        Err(_) => unreachable!(),
     }
 }
 
-// Puts the line of a stop.
-fn put_stop<O: Sink>(code: u8, sink: &mut O) -> Result<(), Failed>
-    ensures ok { OnOk result (AppendsAll (O.told sink.old) (O.told sink.new) (codes "stop " ++ decimal code ++ codes "\n")) }
-    ensures failed { OnErr result (AppendsFront (O.told sink.old) (O.told sink.new) (codes "stop " ++ decimal code ++ codes "\n")) }
-    ensures later { O.faults sink.old ≤ O.faults sink.new }
-    ensures cause { OnErr result (Rose (O.faults sink.old) (O.faults sink.new)) }
+// The four digits of a word.
+fn word_digits(word: u16) -> [u8; 4]
+    ensures { result ≡ word_digits word }
 {
-    let one = b'0' + code % 10;
-    let ten = b'0' + code / 10 % 10;
-    let hundred = b'0' + code / 100;
-    if code < 10 {
-        sink.put(&[b's', b't', b'o', b'p', b' ', one, b'\n'])
-    } else if code < 100 {
-        sink.put(&[b's', b't', b'o', b'p', b' ', ten, one, b'\n'])
-    } else {
-        sink.put(&[b's', b't', b'o', b'p', b' ', hundred, ten, one, b'\n'])
+    let mut digits = [0u8; 4];
+    match encode_to_slice([(word / 256) as u8, (word % 256) as u8], &mut digits) {
+        Ok(()) => digits,
+        Err(_) => unreachable!(),
     }
-}
-
-// Puts the line of a Bad.
-fn put_bad<O: Sink>(pc: u16, word: u16, sink: &mut O) -> Result<(), Failed>
-    ensures ok { OnOk result (AppendsAll (O.told sink.old) (O.told sink.new) (codes "bad " ++ word_digits pc ++ codes " " ++ word_digits word ++ codes "\n")) }
-    ensures failed { OnErr result (AppendsFront (O.told sink.old) (O.told sink.new) (codes "bad " ++ word_digits pc ++ codes " " ++ word_digits word ++ codes "\n")) }
-    ensures later { O.faults sink.old ≤ O.faults sink.new }
-    ensures cause { OnErr result (Rose (O.faults sink.old) (O.faults sink.new)) }
-{
-    sink.put(&bad_line(pc, word))
 }

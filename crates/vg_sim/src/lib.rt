@@ -2,7 +2,5 @@
 #![tactic(auto)]
 
 pub mod simulate;
-#[cfg(test)]
-mod tests;
 
 pub use simulate::{Simulated, simulate_text};

@@ -1,25 +1,26 @@
 // One simulation.
-ghost use Rattle.std.specs.Prelude.{◌≡◌, ◌≢◌, ◌≤◌, ℕ, List, length, Option, Some, None};
+ghost use Rattle.std.specs.Prelude.{◌≡◌, ◌≤◌, ℕ, List, length, Option, Some, None, IfOk, OnOk, OnErr};
 ghost use Rattle.vg_io.specs.Count.{Rose};
 ghost use Rattle.vg_io.specs.Piece.{AppendsAll, AppendsFront};
 ghost use Rattle.vg_hex.specs.HexImage.{fault_in};
 ghost use Rattle.vg_script.specs.Script.{first_bad};
-ghost use Rattle.avr_isa.specs.Machine.{machine};
+ghost use Rattle.avr_isa.specs.declared.ending.MachineEnd.{MachineEnd};
+ghost use Rattle.avr_sim.specs.Run.{simulated};
 ghost use Rattle.vg_sim.specs.Refusal.{IsRefusal};
-ghost use Rattle.vg_sim.specs.Shown.{ForRun, ending_of, lines_of};
-ghost use Rattle.vg_sim.specs.Walk.{Shows, line_told};
+ghost use Rattle.vg_sim.specs.Shown.{ForRun, end_line, lines_of};
 
-use avr_sim::{Machine, MachineEnd};
+use avr_isa::MachineEnd;
+use avr_sim::Machine;
 use std::alloc::Global;
 use vg_hex::{HexFault, HexRefusal, read};
-use vg_io::Sink;
+use vg_io::{Failed, Sink};
 use vg_script::{EndLine, Script, ScriptFault, put_ending, read_script};
 
 /// How a simulation ends.
 #[derive(Clone, Copy, Debug, PartialEq, Eq)]
 pub enum Simulated {
-    /// The run has ended so, or its budget is spent, and all lines were put.
-    Ended(EndLine),
+    /// The run has ended so, or with `None` its budget is spent, and all lines were put.
+    Ended(Option<MachineEnd>),
     /// A put failed. A front of the lines was put.
     WriteFault,
     /// The HEX text has this fault, its first. Nothing was put.
@@ -43,8 +44,7 @@ pub fn simulate_text<O: Sink>(
 ) -> Simulated
     requires hex { length hex.now ≤ 1048576 }
     requires script { length script.now ≤ 1048576 }
-    ensures ended { (line : EndLine) → result ≡ Simulated.Ended line → ForRun hex.now script.now budget (λ m. (line ≡ ending_of m.ended) × AppendsAll (O.told out.old) (O.told out.new) (lines_of m)) }
-    ensures no_depth { result ≢ Simulated.Ended EndLine.Depth }
+    ensures ended { (end : Option MachineEnd) → result ≡ Simulated.Ended end → ForRun hex.now script.now budget (λ m. (end ≡ m.ended) × AppendsAll (O.told out.old) (O.told out.new) (lines_of m)) }
     ensures write_fault { result ≡ Simulated.WriteFault → ForRun hex.now script.now budget (λ m. AppendsFront (O.told out.old) (O.told out.new) (lines_of m)) }
     ensures cause { result ≡ Simulated.WriteFault → Rose (O.faults out.old) (O.faults out.new) }
     ensures hex_refused { (fault : HexFault) → result ≡ Simulated.HexRefused fault → fault_in hex.now ≡ Some fault }
@@ -64,37 +64,40 @@ pub fn simulate_text<O: Sink>(
     };
     match Machine::new(alloc, &image) {
         Err(_) => Simulated::NoMemory,
-        Ok(machine) => put_run(machine, &script, budget, out),
-    }
-}
-
-// The run of a machine at reset, with the line of its ending.
-fn put_run<O: Sink>(started: Machine, script: &Script, budget: u32, out: &mut O) -> Simulated
-    ensures no_depth { result ≢ Simulated.Ended EndLine.Depth }
-    ensures shown { Shows (machine started script.now.reads script.now.interrupts budget) (O.told out.old) (O.told out.new) result }
-    ensures cause { result ≡ Simulated.WriteFault → Rose (O.faults out.old) (O.faults out.new) }
-    ensures later { O.faults out.old ≤ O.faults out.new }
-{
-    match line_told(started.run(script, budget, out)) {
-        None => Simulated::WriteFault,
-        Some(line) => match put_ending(line, out) {
+        Ok(machine) => match put_run(machine, &script, budget, out) {
+            Ok(end) => Simulated::Ended(end),
             Err(_) => Simulated::WriteFault,
-            Ok(_) => Simulated::Ended(line),
         },
     }
 }
 
-// The ending that an answer tells, and none where a put failed.
-fn line_told(end: MachineEnd) -> Option<EndLine>
-    ensures told { result ≡ line_told end }
-    ensures no_depth { result ≢ Some EndLine.Depth }
+// The run of a machine at reset, with the line of its ending.
+fn put_run<O: Sink>(
+    started: Machine,
+    script: &Script,
+    budget: u32,
+    out: &mut O,
+) -> Result<Option<MachineEnd>, Failed>
+    ensures ended { IfOk result (λ end. end ≡ (simulated started script.now.reads script.now.interrupts budget).ended) }
+    ensures lines { OnOk result (AppendsAll (O.told out.old) (O.told out.new) (lines_of (simulated started script.now.reads script.now.interrupts budget))) }
+    ensures failed { OnErr result (AppendsFront (O.told out.old) (O.told out.new) (lines_of (simulated started script.now.reads script.now.interrupts budget))) }
+    ensures cause { OnErr result (Rose (O.faults out.old) (O.faults out.new)) }
+    ensures later { O.faults out.old ≤ O.faults out.new }
+{
+    let end = started.run(script, budget, out)?;
+    put_ending(end_line(end), out)?;
+    Ok(end)
+}
+
+// The ending that is put for a run; one that has not ended has spent its budget.
+fn end_line(end: Option<MachineEnd>) -> EndLine
+    ensures { result ≡ end_line end }
 {
     match end {
-        MachineEnd::Idle => Some(EndLine::Idle),
-        MachineEnd::Stop(code) => Some(EndLine::Stop(code)),
-        MachineEnd::Wants(address) => Some(EndLine::Wants(address)),
-        MachineEnd::Budget => Some(EndLine::Budget),
-        MachineEnd::Bad { pc, word } => Some(EndLine::Bad { pc, word }),
-        MachineEnd::SinkFailed => None,
+        None => EndLine::Budget,
+        Some(MachineEnd::Idle) => EndLine::Idle,
+        Some(MachineEnd::Stop(code)) => EndLine::Stop(code),
+        Some(MachineEnd::Wants(address)) => EndLine::Wants(address),
+        Some(MachineEnd::Bad { pc, word }) => EndLine::Bad { pc, word },
     }
 }

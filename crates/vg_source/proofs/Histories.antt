@@ -1,7 +1,7 @@
 -- A program that is run with less history does what it does with more.
 use Rattle.std.specs.Prelude.{ℕ, zero, suc, List, [], ◌∷◌, length, Option, Some, None}
 use Rattle.vg_meaning.specs.History.{Recorder}
-use Rattle.vg_meaning.specs.Answer.{OutOfRoom, Piece, go_on}
+use Rattle.vg_meaning.specs.Answer.{OutOfRoom, Gives, Piece, go_on}
 use Rattle.vg_meaning.specs.Interrupts.{idles}
 use Rattle.vg_meaning.specs.Told.{Told, gives, ends, ToldPiece, Tells}
 use Rattle.vg_meaning.proofs.Told.{told_then, told_unless, told_returned, told_opened, told_read, told_write, told_idles, told_performed}
@@ -9,9 +9,10 @@ use Rattle.std.proofs.Common.{refl}
 use Rattle.vg_source.specs.Names.{Name}
 use Rattle.vg_source.specs.Values.{Value, Null, Heap}
 use Rattle.vg_source.specs.Steps.{Step, Target, Start, Routine, Source}
-use Rattle.vg_source.specs.State.{State, find_routine, handler_of, entered}
+use Rattle.vg_source.specs.State.{State, find_called, handler_of, entered, left}
 use Rattle.vg_source.specs.Meaning.{Caller, put, take_from, taking, with_found, step, truth}
-use Rattle.vg_source.specs.Session.{activity, back_in, run_routine, called, call_alone, first_heap, start_all, with_heap, starting_world, starting, handled, handle, running_world, running}
+use Rattle.vg_source.specs.Session.{activity, back_in, run_routine, called, call_alone, first_heap, start_all, with_heap, starting_world, starting, handled}
+use Rattle.vg_source.specs.Session.{handle, running_world, running}
 use Rattle.vg_source.proofs.Steps.{on_step}
 
 module _ {H K : Type 0} (f : H → K) (r : Recorder H) (q : Recorder K) (tells : Tells f r q) where
@@ -29,9 +30,15 @@ module _ {H K : Type 0} (f : H → K) (r : Recorder H) (q : Recorder K) (tells :
       (λ address value s1 w1 h. told_write f address value s1 w1)
       p call call' (λ t count self s1 w1 h. k t count self s1 w1) a s w tt
 
-  told_found : {B : Type 0} (o : Option B) (go : B → Piece State H) (go' : B → Piece State K) → ((b : B) → ToldPiece f (go b) (go' b)) → ToldPiece f (with_found o go) (with_found o go')
+  told_found : {B : Type 0} (o : Option B) (go : B → Piece State H) (go' : B → Piece State K) → ((b : B) → ToldPiece f (go b) (go' b))
+      → ToldPiece f (with_found o go) (with_found o go')
   told_found (Some b) go go' k s w = k b s w
   told_found None go go' k s w = ends
+
+  told_back : (count : ℕ) (s0 : State) (vs : List Value)
+      → ToldPiece f (take_from vs (λ v body. Gives (left count s0 v body))) (take_from vs (λ v body. Gives (left count s0 v body)))
+  told_back count s0 [] s w = ends
+  told_back count s0 (v ∷ vs) s w = gives
 
   told_routine : (p : Source) (call : Caller H) (call' : Caller K) → ToldCaller call call' → (routine : Routine) (count : ℕ) (self : Value)
       → ToldPiece f (run_routine r p call routine count self) (run_routine q p call' routine count self)
@@ -39,12 +46,12 @@ module _ {H K : Type 0} (f : H → K) (r : Recorder H) (q : Recorder K) (tells :
       told_then f _ _ (back_in count s) (back_in count s)
       (told_returned f _ _ (put routine.missing) (put routine.missing)
       (told_performed f r q tells truth (step p call) (step p call') (told_step p call call' k) routine.body (entered routine count self s) w) (λ s1 w1. gives))
-      (λ s1 w1. gives)
+      (λ s1. told_back count s s1.values s1)
 
   told_called : (p : Source) (n : ℕ) → ToldCaller (called r p n) (called q p n)
   told_called p zero t count self s w = ends
   told_called p (suc n) t count self s w =
-      told_found (find_routine p.routines t) _ _ (λ routine. told_opened f r q tells (activity t routine.number)
+      told_found (find_called p.routines t count) _ _ (λ routine. told_opened f r q tells (activity t routine.number)
       (run_routine r p (called r p n) routine count self) (run_routine q p (called q p n) routine count self)
       (told_routine p (called r p n) (called q p n) (told_called p n) routine count self)) s w
 

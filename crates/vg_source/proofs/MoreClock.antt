@@ -13,11 +13,12 @@ use Rattle.vg_meaning.proofs.Longer.{longer_then, longer_returned, longer_opened
 use Rattle.vg_source.specs.Names.{Name}
 use Rattle.vg_source.specs.Values.{Value, Null, Heap, stored_values}
 use Rattle.vg_source.specs.Steps.{Step, Target, Start, Routine, Source}
-use Rattle.vg_source.specs.State.{State, find_routine, handler_of, entered}
+use Rattle.vg_source.specs.State.{State, find_called, handler_of, entered, left}
 use Rattle.vg_source.specs.Meaning.{Caller, put, take_from, taking, with_found, step, truth}
-use Rattle.vg_source.specs.Session.{activity, back_in, run_routine, called, call_alone, first_heap, start_all, with_heap, starting_world, starting, Initialised, Started, Failed, start_of, started, handled, handle, running_world, running, session_of, session}
+use Rattle.vg_source.specs.Session.{activity, back_in, run_routine, called, call_alone, first_heap, start_all, with_heap, starting_world, starting}
+use Rattle.vg_source.specs.Session.{Initialised, Started, Failed, start_of, started, handled, handle, running_world, running, session_of, session}
 use Rattle.vg_source.proofs.Steps.{grows_put, grows_taking, on_step}
-use Rattle.vg_source.proofs.Traces.{GrowingCaller, grows_step, grows_routine, grows_called, grows_start, grows_handle}
+use Rattle.vg_source.proofs.Traces.{GrowingCaller, grows_step, grows_back, grows_routine, grows_called, grows_start, grows_handle}
 
 module _ {H : Type 0} (d : ℕ) where
   -- all calls of the second caller do with d ticks more what those of the first do
@@ -41,21 +42,28 @@ module _ {H : Type 0} (d : ℕ) where
   longer_put : (v : Value) → LongerPiece {H = H} d (put v) (put v)
   longer_put v s w = gives
 
-  longer_routine : (r : Recorder H) (p : Source) (call call' : Caller H) → LongerCaller call call' → GrowingCaller call' → (routine : Routine) (count : ℕ) (self : Value)
+  longer_back : (count : ℕ) (s0 : State) (vs : List Value)
+      → LongerPiece {H = H} d (take_from vs (λ v body. Gives (left count s0 v body))) (take_from vs (λ v body. Gives (left count s0 v body)))
+  longer_back count s0 [] s w = ends
+  longer_back count s0 (v ∷ vs) s w = gives
+
+  longer_routine : (r : Recorder H) (p : Source) (call call' : Caller H) → LongerCaller call call' → GrowingCaller call'
+      → (routine : Routine) (count : ℕ) (self : Value)
       → LongerPiece d (run_routine r p call routine count self) (run_routine r p call' routine count self)
   longer_routine r p call call' k g routine count self s w =
       longer_then d _ _ (back_in count s) (back_in count s)
       (longer_returned d _ _ (put routine.missing) (put routine.missing)
-      (longer_performed d r truth (step p call) (step p call') (longer_step p call call' k) (grows_step p call' g) routine.body (entered routine count self s) w)
+      (longer_performed d r truth (step p call) (step p call') (longer_step p call call' k) (grows_step p call' g) routine.body (entered routine count self s)
+      w)
       (longer_put routine.missing) (grows_put routine.missing))
-      (λ s1 w1. gives) (λ s1 w1. extends_itself w1.outside.trace)
+      (λ s1. longer_back count s s1.values s1) (grows_back count s)
 
   pub longer_called : (r : Recorder H) (p : Source) (n m : ℕ) → n ≤ m → LongerCaller (called r p n) (called r p m)
   longer_called r p zero zero le t count self s w = ends
   longer_called r p zero (suc m) le t count self s w = out (grows_called r p (suc m) t count self s (longer d w))
   longer_called r p (suc n) zero le t count self s w = absurd (omega arith)
   longer_called r p (suc n) (suc m) le t count self s w =
-      longer_found (find_routine p.routines t) _ _ (λ routine. longer_opened d r (activity t routine.number)
+      longer_found (find_called p.routines t count) _ _ (λ routine. longer_opened d r (activity t routine.number)
       (run_routine r p (called r p n) routine count self) (run_routine r p (called r p m) routine count self)
       (longer_routine r p (called r p n) (called r p m) (longer_called r p n m (omega arith)) (grows_called r p m) routine count self)
       (grows_routine r p (called r p m) (grows_called r p m) routine count self)) s w
@@ -74,7 +82,8 @@ module _ {H : Type 0} (d : ℕ) where
 
   longer_start : (r : Recorder H) (p : Source) (cs : List Name) → LongerPiece d (start_all r p cs) (start_all r p cs)
   longer_start r p [] s w = gives
-  longer_start r p (c ∷ cs) s w = longer_then d _ _ (start_all r p cs) (start_all r p cs) (longer_alone r p (Start c) s w) (longer_start r p cs) (grows_start r p cs)
+  longer_start r p (c ∷ cs) s w =
+      longer_then d _ _ (start_all r p cs) (start_all r p cs) (longer_alone r p (Start c) s w) (longer_start r p cs) (grows_start r p cs)
 
   longer_handled : (r : Recorder H) (p : Source) (o : Option Target) → LongerPiece d (handled r p o) (handled r p o)
   longer_handled r p (Some t) s w = longer_alone r p t s w

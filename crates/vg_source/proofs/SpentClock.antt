@@ -2,16 +2,18 @@
 use Rattle.std.specs.Prelude.{ℕ, zero, suc, ◌≤◌, List, [], ◌∷◌, length, Option, Some, None}
 use Rattle.std.proofs.Common.{refl, arith}
 use Rattle.vg_meaning.specs.History.{Recorder}
-use Rattle.vg_meaning.specs.Answer.{OutOfRoom, Wrong, Over, Piece, go_on, passes}
+use Rattle.vg_meaning.specs.Answer.{OutOfRoom, Wrong, Over, Gives, Piece, go_on, passes}
 use Rattle.vg_meaning.specs.Interrupts.{idles}
 use Rattle.vg_meaning.specs.Spent.{Spent, gives, ends, Spends}
-use Rattle.vg_meaning.proofs.Spent.{other, spent_then, spent_over, spent_unless, spent_returned, spent_opened, spent_read, spent_write, spent_idles, spent_performed}
+use Rattle.vg_meaning.proofs.Spent.{other, spent_then, spent_over, spent_unless, spent_returned, spent_opened, spent_read, spent_write, spent_idles}
+use Rattle.vg_meaning.proofs.Spent.{spent_performed}
 use Rattle.vg_source.specs.Names.{Name}
 use Rattle.vg_source.specs.Values.{Value, Null, Heap, stored_values}
 use Rattle.vg_source.specs.Steps.{Step, Target, Start, Routine, Source}
-use Rattle.vg_source.specs.State.{State, find_routine, handler_of, entered}
+use Rattle.vg_source.specs.State.{State, find_called, handler_of, entered, left}
 use Rattle.vg_source.specs.Meaning.{Caller, put, take_from, taking, with_found, step, truth, meaning}
-use Rattle.vg_source.specs.Session.{activity, back_in, run_routine, called, call_alone, first_heap, start_all, with_heap, starting_world, starting, handled, handle, running_world, running}
+use Rattle.vg_source.specs.Session.{activity, back_in, run_routine, called, call_alone, first_heap, start_all, with_heap, starting_world, starting, handled}
+use Rattle.vg_source.specs.Session.{handle, running_world, running}
 use Rattle.vg_source.proofs.Steps.{on_step}
 
 module _ {H : Type 0} where
@@ -33,18 +35,22 @@ module _ {H : Type 0} where
   spent_found n (Some b) go k s w le = k b s w le
   spent_found n None go k s w le = spent_over n Wrong refl s w le
 
+  spent_back : (n count : ℕ) (s0 : State) (vs : List Value) → Spends {H = H} n (take_from vs (λ v body. Gives (left count s0 v body)))
+  spent_back n count s0 [] s w le = spent_over n Wrong refl s w le
+  spent_back n count s0 (v ∷ vs) s w le = gives (omega arith)
+
   spent_routine : (r : Recorder H) (n : ℕ) (p : Source) (call : Caller H) → SpendingCaller n call → (routine : Routine) (count : ℕ) (self : Value)
       → Spends n (run_routine r p call routine count self)
   spent_routine r n p call k routine count self s w le =
       spent_then n w.clock _ (back_in count s) le
       (spent_returned n w.clock (meaning r p call routine.body (entered routine count self s) w) (put routine.missing) le
       (spent_performed r n truth (step p call) (spent_step n p call k) routine.body (entered routine count self s) w le) (λ s1 w1 h1. gives (omega arith)))
-      (λ s1 w1 h1. gives (omega arith))
+      (λ s1. spent_back n count s s1.values s1)
 
   spent_called : (r : Recorder H) (p : Source) (n : ℕ) → SpendingCaller n (called r p n)
   spent_called r p zero t count self s w le = ends (omega arith) (λ e. omega (arith, le))
   spent_called r p (suc n) t count self s w le =
-      spent_found (suc n) (find_routine p.routines t) _
+      spent_found (suc n) (find_called p.routines t count) _
       (λ routine. spent_opened r (activity t routine.number) n _ (spent_routine r n p (called r p n) (spent_called r p n) routine count self)) s w le
 
   spent_take_from : (vs : List Value) (n : ℕ) → Spends {H = H} n (take_from vs (λ v. go_on))

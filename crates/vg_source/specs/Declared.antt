@@ -1,37 +1,33 @@
 -- The declarations of a text, by name. Where two have one name, the first is meant.
-use Rattle.std.specs.Prelude.{ℕ, zero, suc, List, [], ◌∷◌, ◌++◌, Option, Some, None, if◌then◌else◌}
+use Rattle.std.specs.Prelude.{ℕ, zero, suc, List, [], ◌∷◌, ◌++◌, Option, Some, None, if◌then◌else◌, bytes_eq}
 use Rattle.vg_syntax.specs.Tree.{TypeTree, Param, Node, Nothing, Then, ClassDecl, ComponentDecl, DeviceDecl, RegisterDecl, FieldDecl, MethodDecl}
 use Rattle.vg_syntax.specs.Tree as tree
-use Rattle.vg_source.specs.Names.{Name, same_name}
+use Rattle.vg_syntax.specs.Classes.{ClassParts, class_named}
+use Rattle.vg_source.specs.Names.{Name}
 use Rattle.vg_source.specs.Types.{StaticType, IntType, BoolType, CharType, RawType, ClassType, ArrayType, FunctionType, NoType, MoreTypes}
-use Rattle.vg_source.specs.Values.{Named, default}
+use Rattle.vg_source.specs.Values.{FieldValue, default}
 use Rattle.vg_source.specs.Literals.{number_of}
 
 -- The type that is written.
-abbrev pub type_of : TypeTree → StaticType
-type_of tree.IntType = IntType
-type_of tree.BoolType = BoolType
-type_of tree.CharType = CharType
-type_of (tree.RawType width) = RawType (number_of width)
-type_of (tree.ClassType name) = ClassType name
-type_of (tree.ArrayType element) = ArrayType (type_of element)
-type_of (tree.FunctionType params result) = FunctionType (type_of params) (type_of result)
-type_of tree.NoType = NoType
-type_of (tree.MoreTypes first rest) = MoreTypes (type_of first) (type_of rest)
+abbrev pub written_type : TypeTree → StaticType
+written_type tree.IntType = IntType
+written_type tree.BoolType = BoolType
+written_type tree.CharType = CharType
+written_type (tree.RawType width) = RawType (number_of width)
+written_type (tree.ClassType name) = ClassType name
+written_type (tree.ArrayType element) = ArrayType (written_type element)
+written_type (tree.FunctionType params result) = FunctionType (written_type params) (written_type result)
+written_type tree.NoType = NoType
+written_type (tree.MoreTypes first rest) = MoreTypes (written_type first) (written_type rest)
 
 -- The types of parameters as a row.
 abbrev pub row_of : List Param → StaticType
 row_of [] = NoType
-row_of (p ∷ ps) = MoreTypes (type_of p.type) (row_of ps)
+row_of (p ∷ ps) = MoreTypes (written_type p.type) (row_of ps)
 
--- The names of parameters.
-abbrev pub param_names : List Param → List Name
-param_names [] = []
-param_names (p ∷ ps) = p.name ∷ param_names ps
-
--- What a member is.
+-- What a member is: a field with the class or component that declares it, or a method.
 pub data Member : Type 0 where
-  AField : (type : StaticType) → Member
+  AField : (owner : Name) (type : StaticType) → Member
   AMethod : (params result : StaticType) → Member
 
 -- The first of two that is there.
@@ -39,35 +35,20 @@ abbrev pub or_else : {A : Type 0} → Option A → Option A → Option A
 or_else (Some a) b = Some a
 or_else None b = b
 
--- A member declaration of this name.
-abbrev pub as_member : Node → Name → Option Member
-as_member (FieldDecl at n t value) x = if same_name n x then Some (AField (type_of t)) else None
-as_member (MethodDecl at n ps t body) x = if same_name n x then Some (AMethod (row_of ps) (type_of t)) else None
-as_member _ x = None
+-- A member declaration of this name, of this class or component.
+abbrev pub as_member : (owner : Name) → Node → Name → Option Member
+as_member owner (FieldDecl at n t value) x = if bytes_eq n x then Some (AField owner (written_type t)) else None
+as_member owner (MethodDecl at n ps t body) x = if bytes_eq n x then Some (AMethod (row_of ps) (written_type t)) else None
+as_member owner _ x = None
 
--- The member of this name among these.
-abbrev pub member_in : Node → Name → Option Member
-member_in (Then m rest) x = or_else (as_member m x) (member_in rest x)
-member_in _ x = None
-
--- A class: the name of its superclass, if it has one, and its members.
-pub record ClassParts : Type 0 where
-  pub above : Option Name
-  pub members : Node
-
--- A class declaration of this name.
-abbrev pub as_class : Node → Name → Option ClassParts
-as_class (ClassDecl at n above members) c = if same_name n c then Some (record { above = above; members = members }) else None
-as_class _ c = None
-
--- The class of this name.
-abbrev pub class_named : Node → Name → Option ClassParts
-class_named (Then d rest) c = or_else (as_class d c) (class_named rest c)
-class_named _ c = None
+-- The member of this name among these, which are those of this class or component.
+abbrev pub member_in : (owner : Name) → Node → Name → Option Member
+member_in owner (Then m rest) x = or_else (as_member owner m x) (member_in owner rest x)
+member_in owner _ x = None
 
 -- The members of a component declaration of this name.
 abbrev pub as_component : Node → Name → Option Node
-as_component (ComponentDecl at n members) c = if same_name n c then Some members else None
+as_component (ComponentDecl at n members) c = if bytes_eq n c then Some members else None
 as_component _ c = None
 
 -- The members of the component of this name.
@@ -77,7 +58,7 @@ component_named _ c = None
 
 -- The registers of a device declaration of this name.
 abbrev pub as_device : Node → Name → Option Node
-as_device (DeviceDecl at n registers) d = if same_name n d then Some registers else None
+as_device (DeviceDecl at n registers) d = if bytes_eq n d then Some registers else None
 as_device _ d = None
 
 -- The registers of the device of this name.
@@ -87,7 +68,7 @@ device_named _ x = None
 
 -- The address of a register declaration of this name.
 abbrev pub as_register : Node → Name → Option ℕ
-as_register (RegisterDecl at n number) x = if same_name n x then Some (number_of number) else None
+as_register (RegisterDecl at n number) x = if bytes_eq n x then Some (number_of number) else None
 as_register _ x = None
 
 -- The address of the register of this name among these.
@@ -126,32 +107,32 @@ members_of ds c = members_in (class_named ds c)
 -- The first member of this name on a chain.
 abbrev pub member_on : Node → List Name → Name → Option Member
 member_on ds [] x = None
-member_on ds (c ∷ cs) x = or_else (member_in (members_of ds c) x) (member_on ds cs x)
+member_on ds (c ∷ cs) x = or_else (member_in c (members_of ds c) x) (member_on ds cs x)
 
 -- The member of this name of a class or of those above it.
 abbrev pub class_member : Node → Name → Name → Option Member
 class_member ds c x = member_on ds (chain_of ds c) x
 
--- The member of this name among these, where they are there.
-abbrev pub member_among : Option Node → Name → Option Member
-member_among (Some members) x = member_in members x
-member_among None x = None
+-- The member of this name among those of a component, where it is there.
+abbrev pub member_among : (owner : Name) → Option Node → Name → Option Member
+member_among owner (Some members) x = member_in owner members x
+member_among owner None x = None
 
 -- The member of this name of a component.
 abbrev pub component_member : Node → Name → Name → Option Member
-component_member ds c x = member_among (component_named ds c) x
+component_member ds c x = member_among c (component_named ds c) x
 
 -- The field of a declaration, with its default.
-abbrev pub field_at : Node → List Named
-field_at (FieldDecl at n t value) = record { name = n; value = default (type_of t) } ∷ []
-field_at _ = []
+abbrev pub declared_field : (owner : Name) → Node → List FieldValue
+declared_field owner (FieldDecl at n t value) = record { owner = owner; name = n; value = default (written_type t) } ∷ []
+declared_field owner _ = []
 
 -- The fields among members, in order of the text.
-abbrev pub fields_in : Node → List Named
-fields_in (Then m rest) = field_at m ++ fields_in rest
-fields_in _ = []
+abbrev pub fields_in : (owner : Name) → Node → List FieldValue
+fields_in owner (Then m rest) = declared_field owner m ++ fields_in owner rest
+fields_in owner _ = []
 
 -- The fields of the classes of a chain, those of the highest class first.
-abbrev pub fields_on : Node → List Name → List Named
+abbrev pub fields_on : Node → List Name → List FieldValue
 fields_on ds [] = []
-fields_on ds (c ∷ cs) = fields_on ds cs ++ fields_in (members_of ds c)
+fields_on ds (c ∷ cs) = fields_on ds cs ++ fields_in c (members_of ds c)

@@ -1,7 +1,7 @@
 pub mod Names
 pub mod Types
-pub mod Values
 pub mod Operators
+pub mod Values
 pub mod Steps
 pub mod State
 pub mod Meaning
@@ -9,6 +9,6 @@ pub mod Session
 pub mod Literals
 pub mod Nodes
 pub mod Declared
-pub mod Meant
+pub mod Resolved
 pub mod Program
 pub mod Peak

@@ -26,28 +26,28 @@ number_value bs = if is_hexadecimal bs then Raw (4 * (length bs - 2)) (hex_value
 abbrev pub number_type : List ℕ → StaticType
 number_type bs = if is_hexadecimal bs then RawType (4 * (length bs - 2)) else IntType
 
--- Where one stands in the elements of a char or string.
-pub data Place : Type 0 where
-  Outside : Place  -- an element begins here
-  Escape : Place  -- behind a backslash
-  FirstDigit : Place  -- behind a backslash and an x
-  SecondDigit : (first : ℕ) → Place  -- behind the first digit too
+-- How much of an element of a char or string was read.
+pub data Progress : Type 0 where
+  Between : Progress  -- an element begins here
+  Escape : Progress  -- behind a backslash
+  FirstDigit : Progress  -- behind a backslash and an x
+  SecondDigit : (first : ℕ) → Progress  -- behind the first digit too
 
 -- The byte that a letter behind a backslash stands for: n, r, t and 0 are LF, CR, tab and 0, all others stand for themselves.
 abbrev pub escaped : ℕ → ℕ
 escaped b = if b == 110 then 10 else if b == 114 then 13 else if b == 116 then 9 else if b == 48 then 0 else b
 
 -- The bytes that the elements stand for.
-abbrev pub elements : Place → List ℕ → List ℕ
+abbrev pub elements : Progress → List ℕ → List ℕ
 elements at [] = []
-elements Outside (b ∷ bs) = if b == 92 then elements Escape bs else b ∷ elements Outside bs
-elements Escape (b ∷ bs) = if b == 120 then elements FirstDigit bs else escaped b ∷ elements Outside bs
+elements Between (b ∷ bs) = if b == 92 then elements Escape bs else b ∷ elements Between bs
+elements Escape (b ∷ bs) = if b == 120 then elements FirstDigit bs else escaped b ∷ elements Between bs
 elements FirstDigit (b ∷ bs) = elements (SecondDigit (digit_value b)) bs
-elements (SecondDigit first) (b ∷ bs) = (first * 16 + digit_value b) ∷ elements Outside bs
+elements (SecondDigit first) (b ∷ bs) = (first * 16 + digit_value b) ∷ elements Between bs
 
 -- The bytes of a char or string token, between its quotes.
 abbrev pub bytes_of : List ℕ → List ℕ
-bytes_of spelled = elements Outside (take (length spelled - 2) (drop 1 spelled))
+bytes_of spelled = elements Between (take (length spelled - 2) (drop 1 spelled))
 
 -- The byte of a char token.
 abbrev pub char_of : List ℕ → ℕ

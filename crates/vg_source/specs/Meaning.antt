@@ -1,5 +1,6 @@
 -- What a step does. An expression puts its value in front of the values that wait.
-use Rattle.std.specs.Prelude.{ℕ, ◌+◌, Bool, true, false, List, [], ◌∷◌, ◌++◌, length, take, drop, replicate, Option, Some, None, slice_get, ℤ, pos, negsuc, nat_lt}
+use Rattle.std.specs.Prelude.{ℕ, ◌+◌, Bool, true, false, List, [], ◌∷◌, ◌++◌, length, take, drop, replicate, Option, Some, None, slice_get, slice_set}
+use Rattle.std.specs.Prelude.{ℤ, pos, negsuc, nat_lt}
 use Rattle.vg_meaning.specs.History.{Recorder}
 use Rattle.vg_meaning.specs.World.{Phase, Starting, Running}
 use Rattle.vg_meaning.specs.Answer.{OutOfRoom, Wrong, Gives, Piece, go_on, over, and_then, passes, unless, stops}
@@ -7,11 +8,14 @@ use Rattle.vg_meaning.specs.Devices.{read_device, write_device}
 use Rattle.vg_meaning.specs.Loops.{Test, Tested, Untested}
 use Rattle.vg_meaning.specs.Code.{Code, performed}
 use Rattle.vg_source.specs.Names.{Name}
-use Rattle.vg_source.specs.Types.{StaticType, ClassType}
-use Rattle.vg_source.specs.Values.{Value, Int, Truth, Raw, Null, Obj, Arr, Bound, default, Heap, Cell, Object, Array, stored_values}
-use Rattle.vg_source.specs.Operators.{Computed, Is, Fails, Unfit, binary, prefixed, cast, bits_of}
-use Rattle.vg_source.specs.Steps.{Step, Put, Literal, This, Local, ComponentField, Register, ComponentMethod, Apply, Operate, CastTo, IsBelow, Field, Item, Length, MethodOf, CallMethod, CallValue, CallComponent, NewObject, NewArray, SetLocal, SetComponentField, SetRegister, SetField, SetItem, Forget, Super, Target, Method, Construct, Source}
-use Rattle.vg_source.specs.State.{State, find_named, set_named, find_global, set_global, find_class, is_below, owner_of, class_at, field_at, items_at, set_field, set_item}
+use Rattle.vg_source.specs.Types.{StaticType, IntType, BoolType, CharType, RawType, ClassType, ArrayType, FunctionType}
+use Rattle.vg_source.specs.Operators.{Operator, Prefix, Computed, Is, Fails, Unfit, binary, prefixed, Format, ToInt, ToChar, ToBits, recast}
+use Rattle.vg_source.specs.Values.{Value, Int, Truth, Raw, Null, Obj, Arr, Bound, default, scalar_value, operand_of, scalar_of, byte_of}
+use Rattle.vg_source.specs.Values.{Cell, Object, Array, stored_values}
+use Rattle.vg_source.specs.Steps.{Step, Put, Literal, This, Local, ComponentField, Register, ComponentMethod, Apply, Operate, CastTo, IsBelow, Field, Item}
+use Rattle.vg_source.specs.Steps.{Length, MethodOf, CallMethod, CallValue, CallComponent, NewObject, NewArray, SetLocal, SetComponentField, SetRegister}
+use Rattle.vg_source.specs.Steps.{SetField, SetItem, Forget, Super, Target, Method, Construct, Source}
+use Rattle.vg_source.specs.State.{State, find_value, set_value, find_class, is_below, owner_of, class_at, field_at, items_at, set_field, set_item}
 
 -- ---- values that wait
 
@@ -43,8 +47,8 @@ abbrev pub from_below : {H : Type 0} → ℕ → (Value → Piece State H) → P
 from_below count go s w = with_found (slice_get s.values count) go (record s { values = take count s.values ++ drop (count + 1) s.values }) w
 
 -- What an operator made is put in front, or is an exception at the node.
-abbrev pub computed : {H : Type 0} → ℕ → Computed → Piece State H
-computed at (Is v) s w = put v s w
+abbrev pub computed : {H : Type 0} → (at : ℕ) → Computed → Piece State H
+computed at (Is x) s w = put (scalar_value x) s w
 computed at (Fails code) s w = stops code at s w
 computed at Unfit s w = over Wrong s w
 
@@ -77,37 +81,56 @@ abbrev pub with_item_of : {H : Type 0} → ℕ → (ℕ → ℕ → List Value �
 with_item_of at go array index =
     with_cell at (λ k s w. with_found (items_at s.heap k) (λ vs. with_int (λ n. with_index at (length vs) n (λ i. go k i vs)) index) s w) array
 
+-- ---- operators
+
+-- An operator on two values.
+abbrev pub operated : {H : Type 0} → (at : ℕ) → Operator → Value → Value → Piece State H
+operated at op x y = with_found (operand_of x) (λ a. with_found (operand_of y) (λ b. computed at (binary op a b)))
+
+-- An operator on one value.
+abbrev pub applied : {H : Type 0} → Prefix → Value → Piece State H
+applied op x = with_found (scalar_of x) (λ a. computed 0 (prefixed op a))
+
 -- ---- casts and class tests
 
--- A class is d or below it, where there is one.
-abbrev pub class_fits : Source → Name → Option Name → Bool
-class_fits p d (Some c) = is_below p c d
-class_fits p d None = false
-
--- A value is an object of class d or below it.
-abbrev pub is_object_of : Source → Heap → Name → Value → Bool
-is_object_of p h d (Obj k) = class_fits p d (class_at h k)
-is_object_of p h d _ = false
+-- A cast among numbers.
+abbrev pub recasted : {H : Type 0} → (at : ℕ) → Format → Value → Piece State H
+recasted at f v = with_found (scalar_of v) (λ x. computed at (recast f x))
 
 -- Null passes every class cast; an object that is not of the class or below it is the exception 4.
-abbrev pub cast_to_class : {H : Type 0} → Source → ℕ → Name → Value → Piece State H
+abbrev pub cast_to_class : {H : Type 0} → Source → (at : ℕ) → Name → Value → Piece State H
 cast_to_class p at d Null s w = put Null s w
-cast_to_class p at d v s w = stop_unless (is_object_of p s.heap d v) 4 at (put v) s w
+cast_to_class p at d (Obj k) s w = with_found (class_at s.heap k) (λ c. stop_unless (is_below p c d) 4 at (put (Obj k))) s w
+cast_to_class p at d _ s w = over Wrong s w
+
+-- The value of a type that is cast to this very type: a truth value, an array or a delegate.
+abbrev pub as_it_is : StaticType → Value → Option Value
+as_it_is BoolType (Truth b) = Some (Truth b)
+as_it_is (ArrayType t) (Arr k) = Some (Arr k)
+as_it_is (ArrayType t) Null = Some Null
+as_it_is (FunctionType ps r) (Bound receiver d m) = Some (Bound receiver d m)
+as_it_is (FunctionType ps r) Null = Some Null
+as_it_is _ _ = None
 
 -- A cast.
-abbrev pub do_cast : {H : Type 0} → Source → ℕ → StaticType → Value → Piece State H
-do_cast p at (ClassType d) v s w = cast_to_class p at d v s w
-do_cast p at t v s w = put (cast t v) s w
+abbrev pub do_cast : {H : Type 0} → Source → (at : ℕ) → StaticType → Value → Piece State H
+do_cast p at IntType v = recasted at ToInt v
+do_cast p at CharType v = recasted at ToChar v
+do_cast p at (RawType width) v = recasted at (ToBits width) v
+do_cast p at (ClassType d) v = cast_to_class p at d v
+do_cast p at t v = put_found (as_it_is t v)
 
 -- A class test: false for null.
 abbrev pub do_test : {H : Type 0} → Source → Name → Value → Piece State H
-do_test p d v s w = put (Truth (is_object_of p s.heap d v)) s w
+do_test p d Null s w = put (Truth false) s w
+do_test p d (Obj k) s w = with_found (class_at s.heap k) (λ c. put (Truth (is_below p c d))) s w
+do_test p d _ s w = over Wrong s w
 
 -- ---- fields, elements, lengths, methods as values
 
 -- e.f: the null check, then the field.
-abbrev pub get_field : {H : Type 0} → ℕ → Name → Value → Piece State H
-get_field at f = with_cell at (λ k s w. put_found (field_at s.heap k f) s w)
+abbrev pub get_field : {H : Type 0} → (at : ℕ) → (c f : Name) → Value → Piece State H
+get_field at c f = with_cell at (λ k s. put_found (field_at s.heap k c f) s)
 
 -- e.length: the null check, then the length.
 abbrev pub get_length : {H : Type 0} → ℕ → Value → Piece State H
@@ -124,17 +147,23 @@ bind_method p at m =
 
 -- ---- stores
 
+-- A store is made only to a place that is there; what it held is lost.
+abbrev pub storing_to : {H : Type 0} → Option Value → (State → State) → Piece State H
+storing_to place store s w = with_found place (λ old s1 w1. Gives (store s1) w1) s w
+
 -- A local or parameter is set.
-abbrev pub put_local : {H : Type 0} → Name → Value → Piece State H
-put_local x v s w = Gives (record s { locals = set_named s.locals x v }) w
+abbrev pub put_local : {H : Type 0} → ℕ → Value → Piece State H
+put_local k v s = storing_to (slice_get s.locals k) (λ s1. record s1 { locals = slice_set s1.locals k v }) s
 
 -- A component field is set.
-abbrev pub put_global : {H : Type 0} → Name → Name → Value → Piece State H
-put_global c f v s w = Gives (record s { heap = record s.heap { globals = set_global s.heap.globals c f v } }) w
+abbrev pub put_global : {H : Type 0} → (c f : Name) → Value → Piece State H
+put_global c f v s =
+    storing_to (find_value s.heap.globals c f) (λ s1. record s1 { heap = record s1.heap { globals = set_value s1.heap.globals c f v } }) s
 
 -- An object's field is set behind the null check.
-abbrev pub put_field : {H : Type 0} → ℕ → Name → Value → Value → Piece State H
-put_field at f v = with_cell at (λ k s w. Gives (record s { heap = set_field s.heap k f v }) w)
+abbrev pub put_field : {H : Type 0} → (at : ℕ) → (c f : Name) → Value → Value → Piece State H
+put_field at c f v =
+    with_cell at (λ k s. storing_to (field_at s.heap k c f) (λ s1. record s1 { heap = set_field s1.heap k c f v }) s)
 
 -- An array's element is set behind the null check and the bounds check.
 abbrev pub put_item : {H : Type 0} → ℕ → Value → Value → Value → Piece State H
@@ -199,30 +228,30 @@ make_array at t (pos n) s w = adding n (Array t (replicate n (default t))) (λ a
 -- What a step does.
 abbrev pub step : {H : Type 0} → Source → Caller H → Step → Piece State H
 step p call (Put v) = put v
-step p call (Literal k) = put (Arr k)
+step p call (Literal k) = with_found (slice_get p.literals k) (λ bytes. put (Arr k))
 step p call This = λ s. put s.self s
-step p call (Local x) = λ s. put_found (find_named s.locals x) s
-step p call (ComponentField c f) = λ s. put_found (find_global s.heap.globals c f) s
+step p call (Local k) = λ s. put_found (slice_get s.locals k) s
+step p call (ComponentField c f) = λ s. put_found (find_value s.heap.globals c f) s
 step p call (Register a) = read_device a (λ v. put (Raw 8 v))
 step p call (ComponentMethod c m) = put (Bound None c m)
-step p call (Apply op) = taking (λ x. computed 0 (prefixed op x))
-step p call (Operate at op) = taking (λ y. taking (λ x. computed at (binary op x y)))
+step p call (Apply op) = taking (applied op)
+step p call (Operate at op) = taking (λ y. taking (λ x. operated at op x y))
 step p call (CastTo at t) = taking (do_cast p at t)
 step p call (IsBelow c) = taking (do_test p c)
-step p call (Field at f) = taking (get_field at f)
-step p call (Item at) = taking (λ i. taking (λ a. get_item at a i))
-step p call (Length at) = taking (get_length at)
-step p call (MethodOf at m) = taking (bind_method p at m)
-step p call (CallMethod at m count) = call_method p call at m count
-step p call (CallValue at count) = from_below count (call_bound call at count)
+step p call (Field at c f) = taking (get_field at c f)
+step p call (Item at t) = taking (λ i. taking (λ a. get_item at a i))
+step p call (Length at t) = taking (get_length at)
+step p call (MethodOf at c m) = taking (bind_method p at m)
+step p call (CallMethod at c m count) = call_method p call at m count
+step p call (CallValue at count ps r) = from_below count (call_bound call at count)
 step p call (CallComponent c m count) = call (Method c m) count Null
 step p call (NewObject at c count) = make_object p call at c count
 step p call (NewArray at t) = λ s w. at_start w.phase at (taking (with_int (make_array at t))) s w
-step p call (SetLocal x) = taking (put_local x)
+step p call (SetLocal k) = taking (put_local k)
 step p call (SetComponentField c f) = taking (put_global c f)
-step p call (SetRegister a) = taking (λ v. write_device a (bits_of v))
-step p call (SetField at f) = taking (λ v. taking (put_field at f v))
-step p call (SetItem at) = taking (λ v. taking (λ i. taking (λ a. put_item at v a i)))
+step p call (SetRegister a) = taking (λ v. with_found (byte_of v) (write_device a))
+step p call (SetField at c f) = taking (λ v. taking (put_field at c f v))
+step p call (SetItem at t) = taking (λ v. taking (λ i. taking (λ a. put_item at v a i)))
 step p call Forget = taking (λ v. go_on)
 step p call (Super c count) = λ s. forgetting (call (Construct c) count s.self) s
 

@@ -1,6 +1,8 @@
 -- The nodes of a tree, in preorder.
 use Rattle.std.specs.Prelude.{ℕ, ◌+◌, ◌==◌, List, [], ◌∷◌, ◌++◌, length, flat_map, if◌then◌else◌}
-use Rattle.vg_syntax.specs.Tree.{Node, Nothing, Then, Arm, Text, ClassDecl, ComponentDecl, DeviceDecl, ProgramDecl, FieldDecl, MethodDecl, ConstructorDecl, Block, Local, If, While, For, Return, Assign, Eval, StringLit, NewObject, NewArray, Unary, Chain, Part, Postfix, Index, Call}
+use Rattle.vg_syntax.specs.Tree.{Node, Nothing, Then, Arm, Text, ClassDecl, ComponentDecl, DeviceDecl, ProgramDecl, FieldDecl, MethodDecl, ConstructorDecl}
+use Rattle.vg_syntax.specs.Tree.{Block, Local, If, While, For, Return, Assign, Eval, StringLit, NewObject, NewArray, Unary, Chain, Part, Postfix, Index}
+use Rattle.vg_syntax.specs.Tree.{Call}
 use Rattle.vg_source.specs.Literals.{bytes_of}
 
 -- The children of a node, or the nodes of a row, and all nodes below them.
@@ -34,18 +36,14 @@ nodes (Index at a) = Index at a ∷ nodes a
 nodes (Call at a) = Call at a ∷ nodes a
 nodes leaf = leaf ∷ []
 
--- How many nodes stand at and below a node.
-abbrev pub count_nodes : Node → ℕ
-count_nodes a = length (nodes a)
-
 -- The number of a string literal's node.
-abbrev pub literal_at : Node → List ℕ
-literal_at (StringLit at spelled) = at.id ∷ []
-literal_at _ = []
+abbrev pub literal_node : Node → List ℕ
+literal_node (StringLit at spelled) = at.id ∷ []
+literal_node _ = []
 
 -- The string literals of a text by their nodes, in order of the text.
 abbrev pub literal_nodes : Node → List ℕ
-literal_nodes a = flat_map literal_at (nodes a)
+literal_nodes a = flat_map literal_node (nodes a)
 
 -- The bytes of a string literal.
 abbrev pub literal_bytes : Node → List (List ℕ)
@@ -62,10 +60,10 @@ place_in [] n = 0
 place_in (m ∷ ms) n = if m == n then 0 else 1 + place_in ms n
 
 -- One for a local.
-abbrev pub local_at : Node → List ℕ
-local_at (Local at n t a) = at.id ∷ []
-local_at _ = []
+abbrev pub local_node : Node → List ℕ
+local_node (Local at n t a) = at.id ∷ []
+local_node _ = []
 
 -- The locals that a node declares at or below it.
 abbrev pub count_locals : Node → ℕ
-count_locals a = length (flat_map local_at (nodes a))
+count_locals a = length (flat_map local_node (nodes a))

@@ -1,19 +1,22 @@
 -- What the active calls of a session cost at most, counted in the source's own calls.
-use Rattle.std.specs.Prelude.{ℕ, zero, suc, ◌+◌, ◌*◌, max, List, [], ◌∷◌, ◌++◌, length}
+use Rattle.std.specs.Prelude.{ℕ, zero, suc, ◌+◌, ◌*◌, max, List, [], ◌∷◌, ◌++◌, length, None}
 use Rattle.vg_syntax.specs.Tree.{Node, Then, ClassDecl, ComponentDecl, MethodDecl}
+use Rattle.vg_syntax.specs.Numbering.{count_nodes}
 use Rattle.vg_meaning.specs.History.{Active, Calling, Making}
-use Rattle.vg_source.specs.Nodes.{count_nodes, count_locals}
-use Rattle.vg_source.specs.Program.{declarations_of}
-use Rattle.vg_source.specs.Session.{Session}
+use Rattle.vg_source.specs.Nodes.{count_locals}
+use Rattle.vg_meaning.specs.Seen.{Seen}
+use Rattle.vg_source.specs.Values.{Heap}
+use Rattle.vg_source.specs.Program.{declarations_of, source_of}
+use Rattle.vg_source.specs.Session.{Session, session}
 
--- The cost of a method: 32, and 4 for each parameter, each local and each node of its body.
-abbrev pub cost_at : Node → List ℕ
-cost_at (MethodDecl at n ps t body) = (32 + 4 * (length ps + count_locals body + count_nodes body)) ∷ []
-cost_at _ = []
+-- The cost of a method: 32, and 4 for each parameter, each local and each node of its body, the block itself among them.
+abbrev pub declared_cost : Node → List ℕ
+declared_cost (MethodDecl at n ps t body) = (32 + 4 * (length ps + count_locals body + count_nodes body)) ∷ []
+declared_cost _ = []
 
 -- The costs of the methods among members, in order of the text.
 abbrev pub costs_of : Node → List ℕ
-costs_of (Then m rest) = cost_at m ++ costs_of rest
+costs_of (Then m rest) = declared_cost m ++ costs_of rest
 costs_of _ = []
 
 -- The costs of the methods of a declaration.
@@ -52,6 +55,15 @@ abbrev pub most : List ℕ → List (List Active) → ℕ
 most cs [] = 0
 most cs (calls ∷ rest) = max (total_cost cs calls) (most cs rest)
 
--- The peak of a session: 4, and the largest cost of calls that were active behind a tick.
+-- The peak of a session: 4, and the largest cost of calls that were active behind a tick. A call is active from its tick on, which
+-- comes before the look at the limit: so a call that is one too deep counts too.
 abbrev pub peak : Node → Session → ℕ
 peak text s = 4 + most (costs text) s.history.behind_ticks
+
+-- What a session of a text shows.
+abbrev pub seen : Node → Session → Seen
+seen text s = record { trace = s.trace; ending = s.ending; peak = peak text s }
+
+-- What the sessions of a text from its initialised heap show, without a limit on active calls.
+abbrev pub sessions : Node → Heap → (reads interrupts : List ℕ) → (clock : ℕ) → Seen
+sessions text heap reads interrupts clock = seen text (session (source_of text) heap None reads interrupts clock)

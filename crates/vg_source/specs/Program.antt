@@ -1,31 +1,44 @@
 -- From the tree of a text to its source program: classes, methods, constructors, initialisers, components and entries.
-use Rattle.std.specs.Prelude.{ℕ, suc, List, [], ◌∷◌, ◌++◌, codes, Option, Some, None, if◌then◌else◌}
+use Rattle.std.specs.Prelude.{ℕ, suc, List, [], ◌∷◌, ◌++◌, codes, length, drop, reverse, map, Option, Some, None, if◌then◌else◌, bytes_eq}
 use Rattle.vg_syntax.specs.Tree.{Param, Node, Nothing, Then, ClassDecl, ComponentDecl, ProgramDecl, EntryDecl, FieldDecl, MethodDecl, ConstructorDecl, Text}
 use Rattle.vg_meaning.specs.Code as code
-use Rattle.vg_source.specs.Names.{Name, same_name}
-use Rattle.vg_source.specs.Values.{Null, Named, Global, default}
+use Rattle.vg_source.specs.Names.{Name}
+use Rattle.vg_source.specs.Values.{Value, Null, FieldValue, default}
 use Rattle.vg_source.specs.Steps.{Step, This, SetField, SetComponentField, Super, Target, Method, Construct, Start, Routine, Class, Handler, Source}
 use Rattle.vg_source.specs.Literals.{number_of}
 use Rattle.vg_source.specs.Nodes.{literals}
-use Rattle.vg_source.specs.Declared.{type_of, param_names, chain_of, fields_in, fields_on, length_of}
-use Rattle.vg_source.specs.Meant.{Owner, InClass, InComponent, NoOwner, Typed, Fresh, settled, meant}
+use Rattle.vg_source.specs.Declared.{written_type, chain_of, fields_in, fields_on, length_of}
+use Rattle.vg_source.specs.Resolved.{Owner, InClass, InComponent, NoOwner, Scope, no_names, declare, Resolved, Fresh, in_front, settled, resolved}
 
 -- ---- methods and constructors
 
+-- Parameters in scope, behind those that are there.
+abbrev pub with_params : Scope → List Param → Scope
+with_params ls [] = ls
+with_params ls (p ∷ ps) = with_params (declare p.name (written_type p.type) ls) ps
+
 -- Parameters in scope.
-abbrev pub scope_of : List Param → List Typed
-scope_of [] = []
-scope_of (p ∷ ps) = record { name = p.name; type = type_of p.type } ∷ scope_of ps
+abbrev pub scope_of : List Param → Scope
+scope_of ps = with_params no_names ps
+
+-- The defaults of all that was declared, by number.
+abbrev pub defaults_of : Scope → List Value
+defaults_of ls = reverse (map default ls.declared)
+
+-- A routine of so many parameters, with the value of an end without return, and what its body stands for.
+abbrev pub routine_of : Target → (params : ℕ) → (missing : Value) → Resolved → Routine
+routine_of t params missing m =
+    record { target = t; number = 0; params = params; others = drop params (defaults_of m.scope); missing = missing; body = m.does }
 
 -- A method of this owner.
-abbrev pub method_at : Node → Owner → Name → Node → List Routine
-method_at ds o c (MethodDecl at n ps t body) =
-    record { target = Method c n; number = 0; params = param_names ps; missing = default (type_of t); body = (meant ds o body Fresh (scope_of ps)).does } ∷ []
-method_at ds o c _ = []
+abbrev pub declared_method : Node → Owner → Name → Node → List Routine
+declared_method ds o c (MethodDecl at n ps t body) =
+    routine_of (Method c n) (length ps) (default (written_type t)) (resolved ds o body Fresh (scope_of ps)) ∷ []
+declared_method ds o c _ = []
 
 -- The methods among members, in order of the text.
 abbrev pub methods_in : Node → Owner → Name → Node → List Routine
-methods_in ds o c (Then m rest) = method_at ds o c m ++ methods_in ds o c rest
+methods_in ds o c (Then m rest) = declared_method ds o c m ++ methods_in ds o c rest
 methods_in ds o c _ = []
 
 -- A constructor: its parameters, the arguments for the superclass, and its body. Where none is written there is one without any of these.
@@ -44,18 +57,18 @@ constructor_in _ = record { params = []; arguments = Nothing; body = Nothing }
 
 -- The value of an initialiser, which sees no members of its own.
 abbrev pub initial : Node → Node → code.Code Step
-initial ds e = (settled (meant ds NoOwner e Fresh [])).does
+initial ds e = (settled (resolved ds NoOwner e Fresh no_names)).does
 
 -- What is done for an initialiser, where one is written.
 abbrev pub unless_missing : Node → code.Code Step → code.Code Step
 unless_missing Nothing c = code.Nothing
 unless_missing _ c = c
 
--- The initialiser of a class field, which sets the field of the object that is made.
-abbrev pub own_initialiser : Node → Node → code.Code Step
-own_initialiser ds (FieldDecl at n t e) =
-    unless_missing e (code.Then (code.Do This) (code.Then (initial ds e) (code.Do (SetField at.id n))))
-own_initialiser ds _ = code.Nothing
+-- The initialiser of a field of a class, which sets the field of the object that is made.
+abbrev pub own_initialiser : Node → Name → Node → code.Code Step
+own_initialiser ds c (FieldDecl at n t e) =
+    unless_missing e (code.Then (code.Do This) (code.Then (initial ds e) (code.Do (SetField at.id c n))))
+own_initialiser ds c _ = code.Nothing
 
 -- The initialiser of a component field.
 abbrev pub its_initialiser : Node → Name → Node → code.Code Step
@@ -73,42 +86,33 @@ initialisers one _ = code.Nothing
 abbrev pub super_of : Node → Option Name → Constructor → code.Code Step
 super_of ds None k = code.Nothing
 super_of ds (Some above) k =
-    code.Then (meant ds NoOwner k.arguments Fresh (scope_of k.params)).does (code.Do (Super above (length_of k.arguments)))
+    code.Then (resolved ds NoOwner k.arguments Fresh (scope_of k.params)).does (code.Do (Super above (length_of k.arguments)))
 
 -- The construction of a class: the superclass, the field initialisers, then the constructor's body.
 abbrev pub construction : Node → Name → Option Name → Node → Constructor → Routine
-construction ds c above members k = record {
-  target = Construct c;
-  number = 0;
-  params = param_names k.params;
-  missing = Null;
-  body = code.Then (super_of ds above k)
-      (code.Then (initialisers (own_initialiser ds) members) (meant ds (InClass c) k.body Fresh (scope_of k.params)).does);
-}
+construction ds c above members k =
+    routine_of (Construct c) (length k.params) Null
+    (in_front (super_of ds above k)
+    (in_front (initialisers (own_initialiser ds c) members) (resolved ds (InClass c) k.body Fresh (scope_of k.params))))
 
 -- The initialisation of a component: the field initialisers, then the constructor's body.
 abbrev pub initialisation : Node → Name → Node → Constructor → Routine
-initialisation ds c members k = record {
-  target = Start c;
-  number = 0;
-  params = [];
-  missing = Null;
-  body = code.Then (initialisers (its_initialiser ds c) members) (meant ds (InComponent c) k.body Fresh []).does;
-}
+initialisation ds c members k =
+    routine_of (Start c) 0 Null (in_front (initialisers (its_initialiser ds c) members) (resolved ds (InComponent c) k.body Fresh no_names))
 
 -- ---- the whole text
 
 -- What runs for a declaration.
-abbrev pub routines_at : Node → Node → List Routine
-routines_at ds (ClassDecl at c above members) =
+abbrev pub declared_routines : Node → Node → List Routine
+declared_routines ds (ClassDecl at c above members) =
     construction ds c above members (constructor_in members) ∷ methods_in ds (InClass c) c members
-routines_at ds (ComponentDecl at c members) =
+declared_routines ds (ComponentDecl at c members) =
     initialisation ds c members (constructor_in members) ∷ methods_in ds (InComponent c) c members
-routines_at ds _ = []
+declared_routines ds _ = []
 
 -- What runs for the declarations, in order of the text.
 abbrev pub routines_in : Node → Node → List Routine
-routines_in ds (Then d rest) = routines_at ds d ++ routines_in ds rest
+routines_in ds (Then d rest) = declared_routines ds d ++ routines_in ds rest
 routines_in ds _ = []
 
 -- The methods have numbers from 0, in order of the text; what is no method takes none.
@@ -117,44 +121,39 @@ next_number n (Method c m) = suc n
 next_number n _ = n
 
 -- The routines with their numbers, from this one on.
-abbrev pub numbered : ℕ → List Routine → List Routine
-numbered n [] = []
-numbered n (r ∷ rs) = record r { number = n } ∷ numbered (next_number n r.target) rs
+abbrev pub with_numbers : ℕ → List Routine → List Routine
+with_numbers n [] = []
+with_numbers n (r ∷ rs) = record r { number = n } ∷ with_numbers (next_number n r.target) rs
 
 -- A class with its chain and its fields.
-abbrev pub class_at : Node → Node → List Class
-class_at ds (ClassDecl at c above members) =
+abbrev pub declared_class : Node → Node → List Class
+declared_class ds (ClassDecl at c above members) =
     record { name = c; above = chain_of ds c; fields = fields_on ds (chain_of ds c) } ∷ []
-class_at ds _ = []
+declared_class ds _ = []
 
 -- The classes, in order of the text.
 abbrev pub classes_in : Node → Node → List Class
-classes_in ds (Then d rest) = class_at ds d ++ classes_in ds rest
+classes_in ds (Then d rest) = declared_class ds d ++ classes_in ds rest
 classes_in ds _ = []
 
 -- The components, in order of the text.
-abbrev pub component_at : Node → List Name
-component_at (ComponentDecl at c members) = c ∷ []
-component_at _ = []
+abbrev pub declared_component : Node → List Name
+declared_component (ComponentDecl at c members) = c ∷ []
+declared_component _ = []
 
 -- The names of all components.
 abbrev pub components_in : Node → List Name
-components_in (Then d rest) = component_at d ++ components_in rest
+components_in (Then d rest) = declared_component d ++ components_in rest
 components_in _ = []
 
--- Fields as those of a component.
-abbrev pub globals_of : Name → List Named → List Global
-globals_of c [] = []
-globals_of c (n ∷ ns) = record { component = c; name = n.name; value = n.value } ∷ globals_of c ns
-
 -- The fields of one component.
-abbrev pub globals_at : Node → List Global
-globals_at (ComponentDecl at c members) = globals_of c (fields_in members)
-globals_at _ = []
+abbrev pub declared_globals : Node → List FieldValue
+declared_globals (ComponentDecl at c members) = fields_in c members
+declared_globals _ = []
 
 -- The fields of all components.
-abbrev pub globals_in : Node → List Global
-globals_in (Then d rest) = globals_at d ++ globals_in rest
+abbrev pub globals_in : Node → List FieldValue
+globals_in (Then d rest) = declared_globals d ++ globals_in rest
 globals_in _ = []
 
 -- The entries of the program declaration.
@@ -165,25 +164,25 @@ entries_in _ = Nothing
 
 -- The method of the entry `main`.
 abbrev pub main_of : Node → Target
-main_of (Then (EntryDecl at key c m) rest) = if same_name key (codes "main") then Method c m else main_of rest
+main_of (Then (EntryDecl at key c m) rest) = if bytes_eq key (codes "main") then Method c m else main_of rest
 main_of (Then _ rest) = main_of rest
 main_of _ = Method [] []
 
 -- The numbered entries: the key of such an entry is a number.
-abbrev pub handler_at : Node → List Handler
-handler_at (EntryDecl at key c m) = if same_name key (codes "main") then [] else record { vector = number_of key; target = Method c m } ∷ []
-handler_at _ = []
+abbrev pub declared_handler : Node → List Handler
+declared_handler (EntryDecl at key c m) = if bytes_eq key (codes "main") then [] else record { vector = number_of key; target = Method c m } ∷ []
+declared_handler _ = []
 
 -- All numbered entries, in order of the text.
 abbrev pub handlers_in : Node → List Handler
-handlers_in (Then e rest) = handler_at e ++ handlers_in rest
+handlers_in (Then e rest) = declared_handler e ++ handlers_in rest
 handlers_in _ = []
 
 -- The program of these declarations.
 abbrev pub program_of : Node → Source
 program_of ds = record {
   classes = classes_in ds ds;
-  routines = numbered 0 (routines_in ds ds);
+  routines = with_numbers 0 (routines_in ds ds);
   components = components_in ds;
   globals = globals_in ds;
   literals = literals ds;

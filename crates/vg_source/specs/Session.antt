@@ -6,15 +6,16 @@ use Rattle.vg_meaning.specs.Ending as outcome
 use Rattle.vg_meaning.specs.Outside.{before}
 use Rattle.vg_meaning.specs.History.{Active, Calling, Making, Recorder, History, no_history, full}
 use Rattle.vg_meaning.specs.World.{World, Starting, Running}
-use Rattle.vg_meaning.specs.Answer.{End, Stops, Wants, Done, OutOfClock, OutOfDepth, OutOfRoom, Wrong, Signal, Over, Answer, Gives, Ends, Piece, over, and_then, passes, unless}
+use Rattle.vg_meaning.specs.Answer.{End, Stops, Wants, Done, OutOfClock, OutOfDepth, OutOfRoom, Wrong, Signal, Over, Answer, Gives, Ends, Piece, over}
+use Rattle.vg_meaning.specs.Answer.{and_then, passes, unless}
 use Rattle.vg_meaning.specs.Calls.{opened, returned}
 use Rattle.vg_meaning.specs.Interrupts.{idles}
 use Rattle.vg_source.specs.Names.{Name}
 use Rattle.vg_source.specs.Types.{CharType}
 use Rattle.vg_source.specs.Values.{Value, Char, Null, Heap, Cell, Array, stored_values}
 use Rattle.vg_source.specs.Steps.{Source, Target, Method, Start, Routine}
-use Rattle.vg_source.specs.State.{State, find_routine, handler_of, entered, left, newest}
-use Rattle.vg_source.specs.Meaning.{Caller, put, with_found, forgetting, meaning}
+use Rattle.vg_source.specs.State.{State, find_called, handler_of, entered, left}
+use Rattle.vg_source.specs.Meaning.{Caller, put, taking, with_found, forgetting, meaning}
 
 -- ---- calls
 
@@ -23,20 +24,20 @@ abbrev pub activity : Target → ℕ → Active
 activity (Method c m) number = Calling number
 activity _ number = Making
 
--- Back in the caller's state.
+-- Back in the caller's state, with the value that the body leaves.
 abbrev pub back_in : {H : Type 0} → ℕ → State → Piece State H
-back_in count s body w = Gives (left count s (newest Null body.values) body) w
+back_in count s = taking (λ v body. Gives (left count s v body))
 
 -- The body of a routine: an end without return gives the default of the result.
 abbrev pub run_routine : {H : Type 0} → Recorder H → Source → Caller H → Routine → ℕ → Value → Piece State H
 run_routine r p call routine count self s w =
     and_then (returned (meaning r p call routine.body (entered routine count self s) w) (put routine.missing)) (back_in count s)
 
--- Calls at most n deep, where n is at least the ticks that are left.
+-- Calls at most n deep, where n is at least the ticks that are left. There are as many arguments as parameters.
 abbrev pub called : {H : Type 0} → Recorder H → Source → ℕ → Caller H
 called r p zero t count self s w = over OutOfClock s w
 called r p (suc n) t count self s w =
-    with_found (find_routine p.routines t)
+    with_found (find_called p.routines t count)
     (λ routine. opened r (activity t routine.number) (run_routine r p (called r p n) routine count self)) s w
 
 -- A call without arguments from outside, whose value is forgotten.

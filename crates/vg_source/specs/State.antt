@@ -1,42 +1,33 @@
 -- What an evaluation has in hand, and the look-ups in it.
-use Rattle.std.specs.Prelude.{ℕ, ◌==◌, ◌&&◌, Bool, false, List, [], ◌∷◌, take, drop, reverse, Option, Some, None, slice_get, slice_set, if◌then◌else◌}
-use Rattle.vg_source.specs.Names.{Name, same_name, is_among}
-use Rattle.vg_source.specs.Values.{Value, Named, Global, Heap, Cell, Object, Array}
+use Rattle.std.specs.Prelude.{ℕ, ◌==◌, ◌&&◌, Bool, false, List, [], ◌∷◌, ◌++◌, take, drop, reverse, Option, Some, None, slice_get, slice_set, if◌then◌else◌}
+use Rattle.std.specs.Prelude.{bytes_eq}
+use Rattle.vg_source.specs.Names.{Name, is_among}
+use Rattle.vg_source.specs.Values.{Value, FieldValue, Heap, Cell, Object, Array}
 use Rattle.vg_source.specs.Steps.{Source, Class, Routine, Target, Method, Construct, Start, Handler}
 
--- The state: the values that wait, the newest first; the parameters and locals of the body; its receiver; the heap.
+-- The state: the values that wait, the newest first; the parameters and locals of the body by their numbers; its receiver; the heap.
 pub record State : Type 0 where
   pub values : List Value
-  pub locals : List Named
+  pub locals : List Value
   pub self : Value
   pub heap : Heap
 
--- The value under a name.
-abbrev pub find_named : List Named → Name → Option Value
-find_named [] x = None
-find_named (n ∷ ns) x = if same_name n.name x then Some n.value else find_named ns x
+-- The value of the field f that c declares.
+abbrev pub find_value : List FieldValue → (c f : Name) → Option Value
+find_value [] c f = None
+find_value (v ∷ vs) c f = if bytes_eq v.owner c && bytes_eq v.name f then Some v.value else find_value vs c f
 
--- The value under a name is set, or added.
-abbrev pub set_named : List Named → Name → Value → List Named
-set_named [] x v = record { name = x; value = v } ∷ []
-set_named (n ∷ ns) x v = if same_name n.name x then record { name = n.name; value = v } ∷ ns else n ∷ set_named ns x v
-
--- The value of a component field.
-abbrev pub find_global : List Global → Name → Name → Option Value
-find_global [] c f = None
-find_global (g ∷ gs) c f = if same_name g.component c && same_name g.name f then Some g.value else find_global gs c f
-
--- A component field is set.
-abbrev pub set_global : List Global → Name → Name → Value → List Global
-set_global [] c f v = []
-set_global (g ∷ gs) c f v =
-    if same_name g.component c && same_name g.name f then record g { value = v } ∷ gs else g ∷ set_global gs c f v
+-- The field f that c declares is set, where it is there.
+abbrev pub set_value : List FieldValue → (c f : Name) → Value → List FieldValue
+set_value [] c f x = []
+set_value (v ∷ vs) c f x =
+    if bytes_eq v.owner c && bytes_eq v.name f then record v { value = x } ∷ vs else v ∷ set_value vs c f x
 
 -- Two targets are the same.
 abbrev pub same_target : Target → Target → Bool
-same_target (Method c m) (Method d n) = same_name c d && same_name m n
-same_target (Construct c) (Construct d) = same_name c d
-same_target (Start c) (Start d) = same_name c d
+same_target (Method c m) (Method d n) = bytes_eq c d && bytes_eq m n
+same_target (Construct c) (Construct d) = bytes_eq c d
+same_target (Start c) (Start d) = bytes_eq c d
 same_target _ _ = false
 
 -- The routine of a target.
@@ -44,10 +35,19 @@ abbrev pub find_routine : List Routine → Target → Option Routine
 find_routine [] t = None
 find_routine (r ∷ rs) t = if same_target r.target t then Some r else find_routine rs t
 
+-- The routine, where it has so many parameters.
+abbrev pub of_count : ℕ → Option Routine → Option Routine
+of_count count None = None
+of_count count (Some r) = if r.params == count then Some r else None
+
+-- The routine of a target that is called with so many arguments.
+abbrev pub find_called : List Routine → Target → (count : ℕ) → Option Routine
+find_called rs t count = of_count count (find_routine rs t)
+
 -- The class of a name.
 abbrev pub find_class : List Class → Name → Option Class
 find_class [] c = None
-find_class (k ∷ ks) c = if same_name k.name c then Some k else find_class ks c
+find_class (k ∷ ks) c = if bytes_eq k.name c then Some k else find_class ks c
 
 -- The names of a class and of all above it, where the class is there.
 abbrev pub chain_in : Option Class → List Name
@@ -83,25 +83,25 @@ handler_of (h ∷ hs) k = if h.vector == k then Some h.target else handler_of hs
 
 -- The class of an object.
 abbrev pub class_in : Option Cell → Option Name
-class_in (Some (Object c fs)) = Some c
+class_in (Some (Object class fields)) = Some class
 class_in _ = None
 
 -- The class of the object in a cell of the heap.
 abbrev pub class_at : Heap → ℕ → Option Name
 class_at h k = class_in (slice_get h.cells k)
 
--- The value of an object's field.
-abbrev pub field_in : Name → Option Cell → Option Value
-field_in f (Some (Object c fs)) = find_named fs f
-field_in f _ = None
+-- The value of an object's field f that class c declares.
+abbrev pub field_in : (c f : Name) → Option Cell → Option Value
+field_in c f (Some (Object class fields)) = find_value fields c f
+field_in c f _ = None
 
 -- The value of a field of the object in a cell of the heap.
-abbrev pub field_at : Heap → ℕ → Name → Option Value
-field_at h k f = field_in f (slice_get h.cells k)
+abbrev pub field_at : Heap → ℕ → (c f : Name) → Option Value
+field_at h k c f = field_in c f (slice_get h.cells k)
 
 -- The elements of an array.
 abbrev pub items_in : Option Cell → Option (List Value)
-items_in (Some (Array t vs)) = Some vs
+items_in (Some (Array element items)) = Some items
 items_in _ = None
 
 -- The elements of the array in a cell of the heap.
@@ -109,38 +109,28 @@ abbrev pub items_at : Heap → ℕ → Option (List Value)
 items_at h k = items_in (slice_get h.cells k)
 
 -- The cells with an object's field set.
-abbrev pub with_field : Name → Value → Option Cell → List Cell → ℕ → List Cell
-with_field f v (Some (Object c fs)) cells k = slice_set cells k (Object c (set_named fs f v))
-with_field f v _ cells k = cells
+abbrev pub with_field : (c f : Name) → Value → Option Cell → List Cell → ℕ → List Cell
+with_field c f v (Some (Object class fields)) cells k = slice_set cells k (Object class (set_value fields c f v))
+with_field c f v _ cells k = cells
 
 -- The heap with a field of an object set.
-abbrev pub set_field : Heap → ℕ → Name → Value → Heap
-set_field h k f v = record h { cells = with_field f v (slice_get h.cells k) h.cells k }
+abbrev pub set_field : Heap → ℕ → (c f : Name) → Value → Heap
+set_field h k c f v = record h { cells = with_field c f v (slice_get h.cells k) h.cells k }
 
 -- The cells with an array's element set.
 abbrev pub with_item : ℕ → Value → Option Cell → List Cell → ℕ → List Cell
-with_item i v (Some (Array t vs)) cells k = slice_set cells k (Array t (slice_set vs i v))
+with_item i v (Some (Array element items)) cells k = slice_set cells k (Array element (slice_set items i v))
 with_item i v _ cells k = cells
 
 -- The heap with an element of an array set.
 abbrev pub set_item : Heap → ℕ → ℕ → Value → Heap
 set_item h k i v = record h { cells = with_item i v (slice_get h.cells k) h.cells k }
 
--- Parameters with their arguments.
-abbrev pub bound_names : List Name → List Value → List Named
-bound_names (x ∷ xs) (v ∷ vs) = record { name = x; value = v } ∷ bound_names xs vs
-bound_names _ _ = []
-
--- The state of a body: the newest values of its caller are its arguments.
+-- The state of a body: the newest values of its caller are its arguments, and its other locals have their defaults.
 abbrev pub entered : Routine → ℕ → Value → State → State
 entered r count self s =
-    record { values = []; locals = bound_names r.params (reverse (take count s.values)); self = self; heap = s.heap }
+    record { values = []; locals = reverse (take count s.values) ++ r.others; self = self; heap = s.heap }
 
 -- The state of the caller behind the call: the call's value stands in place of the arguments.
 abbrev pub left : ℕ → State → Value → State → State
 left count s v body = record { values = v ∷ drop count s.values; locals = s.locals; self = s.self; heap = body.heap }
-
--- The newest value, or this one where none waits.
-abbrev pub newest : Value → List Value → Value
-newest missing [] = missing
-newest missing (v ∷ vs) = v

@@ -1,5 +1,6 @@
 -- The pass from calls by name to calls by place keeps what a program does.
-use Rattle.std.specs.Prelude.{ℕ, zero, suc, ◌==◌, Bool, true, false, not, List, [], ◌∷◌, length, map, Option, Some, None, option_map, slice_get, Result, Ok, Err, IfOk}
+use Rattle.std.specs.Prelude.{ℕ, zero, suc, ◌==◌, Bool, true, false, not, List, [], ◌∷◌, length, map, Option, Some, None, option_map, slice_get, Result, Ok}
+use Rattle.std.specs.Prelude.{Err, IfOk}
 use Rattle.std.proofs.Common.{◌≡◌, refl, sym, subst}
 use Rattle.vg_toy.specs.declared.program.Step.{Step}
 use Rattle.vg_toy.specs.declared.program.Step.TheVariants.{Number, Read, Write, Call}

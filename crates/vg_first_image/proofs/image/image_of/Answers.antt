@@ -5,7 +5,7 @@ use Rattle.avr_isa.specs.Agrees.{Agrees, NeverReaches}
 use Rattle.avr_isa.specs.Standing.{instr_bytes}
 use Rattle.vg_first_text.specs.FirstSession.{first_session}
 use Rattle.vg_first_image.specs.Program.{slots, start, write_code, idle, program}
-use Rattle.vg_first_image.proofs.Whole.{agrees, never, fits, pieces}
+use Rattle.vg_first_image.proofs.Whole.{AgreesOnStacks, StaysAbove, agrees, never, fits, pieces}
 use Rattle.vg_first_image.proofs.image.image_of.Goals as goal
 use Rattle.vg_first_image.proofs.image.image_of.Goals.{In_ok-put_idle}
 
@@ -18,9 +18,9 @@ from_vec-requires c = subst (λ l. length l ≤ 131072) (sym (bytes c)) (fits c.
 pub returns-clause-agrees : goal.returns-clause-agrees
 returns-clause-agrees c =
     let ws = c.args.writes.now in
-    subst (λ l. Agrees (first_session ws) l 0x0100 4096) (sym (c.from_vec.ensures ∙ bytes (goal.at.returns-clause-agrees c).In_ok-put_idle)) (agrees ws c.requires.devices c.requires.short)
+    subst (AgreesOnStacks ws) (sym (c.from_vec.ensures ∙ bytes (goal.at.returns-clause-agrees c).In_ok-put_idle)) (agrees ws c.requires.devices c.requires.short)
 
 pub returns-clause-never : goal.returns-clause-never
 returns-clause-never c =
     let ws = c.args.writes.now in
-    subst (λ l. NeverReaches l 0x0100) (sym (c.from_vec.ensures ∙ bytes (goal.at.returns-clause-never c).In_ok-put_idle)) (never ws c.requires.devices c.requires.short)
+    subst StaysAbove (sym (c.from_vec.ensures ∙ bytes (goal.at.returns-clause-never c).In_ok-put_idle)) (never ws c.requires.devices c.requires.short)

@@ -1,10 +1,14 @@
-use Rattle.avr_isa.specs.Machine.{machine}
-use Rattle.vg_sim.proofs.Endings.{failed_run, failed_end}
+use Rattle.avr_sim.specs.Run.{simulated}
+use Rattle.avr_sim.proofs.Told.{on_err}
+use Rattle.vg_sim.proofs.Endings.{failed_run, failed_end, whole_run}
 use Rattle.vg_sim.proofs.simulate.put_run.Goals as goal
 
-pub returns-in-None-clause-shown : goal.returns-in-None-clause-shown
-returns-in-None-clause-shown g c = failed_run (machine c.args.started c.args.script.now.reads c.args.script.now.interrupts c.args.budget) c.run.result c.line_told.result _ _ c.line_told.ensures.told c.in-None.is c.run.ensures.failed
+pub returns-in_err-end-clause-failed : goal.returns-in_err-end-clause-failed
+returns-in_err-end-clause-failed g c =
+    on_err c.from_residual.result _ (failed_run (simulated c.args.started c.args.script.now.reads c.args.script.now.interrupts c.args.budget) _ _ c.in_err-end.ensures.failed)
 
-pub returns-in-Err-clause-shown : goal.returns-in-Err-clause-shown
-returns-in-Err-clause-shown g c =
-    failed_end (machine c.args.started c.args.script.now.reads c.args.script.now.interrupts c.args.budget) c.run.result c.line_told.result c.in-Some.line _ _ _ c.line_told.ensures.told c.in-Some.is c.run.ensures.trace c.run.ensures.ending c.in-Err.ensures.failed
+pub returns-in_err-put_ending-clause-failed :
+    goal.returns-in_err-put_ending-clause-failed
+returns-in_err-put_ending-clause-failed g c =
+    on_err c.from_residual-in_err-put_ending.result _
+    (failed_end (simulated c.args.started c.args.script.now.reads c.args.script.now.interrupts c.args.budget) c.in_ok-end.end c.end_line.result _ _ _ c.in_ok-end.ensures.ending c.end_line.ensures c.in_ok-end.ensures.trace c.in_err-put_ending.ensures.failed)

@@ -1,6 +1,7 @@
 use Rattle.std.proofs.Common.{◌≡◌, Some, None, sym, ap, ◌∙◌, subst}
 use Rattle.std.specs.Prelude.{OnOk}
-use Rattle.avr_isa.specs.Machine.{State, Bad}
+use Rattle.avr_isa.specs.declared.ending.MachineEnd.TheVariants.{Bad}
+use Rattle.avr_isa.specs.Machine.{State}
 use Rattle.avr_isa.proofs.PlainSteps.{next-is, none_none}
 use Rattle.avr_isa.proofs.plain.PlainMachine.step.Goals as goal
 

@@ -1,5 +1,6 @@
 use Rattle.std.proofs.Common.{Some, None, sym, ap, ◌∙◌}
-use Rattle.avr_isa.specs.Machine.{State, Bad}
+use Rattle.avr_isa.specs.declared.ending.MachineEnd.TheVariants.{Bad}
+use Rattle.avr_isa.specs.Machine.{State}
 use Rattle.avr_isa.proofs.PlainSteps.{next-is, none_none}
 use Rattle.avr_sim.specs.Walk.{unstacked}
 use Rattle.avr_sim.proofs.running.Running.step.Goals as goal

@@ -1,0 +1,12 @@
+pub mod Writing
+pub mod Worked
+pub mod Names
+pub mod Signatures
+pub mod Inherited
+pub mod Entries
+pub mod Scopes
+pub mod Suffixes
+pub mod Operands
+pub mod Statements
+pub mod Order
+pub mod Counts

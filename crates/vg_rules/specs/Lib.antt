@@ -1,0 +1,13 @@
+pub mod Breach
+pub mod Fits
+pub mod Written
+pub mod Operands
+pub mod Names
+pub mod Signatures
+pub mod Inherited
+pub mod Entries
+pub mod Bodies
+pub mod Legal
+pub mod Limits
+pub mod Counts
+pub mod Refusal
