@@ -1,5 +1,6 @@
 -- The image that a HEX text spells, and its first fault.
 use Rattle.std.specs.Prelude.{ℕ, ◌+◌, ◌*◌, ◌%◌, ◌<◌, ◌≡◌, ◌==◌, ◌||◌, Bool, false, List, [], ◌∷◌, ◌++◌, length, nat_le, max, Option, Some, None, get_or, if◌then◌else◌}
+use Rattle.vg_base.specs.Limits.{flash_bytes}
 use Rattle.vg_lines.specs.Lines.{lines}
 use Rattle.vg_hex.specs.declared.fault.HexFault.{HexFault}
 use Rattle.vg_hex.specs.declared.fault.HexFault.TheVariants.{Form, Sum, Twice, Beyond, NoEnd}
@@ -59,7 +60,7 @@ abbrev pub first_fault : List ℕ → List Named → Option HexFault
 first_fault seen [] = None
 first_fault seen (Bad fault ∷ es) = Some fault
 first_fault seen (Byte a v ∷ es) =
-    if nat_le 131072 a then Some (Beyond a)
+    if nat_le flash_bytes a then Some (Beyond a)
     else if is_among a seen then Some (Twice a)
     else first_fault (a ∷ seen) es
 

@@ -1,5 +1,6 @@
 -- Mirrors of the code that reads a text: no public clause cites them.
 use Rattle.std.specs.Prelude.{ℕ, ◌+◌, ◌-◌, ◌≡◌, Bool, true, false, List, [], ◌∷◌, ◌++◌, length, replicate, slice_set, map, nat_le, Option, Some, None, get_or, if◌then◌else◌}
+use Rattle.vg_base.specs.Limits.{flash_bytes}
 use Rattle.vg_hex.specs.declared.fault.HexFault.{HexFault}
 use Rattle.vg_hex.specs.declared.fault.HexFault.TheVariants.{Form, Sum, Twice, Beyond}
 use Rattle.vg_hex.specs.declared.hex_record.Base.{Base}
@@ -27,7 +28,7 @@ placed slots a v = slice_set (padded slots (a + 1)) a (Some v)
 
 -- what is wrong with a byte of this address
 abbrev pub fault_at : List (Option ℕ) → ℕ → Option HexFault
-fault_at slots a = if nat_le 131072 a then Some (Beyond a) else if is_taken a slots then Some (Twice a) else None
+fault_at slots a = if nat_le flash_bytes a then Some (Beyond a) else if is_taken a slots then Some (Twice a) else None
 
 abbrev pub first_of : Option HexFault → Option HexFault → Option HexFault
 first_of (Some f) other = Some f

@@ -1,6 +1,7 @@
 // Laws of the texts of images.
 ghost use Rattle.std.specs.Prelude.{◌≡◌, ◌≤◌, ◌<◌, ℕ, List, length, IfOk};
 ghost use Rattle.std.specs.List.{AllByRecursion};
+ghost use Rattle.vg_base.specs.Limits.{flash_bytes};
 ghost use Rattle.vg_hex.specs.HexText.{hex_text};
 ghost use Rattle.vg_hex.specs.HexImage.{HexImage};
 
@@ -13,7 +14,7 @@ use vg_base::NoMemory;
 
 /// The text that is written for an image is read as that image.
 pub fn read_again()
-    ensures { (image : List ℕ) → length image ≤ 131072 → AllByRecursion (λ b. b < 256) image → HexImage (hex_text image) image }
+    ensures { (image : List ℕ) → length image ≤ flash_bytes → AllByRecursion (λ b. b < 256) image → HexImage (hex_text image) image }
 {}
 
 /// A text is read as one image at most.

@@ -1,5 +1,6 @@
 // The image of a text.
 ghost use Rattle.std.specs.Prelude.{◌≡◌, ◌<◌, ◌≤◌, ◌+◌, ◌^◌, ℕ, List, [], ◌∷◌, ◌++◌, length, Option, None, Some, IfOk, OnOk};
+ghost use Rattle.vg_base.specs.Limits.{image_text_limit};
 ghost use Rattle.vg_lines.specs.Lines.{lines};
 ghost use Rattle.vg_hex.specs.HexRecords.{read_line};
 ghost use Rattle.vg_hex.specs.HexImage.{Named, Bad, HexImage, behind_end, fault_in};
@@ -16,7 +17,7 @@ use vg_lines::first_line;
 ///
 /// The fault is the first in the order of the lines.
 pub fn read(alloc: Global, text: &[u8]) -> Result<Image, HexRefusal>
-    requires { length text.now ≤ 1048576 }
+    requires { length text.now ≤ image_text_limit }
     ensures image { IfOk result (λ image. HexImage text.now image) }
     ensures fault { (f : HexFault) → result ≡ Err (HexRefusal.Fault f) → fault_in text.now ≡ Some f }
 {

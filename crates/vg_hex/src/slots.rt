@@ -1,5 +1,6 @@
 // The bytes that a text has named so far, by address.
 ghost use Rattle.std.specs.Prelude.{◌≡◌, ◌<◌, ◌≤◌, ◌+◌, ◌^◌, ℕ, List, [], ◌∷◌, ◌++◌, length, take, Option, None, Some, IfOk, OnOk};
+ghost use Rattle.vg_base.specs.Limits.{flash_bytes};
 ghost use Rattle.vg_hex.specs.HexImage.{data_address, bytes_named};
 ghost use Rattle.vg_hex.specs.Walk.{byte_in, bytes_in, fault_at, fault_behind, is_taken, padded, placed, slots_behind};
 
@@ -8,7 +9,7 @@ use crate::hex_record::Base;
 use avr_isa::Image;
 use std::alloc::Global;
 use std::marker::Model;
-use vg_base::NoMemory;
+use vg_base::{FLASH_BYTES, NoMemory};
 
 /// A slot for each address from 0 on, up to the highest that was named: the byte that was named there, or none.
 #[derive(Drop)]
@@ -18,12 +19,13 @@ pub struct Slots {
 
 impl Model for Slots {
     ghost use Rattle.std.specs.Prelude.{ℕ, ◌≤◌, List, Option, length};
+    ghost use Rattle.vg_base.specs.Limits.{flash_bytes};
 
     ghost Value = { List (Option ℕ) };
 
     ghost view = { λ s. s.slots.items };
 
-    ghost invariant = { λ s. length s.slots.items ≤ 131072 };
+    ghost invariant = { λ s. length s.slots.items ≤ flash_bytes };
 }
 
 impl Slots {
@@ -57,10 +59,10 @@ impl Slots {
         requires { address < 2 ^ 32 }
         ensures fine { OnOk result (fault_at self.old address ≡ None) }
         ensures slots { OnOk result (self.new ≡ placed self.old address byte) }
-        ensures below { OnOk result (address < 131072) }
+        ensures below { OnOk result (address < flash_bytes) }
         ensures fault { (f : HexFault) → result ≡ Err (HexRefusal.Fault f) → fault_at self.old address ≡ Some f }
     {
-        if address >= 131_072 {
+        if address >= FLASH_BYTES as u64 {
             return Err(HexRefusal::Fault(HexFault::Beyond(address as u32)));
         }
         let at = address as usize;
@@ -81,7 +83,7 @@ impl Slots {
 
     // Makes slots up to this address.
     fn pad(&mut self, at: usize) -> Result<(), NoMemory>
-        requires { at < 131072 }
+        requires { at < flash_bytes }
         ensures { OnOk result (self.new ≡ padded self.old (at + 1)) }
     {
         while self.slots.len() <= at {

@@ -1,6 +1,7 @@
 // The text of an image.
 ghost use Rattle.std.specs.Prelude.{◌≡◌, ◌≤◌, ◌<◌, ◌++◌, ◌+◌, ◌*◌, ◌%◌, ◌/◌, ◌==◌, List, [], ◌∷◌, length, take, drop, IfOk, OnOk, if◌then◌else◌};
 ghost use Rattle.std.specs.List.{AllByRecursion};
+ghost use Rattle.vg_base.specs.Limits.{flash_bytes, image_text_limit};
 ghost use Rattle.vg_hex.specs.HexImage.{HexImage};
 ghost use Rattle.vg_hex.specs.HexText.{hex_text, records, data_line, base_line, check_of};
 
@@ -18,7 +19,7 @@ const RECORD_BYTES: usize = 16;
 pub fn write(alloc: Global, image: &Image) -> Result<Row<u8>, NoMemory>
     ensures text { IfOk result (λ text. text ≡ hex_text image.now) }
     ensures read { IfOk result (λ text. HexImage text image.now) }
-    ensures short { IfOk result (λ text. length text ≤ 1048576) }
+    ensures short { IfOk result (λ text. length text ≤ image_text_limit) }
 {
     let mut text = Row::new(alloc);
     let bytes = image.as_slice();
@@ -29,7 +30,7 @@ pub fn write(alloc: Global, image: &Image) -> Result<Row<u8>, NoMemory>
 
 // The records of the bytes of an image.
 fn put_records(alloc: Global, text: &mut Row<u8>, bytes: &[u8]) -> Result<(), NoMemory>
-    requires { length bytes.now ≤ 131072 }
+    requires { length bytes.now ≤ flash_bytes }
     ensures text { OnOk result (text.new ≡ text.old ++ records ((length bytes.now + 15) / 16) 0 bytes.now) }
     ensures small { AllByRecursion (λ b. b < 256) bytes.now }
 {

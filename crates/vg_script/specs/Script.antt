@@ -1,5 +1,5 @@
 -- What a script says: the values of the reads to come, and the interrupts to come.
-use Rattle.std.specs.Prelude.{ℕ, ◌+◌, ◌-◌, ◌*◌, ◌≡◌, ◌==◌, ◌&&◌, List, [], ◌∷◌, nat_le, Option, Some, None, Result, Ok, Err, if◌then◌else◌}
+use Rattle.std.specs.Prelude.{ℕ, ◌+◌, ◌-◌, ◌*◌, ◌≡◌, ◌==◌, ◌&&◌, List, [], ◌∷◌, nat_le, Option, Some, None, Result, Ok, if◌then◌else◌}
 use Rattle.std.specs.List.{flat_map}
 use Rattle.vg_lines.specs.Lines.{lines}
 use Rattle.hex.specs.Hex.{decode_of}

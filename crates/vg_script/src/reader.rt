@@ -1,5 +1,6 @@
 // The script of a text.
 ghost use Rattle.std.specs.Prelude.{◌≡◌, ◌≤◌, ◌+◌, ◌++◌, ℕ, List, [], length, Option, Some, None, IfOk};
+ghost use Rattle.vg_base.specs.Limits.{image_text_limit};
 ghost use Rattle.vg_meaning.specs.Outside.{AreReads, AreVectors};
 ghost use Rattle.vg_script.specs.Script.{IsScript, first_bad, interrupts_in, line_of, one_digit, reads_in, some, spaced_pair, two_digits};
 ghost use Rattle.vg_script.specs.Walk.{Takes, TakesLine, first_interrupt, first_read, of_width};
@@ -15,7 +16,7 @@ use vg_lines::first_line;
 /// A line is empty, a comment behind `#`, `r` and reads as two hexadecimal digits each, or `i` and interrupts from 1 to 34 in
 /// decimal, each item behind one space. Lines end with LF or CR LF, the last one optional.
 pub fn read_script(alloc: Global, text: &[u8]) -> Result<Script, ScriptFault>
-    requires { length text.now ≤ 1048576 }
+    requires { length text.now ≤ image_text_limit }
     ensures script { IfOk result (λ script. IsScript text.now script) }
     ensures reads { IfOk result (λ script. AreReads script.reads) }
     ensures vectors { IfOk result (λ script. AreVectors script.interrupts) }

@@ -1,5 +1,6 @@
 // One simulation.
 ghost use Rattle.std.specs.Prelude.{◌≡◌, ◌≤◌, ℕ, List, length, Option, Some, None, IfOk, OnOk, OnErr};
+ghost use Rattle.vg_base.specs.Limits.{image_text_limit};
 ghost use Rattle.vg_io.specs.Count.{Rose};
 ghost use Rattle.vg_io.specs.Piece.{AppendsAll, AppendsFront};
 ghost use Rattle.vg_hex.specs.HexImage.{fault_in};
@@ -42,8 +43,8 @@ pub fn simulate_text<O: Sink>(
     budget: u32,
     out: &mut O,
 ) -> Simulated
-    requires hex { length hex.now ≤ 1048576 }
-    requires script { length script.now ≤ 1048576 }
+    requires hex { length hex.now ≤ image_text_limit }
+    requires script { length script.now ≤ image_text_limit }
     ensures ended { (end : Option MachineEnd) → result ≡ Simulated.Ended end → ForRun hex.now script.now budget (λ m. (end ≡ m.ended) × AppendsAll (O.told out.old) (O.told out.new) (lines_of m)) }
     ensures write_fault { result ≡ Simulated.WriteFault → ForRun hex.now script.now budget (λ m. AppendsFront (O.told out.old) (O.told out.new) (lines_of m)) }
     ensures cause { result ≡ Simulated.WriteFault → Rose (O.faults out.old) (O.faults out.new) }
