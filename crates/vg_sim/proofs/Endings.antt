@@ -1,6 +1,5 @@
 -- The line of an ending, behind the lines of a trace.
-use Rattle.std.proofs.Common.{◌≡◌, ℕ, List, [], ◌++◌, Option, Result, Ok, Err, ap, sym, ◌∙◌, subst, append-nil}
-use Rattle.std.specs.Prelude.{OnOk, OnErr}
+use Rattle.std.proofs.Common.{◌≡◌, ℕ, List, [], ◌++◌, Option, ap, ◌∙◌, subst, append-nil}
 use Rattle.vg_io.specs.Piece.{AppendsAll, AppendsFront}
 use Rattle.vg_script.specs.declared.traces.EndLine.{EndLine}
 use Rattle.vg_script.specs.Traces.{ending_line}

@@ -1,6 +1,6 @@
 use Rattle.avr_sim.specs.Run.{simulated}
 use Rattle.avr_sim.proofs.Told.{on_err}
-use Rattle.vg_sim.proofs.Endings.{failed_run, failed_end, whole_run}
+use Rattle.vg_sim.proofs.Endings.{failed_run, failed_end}
 use Rattle.vg_sim.proofs.simulate.put_run.Goals as goal
 
 pub returns-in_err-end-clause-failed : goal.returns-in_err-end-clause-failed
