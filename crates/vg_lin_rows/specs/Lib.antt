@@ -1,0 +1,4 @@
+pub mod Shown
+pub mod Packed
+pub mod Linear
+pub mod Steps
