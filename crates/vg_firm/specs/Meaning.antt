@@ -1,9 +1,8 @@
 -- What the steps of a packed program do. They know no names and no types: where a number is not what a program made of a legal text
 -- has there, the run is Wrong.
-use Rattle.std.specs.Prelude.{ℕ, zero, suc, ◌+◌, ◌-◌, ◌*◌, ◌/◌, ◌%◌, ◌^◌, Bool, true, false, ◌==◌, nat_lt, List, [], ◌∷◌, ◌++◌, length, take, drop, reverse, Option, Some, None, slice_get, slice_set, if◌then◌else◌}
-use Rattle.vg_meaning.specs.History.{Calling, Recorder}
-use Rattle.vg_meaning.specs.World.{World}
-use Rattle.vg_meaning.specs.Answer.{OutOfClock, Wrong, Gives, Answer, Piece, go_on, over, and_then, stops}
+use Rattle.std.specs.Prelude.{ℕ, zero, suc, ◌+◌, ◌-◌, ◌*◌, ◌/◌, ◌^◌, Bool, true, false, nat_lt, List, [], ◌∷◌, ◌++◌, take, drop}
+use Rattle.std.specs.Prelude.{Option, Some, None, slice_get, slice_set}
+use Rattle.vg_meaning.specs.Answer.{Wrong, Gives, Piece, go_on, over, stops}
 use Rattle.vg_meaning.specs.Interrupts.{take_interrupt}
 use Rattle.vg_meaning.specs.Devices.{read_device, write_device}
 use Rattle.vg_meaning.specs.Loops.{Test, Tested, Untested}
@@ -14,7 +13,9 @@ use Rattle.vg_firm.specs.declared.step.Home.TheVariants.{Ram, Flash}
 use Rattle.vg_firm.specs.declared.step.Elements.{Elements}
 use Rattle.vg_firm.specs.declared.step.ArrayPlace.{ArrayPlace}
 use Rattle.vg_firm.specs.declared.step.Step.{Step}
-use Rattle.vg_firm.specs.declared.step.Step.TheVariants.{Number, This, Local, SetLocal, Forget, Operate, Apply, ReadDevice, WriteDevice, Load, Store, LoadAt, StoreAt, LoadNothing, StoreNothing, LoadItem, StoreItem, Length, IsWithin, StopUnlessWithin, Bind, BindFor, Call, CallFor, CallValue, Idle}
+use Rattle.vg_firm.specs.declared.step.Step.TheVariants.{Number, This, Local, SetLocal, Forget, Operate, Apply, ReadDevice, WriteDevice, Load, Store}
+use Rattle.vg_firm.specs.declared.step.Step.TheVariants.{LoadAt, StoreAt, LoadNothing, StoreNothing, LoadItem, StoreItem, Length, IsWithin}
+use Rattle.vg_firm.specs.declared.step.Step.TheVariants.{StopUnlessWithin, Bind, BindFor, Call, CallFor, CallValue, Idle}
 use Rattle.vg_firm.specs.Operators.{as_number, computed, applied}
 use Rattle.vg_firm.specs.Program.{Procedure, Program}
 

@@ -1,5 +1,6 @@
 -- Calls and runs of packed programs.
-use Rattle.std.specs.Prelude.{if◌then◌else◌, ℕ, zero, suc, ◌-◌, Bool, true, false, ◌==◌, ◌&&◌, List, [], ◌∷◌, ◌++◌, length, take, drop, reverse, replicate, Option, Some, None, slice_get}
+use Rattle.std.specs.Prelude.{if◌then◌else◌, ℕ, zero, suc, ◌-◌, Bool, true, false, ◌==◌, ◌&&◌, List, [], ◌∷◌, ◌++◌, length, take, drop, reverse}
+use Rattle.std.specs.Prelude.{replicate, Option, Some, None, slice_get}
 use Rattle.vg_meaning.specs.History.{Calling, Recorder}
 use Rattle.vg_meaning.specs.Answer.{OutOfClock, Gives, Piece, go_on, over, and_then}
 use Rattle.vg_meaning.specs.Calls.{opened, returned}
@@ -7,7 +8,7 @@ use Rattle.vg_meaning.specs.Interrupts.{idles}
 use Rattle.vg_meaning.specs.Code.{performed}
 use Rattle.vg_codes.specs.Codes.{Codes}
 use Rattle.vg_firm.specs.Program.{Procedure, Program}
-use Rattle.vg_firm.specs.Meaning.{State, Caller, with_found, take_from, taking, checked, fits, of_width, put, step, truth}
+use Rattle.vg_firm.specs.Meaning.{State, Caller, with_found, taking, checked, fits, of_width, put, step, truth}
 
 -- ---- calls
 

@@ -7,3 +7,4 @@ pub mod Structured
 pub mod Stands
 pub mod Follows
 pub mod Sound
+pub mod Sessions

@@ -1,5 +1,6 @@
 -- What a program of linear code does.
-use Rattle.std.specs.Prelude.{ℕ, zero, suc, ◌+◌, ◌%◌, Bool, true, false, ◌==◌, ◌&&◌, List, [], ◌∷◌, ◌++◌, length, take, drop, reverse, map, Option, Some, None, slice_get, if◌then◌else◌}
+use Rattle.std.specs.Prelude.{ℕ, zero, suc, ◌+◌, ◌%◌, Bool, true, false, ◌==◌, ◌&&◌, List, [], ◌∷◌, ◌++◌, length, take, drop, reverse, map, Option}
+use Rattle.std.specs.Prelude.{Some, None, slice_get, if◌then◌else◌}
 use Rattle.vg_meaning.specs.Outside.{Outside, before}
 use Rattle.vg_meaning.specs.History.{Active, Calling}
 use Rattle.vg_codes.specs.Codes.{code_in}
@@ -133,13 +134,17 @@ abbrev pub codes_in : List Procedure → List (List Instr)
 codes_in [] = []
 codes_in (m ∷ ms) = m.code ∷ codes_in ms
 
+-- The state in which a run begins.
+abbrev pub first_state : Program → State
+first_state p = record { locals = begun (widths_of (slice_get p.procedures p.start)) []; waiting = []; ram = p.ram }
+
 -- Before the first step.
 abbrev pub at_start : Program → Outside → Config State
 at_start p o =
     record {
       proc = p.start;
       pc = 0;
-      state = record { locals = begun (widths_of (slice_get p.procedures p.start)) []; waiting = []; ram = p.ram };
+      state = first_state p;
       frames = [];
       woken = None;
       outside = o;

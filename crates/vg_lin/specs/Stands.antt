@@ -24,7 +24,8 @@ at_ease (Either met unmet paid) = Either met unmet false
 -- its `break` and its `continue` go on.
 pub data Stands (fetch : ℕ → Option Instr) : (break' continue' : ℕ) → Code Step → (at : ℕ) → Goal → Type 0 where
   nothing : {x y at : ℕ} → Stands fetch x y Nothing at (Next at)
-  sequence : {x y at mid : ℕ} {a b : Code Step} {goal : Goal} → Stands fetch x y a at (Next mid) → Stands fetch x y b mid goal → Stands fetch x y (Then a b) at goal
+  sequence : {x y at mid : ℕ} {a b : Code Step} {goal : Goal} → Stands fetch x y a at (Next mid) → Stands fetch x y b mid goal
+      → Stands fetch x y (Then a b) at goal
   plain : {x y at : ℕ} {p : PlainInstr} → fetch at ≡ Some (Plain p) → Stands fetch x y (Do (Here p)) at (Next (suc at))
   call : {x y at : ℕ} {c : Calling} → fetch at ≡ Some (Call c) → Stands fetch x y (Do (To c)) at (Next (suc at))
   idle : {x y at : ℕ} → fetch at ≡ Some Idle → Stands fetch x y (Do Rest) at (Next (suc at))
@@ -34,12 +35,14 @@ pub data Stands (fetch : ℕ → Option Instr) : (break' continue' : ℕ) → Co
   -- a known truth value costs nothing, and to take the other one neither
   holds : {x y at unmet : ℕ} → Stands fetch x y (Do (Decide true)) at (Either at unmet false)
   fails : {x y at met : ℕ} → Stands fetch x y (Do (Decide false)) at (Either met at false)
-  flip : {x y at met unmet : ℕ} {c : Code Step} {paid : Bool} → Stands fetch x y c at (Either unmet met paid) → Stands fetch x y (Then c (Do Flip)) at (Either met unmet paid)
+  flip : {x y at met unmet : ℕ} {c : Code Step} {paid : Bool} → Stands fetch x y c at (Either unmet met paid)
+      → Stands fetch x y (Then c (Do Flip)) at (Either met unmet paid)
   -- the truth value of the code before a choice becomes the way that is gone
   choice : {x y at u v : ℕ} {c a b : Code Step} {goal : Goal}
       → Stands fetch x y c at (Either u v false) → Stands fetch x y a u goal → Stands fetch x y b v goal → Stands fetch x y (Then c (If a b)) at goal
   loop : {x y at u v to : ℕ} {c body next : Code Step}
-      → Stands fetch x y c at (Either u to true) → Stands fetch to v body u (Next v) → Stands fetch x y next v (Next at) → Stands fetch x y (Loop c body next) at (Next to)
+      → Stands fetch x y c at (Either u to true) → Stands fetch to v body u (Next v) → Stands fetch x y next v (Next at)
+      → Stands fetch x y (Loop c body next) at (Next to)
   break' : {x y : ℕ} {goal : Goal} → Stands fetch x y Break x goal
   continue' : {x y : ℕ} {goal : Goal} → Stands fetch x y Continue y goal
   return : {x y at : ℕ} {a : Operand} {goal : Goal} → fetch at ≡ Some (Return a) → Stands fetch x y (Then (Do (Give a)) Returning) at goal

@@ -8,6 +8,9 @@ ghost use Rattle.vg_lin.specs.Steps.{Frame, Language, fetch};
 ghost use Rattle.vg_lin.specs.Structured.{Step, Caller, step, truth, called};
 ghost use Rattle.vg_lin.specs.Stands.{Goal, Stands, AllStand, StandsFirst};
 ghost use Rattle.vg_lin.specs.Follows.{FollowsFrom, FollowsCalls, FollowsRun};
+ghost use Rattle.vg_lin.specs.Program.{Program};
+ghost use Rattle.vg_lin.specs.Meaning.{language, codes_in};
+ghost use Rattle.vg_lin.specs.Sessions.{FollowsSessions};
 
 /// Where the linear code of structured code stands, it follows it: it comes to the same places in the same states, with at least one
 /// step for each tick, the same outside and the same calls open at each opening.
@@ -29,4 +32,10 @@ pub fn calls_follow<S>()
 pub fn runs_follow<S>()
     ensures { (l : Language S) (procs : List (List Instr)) (bodies : ℕ → Code Step) (m : ℕ) (c : Call)
         → AllStand (fetch procs) bodies → StandsFirst (fetch procs m) c → l.named m ≡ None → FollowsRun l procs bodies m c }
+{}
+
+/// The same of a program, over its own runs.
+pub fn programs_follow()
+    ensures { (p : Program) (bodies : ℕ → Code Step) (c : Call) → AllStand (fetch (codes_in p.procedures)) bodies
+        → StandsFirst (fetch (codes_in p.procedures) p.start) c → (language p).named p.start ≡ None → FollowsSessions p bodies c }
 {}

@@ -2,3 +2,4 @@ pub mod Shown
 pub mod Packed
 pub mod Linear
 pub mod Steps
+pub mod Standing

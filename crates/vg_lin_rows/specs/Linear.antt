@@ -135,7 +135,8 @@ cut : (alone_shows (1 ∷ []) (Plain (Copy 0 (Known 0x1FF)) ∷ Plain (WriteDevi
 cut = refl
 
 -- A number stands low bytes first, and a load of bytes that are not all there is Wrong.
-two_bytes : (alone_shows (2 ∷ []) (Plain (Load Ram 2 0 (record { base = 0x100; index = Known 1 })) ∷ When (record { comparison = Same; width = 2; left = Local 0; right = Known 0x302 }) 3 ∷ Idle ∷ Plain (Stop 9) ∷ [])).ending ≡ Some (Stops 9 None)
+two_bytes : (alone_shows (2 ∷ []) (Plain (Load Ram 2 0 (record { base = 0x100; index = Known 1 })) ∷ When
+    (record { comparison = Same; width = 2; left = Local 0; right = Known 0x302 }) 3 ∷ Idle ∷ Plain (Stop 9) ∷ [])).ending ≡ Some (Stops 9 None)
 two_bytes = refl
 
 not_there : (alone_shows (2 ∷ []) (Plain (Load Ram 2 0 (record { base = 0x100; index = Known 2 })) ∷ Idle ∷ [])).ending ≡ Some Wrong

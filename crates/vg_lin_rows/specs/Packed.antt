@@ -13,7 +13,8 @@ use Rattle.vg_firm.specs.declared.step.Operator.TheVariants.{Plus, Minus, Divide
 use Rattle.vg_firm.specs.declared.step.Prefix.TheVariants.{Cut}
 use Rattle.vg_firm.specs.declared.step.Elements.{Elements}
 use Rattle.vg_firm.specs.declared.step.Step.{Step}
-use Rattle.vg_firm.specs.declared.step.Step.TheVariants.{Number, Local, SetLocal, Forget, Operate, Apply, ReadDevice, WriteDevice, Load, Store, LoadAt, StoreNothing, LoadItem, Bind, CallFor, CallValue}
+use Rattle.vg_firm.specs.declared.step.Step.TheVariants.{Number, Local, SetLocal, Forget, Operate, Apply, ReadDevice, WriteDevice, Load, Store}
+use Rattle.vg_firm.specs.declared.step.Step.TheVariants.{LoadAt, StoreNothing, LoadItem, Bind, CallFor, CallValue}
 use Rattle.vg_firm.specs.Program.{Procedure, Program}
 use Rattle.vg_firm.specs.Meaning.{State}
 use Rattle.vg_firm.specs.Session.{first_state, running}
