@@ -1,0 +1,4 @@
+pub mod Operators
+pub mod Program
+pub mod Meaning
+pub mod Session

@@ -1,0 +1,10 @@
+pub mod Steps
+pub mod Values
+pub mod Program
+pub mod State
+pub mod Meaning
+pub mod Structured
+pub mod Stands
+pub mod Follows
+pub mod Sound
+pub mod Sessions

@@ -1,0 +1,5 @@
+pub mod Shown
+pub mod Packed
+pub mod Linear
+pub mod Steps
+pub mod Standing
