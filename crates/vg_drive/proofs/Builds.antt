@@ -150,7 +150,7 @@ put_completes : (r : Answer) (s : Status) (out note : Change) → PutBy r s out 
 put_completes (Ok built) s out note (inl h) k = inl (subst IsDoneOrNoMemory (sym h.0) tt)
 put_completes (Ok built) s out note (inr (e, inl f)) k = inr (inl f.1.0)
 put_completes (Ok built) s out note (inr (e, inr f)) k = inr (inr f.1.1)
-put_completes (Err (refusal.Fault why)) s out note h (inl ok) = absurd ok
+put_completes (Err (refusal.Fault why)) s out note h (inl ok) = cc
 put_completes (Err (refusal.Fault why)) s out note h (inr e) = cc
 put_completes (Err refusal.NoMemory) s out note h k = inl (subst IsDoneOrNoMemory (sym h.0) tt)
 
