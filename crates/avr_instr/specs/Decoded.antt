@@ -18,8 +18,8 @@ upper_of w = 16 + w / 16 % 16
 abbrev pub constant_of : ℕ → ℕ
 constant_of w = w / 256 % 16 * 16 + w % 16
 
-abbrev pub pair_of : ℕ → ℕ
-pair_of w = 24 + w / 16 % 4 * 2
+abbrev pub wide_pair_of : ℕ → ℕ
+wide_pair_of w = 24 + w / 16 % 4 * 2
 
 abbrev pub small_of : ℕ → ℕ
 small_of w = w / 64 % 4 * 16 + w % 16
@@ -126,8 +126,8 @@ in_one_register w next =
 -- 0x9600 to 0x9FFF
 abbrev pub in_pairs : ℕ → Option Instr
 in_pairs w =
-    if w / 256 == 0x96 then Some (Adiw (pair_of w) (small_of w))
-    else if w / 256 == 0x97 then Some (Sbiw (pair_of w) (small_of w))
+    if w / 256 == 0x96 then Some (Adiw (wide_pair_of w) (small_of w))
+    else if w / 256 == 0x97 then Some (Sbiw (wide_pair_of w) (small_of w))
     else if w / 1024 == 39 then Some (Mul (d_of w) (r_of w))
     else None
 

@@ -1,7 +1,7 @@
 // The instruction that words spell.
 ghost use Rattle.std.specs.Prelude.{◌≡◌, ◌≢◌, ◌<◌, ◌≤◌, ◌%◌, ◌/◌, ◌^◌, ℕ, Some, IfSome, IsNone};
 ghost use Rattle.avr_instr.specs.Spelled.{Spelled};
-ghost use Rattle.avr_instr.specs.Decoded.{decoded, d_of, r_of, upper_of, constant_of, pair_of, small_of, address_of, base_of, displacement_of, is_beside_x, in_nibble_0, in_nibbles_1_2, in_nibbles_3_7, in_nibbles_8_10, in_loads, in_stores, in_fixed, in_one_register, in_pairs, in_nibble_9, in_nibbles_11_15};
+ghost use Rattle.avr_instr.specs.Decoded.{decoded, d_of, r_of, upper_of, constant_of, wide_pair_of, small_of, address_of, base_of, displacement_of, is_beside_x, in_nibble_0, in_nibbles_1_2, in_nibbles_3_7, in_nibbles_8_10, in_loads, in_stores, in_fixed, in_one_register, in_pairs, in_nibble_9, in_nibbles_11_15};
 
 use crate::instr::Instr;
 use crate::operand::{
@@ -159,10 +159,10 @@ fn in_pairs(word: u16) -> Option<Instr>
     ensures { result ≡ in_pairs word }
 {
     if word / 256 == 0x96 {
-        return Some(Instr::Adiw(pair_of(word), small_of(word)));
+        return Some(Instr::Adiw(wide_pair_of(word), small_of(word)));
     }
     if word / 256 == 0x97 {
-        return Some(Instr::Sbiw(pair_of(word), small_of(word)));
+        return Some(Instr::Sbiw(wide_pair_of(word), small_of(word)));
     }
     if word / 1024 == 39 {
         return Some(Instr::Mul(d_of(word), r_of(word)));
@@ -214,8 +214,8 @@ fn constant_of(word: u16) -> u8
 }
 
 // ---- ---- --dd ----, the pairs from r24
-fn pair_of(word: u16) -> WidePair
-    ensures { result ≡ pair_of word }
+fn wide_pair_of(word: u16) -> WidePair
+    ensures { result ≡ wide_pair_of word }
 {
     WidePair::new(24 + (word / 16 % 4) as u8 * 2)
 }
@@ -268,6 +268,3 @@ pub fn spelling_both_ways()
     ensures each { (w n : ℕ) (i : _) → Spelled w n i → decoded w n ≡ Some i }
     ensures once { (w n : ℕ) (i j : _) → Spelled w n i → Spelled w n j → i ≡ j }
 {}
-
-#[cfg(test)]
-mod tests;

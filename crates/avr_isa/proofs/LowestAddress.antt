@@ -1,5 +1,5 @@
 -- What the lowest address of the stack says of SRAM and of the stack pointer.
-use Rattle.std.proofs.Common.{◌≡◌, ◌≢◌, ℕ, ◌+◌, ◌-◌, ◌*◌, ◌/◌, ◌<◌, ◌≤◌, Bool, true, false, List, [], ◌∷◌, Some, None, refl, sym, ap, ◌∙◌, subst, arith, if◌then◌else◌, ◌&&◌, ◌==◌, min, nat_le, nat_lt, slice_index, slice_set}
+use Rattle.std.proofs.Common.{◌≡◌, ◌≢◌, ℕ, ◌+◌, ◌-◌, ◌<◌, ◌≤◌, Bool, true, false, List, [], ◌∷◌, Some, None, refl, sym, ap, ◌∙◌, subst, arith, if◌then◌else◌, ◌&&◌, min, nat_le, nat_lt, slice_index, slice_set}
 use Rattle.std.proofs.lemmas.List.{get_or-set_other}
 use Rattle.vg_meaning.specs.Outside.{with_event}
 use Rattle.vg_meaning.specs.declared.event.Event.TheVariants.{Enter}
@@ -11,12 +11,12 @@ use Rattle.avr_isa.specs.declared.stack.StackUse.{StackUse}
 use Rattle.avr_isa.specs.declared.stack.StackUse.TheVariants.{Stores}
 use Rattle.avr_isa.specs.Cpu.{CpuState, forward, is_enabled}
 use Rattle.avr_isa.specs.Change.{Change, going, staying, moved, register_of, with_pair, with_next, pair_of, previous}
-use Rattle.avr_isa.specs.Access.{stored, then_next, displaced, can_push_two, with_pushed}
+use Rattle.avr_isa.specs.Access.{stored, then_next, can_push_two, with_pushed}
 use Rattle.avr_isa.specs.Flow.{far_from}
 use Rattle.avr_isa.specs.Effect.{change}
 use Rattle.avr_isa.specs.Machine.{State, done, entered, woken, performed, word_here, instr_here, next_by, next_state}
 use Rattle.avr_isa.specs.Stack.{stack_use, lowest_by, lowest_by_store, lowest_by_push_two}
-use Rattle.avr_isa.specs.Floor.{sram_byte, KeepsBelow, WritesSpl, SeesPointer}
+use Rattle.avr_isa.specs.Floor.{KeepsBelow, WritesSpl, SeesPointer}
 
 -- the step of a machine that is going, by its instruction
 abbrev stepped : List ℕ → Instr → State → State

@@ -1,11 +1,10 @@
 // What stands in the flash.
 ghost use Rattle.std.specs.Prelude.{◌≡◌, ◌≤◌, ℕ, List, length};
+ghost use Rattle.vg_base.specs.Limits.{flash_bytes};
 ghost use Rattle.avr_isa.specs.Cpu.{flash_byte, flash_word};
 
 use std::marker::Model;
-
-/// The bytes of the flash, in an image: 131,072 (ATmega128 datasheet, "In-System Reprogrammable Flash Program Memory").
-pub const FLASH_BYTES: usize = 131_072;
+use vg_base::FLASH_BYTES;
 
 /// The bytes of the flash from byte address 0 on, at most 131,072. The flash behind them reads as 0xFF.
 ///
@@ -20,7 +19,7 @@ impl Model for Image {
 
     ghost view = { λ image. image.bytes.items };
 
-    ghost invariant = { λ image. length image.bytes.items ≤ 131072 };
+    ghost invariant = { λ image. length image.bytes.items ≤ flash_bytes };
 }
 
 impl Image {

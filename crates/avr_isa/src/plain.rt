@@ -123,7 +123,10 @@ impl<'a> PlainMachine<'a> {
             Effect::WriteDevice(address, value) => self.trace.push(Event::Write(address, value))?,
             Effect::Sleep => return self.wake(word),
             Effect::Halt => self.ended = Some(MachineEnd::Stop(self.cpu.register(24))),
-            Effect::Outside => self.ended = Some(MachineEnd::Bad { pc: self.cpu.pc(), word }),
+            Effect::Outside => self.ended = Some(MachineEnd::Bad {
+                pc: self.cpu.pc(),
+                word,
+            }),
         }
         Ok(())
     }
@@ -154,7 +157,10 @@ impl<'a> PlainMachine<'a> {
                 let sp = self.cpu.sp();
                 self.lowest = lowest_by(StackUse::PushesWord(sp), sp, self.lowest);
                 if !memory::can_push_two(&self.cpu) {
-                    self.ended = Some(MachineEnd::Bad { pc: self.cpu.pc(), word });
+                    self.ended = Some(MachineEnd::Bad {
+                        pc: self.cpu.pc(),
+                        word,
+                    });
                     return Ok(());
                 }
                 let behind = self.cpu.pc().wrapping_add(1);

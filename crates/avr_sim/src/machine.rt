@@ -11,8 +11,8 @@ use avr_isa::{Cpu, Image, MachineEnd};
 use std::alloc::Global;
 use std::marker::Model;
 use vg_base::NoMemory;
-use vg_meaning::Event;
 use vg_io::{Failed, Sink};
+use vg_meaning::Event;
 use vg_script::{Script, put_event};
 
 /// The machine at reset, with an image in its flash.

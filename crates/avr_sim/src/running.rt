@@ -101,7 +101,10 @@ impl<'a> Running<'a> {
             Effect::WriteDevice(address, value) => self.event = Some(Event::Write(address, value)),
             Effect::Sleep => self.wake(word),
             Effect::Halt => self.ended = Some(MachineEnd::Stop(self.cpu.register(24))),
-            Effect::Outside => self.ended = Some(MachineEnd::Bad { pc: self.cpu.pc(), word }),
+            Effect::Outside => self.ended = Some(MachineEnd::Bad {
+                pc: self.cpu.pc(),
+                word,
+            }),
         }
     }
 
@@ -130,7 +133,10 @@ impl<'a> Running<'a> {
             None => self.ended = Some(MachineEnd::Idle),
             Some((vector, rest)) => {
                 if !can_push_two(&self.cpu) {
-                    self.ended = Some(MachineEnd::Bad { pc: self.cpu.pc(), word });
+                    self.ended = Some(MachineEnd::Bad {
+                        pc: self.cpu.pc(),
+                        word,
+                    });
                     return;
                 }
                 let behind = self.cpu.pc().wrapping_add(1);

@@ -9,7 +9,7 @@ use avr_isa::Image;
 use line::StepLine;
 use std::io;
 
-// The first bytes of the flash, which LPM reads; the rest of it is erased.
+// The first bytes of the flash where a line names none; the rest of it is erased.
 const FLASH: [u8; 3] = [0x10, 0x21, 0x32];
 
 fn main(rt: HostRuntime) -> io::Result<()> {
@@ -23,7 +23,10 @@ fn main(rt: HostRuntime) -> io::Result<()> {
             continue;
         };
         steps = steps.saturating_add(1);
-        let Ok(holds) = step_line.holds(alloc, &flash) else {
+        let Ok(named) = step_line.flash(alloc) else {
+            return Err(io::ErrorKind::OutOfMemory.into());
+        };
+        let Ok(holds) = step_line.holds(alloc, named.as_ref().unwrap_or(&flash)) else {
             return Err(io::ErrorKind::OutOfMemory.into());
         };
         if !holds {

@@ -57,26 +57,10 @@ impl Part {
 
 /// The number below 65,536 that hexadecimal digits of either case spell.
 pub fn number(digits: &str) -> Option<u16> {
-    if digits.is_empty() {
-        return None;
-    }
-    let mut value = 0u16;
-    for digit in digits.as_bytes() {
-        value = value.checked_mul(16)?.checked_add(nibble(*digit)?)?;
-    }
-    Some(value)
+    u16::from_str_radix(digits, 16).ok()
 }
 
 /// The number, where it is a byte.
 pub fn byte(value: u16) -> Option<u8> {
     u8::try_from(value).ok()
-}
-
-fn nibble(digit: u8) -> Option<u16> {
-    match digit {
-        b'0'..=b'9' => Some(u16::from(digit - b'0')),
-        b'A'..=b'F' => Some(u16::from(digit - b'A') + 10),
-        b'a'..=b'f' => Some(u16::from(digit - b'a') + 10),
-        _ => None,
-    }
 }

@@ -21,6 +21,8 @@ pub mod Ticks
 pub mod StartOrder
 pub mod Room
 pub mod Scopes
+pub mod Locals
+pub mod Fields
 pub mod LeadingZeros
 pub mod Literals
 pub mod Control

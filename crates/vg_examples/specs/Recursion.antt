@@ -58,3 +58,10 @@ recursion_peak = refl
 recursion_is_deep : outcome_of (source_of recursion) 1000 (Some 6) [] [] 1000
     ≡ Some (record { trace = []; ending = Deep })
 recursion_is_deep = refl
+
+-- And it counts: its tick comes before the look at the limit. With at most three it is the third call of down.
+recursion_deep_peak : peak recursion (session_after (source_of recursion) 1000 (Some 6) [] [] 1000) ≡ 776
+recursion_deep_peak = refl
+
+recursion_deeper_peak : peak recursion (session_after (source_of recursion) 1000 (Some 3) [] [] 1000) ≡ 428
+recursion_deeper_peak = refl

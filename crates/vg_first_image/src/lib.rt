@@ -3,7 +3,5 @@
 
 mod code;
 mod image;
-#[cfg(test)]
-mod tests;
 
 pub use image::image_of;

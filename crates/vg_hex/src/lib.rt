@@ -2,9 +2,9 @@
 #![tactic(auto)]
 
 pub mod fault;
+pub mod hex_record;
 pub mod laws;
 pub mod reader;
-pub mod hex_record;
 mod slots;
 pub mod writer;
 

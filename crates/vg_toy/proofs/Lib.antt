@@ -1,1 +1,2 @@
 mod Renaming
+mod OpenCalls

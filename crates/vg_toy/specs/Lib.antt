@@ -3,3 +3,4 @@ pub mod Session
 pub mod Example
 pub mod Renaming
 pub mod Plain
+pub mod Openings

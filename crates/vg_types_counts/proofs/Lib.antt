@@ -1,0 +1,4 @@
+pub mod Measuring
+pub mod Tallying
+pub mod Locals
+pub mod Counting

@@ -1,0 +1,11 @@
+//! What the tree of a text has too many of, before any rule is asked.
+#![tactic(auto)]
+
+mod children;
+mod extent;
+mod refused;
+mod tally;
+
+pub use refused::{
+    CLASS_LIMIT, HEIGHT_LIMIT, LOCAL_LIMIT, METHOD_LIMIT, TooMany, limit_of, too_many,
+};
