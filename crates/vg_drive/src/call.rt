@@ -27,7 +27,7 @@ ghost use Rattle.vg_drive.specs.Mirrors.{AnswerBy, FetchedBy, change};
 ghost use Rattle.vg_drive.specs.Statuses.{IsBeforePuts, IsDoneOrNoMemory, IsSettled, IsShown, status_of_ending};
 
 use crate::build::run_build;
-use crate::fault_line::fault_line;
+use crate::lines::fault_line;
 use crate::sim::run_sim;
 use crate::status::Status;
 use std::alloc::Global;
