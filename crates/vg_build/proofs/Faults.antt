@@ -63,6 +63,6 @@ first_not_refused (NotBuilt p) bytes writes h first = h.0.1 writes first
 
 -- so it is built, or memory is wanting
 pub complete_of : (bytes : List ℕ) (r : Answer) → Answers bytes r → (writes : List DeviceWrite) → IsFirst bytes writes → IsOk r ⊎ (r ≡ Err refusal.NoMemory)
-complete_of bytes (Ok built) h writes first = inl tt
+complete_of bytes (Ok built) h writes first = inl refl
 complete_of bytes (Err (refusal.Fault why)) h writes first = absurd (first_not_refused why bytes writes h first)
 complete_of bytes (Err refusal.NoMemory) h writes first = inr refl

@@ -35,11 +35,13 @@ image_of_text bytes image layout writes tree same reads first agrees never spell
     })
 
 -- what is made of the writes of a text is built of the text
-pub built_of : (bytes : List ℕ) (built : Built) (writes given : List DeviceWrite) → given ≡ writes → ((tree : Node) × Reads bytes tree) → IsFirst bytes writes → IsMadeOf given built → IsBuiltOf bytes built
+pub built_of : (bytes : List ℕ) (built : Built) (writes given : List DeviceWrite) → given ≡ writes → ((tree : Node) × Reads bytes tree)
+    → IsFirst bytes writes → IsMadeOf given built → IsBuiltOf bytes built
 built_of bytes built writes given same (tree, reads) first made =
     let first' = subst (λ ws. IsFirst bytes ws) (sym same) first in
     record {
-      image = image_of_text bytes built.image built.layout given tree (sym made.layout) reads first' (made.agrees 0x0100 4096 refl (omega arith)) (made.never 0x0100 4096 refl (omega arith)) made.spelled;
+      image = image_of_text bytes built.image built.layout given tree (sym made.layout) reads first' (made.agrees 0x0100 4096 refl (omega arith))
+          (made.never 0x0100 4096 refl (omega arith)) made.spelled;
       hex = made.hex;
       note = made.note;
     }

@@ -5,7 +5,7 @@ ghost use Rattle.vg_io.specs.Count.{Rose};
 use std::alloc::Global;
 use std::fs::{File, Files};
 use std::io::Read;
-use vg_base::{NoMemory, Row};
+use vg_base::Row;
 use vg_io::{Asked, FetchFault, Shelf, note_fetch};
 
 /// The bytes that one read may take.

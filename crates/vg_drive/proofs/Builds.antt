@@ -1,6 +1,7 @@
 -- What an answer of `build` says: each clause of vg_build, lifted from the bytes and their answer to the file and the status.
 -- A file is missing, or the answer to its bytes was put: what the status says of either is in Statuses and in the first lemmas here.
-use Rattle.std.proofs.Common.{◌≡◌, ℕ, ◌≤◌, ◌<◌, ◌⊎◌, ◌↔◌, List, [], ◌++◌, length, Option, Some, None, Ok, Err, refl, sym, ap, ◌∙◌, subst, arith, inl, inr, append-nil}
+use Rattle.std.proofs.Common.{◌≡◌, ℕ, ◌≤◌, ◌<◌, ◌⊎◌, ◌↔◌, List, [], ◌++◌, length, Option, Some, None, Ok, Err, refl, sym, ap, ◌∙◌, subst, arith, inl}
+use Rattle.std.proofs.Common.{inr, append-nil}
 use Rattle.std.proofs.lemmas.List.{take_all}
 use Rattle.std.specs.Prelude.{IsOk}
 use Rattle.vg_base.specs.Limits.{text_limit}
@@ -150,7 +151,7 @@ put_completes : (r : Answer) (s : Status) (out note : Change) → PutBy r s out 
 put_completes (Ok built) s out note (inl h) k = inl (subst IsDoneOrNoMemory (sym h.0) tt)
 put_completes (Ok built) s out note (inr (e, inl f)) k = inr (inl f.1.0)
 put_completes (Ok built) s out note (inr (e, inr f)) k = inr (inr f.1.1)
-put_completes (Err (refusal.Fault why)) s out note h (inl ok) = absurd ok
+put_completes (Err (refusal.Fault why)) s out note h (inl ok) = cc
 put_completes (Err (refusal.Fault why)) s out note h (inr e) = cc
 put_completes (Err refusal.NoMemory) s out note h k = inl (subst IsDoneOrNoMemory (sym h.0) tt)
 

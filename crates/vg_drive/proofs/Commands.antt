@@ -57,7 +57,8 @@ before_of (Some (Build file)) s told out note h before = builds.before_by s told
 before_of (Some (Sim hex script steps)) s told out note h before = (sims.before_by s told hex script steps out h.0 before, h.1)
 
 -- what holds of the image holds of it with what follows
-pub of_image : (told : Option (List File)) (file : List ℕ) (P Q : List ℕ → Layout → Type 0) → ((image : List ℕ) (layout : Layout) → P image layout → Q image layout)
+pub of_image : (told : Option (List File)) (file : List ℕ) (P Q : List ℕ → Layout → Type 0)
+    → ((image : List ℕ) (layout : Layout) → P image layout → Q image layout)
     → ForImage told file P → ForImage told file Q
 of_image None file P Q f (image, layout, h) = (image, layout, f image layout h)
 of_image (Some files) file P Q f (image, layout, is, h) = (image, layout, is, f image layout h)

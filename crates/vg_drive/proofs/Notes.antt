@@ -17,22 +17,26 @@ nothing : (old new : Option (List ℕ)) → new ≡ old → AppendsAll old new [
 nothing None new e = e
 nothing (Some old) new e = e ∙ ap Some (sym (append-nil old))
 
-second_all : (c : Option Command) (s : Status) (told : Option (List File)) (out note : Change) → AnswerBy c s told out note → IsShown s → GainsAll note (second_text c)
+second_all : (c : Option Command) (s : Status) (told : Option (List File)) (out note : Change) → AnswerBy c s told out note → IsShown s
+    → GainsAll note (second_text c)
 second_all None s told out note h shown = nothing note.before note.after h.1.1
 second_all (Some (Build file)) s told out note h shown = second_by s told file out note h shown
 second_all (Some (Sim hex script steps)) s told out note h shown = nothing note.before note.after h.1
 
 -- a second text that was put whole, where nothing came behind it
-pub second_of : (c : Option Command) (s : Status) (told : Option (List File)) (out note : Change) (new : Option (List ℕ)) → AnswerBy c s told out note → IsShown s
+pub second_of : (c : Option Command) (s : Status) (told : Option (List File)) (out note : Change) (new : Option (List ℕ)) → AnswerBy c s told out note
+    → IsShown s
     → new ≡ note.after → AppendsAll note.before new (second_text c)
 second_of c s told out note new h shown e = subst (λ x. AppendsAll note.before x (second_text c)) (sym e) (second_all c s told out note h shown)
 
 -- a text that begins so, where nothing came behind it
-pub begun_of : (note : Change) (new : Option (List ℕ)) (beginning : List ℕ) → new ≡ note.after → AppendsBegun note.before note.after beginning → AppendsBegun note.before new beginning
+pub begun_of : (note : Change) (new : Option (List ℕ)) (beginning : List ℕ) → new ≡ note.after → AppendsBegun note.before note.after beginning
+    → AppendsBegun note.before new beginning
 begun_of note new beginning e h = subst (λ x. AppendsBegun note.before x beginning) (sym e) h
 
 -- a front of the second text where a put failed
-second_front : (c : Option Command) (s : Status) (told : Option (List File)) (out note : Change) → AnswerBy c s told out note → s ≡ WriteFault → GainsFront note (second_text c)
+second_front : (c : Option Command) (s : Status) (told : Option (List File)) (out note : Change) → AnswerBy c s told out note → s ≡ WriteFault
+    → GainsFront note (second_text c)
 second_front None s told out note h e = no_front note.before note.after [] h.1.1
 second_front (Some (Build file)) s told out note h e = second_front_by s told file out note h e
 second_front (Some (Sim hex script steps)) s told out note h e = no_front note.before note.after [] h.1
@@ -45,15 +49,18 @@ fronts (Some old) mid new first second (m, e) k = behind (subst (λ x. AppendsFr
     behind : AppendsFront (Some (old ++ take m first)) new second → AppendsFronts (Some old) new first second
     behind (n, f) = (m, n, f)
 
-front_and_all : (old mid new : Option (List ℕ)) (first second : List ℕ) → AppendsFront old mid first → AppendsAll mid new second → AppendsFrontAndAll old new first second
+front_and_all : (old mid new : Option (List ℕ)) (first second : List ℕ) → AppendsFront old mid first → AppendsAll mid new second
+    → AppendsFrontAndAll old new first second
 front_and_all None mid new first second h k = subst (λ m. AppendsAll m new second) h k
 front_and_all (Some old) mid new first second (m, e) k = (m, subst (λ x. AppendsAll x new second) e k)
 
-pub fronts_of : (c : Option Command) (s : Status) (told : Option (List File)) (out note : Change) (new : Option (List ℕ)) (line : List ℕ) → AnswerBy c s told out note
+pub fronts_of : (c : Option Command) (s : Status) (told : Option (List File)) (out note : Change) (new : Option (List ℕ)) (line : List ℕ)
+    → AnswerBy c s told out note
     → AppendsFront note.after new line → s ≡ WriteFault → AppendsFronts note.before new (second_text c) line
 fronts_of c s told out note new line h k e = fronts note.before note.after new (second_text c) line (second_front c s told out note h e) k
 
-pub line_last_of : (c : Option Command) (s : Status) (told : Option (List File)) (out note : Change) (new : Option (List ℕ)) (line : List ℕ) (rose later : Type 0)
+pub line_last_of : (c : Option Command) (s : Status) (told : Option (List File)) (out note : Change) (new : Option (List ℕ)) (line : List ℕ)
+    (rose later : Type 0)
     → AnswerBy c s told out note → rose ⊎ AppendsAll note.after new line → (rose → later) → s ≡ WriteFault
     → later ⊎ AppendsFrontAndAll note.before new (second_text c) line
 line_last_of c s told out note new line rose later h (inl r) up e = inl (up r)

@@ -17,7 +17,8 @@ use Rattle.vg_hex.proofs.Again.{one_image}
 use Rattle.vg_script.specs.Script.{IsScript, Lists, first_bad}
 use Rattle.vg_sim.specs.Shown.{ForRun, lines_of}
 use Rattle.vg_sim.specs.declared.simulate.Simulated.{Simulated}
-use Rattle.vg_sim.specs.declared.simulate.Simulated.TheVariants.{Ended, WriteFault as PutFailed, HexRefused as HexFails, ScriptRefused as ScriptFails, NoMemory as Wanting}
+use Rattle.vg_sim.specs.declared.simulate.Simulated.TheVariants.{Ended, WriteFault as PutFailed, HexRefused as HexFails}
+use Rattle.vg_sim.specs.declared.simulate.Simulated.TheVariants.{ScriptRefused as ScriptFails, NoMemory as Wanting}
 use Rattle.vg_drive.specs.declared.status.Status.{Status}
 use Rattle.vg_drive.specs.declared.status.Status.TheVariants.{Done, ReadFault, WriteFault, NoMemory, HexRefused, ScriptRefused}
 use Rattle.vg_drive.specs.Answers.{ForTexts}
@@ -178,7 +179,8 @@ hex_fault_iff Wanting hex script steps out says settled why = absurd settled
 
 -- exactly the first bad line of the script is named, where the HEX text has no fault
 bad_line_iff : (answer : Simulated) (hex script : List ℕ) (steps : ℕ) (out : Change) → Simulates answer hex script steps out
-    → IsSettled (status_of_simulated answer) → (line : ℕ) → (status_of_simulated answer ≡ ScriptRefused line) ↔ ((fault_in hex ≡ None) × (first_bad script ≡ Some line))
+    → IsSettled (status_of_simulated answer) → (line : ℕ) → (status_of_simulated answer ≡ ScriptRefused line) ↔
+    ((fault_in hex ≡ None) × (first_bad script ≡ Some line))
 bad_line_iff (Ended end) hex script steps out says settled line =
     (λ e. absurd (ending_not_other end (ScriptRefused line) (λ h. h) e), λ k. absurd (no_bad_line _ hex script steps says line k.1))
 bad_line_iff PutFailed hex script steps out says settled line = (λ e. cc, λ k. absurd (no_bad_line _ hex script steps says.0 line k.1))
@@ -253,7 +255,8 @@ missing_completes missing.Failed s long shelf tells too_long read = inr (inl (re
 missing_completes missing.Wanting s long shelf tells too_long read = inl tells
 missing_completes missing.Long s long shelf tells too_long read = inr (inr (too_long refl))
 
-unless_long : (told : Option (List File)) (hex script : List ℕ) (s : Status) (steps : ℕ) (shelf out : Type 0) → (s ≡ NoMemory) ⊎ (shelf ⊎ IsLong told hex script)
+unless_long : (told : Option (List File)) (hex script : List ℕ) (s : Status) (steps : ℕ) (shelf out : Type 0)
+    → (s ≡ NoMemory) ⊎ (shelf ⊎ IsLong told hex script)
     → ForFiles told hex script (λ h t. Completes s h t steps (shelf ⊎ out))
 unless_long None hex script s steps shelf out h = tt
 unless_long (Some files) hex script s steps shelf out (inl e) = λ image lists spelled scripted p q. inl (inr e)

@@ -27,7 +27,7 @@ ghost use Rattle.vg_drive.specs.Mirrors.{AnswerBy, FetchedBy, change};
 ghost use Rattle.vg_drive.specs.Statuses.{IsBeforePuts, IsDoneOrNoMemory, IsSettled, IsShown, status_of_ending};
 
 use crate::build::run_build;
-use crate::fault_line::fault_line;
+use crate::lines::fault_line;
 use crate::sim::run_sim;
 use crate::status::Status;
 use std::alloc::Global;
@@ -86,8 +86,8 @@ pub fn run<S: Shelf, O: Sink, N: Sink>(
     // `sim`: the lines of the machine's trace and of its ending, whole on `out` with the answer of that ending.
     ensures shown { IsShown result → OnSim (command_of (words_in words.now)) (λ hex script steps. ForTexts (S.told shelf.old) hex script (λ h s.
         ForRun h s steps (λ m. (result ≡ status_of_ending m.ended) × AppendsAll (O.told out.old) (O.told out.new) (lines_of m)))) }
-    ensures lines_front { result ≡ Status.WriteFault → OnSim (command_of (words_in words.now)) (λ hex script steps. ForTexts (S.told shelf.old) hex script (λ h s.
-        ForRun h s steps (λ m. AppendsFront (O.told out.old) (O.told out.new) (lines_of m)))) }
+    ensures lines_front { result ≡ Status.WriteFault → OnSim (command_of (words_in words.now)) (λ hex script steps.
+        ForTexts (S.told shelf.old) hex script (λ h s. ForRun h s steps (λ m. AppendsFront (O.told out.old) (O.told out.new) (lines_of m)))) }
     ensures sim_complete { OnSim (command_of (words_in words.now)) (λ hex script steps. ForFiles (S.told shelf.old) hex script (λ h s.
         (image : List ℕ) (lists : Lists) → HexImage h image → IsScript s lists → length h ≤ image_text_limit → length s ≤ image_text_limit
         → ((result ≡ status_of_ending (simulated image lists.reads lists.interrupts steps).ended) ⊎ (result ≡ Status.NoMemory))
@@ -104,7 +104,8 @@ pub fn run<S: Shelf, O: Sink, N: Sink>(
     ensures note_line_last { result ≡ Status.WriteFault → Rose (N.faults note.old) (N.faults note.new)
         ⊎ AppendsFrontAndAll (N.told note.old) (N.told note.new) (second_text (command_of (words_in words.now))) (fault_line result) }
     ensures note_line_front { IsBeforePuts result → AppendsFront (N.told note.old) (N.told note.new) (fault_line result) }
-    ensures note_line { IsBeforePuts result → Rose (N.faults note.old) (N.faults note.new) ⊎ AppendsAll (N.told note.old) (N.told note.new) (fault_line result) }
+    ensures note_line { IsBeforePuts result
+        → Rose (N.faults note.old) (N.faults note.new) ⊎ AppendsAll (N.told note.old) (N.told note.new) (fault_line result) }
 {
     let status = answer(alloc, words, shelf, out, note);
     put_fault_line(&status, note);

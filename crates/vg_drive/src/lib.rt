@@ -4,10 +4,10 @@
 mod answers;
 mod build;
 mod call;
-mod fault_line;
+mod lines;
 mod sim;
 mod status;
 
 pub use call::run;
-pub use fault_line::fault_line;
+pub use lines::fault_line;
 pub use status::Status;

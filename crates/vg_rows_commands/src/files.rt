@@ -66,11 +66,7 @@ fn fetch_told(
     }
 }
 
-fn given(
-    alloc: Global,
-    first: &[u8],
-    second: Option<&[u8]>,
-) -> Result<Option<Row<u8>>, NoMemory> {
+fn given(alloc: Global, first: &[u8], second: Option<&[u8]>) -> Result<Option<Row<u8>>, NoMemory> {
     let mut answer = Row::new(alloc);
     push_part(&mut answer, b"given")?;
     push_part(&mut answer, first)?;

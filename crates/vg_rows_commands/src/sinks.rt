@@ -36,7 +36,10 @@ pub fn puts(table: &Table, words: &str) -> Result<Option<Row<u8>>, NoMemory> {
     let mut sink = sink_with(table.alloc, room as usize, Some(failing))?;
     let mut answer = Row::new(table.alloc);
     for piece in pieces.split_whitespace() {
-        push_part(&mut answer, put_told(&mut sink, piece.as_bytes()).as_bytes())?;
+        push_part(
+            &mut answer,
+            put_told(&mut sink, piece.as_bytes()).as_bytes(),
+        )?;
     }
     push_part(&mut answer, sink.bytes())?;
     Ok(Some(answer))
