@@ -1,0 +1,3 @@
+pub mod Writing
+pub mod StoreToNull
+pub mod Dispatch
