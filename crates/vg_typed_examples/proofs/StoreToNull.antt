@@ -1,5 +1,5 @@
 -- The program with a store to a field of null is well typed.
-use Rattle.std.proofs.Common.{◌≡◌, ◌↔◌, ℕ, zero, suc, ◌==◌, ◌&&◌, ◌||◌, Bool, true, false, List, [], ◌∷◌, Option, Some, None, slice_get}
+use Rattle.std.proofs.Common.{◌≡◌, ◌↔◌, ℕ, zero, suc, ◌==◌, ◌&&◌, ◌||◌, Bool, true, false, [], ◌∷◌, Some, slice_get}
 use Rattle.std.proofs.Common.{refl, sym, ap, ◌∙◌, subst}
 use Rattle.std.specs.Prelude.{bytes_eq}
 use Rattle.std.proofs.lemmas.Bool.{eqb-true}
@@ -13,11 +13,11 @@ use Rattle.vg_core.specs.declared.program.Target.{Target}
 use Rattle.vg_core.specs.declared.program.Target.TheVariants.{Run, Construct, Start}
 use Rattle.vg_core.specs.Tables.{is_in, is_below, top, dispatch, slot_of, global_slot}
 use Rattle.vg_core.specs.Program.{Body, Signature, signature_of, body_of}
-use Rattle.vg_core.specs.Typing.{same, t_put, t_component_field, t_set_register, t_set_field, TypedBody, Overrides, HasFunction, WellFormed, WellTyped}
+use Rattle.vg_core.specs.Typing.{same, t_put, t_component_field, t_set_register, t_set_field, TypedBody, HasFunction, WellFormed, WellTyped}
 use Rattle.vg_core.specs.Naming.{Naming, naming_of}
 use Rattle.vg_sound.proofs.Values.{the_same, none_some}
 use Rattle.vg_renamed.specs.IsNamed.{KeysTell}
-use Rattle.vg_renamed.specs.NamesTell.{Inherited, NamesTell}
+use Rattle.vg_renamed.specs.NamesTell.{NamesTell}
 use Rattle.vg_typed_examples.specs.StoreToNull.{texts, tables, store_to_null}
 
 no_true : {X : Type 0} → false ≡ true → X

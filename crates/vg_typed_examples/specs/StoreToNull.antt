@@ -2,20 +2,19 @@
 use Rattle.std.specs.Prelude.{◌≡◌, refl, [], ◌∷◌, codes, pos, List, Some, None}
 use Rattle.vg_meaning.specs.declared.event.Event.TheVariants.{Write}
 use Rattle.vg_meaning.specs.Ending.{Stop}
-use Rattle.vg_meaning.specs.Code.{Do, Return, Nothing, If}
+use Rattle.vg_meaning.specs.Code.{Nothing}
 use Rattle.vg_source.specs.Names.{Name}
 use Rattle.vg_examples.specs.Writing as source
-use Rattle.vg_core.specs.declared.types.CoreType.TheVariants.{IntType, RawType, CharType, ClassType, FunctionType, NoType}
+use Rattle.vg_core.specs.declared.types.CoreType.TheVariants.{IntType, CharType, ClassType, FunctionType, NoType}
 use Rattle.vg_core.specs.declared.value.CoreValue.TheVariants.{Int, Raw}
-use Rattle.vg_core.specs.declared.operator.Operator.TheVariants.{Plus}
-use Rattle.vg_core.specs.declared.step.Step.TheVariants.{Put, This, Local, ComponentField, Operate, CastTo, IsBelow, MethodOf, CallMethod, CallValue, NewObject}
-use Rattle.vg_core.specs.declared.step.Step.TheVariants.{SetLocal, SetComponentField, SetRegister, SetField, Super}
+use Rattle.vg_core.specs.declared.step.Step.TheVariants.{Put, ComponentField}
+use Rattle.vg_core.specs.declared.step.Step.TheVariants.{SetRegister, SetField}
 use Rattle.vg_core.specs.declared.program.Owner.TheVariants.{InClass, InComponent}
 use Rattle.vg_core.specs.declared.program.Target.TheVariants.{Run, Construct, Start}
 use Rattle.vg_core.specs.declared.program.Tables.{Tables}
 use Rattle.vg_core.specs.Program.{Program}
-use Rattle.vg_core.specs.Naming.{Naming, naming_of, named}
-use Rattle.vg_typed_examples.specs.Writing.{row, steps, outcome_of}
+use Rattle.vg_core.specs.Naming.{naming_of, named}
+use Rattle.vg_typed_examples.specs.Writing.{steps, outcome_of}
 
 -- The names of the text.
 abbrev pub texts : List Name

@@ -2,7 +2,6 @@
 use Rattle.std.specs.Prelude.{ℕ, List, [], ◌∷◌, Option, None}
 use Rattle.vg_meaning.specs.Code.{Code, Nothing, Then, Do}
 use Rattle.vg_examples.specs.Writing.{Shown, shown}
-use Rattle.vg_source.specs.Session.{Session}
 use Rattle.vg_core.specs.declared.step.Step.{Step}
 use Rattle.vg_core.specs.Program.{Program}
 use Rattle.vg_core.specs.Session.{Initialised, Started, Failed, started, session}
