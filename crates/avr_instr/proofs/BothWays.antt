@@ -3,13 +3,18 @@ use Rattle.std.proofs.Common.{◌≡◌, ℕ, ◌+◌, ◌*◌, ◌/◌, ◌%◌
 use Rattle.std.specs.Prelude.{IfSome, ◌==◌, nat_lt, if◌then◌else◌}
 use Rattle.avr_instr.specs.declared.operand.Base.TheVariants.{Y, Z}
 use Rattle.avr_instr.specs.declared.instr.Instr.{Instr}
-use Rattle.avr_instr.specs.declared.instr.Instr.TheVariants.{Adc, Add, Adiw, And, Andi, Asr, Brbc, Brbs, Call, Cli, Com, Cp, Cpc, Cpi, Dec, Eor, Icall, Ijmp, In, Inc, Jmp, LdX, LdXPlus, LdMinusX, Ldd, Ldi, Lds, LpmZ, LpmZPlus, Lsr, Mov, Movw, Mul, Neg, Nop, Or, Ori, Out, Pop, Push, Rcall, Ret, Reti, Rjmp, Ror, Sbc, Sbci, Sbiw, Sei, Sleep, StX, StXPlus, StMinusX, Std, Sts, Sub, Subi}
+use Rattle.avr_instr.specs.declared.instr.Instr.TheVariants.{Adc, Add, Adiw, And, Andi, Asr, Brbc, Brbs, Call, Cli, Com, Cp, Cpc, Cpi, Dec, Eor}
+use Rattle.avr_instr.specs.declared.instr.Instr.TheVariants.{Icall, Ijmp, In, Inc, Jmp, LdX, LdXPlus, LdMinusX, Ldd, Ldi, Lds, LpmZ, LpmZPlus, Lsr}
+use Rattle.avr_instr.specs.declared.instr.Instr.TheVariants.{Mov, Movw, Mul, Neg, Nop, Or, Ori, Out, Pop, Push, Rcall, Ret, Reti, Rjmp, Ror, Sbc}
+use Rattle.avr_instr.specs.declared.instr.Instr.TheVariants.{Sbci, Sbiw, Sei, Sleep, StX, StXPlus, StMinusX, Std, Sts, Sub, Subi}
 use Rattle.avr_instr.specs.Spelled.{InRange, first_word, second_word, IsNext, Spelled}
-use Rattle.avr_instr.specs.Decoded.{decoded, d_of, in_nibble_0, in_nibbles_1_2, in_nibbles_3_7, in_nibbles_8_10, in_loads, in_stores, in_fixed, in_one_register, in_pairs, in_nibble_9, in_nibbles_11_15}
+use Rattle.avr_instr.specs.Decoded.{decoded, d_of, in_nibble_0, in_nibbles_1_2, in_nibbles_3_7, in_nibbles_8_10, in_loads, in_stores, in_fixed}
+use Rattle.avr_instr.specs.Decoded.{in_one_register, in_pairs, in_nibble_9, in_nibbles_11_15}
 
 -- the ranges of the first word, with the groups as variables
 abbrev by_range : ℕ → (a b c d e f : Option Instr) → Option Instr
-by_range w a b c d e f = if nat_lt w 0x1000 then a else if nat_lt w 0x3000 then b else if nat_lt w 0x8000 then c else if nat_lt w 0x9000 then d else if nat_lt w 0xA000 then e else if nat_lt w 0xB000 then d else f
+by_range w a b c d e f = if nat_lt w 0x1000 then a else if nat_lt w 0x3000 then b else if nat_lt w 0x8000 then c else if nat_lt w 0x9000 then d
+    else if nat_lt w 0xA000 then e else if nat_lt w 0xB000 then d else f
 
 abbrev by_block : ℕ → (a b c d : Option Instr) → Option Instr
 by_block w a b c d = if w / 512 == 72 then a else if w / 512 == 73 then b else if w / 512 == 74 then c else d
@@ -81,13 +86,17 @@ at_pairs : (w n : ℕ) → 0x9600 ≤ w → w < 0xA000 → decoded w n ≡ in_pa
 at_pairs w n h k = at_9 w n (omega arith) k ∙ blocked_pairs w (in_loads w n) (in_stores w n) (in_one_register w n) (in_pairs w) h
 
 -- no register stands in the word where its low four bits are of none of the rows with one
-no_register : (w : ℕ) (a b c d e f g o : Option Instr) → 8 ≤ w % 16 → (w % 16 == 10) ≡ false → (if w % 16 == 0 then a else if w % 16 == 1 then b else if w % 16 == 3 then c else if w % 16 == 5 then d else if w % 16 == 6 then e else if w % 16 == 7 then f else if w % 16 == 10 then g else o) ≡ o
+no_register : (w : ℕ) (a b c d e f g o : Option Instr) → 8 ≤ w % 16 → (w % 16 == 10) ≡ false
+    → (if w % 16 == 0 then a else if w % 16 == 1 then b else if w % 16 == 3 then c else if w % 16 == 5 then d else if w % 16 == 6 then e
+    else if w % 16 == 7 then f else if w % 16 == 10 then g else o) ≡ o
 no_register w a b c d e f g o h k = grind arith
 
 at_fixed : (w n : ℕ) → w / 512 ≡ 74 → 8 ≤ w % 16 → (w % 16 == 10) ≡ false → decoded w n ≡ in_fixed w n
-at_fixed w n b h k = at_one w n b ∙ no_register w (Some (Com (d_of w))) (Some (Neg (d_of w))) (Some (Inc (d_of w))) (Some (Asr (d_of w))) (Some (Lsr (d_of w))) (Some (Ror (d_of w))) (Some (Dec (d_of w))) (in_fixed w n) h k
+at_fixed w n b h k = at_one w n b ∙ no_register w (Some (Com (d_of w))) (Some (Neg (d_of w))) (Some (Inc (d_of w))) (Some (Asr (d_of w)))
+    (Some (Lsr (d_of w))) (Some (Ror (d_of w))) (Some (Dec (d_of w))) (in_fixed w n) h k
 
-seventh : (w : ℕ) (a b c d e f g o : Option Instr) → w % 16 ≡ 10 → (if w % 16 == 0 then a else if w % 16 == 1 then b else if w % 16 == 3 then c else if w % 16 == 5 then d else if w % 16 == 6 then e else if w % 16 == 7 then f else if w % 16 == 10 then g else o) ≡ g
+seventh : (w : ℕ) (a b c d e f g o : Option Instr) → w % 16 ≡ 10 → (if w % 16 == 0 then a else if w % 16 == 1 then b else if w % 16 == 3 then c
+    else if w % 16 == 5 then d else if w % 16 == 6 then e else if w % 16 == 7 then f else if w % 16 == 10 then g else o) ≡ g
 seventh w a b c d e f g o h = grind arith
 
 -- what is spelled is decoded, group by group
@@ -134,7 +143,8 @@ cpi_in : (w n d k : ℕ) → InRange (Cpi d k) → w ≡ first_word (Cpi d k) �
 cpi_in w n d k h e x = grind arith
 
 dec_in : (w n d : ℕ) → InRange (Dec d) → w ≡ first_word (Dec d) → IsNext (second_word (Dec d)) n → in_one_register w n ≡ Some (Dec d)
-dec_in w n d h e x = let same : d_of w ≡ d = omega arith in seventh w (Some (Com (d_of w))) (Some (Neg (d_of w))) (Some (Inc (d_of w))) (Some (Asr (d_of w))) (Some (Lsr (d_of w))) (Some (Ror (d_of w))) (Some (Dec (d_of w))) (in_fixed w n) (omega arith) ∙ ap (λ m. Some (Dec m)) same
+dec_in w n d h e x = let same : d_of w ≡ d = omega arith in seventh w (Some (Com (d_of w))) (Some (Neg (d_of w))) (Some (Inc (d_of w)))
+    (Some (Asr (d_of w))) (Some (Lsr (d_of w))) (Some (Ror (d_of w))) (Some (Dec (d_of w))) (in_fixed w n) (omega arith) ∙ ap (λ m. Some (Dec m)) same
 
 eor_in : (w n d r : ℕ) → InRange (Eor d r) → w ≡ first_word (Eor d r) → IsNext (second_word (Eor d r)) n → in_nibbles_1_2 w ≡ Some (Eor d r)
 eor_in w n d r h e x = grind arith
@@ -361,7 +371,10 @@ only_stores w n h k = grind arith
 only_fixed : (w n : ℕ) → n < 65536 → IfSome (in_fixed w n) (Spelled w n)
 only_fixed w n h = grind arith
 
-with_register_or : (w n : ℕ) (o : Option Instr) → w / 512 ≡ 74 → IfSome o (Spelled w n) → IfSome (if w % 16 == 0 then Some (Com (d_of w)) else if w % 16 == 1 then Some (Neg (d_of w)) else if w % 16 == 3 then Some (Inc (d_of w)) else if w % 16 == 5 then Some (Asr (d_of w)) else if w % 16 == 6 then Some (Lsr (d_of w)) else if w % 16 == 7 then Some (Ror (d_of w)) else if w % 16 == 10 then Some (Dec (d_of w)) else o) (Spelled w n)
+with_register_or : (w n : ℕ) (o : Option Instr) → w / 512 ≡ 74 → IfSome o (Spelled w n)
+    → IfSome (if w % 16 == 0 then Some (Com (d_of w)) else if w % 16 == 1 then Some (Neg (d_of w)) else if w % 16 == 3 then Some (Inc (d_of w))
+    else if w % 16 == 5 then Some (Asr (d_of w)) else if w % 16 == 6 then Some (Lsr (d_of w)) else if w % 16 == 7 then Some (Ror (d_of w))
+    else if w % 16 == 10 then Some (Dec (d_of w)) else o) (Spelled w n)
 with_register_or w n o h k = grind arith
 
 only_one : (w n : ℕ) → w / 512 ≡ 74 → n < 65536 → IfSome (in_one_register w n) (Spelled w n)
@@ -373,18 +386,23 @@ only_pairs w n h = grind arith
 only_11_15 : (w n : ℕ) → w < 65536 → IfSome (in_nibbles_11_15 w) (Spelled w n)
 only_11_15 w n h = grind arith
 
-each_block : (P : Instr → Type 0) (w : ℕ) (a b c d : Option Instr) → (w / 512 ≡ 72 → IfSome a P) → (w / 512 ≡ 73 → IfSome b P) → (w / 512 ≡ 74 → IfSome c P) → IfSome d P → IfSome (by_block w a b c d) P
+each_block : (P : Instr → Type 0) (w : ℕ) (a b c d : Option Instr) → (w / 512 ≡ 72 → IfSome a P) → (w / 512 ≡ 73 → IfSome b P) → (w / 512 ≡ 74 → IfSome c P)
+    → IfSome d P → IfSome (by_block w a b c d) P
 each_block P w a b c d p q r s = grind arith
 
 pub only_9 : (w n : ℕ) → w < 0xA000 → n < 65536 → IfSome (in_nibble_9 w n) (Spelled w n)
-only_9 w n h k = each_block (Spelled w n) w (in_loads w n) (in_stores w n) (in_one_register w n) (in_pairs w) (λ e. only_loads w n e k) (λ e. only_stores w n e k) (λ e. only_one w n e k) (only_pairs w n h)
+only_9 w n h k = each_block (Spelled w n) w (in_loads w n) (in_stores w n) (in_one_register w n) (in_pairs w) (λ e. only_loads w n e k)
+    (λ e. only_stores w n e k) (λ e. only_one w n e k) (only_pairs w n h)
 
-each_range : (P : Instr → Type 0) (w : ℕ) (a b c d e f : Option Instr) → (w < 0x1000 → IfSome a P) → (0x1000 ≤ w → w < 0x3000 → IfSome b P) → (0x3000 ≤ w → w < 0x8000 → IfSome c P) → (0x8000 ≤ w → w < 0x9000 → IfSome d P) → (w < 0xA000 → IfSome e P) → (0xA000 ≤ w → w < 0xB000 → IfSome d P) → IfSome f P → IfSome (by_range w a b c d e f) P
+each_range : (P : Instr → Type 0) (w : ℕ) (a b c d e f : Option Instr) → (w < 0x1000 → IfSome a P) → (0x1000 ≤ w → w < 0x3000 → IfSome b P)
+    → (0x3000 ≤ w → w < 0x8000 → IfSome c P) → (0x8000 ≤ w → w < 0x9000 → IfSome d P) → (w < 0xA000 → IfSome e P) → (0xA000 ≤ w → w < 0xB000 → IfSome d P)
+    → IfSome f P → IfSome (by_range w a b c d e f) P
 each_range P w a b c d e f p q r s t u v = grind arith
 
 -- what is decoded is spelled
 pub only_spelled : (w n : ℕ) → w < 65536 → n < 65536 → IfSome (decoded w n) (Spelled w n)
-only_spelled w n h k = each_range (Spelled w n) w (in_nibble_0 w) (in_nibbles_1_2 w) (in_nibbles_3_7 w) (in_nibbles_8_10 w) (in_nibble_9 w n) (in_nibbles_11_15 w) (only_0 w n) (only_1_2 w n) (only_3_7 w n) (only_8 w n) (λ b. only_9 w n b k) (only_10 w n) (only_11_15 w n h)
+only_spelled w n h k = each_range (Spelled w n) w (in_nibble_0 w) (in_nibbles_1_2 w) (in_nibbles_3_7 w) (in_nibbles_8_10 w) (in_nibble_9 w n)
+    (in_nibbles_11_15 w) (only_0 w n) (only_1_2 w n) (only_3_7 w n) (only_8 w n) (λ b. only_9 w n b k) (only_10 w n) (only_11_15 w n h)
 
 pub decoded_only : (w n : ℕ) (i : Instr) → w < 65536 → n < 65536 → decoded w n ≡ Some i → Spelled w n i
 decoded_only w n i h k e = subst (λ o. IfSome o (Spelled w n)) e (only_spelled w n h k)

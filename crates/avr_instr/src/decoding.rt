@@ -1,7 +1,9 @@
 // The instruction that words spell.
 ghost use Rattle.std.specs.Prelude.{◌≡◌, ◌≢◌, ◌<◌, ◌≤◌, ◌%◌, ◌/◌, ◌^◌, ℕ, Some, IfSome, IsNone};
 ghost use Rattle.avr_instr.specs.Spelled.{Spelled};
-ghost use Rattle.avr_instr.specs.Decoded.{decoded, d_of, r_of, upper_of, constant_of, wide_pair_of, small_of, address_of, base_of, displacement_of, is_beside_x, in_nibble_0, in_nibbles_1_2, in_nibbles_3_7, in_nibbles_8_10, in_loads, in_stores, in_fixed, in_one_register, in_pairs, in_nibble_9, in_nibbles_11_15};
+ghost use Rattle.avr_instr.specs.Decoded.{decoded, d_of, r_of, upper_of, constant_of, wide_pair_of, small_of, address_of, base_of, displacement_of};
+ghost use Rattle.avr_instr.specs.Decoded.{is_beside_x, in_nibble_0, in_nibbles_1_2, in_nibbles_3_7, in_nibbles_8_10, in_loads, in_stores, in_fixed};
+ghost use Rattle.avr_instr.specs.Decoded.{in_one_register, in_pairs, in_nibble_9, in_nibbles_11_15};
 
 use crate::instr::Instr;
 use crate::operand::{

@@ -1,6 +1,8 @@
 // The words of an instruction.
 ghost use Rattle.std.specs.Prelude.{◌≡◌, ◌≤◌, ◌<◌, ◌+◌, ◌*◌, ℕ};
-ghost use Rattle.avr_instr.specs.Spelled.{InRange, first_word, second_word, AreRegisters, AreUpperAndByte, IsRegister, IsWidePair, IsPair, IsBesideX, IsBesideZ, IsSixBits, AreFlagAndOffset, two_registers, with_constant, with_pair, with_address, with_displacement, base_bit};
+ghost use Rattle.avr_instr.specs.Spelled.{InRange, first_word, second_word, AreRegisters, AreUpperAndByte, IsRegister, IsWidePair, IsPair, IsBesideX};
+ghost use Rattle.avr_instr.specs.Spelled.{IsBesideZ, IsSixBits, AreFlagAndOffset, two_registers, with_constant, with_pair, with_address};
+ghost use Rattle.avr_instr.specs.Spelled.{with_displacement, base_bit};
 ghost use Rattle.avr_instr.specs.declared.instr.Instr.TheVariants.{Movw};
 
 use crate::instr::Instr;

@@ -15,11 +15,13 @@ pub within_stack : (session : (reads interrupts : List ℕ) → ℕ → Seen) (f
 within_stack session flash floor stack a memory reads interrupts clock p r v low =
     elim (a.each memory reads interrupts clock p r v) [ inl follows ↦ follows | inr deep ↦ absurd (omega (arith, deep.0, low)) ]
 
-pub above_floor : (session : (reads interrupts : List ℕ) → ℕ → Seen) (flash : List ℕ) (floor stack : ℕ) → Agrees session flash floor stack → NeverReaches flash floor
+pub above_floor : (session : (reads interrupts : List ℕ) → ℕ → Seen) (flash : List ℕ) (floor stack : ℕ) → Agrees session flash floor stack
+    → NeverReaches flash floor
     → (memory : PowerOn) (reads interrupts : List ℕ) (clock : ℕ) → IsPowerOn memory → AreReads reads → AreVectors interrupts
     → Follows (machine flash memory reads interrupts) clock floor (session reads interrupts clock).ending (session reads interrupts clock).trace
 above_floor session flash floor stack a n memory reads interrupts clock p r v =
-    elim (a.each memory reads interrupts clock p r v) [ inl follows ↦ follows | inr deep ↦ absurd (omega (arith, deep.1.reached, n.each memory reads interrupts (suc deep.1.k) p r v)) ]
+    elim (a.each memory reads interrupts clock p r v) [ inl follows ↦ follows
+        | inr deep ↦ absurd (omega (arith, deep.1.reached, n.each memory reads interrupts (suc deep.1.k) p r v)) ]
 
 -- 0xA5 everywhere
 all_marks : (n : ℕ) → AllByRecursion (λ b. b < 256) (replicate n 0xA5)

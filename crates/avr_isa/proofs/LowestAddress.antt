@@ -1,5 +1,6 @@
 -- What the lowest address of the stack says of SRAM and of the stack pointer.
-use Rattle.std.proofs.Common.{◌≡◌, ◌≢◌, ℕ, ◌+◌, ◌-◌, ◌<◌, ◌≤◌, Bool, true, false, List, [], ◌∷◌, Some, None, refl, sym, ap, ◌∙◌, subst, arith, if◌then◌else◌, ◌&&◌, min, nat_le, nat_lt, slice_index, slice_set}
+use Rattle.std.proofs.Common.{◌≡◌, ◌≢◌, ℕ, ◌+◌, ◌-◌, ◌<◌, ◌≤◌, Bool, true, false, List, [], ◌∷◌, Some, None, refl, sym, ap, ◌∙◌, subst, arith}
+use Rattle.std.proofs.Common.{if◌then◌else◌, ◌&&◌, min, nat_le, nat_lt, slice_index, slice_set}
 use Rattle.std.proofs.lemmas.List.{get_or-set_other}
 use Rattle.vg_meaning.specs.Outside.{with_event}
 use Rattle.vg_meaning.specs.declared.event.Event.TheVariants.{Enter}
@@ -25,12 +26,14 @@ stepped flash i s = performed flash (Some i) (word_here flash s.cpu) s
 steps : (flash : List ℕ) (s : State) (i : Instr) → s.ended ≡ None → instr_here flash s.cpu ≡ Some i → next_state flash s ≡ stepped flash i s
 steps flash s i going here = ap (λ o. next_by o flash s) going ∙ ap (λ o. performed flash o (word_here flash s.cpu) s) here
 
-by_step : (flash : List ℕ) (s : State) (i : Instr) → s.ended ≡ None → instr_here flash s.cpu ≡ Some i → KeepsBelow s (stepped flash i s) → KeepsBelow s (next_state flash s)
+by_step : (flash : List ℕ) (s : State) (i : Instr) → s.ended ≡ None → instr_here flash s.cpu ≡ Some i → KeepsBelow s (stepped flash i s)
+    → KeepsBelow s (next_state flash s)
 by_step flash s i going here k = subst (KeepsBelow s) (sym (steps flash s i going here)) k
 
 -- PUSH
 byte_keeps : (s : State) (word value pc : ℕ) (b : Bool)
-    → (let made : Change = if b then going (record s.cpu { sram = slice_set s.cpu.sram (s.cpu.sp - 0x100) value; sp = s.cpu.sp - 1; pc = pc }) else staying s.cpu Forbidden in
+    → (let made : Change = if b then going (record s.cpu { sram = slice_set s.cpu.sram (s.cpu.sp - 0x100) value; sp = s.cpu.sp - 1; pc = pc })
+        else staying s.cpu Forbidden in
     KeepsBelow s (done made.effect word (record s { cpu = made.cpu; lowest = min s.lowest s.cpu.sp })))
 byte_keeps s word value pc true a from below =
     let apart : a - 0x100 ≢ s.cpu.sp - 0x100 = λ h. omega arith in
@@ -96,7 +99,8 @@ woken_keeps (v ∷ vs) word s = by_room (can_push_two s.cpu.sp) refl
     by_room true room a from below = both_keep s.cpu.sram s.cpu.sp _ _ a s.lowest room from below
     by_room false room a from below = refl
 
-pub interrupt_keeps : (flash : List ℕ) (s : State) → s.ended ≡ None → instr_here flash s.cpu ≡ Some SleepInstr → is_enabled s.cpu.sreg ≡ true → KeepsBelow s (next_state flash s)
+pub interrupt_keeps : (flash : List ℕ) (s : State) → s.ended ≡ None → instr_here flash s.cpu ≡ Some SleepInstr → is_enabled s.cpu.sreg ≡ true
+    → KeepsBelow s (next_state flash s)
 interrupt_keeps flash s going here on =
     let word = word_here flash s.cpu in
     let waits : stepped flash SleepInstr s ≡ woken s.outside.interrupts word s =
@@ -116,7 +120,8 @@ written : (flash : List ℕ) (i : Instr) (cpu : CpuState) → WritesSpl i cpu �
 written flash (Out a r) cpu h = record { new = _; changes = ap (λ x. stored cpu (moved 1 cpu) x (register_of cpu r)) h; stores = ap Stores h }
 written flash (StX r) cpu h = record { new = _; changes = ap (λ x. stored cpu (moved 1 cpu) x (register_of cpu r)) h; stores = ap Stores h }
 written flash (StXPlus r) cpu h = record { new = _; changes = ap (λ x. then_next 26 (stored cpu (moved 1 cpu) x (register_of cpu r))) h; stores = ap Stores h }
-written flash (StMinusX r) cpu h = record { new = _; changes = ap (λ x. stored cpu (with_pair (moved 1 cpu) 26 x) x (register_of cpu r)) h; stores = ap Stores h }
+written flash (StMinusX r) cpu h = record { new = _; changes = ap (λ x. stored cpu (with_pair (moved 1 cpu) 26 x) x
+    (register_of cpu r)) h; stores = ap Stores h }
 written flash (Std b q r) cpu h = record { new = _; changes = ap (λ x. stored cpu (moved 1 cpu) x (register_of cpu r)) h; stores = ap Stores h }
 written flash (Sts k r) cpu h = record { new = _; changes = ap (λ x. stored cpu (moved 2 cpu) x (register_of cpu r)) h; stores = ap Stores h }
 written flash _ cpu h = absurd h
@@ -131,14 +136,16 @@ lowest_above sp l = by_test (nat_le sp 0x10FF)
 lowest_outside : (sp l : ℕ) → 0x10FF < sp → lowest_by_store 0x5D sp l ≡ 0
 lowest_outside sp l h = grind arith
 
-seen : (s : State) (word : ℕ) (new : CpuState) (made : Change) (u : StackUse) → made ≡ going new → u ≡ Stores 0x5D → SeesPointer (done made.effect word (record s { cpu = made.cpu; lowest = lowest_by u made.cpu.sp s.lowest }))
+seen : (s : State) (word : ℕ) (new : CpuState) (made : Change) (u : StackUse) → made ≡ going new → u ≡ Stores 0x5D
+    → SeesPointer (done made.effect word (record s { cpu = made.cpu; lowest = lowest_by u made.cpu.sp s.lowest }))
 seen s word new made u e f =
     let here : SeesPointer (record s { cpu = new; lowest = lowest_by_store 0x5D new.sp s.lowest }) =
     record { above = lowest_above new.sp s.lowest; outside = lowest_outside new.sp s.lowest } in
     subst (λ (m : Change). SeesPointer (done m.effect word (record s { cpu = m.cpu; lowest = lowest_by u m.cpu.sp s.lowest }))) (sym e)
     (subst (λ x. SeesPointer (record s { cpu = new; lowest = lowest_by x new.sp s.lowest })) (sym f) here)
 
-pub spl_seen : (flash : List ℕ) (s : State) (i : Instr) → s.ended ≡ None → instr_here flash s.cpu ≡ Some i → WritesSpl i s.cpu → SeesPointer (next_state flash s)
+pub spl_seen : (flash : List ℕ) (s : State) (i : Instr) → s.ended ≡ None → instr_here flash s.cpu ≡ Some i → WritesSpl i s.cpu
+    → SeesPointer (next_state flash s)
 spl_seen flash s i going here h =
     let w = written flash i s.cpu h in
     subst SeesPointer (sym (steps flash s i going here))

@@ -1,5 +1,6 @@
 -- Runs of the machine: one behind another, one instruction at a time, and what they leave as it is.
-use Rattle.std.proofs.Common.{◌≡◌, ℕ, zero, suc, ◌+◌, ◌-◌, ◌≤◌, ◌⊎◌, inl, inr, Bool, true, false, List, [], ◌∷◌, Option, Some, None, refl, ap, ◌∙◌, arith, min, if◌then◌else◌, ◌==◌, nat_le}
+use Rattle.std.proofs.Common.{◌≡◌, ℕ, zero, suc, ◌+◌, ◌-◌, ◌≤◌, ◌⊎◌, inl, inr, Bool, true, false, List, [], ◌∷◌, Option, Some, None, refl, ap, ◌∙◌}
+use Rattle.std.proofs.Common.{arith, min, if◌then◌else◌, ◌==◌, nat_le}
 use Rattle.vg_meaning.specs.Outside.{Outside}
 use Rattle.avr_instr.specs.declared.instr.Instr.{Instr}
 use Rattle.avr_isa.specs.declared.stack.StackUse.{StackUse}
@@ -27,9 +28,11 @@ leads_on flash s t u first second =
     record { by = λ k. let b = second.by k in let a = first.by b.0 in (a.0, omega (arith, a.1, b.1), a.2 ∙ b.2) }
 
 -- one instruction
-pub one_leads : (flash : List ℕ) (cpu : CpuState) (o : Outside) (l : ℕ) (i : Instr) (t : State) → StandsAt flash cpu.pc i → performed flash (Some i) (word_here flash cpu) (going_on cpu o l) ≡ t → Leads flash (going_on cpu o l) t
+pub one_leads : (flash : List ℕ) (cpu : CpuState) (o : Outside) (l : ℕ) (i : Instr) (t : State) → StandsAt flash cpu.pc i
+    → performed flash (Some i) (word_here flash cpu) (going_on cpu o l) ≡ t → Leads flash (going_on cpu o l) t
 one_leads flash cpu o l i t at e =
-    record { by = λ k. (suc k, omega arith, ap (λ d. run_from flash k (performed flash d (word_here flash cpu) (going_on cpu o l))) at ∙ ap (run_from flash k) e) }
+    record { by = λ k. (suc k, omega arith, ap (λ d. run_from flash k (performed flash d (word_here flash cpu) (going_on cpu o l))) at
+        ∙ ap (run_from flash k) e) }
 
 -- the history of the stack never rises
 push_below : (sp lowest : ℕ) → lowest_by_push_two sp lowest ≤ lowest
@@ -75,7 +78,8 @@ performed_below : (flash : List ℕ) (o : Option Instr) (word : ℕ) (s : State)
 performed_below flash None word s = omega arith
 performed_below flash (Some i) word s =
     let made = change flash i s.cpu in
-    done_below made.effect word (record s { cpu = made.cpu; lowest = lowest_behind i s.cpu made.cpu s.lowest }) s.lowest (behind_below i s.cpu made.cpu s.lowest)
+    done_below made.effect word (record s { cpu = made.cpu; lowest = lowest_behind i s.cpu made.cpu s.lowest }) s.lowest
+        (behind_below i s.cpu made.cpu s.lowest)
 
 next_below : (o : Option MachineEnd) (flash : List ℕ) (s : State) → (next_by o flash s).lowest ≤ s.lowest
 next_below (Some e) flash s = omega arith
@@ -105,7 +109,8 @@ one_way zero (suc k) = inr (omega arith)
 one_way (suc j) (suc k) = elim (one_way j k) [ inl h ↦ inl (omega arith) | inr h ↦ inr (omega arith) ]
 
 -- of a run that ends without reaching the floor, no state has reached it
-pub never_lower : (flash : List ℕ) (s : State) (j floor : ℕ) (e : MachineEnd) → (run_from flash j s).ended ≡ Some e → floor ≤ (run_from flash j s).lowest → (k : ℕ) → floor ≤ (run_from flash k s).lowest
+pub never_lower : (flash : List ℕ) (s : State) (j floor : ℕ) (e : MachineEnd) → (run_from flash j s).ended ≡ Some e → floor ≤ (run_from flash j s).lowest
+    → (k : ℕ) → floor ≤ (run_from flash k s).lowest
 never_lower flash s j floor e h low k =
     elim (one_way j k) [
       | inl before ↦

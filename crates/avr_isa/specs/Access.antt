@@ -16,7 +16,8 @@ low_of Z = 30
 abbrev pub displaced : CpuState → Base → ℕ → ℕ
 displaced cpu b q = (pair_of cpu (low_of b) + q) % 65536
 
--- a store at a data address: r0 to r31, RAMPZ, SPL, SPH, SREG, the device registers, SRAM, and nothing above; old is the processor before the instruction, made is what the instruction has made else
+-- a store at a data address: r0 to r31, RAMPZ, SPL, SPH, SREG, the device registers, SRAM, and nothing above; old is the processor before the
+-- instruction, made is what the instruction has made else
 abbrev pub stored : (old made : CpuState) (address value : ℕ) → Change
 stored old made address value =
     if nat_lt address 0x20 then going (with_register made address value)

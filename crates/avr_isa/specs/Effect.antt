@@ -1,12 +1,16 @@
 -- What each instruction makes of the processor, in the order of the AVR Instruction Set Manual.
 use Rattle.std.specs.Prelude.{ℕ, ◌+◌, ◌-◌, ◌*◌, ◌/◌, ◌%◌, not, List, if◌then◌else◌, bit_and, bit_or, bit_xor}
 use Rattle.avr_instr.specs.declared.instr.Instr.{Instr}
-use Rattle.avr_instr.specs.declared.instr.Instr.TheVariants.{Adc, Add, Adiw, And, Andi, Asr, Brbc, Brbs, Call, Cli, Com, Cp, Cpc, Cpi, Dec, Eor, Icall, Ijmp, In, Inc, Jmp, LdX, LdXPlus, LdMinusX, Ldd, Ldi, Lds, LpmZ, LpmZPlus, Lsr, Mov, Movw, Mul, Neg, Nop, Or, Ori, Out, Pop, Push, Rcall, Ret, Reti, Rjmp, Ror, Sbc, Sbci, Sbiw, Sei, Sleep as SleepInstr, StX, StXPlus, StMinusX, Std, Sts, Sub, Subi}
+use Rattle.avr_instr.specs.declared.instr.Instr.TheVariants.{Adc, Add, Adiw, And, Andi, Asr, Brbc, Brbs, Call, Cli, Com, Cp, Cpc, Cpi, Dec, Eor}
+use Rattle.avr_instr.specs.declared.instr.Instr.TheVariants.{Icall, Ijmp, In, Inc, Jmp, LdX, LdXPlus, LdMinusX, Ldd, Ldi, Lds, LpmZ, LpmZPlus, Lsr}
+use Rattle.avr_instr.specs.declared.instr.Instr.TheVariants.{Mov, Movw, Mul, Neg, Nop, Or, Ori, Out, Pop, Push, Rcall, Ret, Reti, Rjmp, Ror, Sbc}
+use Rattle.avr_instr.specs.declared.instr.Instr.TheVariants.{Sbci, Sbiw, Sei, Sleep as SleepInstr, StX, StXPlus, StMinusX, Std, Sts, Sub, Subi}
 use Rattle.avr_isa.specs.declared.flags.Flags.{Flags}
 use Rattle.avr_isa.specs.declared.effect.Effect.TheVariants.{Sleep, Outside}
 use Rattle.avr_isa.specs.Cpu.{CpuState, flash_byte, forward, is_enabled, enabled, disabled}
 use Rattle.avr_isa.specs.Change.{Change, going, staying, moved, register_of, with_register, with_sreg, pair_of, with_pair, with_next, previous}
-use Rattle.avr_isa.specs.Flags.{is_set, carry_of, with_flags, sum_of, flags_of_sum, difference_of, flags_of_difference, sticky, flags_of_logic, flags_of_complement, flags_of_count, flags_of_shift, flags_of_wide_sum, flags_of_wide_difference, sreg_of_product}
+use Rattle.avr_isa.specs.Flags.{is_set, carry_of, with_flags, sum_of, flags_of_sum, difference_of, flags_of_difference, sticky, flags_of_logic}
+use Rattle.avr_isa.specs.Flags.{flags_of_complement, flags_of_count, flags_of_shift, flags_of_wide_sum, flags_of_wide_difference, sreg_of_product}
 use Rattle.avr_isa.specs.Access.{displaced, stored, loaded, then_next, pushed, popped, can_pop_two, with_popped}
 use Rattle.avr_isa.specs.Flow.{jumped, far_from, branched, called, returned}
 

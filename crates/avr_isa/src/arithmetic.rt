@@ -263,7 +263,8 @@ pub(crate) fn add_wide(cpu: &mut Cpu, d: u8, k: u8) -> Effect
 pub(crate) fn subtract_wide(cpu: &mut Cpu, d: u8, k: u8) -> Effect
     requires { d < 31 }
     ensures cpu { let a = pair_of cpu.old d in cpu.new ≡ (resulting_wide cpu.old d ((a + 65536 - k) % 65536) (flags_of_wide_difference cpu.old.sreg a k)).cpu }
-    ensures effect { let a = pair_of cpu.old d in result ≡ (resulting_wide cpu.old d ((a + 65536 - k) % 65536) (flags_of_wide_difference cpu.old.sreg a k)).effect }
+    ensures effect { let a = pair_of cpu.old d in result ≡ (resulting_wide cpu.old d ((a + 65536 - k) % 65536)
+        (flags_of_wide_difference cpu.old.sreg a k)).effect }
 {
     let a = cpu.pair(d);
     let sreg = cpu.sreg();

@@ -2,7 +2,8 @@
 ghost use Rattle.std.specs.Prelude.{◌≡◌, ◌+◌, ◌%◌, ◌<◌, ◌≤◌, ◌↔◌, ◌&&◌, ℕ, pos, ◌+ℤ◌, ◌-ℤ◌, IsTrue, IsFalse};
 ghost use Rattle.avr_isa.specs.declared.flags.Flags.{Flags};
 ghost use Rattle.avr_isa.specs.Signed.{signed, IsSignedByte, signed_word, IsSignedWord};
-ghost use Rattle.avr_isa.specs.Flags.{is_set, differ, with_flags, sum_of, flags_of_sum, difference_of, flags_of_difference, sticky, flags_of_count, flags_of_wide_sum, flags_of_wide_difference};
+ghost use Rattle.avr_isa.specs.Flags.{is_set, differ, with_flags, sum_of, flags_of_sum, difference_of, flags_of_difference, sticky, flags_of_count};
+ghost use Rattle.avr_isa.specs.Flags.{flags_of_wide_sum, flags_of_wide_difference};
 
 /// Laws of ADD and ADC, for two bytes and a carry: C is set exactly where the sum passes 255, H exactly where the sum of the low four bits
 /// passes 15, and V exactly where the sum of the signed numbers fits no signed byte.
@@ -22,8 +23,10 @@ pub fn differences_set_flags()
     ensures half_carry { (a b c : ℕ) → IsTrue (flags_of_difference a b c).half_carry ↔ (a % 16 < b % 16 + c) }
     ensures zero { (a b c : ℕ) → IsTrue (flags_of_difference a b c).zero ↔ (difference_of a b c ≡ 0) }
     ensures negative { (a b c : ℕ) → IsTrue (flags_of_difference a b c).negative ↔ (128 ≤ difference_of a b c) }
-    ensures overflow { (a b c : ℕ) → a < 256 → b < 256 → c < 2 → IsTrue (flags_of_difference a b c).overflow → IsSignedByte (signed a -ℤ signed b -ℤ pos c) → ⊥ }
-    ensures no_overflow { (a b c : ℕ) → a < 256 → b < 256 → c < 2 → IsFalse (flags_of_difference a b c).overflow → IsSignedByte (signed a -ℤ signed b -ℤ pos c) }
+    ensures overflow { (a b c : ℕ) → a < 256 → b < 256 → c < 2 → IsTrue (flags_of_difference a b c).overflow → IsSignedByte (signed a -ℤ signed b -ℤ pos c)
+        → ⊥ }
+    ensures no_overflow { (a b c : ℕ) → a < 256 → b < 256 → c < 2 → IsFalse (flags_of_difference a b c).overflow
+        → IsSignedByte (signed a -ℤ signed b -ℤ pos c) }
 {}
 
 /// A law of SBC, SBCI and CPC: Z is set exactly where the result is 0 and Z was set.
@@ -38,8 +41,10 @@ pub fn wide_flags()
     ensures sum_overflow { (s a k : ℕ) → a < 65536 → k < 64 → IsTrue (flags_of_wide_sum s a k).overflow → IsSignedWord (signed_word a +ℤ pos k) → ⊥ }
     ensures no_sum_overflow { (s a k : ℕ) → a < 65536 → k < 64 → IsFalse (flags_of_wide_sum s a k).overflow → IsSignedWord (signed_word a +ℤ pos k) }
     ensures difference_carry { (s a k : ℕ) → IsTrue (flags_of_wide_difference s a k).carry ↔ (a < k) }
-    ensures difference_overflow { (s a k : ℕ) → a < 65536 → k < 64 → IsTrue (flags_of_wide_difference s a k).overflow → IsSignedWord (signed_word a -ℤ pos k) → ⊥ }
-    ensures no_difference_overflow { (s a k : ℕ) → a < 65536 → k < 64 → IsFalse (flags_of_wide_difference s a k).overflow → IsSignedWord (signed_word a -ℤ pos k) }
+    ensures difference_overflow { (s a k : ℕ) → a < 65536 → k < 64 → IsTrue (flags_of_wide_difference s a k).overflow
+        → IsSignedWord (signed_word a -ℤ pos k) → ⊥ }
+    ensures no_difference_overflow { (s a k : ℕ) → a < 65536 → k < 64 → IsFalse (flags_of_wide_difference s a k).overflow
+        → IsSignedWord (signed_word a -ℤ pos k) }
 {}
 
 /// Laws of INC and DEC, for a byte: V is set exactly where 127 becomes -128, and where -128 becomes 127.

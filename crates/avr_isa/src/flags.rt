@@ -1,6 +1,7 @@
 // The flags of SREG.
 ghost use Rattle.std.specs.Prelude.{◌≡◌, ◌<◌, ◌≤◌, ◌+◌, ℕ};
-ghost use Rattle.avr_isa.specs.Flags.{number, is_set, carry_of, with_flags, flags_of_sum, flags_of_difference, sticky, flags_of_logic, flags_of_shift, flags_of_wide_sum, flags_of_wide_difference, sreg_of_product};
+ghost use Rattle.avr_isa.specs.Flags.{number, is_set, carry_of, with_flags, flags_of_sum, flags_of_difference, sticky, flags_of_logic};
+ghost use Rattle.avr_isa.specs.Flags.{flags_of_shift, flags_of_wide_sum, flags_of_wide_difference, sreg_of_product};
 
 /// The flags that a sum, a difference, a logical operation or a shift leaves; S is N exclusive or V.
 #[derive(Clone, Copy, Debug, PartialEq, Eq)]

@@ -1,7 +1,8 @@
 // Accesses to data addresses, and the stack.
 ghost use Rattle.std.specs.Prelude.{◌≡◌, ◌+◌, ◌-◌, ◌*◌, ◌/◌, ◌%◌, ◌<◌, ◌≤◌, ℕ, IsTrue};
 ghost use Rattle.avr_isa.specs.Change.{WaitsInRegister, going, moved, pair_of, with_pair, with_next, previous};
-ghost use Rattle.avr_isa.specs.Access.{stored, loaded, displaced, low_of, pointer_behind, then_next, pushed, popped, can_push_two, can_pop_two, with_pushed, with_popped};
+ghost use Rattle.avr_isa.specs.Access.{stored, loaded, displaced, low_of, pointer_behind, then_next, pushed, popped, can_push_two, can_pop_two};
+ghost use Rattle.avr_isa.specs.Access.{with_pushed, with_popped};
 
 use crate::cpu::Cpu;
 use crate::effect::Effect;

@@ -1,5 +1,6 @@
 -- The machine of the definition and the one that runs agree in all but the trace so far and the depth of the stack.
-use Rattle.std.proofs.Common.{◌≡◌, ℕ, zero, suc, ◌+◌, ◌-◌, ◌<◌, Bool, true, false, List, [], ◌∷◌, ◌++◌, Option, Some, None, refl, sym, ap, ◌∙◌, subst, arith, append_assoc, append-nil}
+use Rattle.std.proofs.Common.{◌≡◌, ℕ, zero, suc, ◌+◌, ◌-◌, ◌<◌, Bool, true, false, List, [], ◌∷◌, ◌++◌, Option, Some, None, refl, sym, ap, ◌∙◌, subst}
+use Rattle.std.proofs.Common.{arith, append_assoc, append-nil}
 use Rattle.std.specs.Prelude.{if◌then◌else◌, is_some}
 use Rattle.std.proofs.lemmas.Grind.{flat_map-append}
 use Rattle.vg_meaning.specs.declared.event.Event.{Event}
@@ -32,7 +33,8 @@ pub record Same (t : List Event) (s m : State) : Type 0 where
 
 -- a state from its parts
 abbrev pub parts : CpuState → (reads interrupts : List ℕ) → List Event → ℕ → Option MachineEnd → State
-parts cpu reads interrupts trace lowest ended = record { cpu = cpu; outside = record { reads = reads; interrupts = interrupts; trace = trace }; lowest = lowest; ended = ended }
+parts cpu reads interrupts trace lowest ended = record { cpu = cpu; outside = record { reads = reads; interrupts = interrupts; trace = trace };
+    lowest = lowest; ended = ended }
 
 same_parts : (t u : List Event) (cpu : CpuState) (reads interrupts : List ℕ) (l l' : ℕ) (ended : Option MachineEnd)
     → Same t (parts cpu reads interrupts (t ++ u) l ended) (parts cpu reads interrupts u l' ended)
@@ -40,20 +42,24 @@ same_parts t u cpu reads interrupts l l' ended = record { cpu = refl; reads = re
 
 same_event : (t u : List Event) (event : Event) (cpu : CpuState) (reads interrupts : List ℕ) (l l' : ℕ) (ended : Option MachineEnd)
     → Same t (parts cpu reads interrupts ((t ++ u) ++ event ∷ []) l ended) (parts cpu reads interrupts (u ++ event ∷ []) l' ended)
-same_event t u event cpu reads interrupts l l' ended = record { cpu = refl; reads = refl; interrupts = refl; trace = append_assoc t u (event ∷ []); ended = refl }
+same_event t u event cpu reads interrupts l l' ended = record { cpu = refl; reads = refl; interrupts = refl; trace = append_assoc t u
+    (event ∷ []); ended = refl }
 
 same_done : (effect : Effect) (word : ℕ) (t u : List Event) (cpu : CpuState) (reads interrupts : List ℕ) (l l' : ℕ)
     → Same t (done effect word (parts cpu reads interrupts (t ++ u) l None)) (done effect word (parts cpu reads interrupts u l' None))
 same_done Next word t u cpu reads interrupts l l' = same_parts t u cpu reads interrupts l l' None
 same_done (ReadDevice address register) word t u cpu [] interrupts l l' = record { cpu = refl; reads = refl; interrupts = refl; trace = refl; ended = refl }
-same_done (ReadDevice address register) word t u cpu (v ∷ vs) interrupts l l' = record { cpu = refl; reads = refl; interrupts = refl; trace = append_assoc t u (Read address v ∷ []); ended = refl }
+same_done (ReadDevice address register) word t u cpu (v ∷ vs) interrupts l l' = record
+    { cpu = refl; reads = refl; interrupts = refl; trace = append_assoc t u (Read address v ∷ []); ended = refl }
 same_done (WriteDevice address value) word t u cpu reads interrupts l l' = same_event t u (Write address value) cpu reads interrupts l l' None
 same_done Sleep word t u cpu reads [] l l' = record { cpu = refl; reads = refl; interrupts = refl; trace = refl; ended = refl }
 same_done Sleep word t u cpu reads (k ∷ ks) l l' = by_test (can_push_two cpu.sp)
   where
     by_test : (b : Bool) → Same t
-        (if b then parts (entered cpu k) reads ks ((t ++ u) ++ Enter k ∷ []) (lowest_by_push_two cpu.sp l) None else parts cpu reads (k ∷ ks) (t ++ u) (lowest_by_push_two cpu.sp l) (Some (Bad cpu.pc word)))
-        (if b then parts (entered cpu k) reads ks (u ++ Enter k ∷ []) (lowest_by_push_two cpu.sp l') None else parts cpu reads (k ∷ ks) u (lowest_by_push_two cpu.sp l') (Some (Bad cpu.pc word)))
+        (if b then parts (entered cpu k) reads ks ((t ++ u) ++ Enter k ∷ []) (lowest_by_push_two cpu.sp l) None
+            else parts cpu reads (k ∷ ks) (t ++ u) (lowest_by_push_two cpu.sp l) (Some (Bad cpu.pc word)))
+        (if b then parts (entered cpu k) reads ks (u ++ Enter k ∷ []) (lowest_by_push_two cpu.sp l') None
+            else parts cpu reads (k ∷ ks) u (lowest_by_push_two cpu.sp l') (Some (Bad cpu.pc word)))
     by_test true = same_event t u (Enter k) (entered cpu k) reads ks (lowest_by_push_two cpu.sp l) (lowest_by_push_two cpu.sp l') None
     by_test false = same_parts t u cpu reads (k ∷ ks) (lowest_by_push_two cpu.sp l) (lowest_by_push_two cpu.sp l') (Some (Bad cpu.pc word))
 same_done Halt word t u cpu reads interrupts l l' = same_parts t u cpu reads interrupts l l' (Some (Stop (register_of cpu 24)))
@@ -114,7 +120,8 @@ same_run flash (suc n) t s m h = same_run flash n t (next_state flash s) (next_s
 
 -- the run of the code begins without a depth
 pub run_unstacked : (flash reads interrupts : List ℕ) (n : ℕ) (m : State) → m ≡ unstacked (started marked reads interrupts)
-    → ((run_from flash n m).ended ≡ (simulated flash reads interrupts n).ended) × ((run_from flash n m).outside.trace ≡ (simulated flash reads interrupts n).outside.trace)
+    → ((run_from flash n m).ended ≡ (simulated flash reads interrupts n).ended)
+        × ((run_from flash n m).outside.trace ≡ (simulated flash reads interrupts n).outside.trace)
 run_unstacked flash reads interrupts n m e =
     let s = started marked reads interrupts in
     let h : Same [] s (unstacked s) = record { cpu = refl; reads = refl; interrupts = refl; trace = refl; ended = refl } in
@@ -130,7 +137,8 @@ pub record Follows (flash : List ℕ) (n budget : ℕ) (first m : State) (before
   pub put : m.outside.trace ≡ []
   pub told : AppendsAll before now (trace_lines seen)
 
-pub follow_first : (flash : List ℕ) (n budget : ℕ) (first : State) (a : Option (List ℕ)) → n ≡ budget → first.outside.trace ≡ [] → Follows flash n budget first first a a
+pub follow_first : (flash : List ℕ) (n budget : ℕ) (first : State) (a : Option (List ℕ)) → n ≡ budget → first.outside.trace ≡ []
+    → Follows flash n budget first first a a
 follow_first flash n budget first a e h = record {
   state = first;
   seen = [];
@@ -149,7 +157,8 @@ one_less flash budget i s h =
     let left : budget - i ≡ suc (budget - (i + 1)) = omega (arith, h) in
     sym (ap (λ n. run_from flash n s) left)
 
-pub follow_on : (flash : List ℕ) (budget i : ℕ) (first m m1 m2 : State) (event : Option Event) (a b c : Option (List ℕ)) → i < budget → Follows flash (budget - i) budget first m a b
+pub follow_on : (flash : List ℕ) (budget i : ℕ) (first m m1 m2 : State) (event : Option Event) (a b c : Option (List ℕ)) → i < budget
+    → Follows flash (budget - i) budget first m a b
     → unstacked m1 ≡ unstacked (next_state flash m) → pending event ≡ m1.outside.trace → m2 ≡ record m1 { outside = record m1.outside { trace = [] } }
     → AppendsAll b c (trace_lines (pending event)) → Follows flash (budget - (i + 1)) budget first m2 a c
 follow_on flash budget i first m m1 m2 event a b c lt f e p r told =
@@ -167,11 +176,13 @@ follow_on flash budget i first m m1 m2 event a b c lt f e p r told =
       whole = one_less flash budget i f.state lt ∙ f.whole;
       same = subst (Same (f.seen ++ pending event) (next_state flash f.state)) (sym r) k;
       put = ap (λ (x : State). x.outside.trace) r;
-      told = subst (AppendsAll a c) (sym (flat_map-append event_line f.seen (pending event))) (appends_both a b c (trace_lines f.seen) (trace_lines (pending event)) f.told told);
+      told = subst (AppendsAll a c) (sym (flat_map-append event_line f.seen (pending event)))
+          (appends_both a b c (trace_lines f.seen) (trace_lines (pending event)) f.told told);
     }
 
 -- a put that fails
-pub follow_fails : (flash : List ℕ) (budget i : ℕ) (first m m1 : State) (event : Option Event) (a b c : Option (List ℕ)) → i < budget → Follows flash (budget - i) budget first m a b
+pub follow_fails : (flash : List ℕ) (budget i : ℕ) (first m m1 : State) (event : Option Event) (a b c : Option (List ℕ)) → i < budget
+    → Follows flash (budget - i) budget first m a b
     → unstacked m1 ≡ unstacked (next_state flash m) → pending event ≡ m1.outside.trace
     → AppendsFront b c (trace_lines (pending event)) → AppendsFront a c (trace_lines (run_from flash budget first).outside.trace)
 follow_fails flash budget i first m m1 event a b c lt f e p told =
@@ -181,7 +192,8 @@ follow_fails flash budget i first m m1 event a b c lt f e p told =
     ap (λ (x : State). x.outside.trace) (sym (one_less flash budget i f.state lt ∙ f.whole)) ∙ g.1
     ∙ ap (λ l. l ++ g.0) (h.trace ∙ ap (λ l. f.seen ++ l) (sym p)) ∙ append_assoc f.seen (pending event) g.0 in
     let lines : trace_lines (run_from flash budget first).outside.trace ≡ trace_lines f.seen ++ (trace_lines (pending event) ++ trace_lines g.0) =
-    ap trace_lines whole ∙ flat_map-append event_line f.seen (pending event ++ g.0) ∙ ap (λ l. trace_lines f.seen ++ l) (flat_map-append event_line (pending event) g.0) in
+    ap trace_lines whole ∙ flat_map-append event_line f.seen (pending event ++ g.0)
+        ∙ ap (λ l. trace_lines f.seen ++ l) (flat_map-append event_line (pending event) g.0) in
     subst (AppendsFront a c) (sym lines) (appends_front a b c (trace_lines f.seen) (trace_lines (pending event)) (trace_lines g.0) f.told told)
 
 -- no instruction more
@@ -193,7 +205,8 @@ at_end flash n budget first m a b f e =
     ap (λ (x : State). x.outside.trace) whole ∙ f.same.trace ∙ ap (λ l. f.seen ++ l) f.put ∙ append-nil f.seen in
     (sym (ap (λ (x : State). x.ended) whole ∙ f.same.ended), subst (AppendsAll a b) (ap trace_lines (sym trace)) f.told)
 
-pub follow_ends : (flash : List ℕ) (n budget : ℕ) (first m : State) (o : Option MachineEnd) (a b : Option (List ℕ)) → Follows flash n budget first m a b → o ≡ m.ended → is_some o ≡ true
+pub follow_ends : (flash : List ℕ) (n budget : ℕ) (first m : State) (o : Option MachineEnd) (a b : Option (List ℕ)) → Follows flash n budget first m a b
+    → o ≡ m.ended → is_some o ≡ true
     → (m.ended ≡ (run_from flash budget first).ended) × AppendsAll a b (trace_lines (run_from flash budget first).outside.trace)
 follow_ends flash n budget first m None a b f e h = absurd (cc)
 follow_ends flash n budget first m (Some end) a b f e h = at_end flash n budget first m a b f (stays flash n f.state end (f.same.ended ∙ sym e))
@@ -205,7 +218,8 @@ pub ended_from_reset : (flash flash' reads interrupts reads' interrupts' : List 
 ended_from_reset flash flash' reads interrupts reads' interrupts' budget first m end l r i f e h =
     let k = run_unstacked flash' reads' interrupts' budget first f in
     h ∙ e ∙ k.0
-    ∙ ap (λ x. (simulated x reads' interrupts' budget).ended) l ∙ ap (λ x. (simulated flash x interrupts' budget).ended) r ∙ ap (λ x. (simulated flash reads x budget).ended) i
+    ∙ ap (λ x. (simulated x reads' interrupts' budget).ended) l ∙ ap (λ x. (simulated flash x interrupts' budget).ended) r
+        ∙ ap (λ x. (simulated flash reads x budget).ended) i
 
 pub told_trace : (flash flash' reads interrupts reads' interrupts' : List ℕ) (budget : ℕ) (first : State)
     → flash' ≡ flash → reads' ≡ reads → interrupts' ≡ interrupts → first ≡ unstacked (started marked reads' interrupts')

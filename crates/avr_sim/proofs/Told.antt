@@ -1,5 +1,6 @@
 -- What a sink holds behind several puts, and what an error that is handed on shows.
-use Rattle.std.proofs.Common.{◌≡◌, ℕ, List, [], ◌++◌, length, take, drop, Option, Some, None, refl, sym, ap, ◌∙◌, append_assoc, append-nil, take-append-drop, Result, Ok, Err}
+use Rattle.std.proofs.Common.{◌≡◌, ℕ, List, [], ◌++◌, length, take, drop, Option, Some, None, refl, sym, ap, ◌∙◌, append_assoc, append-nil}
+use Rattle.std.proofs.Common.{take-append-drop, Result, Ok, Err}
 use Rattle.std.specs.Prelude.{OnErr}
 use Rattle.std.proofs.Math.Seq.{take-append_seam}
 use Rattle.vg_io.specs.Piece.{AppendsAll, AppendsFront}
@@ -25,7 +26,8 @@ appends_front (Some a) (Some b) c x y z h k =
     let e : b ≡ a ++ x = cc in
     let front = x ++ take k.0 y in
     let whole : x ++ (y ++ z) ≡ front ++ (drop k.0 y ++ z) =
-    ap (λ l. x ++ (l ++ z)) (sym (take-append-drop k.0 y)) ∙ ap (λ l. x ++ l) (append_assoc (take k.0 y) (drop k.0 y) z) ∙ sym (append_assoc x (take k.0 y) (drop k.0 y ++ z)) in (
+    ap (λ l. x ++ (l ++ z)) (sym (take-append-drop k.0 y)) ∙ ap (λ l. x ++ l) (append_assoc (take k.0 y) (drop k.0 y) z)
+        ∙ sym (append_assoc x (take k.0 y) (drop k.0 y ++ z)) in (
       length front,
       k.1 ∙ ap (λ l. Some (l ++ take k.0 y)) e ∙ ap Some (append_assoc a x (take k.0 y))
           ∙ ap (λ l. Some (a ++ l)) (sym (take-append_seam front (drop k.0 y ++ z))) ∙ ap (λ l. Some (a ++ take (length front) l)) (sym whole),

@@ -56,8 +56,10 @@ impl Machine {
         sink: &mut O,
     ) -> Result<Option<MachineEnd>, Failed>
         ensures ending { IfOk result (λ end. end ≡ (simulated self script.now.reads script.now.interrupts budget).ended) }
-        ensures trace { OnOk result (AppendsAll (O.told sink.old) (O.told sink.new) (trace_lines (simulated self script.now.reads script.now.interrupts budget).outside.trace)) }
-        ensures failed { OnErr result (AppendsFront (O.told sink.old) (O.told sink.new) (trace_lines (simulated self script.now.reads script.now.interrupts budget).outside.trace)) }
+        ensures trace { OnOk result (AppendsAll (O.told sink.old) (O.told sink.new)
+            (trace_lines (simulated self script.now.reads script.now.interrupts budget).outside.trace)) }
+        ensures failed { OnErr result (AppendsFront (O.told sink.old) (O.told sink.new)
+            (trace_lines (simulated self script.now.reads script.now.interrupts budget).outside.trace)) }
         ensures later { O.faults sink.old ≤ O.faults sink.new }
         ensures cause { OnErr result (Rose (O.faults sink.old) (O.faults sink.new)) }
     {

@@ -1,4 +1,5 @@
-//! A table of single instructions, checked against the machine: one instruction a line comes in, with what it must leave; each line that differs goes out, and how many there are.
+//! A table of single instructions, checked against the machine: one instruction a line comes in, with what it must leave; each line that differs goes
+//! out, and how many there are.
 #![tactic(auto)]
 
 mod line;

@@ -1,5 +1,6 @@
 -- The image of a list of writes agrees with the session of that list, and its stack stays in SRAM.
-use Rattle.std.proofs.Common.{◌≡◌, ℕ, zero, suc, ◌+◌, ◌-◌, ◌*◌, ◌<◌, ◌≤◌, Bool, true, false, List, [], ◌∷◌, ◌++◌, length, map, replicate, inl, refl, subst, arith, append_assoc, nat_lt}
+use Rattle.std.proofs.Common.{◌≡◌, ℕ, zero, suc, ◌+◌, ◌-◌, ◌*◌, ◌<◌, ◌≤◌, Bool, true, false, List, [], ◌∷◌, ◌++◌, length, map, replicate, inl, refl}
+use Rattle.std.proofs.Common.{subst, arith, append_assoc, nat_lt}
 use Rattle.std.specs.List.{flat_map, AllByRecursion}
 use Rattle.std.proofs.lemmas.List.{length-replicate}
 use Rattle.std.proofs.lemmas.Grind.{flat_map-append}
@@ -30,10 +31,12 @@ store_in_range : (a : ℕ) (b : Bool) → nat_lt a 0x60 ≡ b → 0x20 ≤ a →
 store_in_range a true e lo hi = let below : a < 0x60 = grind arith in (omega arith, omega arith)
 store_in_range a false e lo hi = (omega arith, omega arith)
 
-writes_in_range : (ws : List DeviceWrite) → AreDevices ws → (tail : List Instr) → AllByRecursion InRange tail → AllByRecursion InRange (flat_map write_code ws ++ tail)
+writes_in_range : (ws : List DeviceWrite) → AreDevices ws → (tail : List Instr) → AllByRecursion InRange tail
+    → AllByRecursion InRange (flat_map write_code ws ++ tail)
 writes_in_range [] h tail t = t
 writes_in_range (w ∷ ws) h tail t =
-    (((omega arith, omega arith), h.0.byte), (store_in_range w.address (nat_lt w.address 0x60) refl h.0.place.from h.0.place.below, writes_in_range ws h.1 tail t))
+    (((omega arith, omega arith), h.0.byte), (store_in_range w.address (nat_lt w.address 0x60) refl h.0.place.from h.0.place.below, writes_in_range ws h.1
+        tail t))
 
 slots_in_range : (n : ℕ) (tail : List Instr) → AllByRecursion InRange tail → AllByRecursion InRange (replicate n Reti ++ tail)
 slots_in_range zero tail t = t
@@ -43,7 +46,8 @@ program_in_range : (n : ℕ) (ws : List DeviceWrite) → AreDevices ws → AllBy
 program_in_range n ws h =
     let tail = writes_in_range ws h idle (tt, (tt, (tt, (omega arith, tt)))) in
     let from_start : AllByRecursion InRange (start ++ (flat_map write_code ws ++ idle)) =
-    (((omega arith, omega arith), omega arith), ((omega arith, omega arith), (((omega arith, omega arith), omega arith), ((omega arith, omega arith), tail)))) in
+    (((omega arith, omega arith), omega arith), ((omega arith, omega arith),
+        (((omega arith, omega arith), omega arith), ((omega arith, omega arith), tail)))) in
     (omega arith, slots_in_range n _ from_start)
 
 -- it is short
@@ -59,10 +63,13 @@ writes_short (w ∷ ws) =
 
 program_short : (n : ℕ) (ws : List DeviceWrite) → n ≡ 68 → length ws ≤ 100 → widths (program_with n ws) ≤ 378
 program_short n ws count short =
-    omega (arith, widths-append (replicate n Reti) (start ++ (flat_map write_code ws ++ idle)), widths-replicate Reti n refl, widths-append (flat_map write_code ws) idle, writes_short ws)
+    omega (arith, widths-append (replicate n Reti) (start ++ (flat_map write_code ws ++ idle)), widths-replicate Reti n refl, widths-append
+        (flat_map write_code ws) idle, writes_short ws)
 
 -- the whole run, on a flash on which the program stands
-runs : (flash : List ℕ) (n : ℕ) (ws : List DeviceWrite) (r m rs is : List ℕ) → n ≡ 68 → AllStandAt flash 0 (program_with n ws) → AreDevices ws → length ws ≤ 100 → length r ≡ 32 → length m ≡ 4096 → AreVectors is → EndsIdle flash (state_at r m 0 0 0 rs is [] 0x1100) (map write_event ws ++ map Enter is)
+runs : (flash : List ℕ) (n : ℕ) (ws : List DeviceWrite) (r m rs is : List ℕ) → n ≡ 68 → AllStandAt flash 0 (program_with n ws) → AreDevices ws
+    → length ws ≤ 100 → length r ≡ 32 → length m ≡ 4096 → AreVectors is
+    → EndsIdle flash (state_at r m 0 0 0 rs is [] 0x1100) (map write_event ws ++ map Enter is)
 runs flash n ws r m rs is count all dev short lr lm v =
     let writes = flat_map write_code ws in
     let rest = start ++ (writes ++ idle) in
@@ -75,14 +82,18 @@ runs flash n ws r m rs is count all dev short lr lm v =
     let jump : Leads flash (state_at r m 0 0 0 rs is [] 0x1100) (state_at r m 0 0 70 rs is [] 0x1100) = jmp_leads flash _ _ 0x1100 70 all.0 refl in
     let s1 = starts flash r m rs is (front_stands flash 70 start (writes ++ idle) body) lr in
     let s2 = writes_lead flash ws s1.0 m 0 0x10FF 74 rs is [] 0x1100 (front_stands flash 74 writes idle behind_start) dev s1.1 (omega arith) in
-    let slots_return : SlotsReturn flash = λ k lo hi. let e : 2 + (2 * k - 2) ≡ 2 * k = omega arith in subst (λ q. StandsAt flash q Reti) e (each_stands flash Reti n (2 * k - 2) 2 refl (omega arith) slots_here) in
-    let s3 = idles flash p s2.0 rs (back_stands flash 74 writes idle behind_start) (omega arith) slots_return is v m 0 (map write_event ws) 0x1100 lm (omega arith) in
+    let slots_return : SlotsReturn flash = λ k lo hi. let e : 2 + (2 * k - 2) ≡ 2 * k = omega arith
+        in subst (λ q. StandsAt flash q Reti) e (each_stands flash Reti n (2 * k - 2) 2 refl (omega arith) slots_here) in
+    let s3 = idles flash p s2.0 rs (back_stands flash 74 writes idle behind_start) (omega arith) slots_return is v m 0 (map write_event ws) 0x1100 lm
+        (omega arith) in
     let reset = state_at r m 0 0 0 rs is [] 0x1100 in
     let loop = state_at s2.0 m 0 0x10FF p rs is (map write_event ws) 0x1100 in
-    ends_later flash reset loop (map write_event ws ++ map Enter is) (leads_on flash reset (state_at r m 0 0 70 rs is [] 0x1100) loop jump (leads_on flash (state_at r m 0 0 70 rs is [] 0x1100) (state_at s1.0 m 0 0x10FF 74 rs is [] 0x1100) loop s1.2 s2.1)) s3
+    ends_later flash reset loop (map write_event ws ++ map Enter is) (leads_on flash reset (state_at r m 0 0 70 rs is [] 0x1100) loop jump
+        (leads_on flash (state_at r m 0 0 70 rs is [] 0x1100) (state_at s1.0 m 0 0x10FF 74 rs is [] 0x1100) loop s1.2 s2.1)) s3
 
 -- from reset, with n slot words, whatever memory holds at power-on
-ends_from_reset : (n : ℕ) (ws : List DeviceWrite) → n ≡ 68 → AreDevices ws → length ws ≤ 100 → (memory : PowerOn) (reads interrupts : List ℕ) → IsPowerOn memory → AreVectors interrupts
+ends_from_reset : (n : ℕ) (ws : List DeviceWrite) → n ≡ 68 → AreDevices ws → length ws ≤ 100 → (memory : PowerOn) (reads interrupts : List ℕ)
+    → IsPowerOn memory → AreVectors interrupts
     → EndsIdle (flat_map instr_bytes (program_with n ws)) (started memory reads interrupts) (map write_event ws ++ map Enter interrupts)
 ends_from_reset n ws count dev short memory reads interrupts p v =
     let code = program_with n ws in
@@ -94,8 +105,10 @@ ends_from_reset n ws count dev short memory reads interrupts p v =
 floor_below : (floor stack : ℕ) → floor + stack ≡ 0x1100 → 2 ≤ stack → floor ≤ 0x10FE
 floor_below floor stack sum two = omega arith
 
-agrees_with : (n : ℕ) (ws : List DeviceWrite) → n ≡ 68 → AreDevices ws → length ws ≤ 100 → (floor stack : ℕ) → floor ≤ 0x10FE → Agrees (first_session ws) (flat_map instr_bytes (program_with n ws)) floor stack
-agrees_with n ws count dev short floor stack low = record { each = λ memory reads interrupts clock p are_reads are_vectors. inl (by_clock memory reads interrupts clock p are_vectors) }
+agrees_with : (n : ℕ) (ws : List DeviceWrite) → n ≡ 68 → AreDevices ws → length ws ≤ 100 → (floor stack : ℕ) → floor ≤ 0x10FE
+    → Agrees (first_session ws) (flat_map instr_bytes (program_with n ws)) floor stack
+agrees_with n ws count dev short floor stack low = record { each = λ memory reads interrupts clock p are_reads are_vectors. inl
+    (by_clock memory reads interrupts clock p are_vectors) }
   where
     by_clock : (memory : PowerOn) (reads interrupts : List ℕ) (clock : ℕ) → IsPowerOn memory → AreVectors interrupts
         → (let seen = first_session ws reads interrupts clock in
@@ -105,7 +118,8 @@ agrees_with n ws count dev short floor stack low = record { each = λ memory rea
         let e = ends_from_reset n ws count dev short memory reads interrupts p v in
         (e.0, record { ends = e.1.ends; same_trace = e.1.same_trace; above = omega (arith, low, e.1.above) })
 
-never_with : (n : ℕ) (ws : List DeviceWrite) → n ≡ 68 → AreDevices ws → length ws ≤ 100 → (floor : ℕ) → floor ≤ 0x10FE → NeverReaches (flat_map instr_bytes (program_with n ws)) floor
+never_with : (n : ℕ) (ws : List DeviceWrite) → n ≡ 68 → AreDevices ws → length ws ≤ 100 → (floor : ℕ) → floor ≤ 0x10FE
+    → NeverReaches (flat_map instr_bytes (program_with n ws)) floor
 never_with n ws count dev short floor low = record {
   each = λ memory reads interrupts k p are_reads are_vectors.
       let e = ends_from_reset n ws count dev short memory reads interrupts p are_vectors in
@@ -135,5 +149,7 @@ unfolding slots
 fits ws short = fits_with 68 ws refl short
 
 -- the pieces, one behind another, are the program
-pub pieces : (a b c d : List Instr) (i : Instr) (x0 x1 x2 x3 x4 x5 : List ℕ) → x0 ≡ [] → x1 ≡ x0 ++ instr_bytes i → x2 ≡ x1 ++ flat_map instr_bytes a → x3 ≡ x2 ++ flat_map instr_bytes b → x4 ≡ x3 ++ flat_map instr_bytes c → x5 ≡ x4 ++ flat_map instr_bytes d → x5 ≡ flat_map instr_bytes (i ∷ (a ++ (b ++ (c ++ d))))
+pub pieces : (a b c d : List Instr) (i : Instr) (x0 x1 x2 x3 x4 x5 : List ℕ) → x0 ≡ [] → x1 ≡ x0 ++ instr_bytes i → x2 ≡ x1 ++ flat_map instr_bytes a
+    → x3 ≡ x2 ++ flat_map instr_bytes b → x4 ≡ x3 ++ flat_map instr_bytes c → x5 ≡ x4 ++ flat_map instr_bytes d
+    → x5 ≡ flat_map instr_bytes (i ∷ (a ++ (b ++ (c ++ d))))
 pieces a b c d i x0 x1 x2 x3 x4 x5 e0 e1 e2 e3 e4 e5 = simp (e5, e4, e3, e2, e1, e0, flat_map-append instr_bytes, append_assoc) refl

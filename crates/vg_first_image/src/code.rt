@@ -23,7 +23,8 @@ pub fn put_slots(code: &mut Vec<u8>) -> Result<(), NoMemory>
     Ok(())
 }
 
-// The stack begins at the last byte of SRAM, 0x10FF. SPH comes first, so that the pointer is never below SRAM behind a write of SPL (ATmega128 datasheet, "Stack Pointer").
+// The stack begins at the last byte of SRAM, 0x10FF. SPH comes first, so that the pointer is never below SRAM behind a write of SPL (ATmega128
+// datasheet, "Stack Pointer").
 pub fn put_start(code: &mut Vec<u8>) -> Result<(), NoMemory>
     ensures { OnOk result (code.new.items ≡ code.old.items ++ flat_map instr_bytes start) }
 {

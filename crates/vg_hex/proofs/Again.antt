@@ -1,5 +1,7 @@
 -- The written text is read as its image, and each text as one image.
-use Rattle.std.proofs.Common.{◌≡◌, ℕ, zero, suc, ◌+◌, ◌-◌, ◌*◌, ◌/◌, ◌%◌, ◌<◌, ◌≤◌, Bool, true, false, List, [], ◌∷◌, ◌++◌, length, take, drop, sum, slice_index, Some, None, refl, sym, ap, ◌∙◌, subst, arith, append_assoc, append-nil, ◌⊎◌, inl, inr, length-append, length-take, length-drop, ◌==◌, get_or, ext_get_or}
+use Rattle.std.proofs.Common.{◌≡◌, ℕ, zero, suc, ◌+◌, ◌-◌, ◌*◌, ◌/◌, ◌%◌, ◌<◌, ◌≤◌, Bool, true, false, List, [], ◌∷◌, ◌++◌, length, take, drop, sum}
+use Rattle.std.proofs.Common.{slice_index, Some, None, refl, sym, ap, ◌∙◌, subst, arith, append_assoc, append-nil, ◌⊎◌, inl, inr, length-append}
+use Rattle.std.proofs.Common.{length-take, length-drop, ◌==◌, get_or, ext_get_or}
 use Rattle.std.proofs.Math.Seq.{take-append_seam}
 use Rattle.std.proofs.lemmas.List.Sums.{sum_by-append}
 use Rattle.std.specs.Prelude.{if◌then◌else◌, ◌&&◌, ◌||◌, nat_le}
@@ -15,7 +17,8 @@ use Rattle.vg_hex.specs.declared.fault.HexFault.{HexFault}
 use Rattle.vg_hex.specs.declared.fault.HexFault.TheVariants.{Beyond, Twice}
 use Rattle.vg_hex.specs.HexText.{check_of, record_line, data_line, base_line, records, end_line, hex_text}
 use Rattle.vg_hex.specs.HexRecords.{typed, summed, from_bytes, from_digits, read_line}
-use Rattle.vg_hex.specs.HexImage.{Named, Byte, data_address, bytes_named, record_named, lines_named, behind_end, named, is_among, first_fault, fault_in, byte_at, reach, HexImage}
+use Rattle.vg_hex.specs.HexImage.{Named, Byte, data_address, bytes_named, record_named, lines_named, behind_end, named, is_among, first_fault}
+use Rattle.vg_hex.specs.HexImage.{fault_in, byte_at, reach, HexImage}
 
 abbrev IsByte : ℕ → Type 0
 IsByte b = b < 256
@@ -45,7 +48,8 @@ all_plain (b ∷ bs) h = let i = h.0 in (plain_digit (b / 16) (omega (arith, i))
 line_first : (b : ℕ) (l : List ℕ) (rest : List (List ℕ)) (bs : List ℕ) → 13 < b → lines bs ≡ l ∷ rest → lines (b ∷ bs) ≡ (b ∷ l) ∷ rest
 line_first b l rest bs h e = no_end (b == 10) (b == 13) (grind (arith, h)) (grind (arith, h))
   where
-    no_end : (x y : Bool) → x ≡ false → y ≡ false → (if x then [] ∷ lines bs else if y && begins_lf bs then lines bs else with_first b (lines bs)) ≡ (b ∷ l) ∷ rest
+    no_end : (x y : Bool) → x ≡ false → y ≡ false → (if x then [] ∷ lines bs else if y && begins_lf bs then lines bs
+        else with_first b (lines bs)) ≡ (b ∷ l) ∷ rest
     no_end true y f g = absurd (false≢true (sym f))
     no_end false true f g = absurd (false≢true (sym g))
     no_end false false f g = ap (with_first b) e
@@ -82,7 +86,8 @@ plain_line body h = (omega arith, all_plain (body ++ check_of body ∷ []) (whol
 line_record : (body : List ℕ) → AllByRecursion IsByte body → read_line (record_line body) ≡ from_bytes (body ++ check_of body ∷ [])
 line_record body h = ap from_digits (decode_of-encode_upper (body ++ check_of body ∷ []) (at_places (body ++ check_of body ∷ []) (whole_bytes body h)))
 
-data_bytes : (at : ℕ) (bytes : List ℕ) → at < 65536 → length bytes ≤ 16 → AllByRecursion IsByte bytes → AllByRecursion IsByte (length bytes ∷ at / 256 ∷ at % 256 ∷ 0 ∷ bytes)
+data_bytes : (at : ℕ) (bytes : List ℕ) → at < 65536 → length bytes ≤ 16 → AllByRecursion IsByte bytes
+    → AllByRecursion IsByte (length bytes ∷ at / 256 ∷ at % 256 ∷ 0 ∷ bytes)
 data_bytes at bytes h k b = (omega (arith, k), (omega (arith, h), (omega arith, (omega arith, b))))
 
 data_record : (at : ℕ) (bytes : List ℕ) → at < 65536 → length bytes ≤ 16 → AllByRecursion IsByte bytes → read_line (data_line at bytes) ≡ Data at bytes
@@ -92,12 +97,14 @@ data_record at bytes h k b =
     let e = line_record body (data_bytes at bytes h k b) in
     let len = length-append bytes (c ∷ []) in
     let place : at / 256 * 256 + at % 256 ≡ at = omega arith in
-    e ∙ chosen (length (bytes ++ c ∷ []) == length bytes + 1) (sum (body ++ c ∷ []) % 256 == 0) (at / 256 * 256 + at % 256) (take (length bytes) (bytes ++ c ∷ [])) (eq_test _ _ len) (eq_test _ _ (sum_zero body)) place (take-append_seam bytes (c ∷ []))
+    e ∙ chosen (length (bytes ++ c ∷ []) == length bytes + 1) (sum (body ++ c ∷ []) % 256 == 0) (at / 256 * 256 + at % 256)
+        (take (length bytes) (bytes ++ c ∷ [])) (eq_test _ _ len) (eq_test _ _ (sum_zero body)) place (take-append_seam bytes (c ∷ []))
   where
     eq_test : (x y : ℕ) → x ≡ y → (x == y) ≡ true
     eq_test x y e = grind (arith, e)
 
-    chosen : (x y : Bool) (a : ℕ) (l : List ℕ) → x ≡ true → y ≡ true → a ≡ at → l ≡ bytes → (if x then summed y (typed (length bytes) a 0 l) else NoForm) ≡ Data at bytes
+    chosen : (x y : Bool) (a : ℕ) (l : List ℕ) → x ≡ true → y ≡ true → a ≡ at → l ≡ bytes
+        → (if x then summed y (typed (length bytes) a 0 l) else NoForm) ≡ Data at bytes
     chosen true true a l f g p q = ap (λ n. Data n l) p ∙ ap (Data at) q
     chosen true false a l f g p q = absurd (false≢true g)
     chosen false y a l f g p q = absurd (false≢true f)
@@ -107,7 +114,8 @@ run_of : ℕ → List ℕ → List Named
 run_of a [] = []
 run_of a (b ∷ bs) = Byte a b ∷ run_of (a + 1) bs
 
-run_named : (base : Base) (at index a : ℕ) (bs : List ℕ) → ((i : ℕ) → index ≤ i → data_address base at i ≡ a + i) → bytes_named base at index bs ≡ run_of (a + index) bs
+run_named : (base : Base) (at index a : ℕ) (bs : List ℕ) → ((i : ℕ) → index ≤ i → data_address base at i ≡ a + i)
+    → bytes_named base at index bs ≡ run_of (a + index) bs
 unfolding run_of
 run_named base at index a [] h = refl
 run_named base at index a (b ∷ bs) h =
@@ -119,10 +127,13 @@ run_named base at index a (b ∷ bs) h =
     le_refl n = omega arith
 
 -- a line in front of others
-line_named : (n : ℕ) (l rest : List ℕ) (base : Base) → AllByRecursion Plain l → lines_named n (lines (l ++ 10 ∷ rest)) base ≡ record_named n base (read_line l) (lines_named (n + 1) (lines rest)) (behind_end (n + 1) (lines rest))
+line_named : (n : ℕ) (l rest : List ℕ) (base : Base) → AllByRecursion Plain l
+    → lines_named n (lines (l ++ 10 ∷ rest)) base ≡ record_named n base (read_line l) (lines_named (n + 1) (lines rest)) (behind_end (n + 1) (lines rest))
 line_named n l rest base h = ap (λ ls. lines_named n ls base) (line_again l rest h)
 
-data_named : (n at a : ℕ) (base : Base) (bytes rest : List ℕ) → at < 65536 → length bytes ≤ 16 → AllByRecursion IsByte bytes → ((i : ℕ) → 0 ≤ i → data_address base at i ≡ a + i) → lines_named n (lines (data_line at bytes ++ 10 ∷ rest)) base ≡ run_of a bytes ++ lines_named (n + 1) (lines rest) base
+data_named : (n at a : ℕ) (base : Base) (bytes rest : List ℕ) → at < 65536 → length bytes ≤ 16 → AllByRecursion IsByte bytes
+    → ((i : ℕ) → 0 ≤ i → data_address base at i ≡ a + i) → lines_named n (lines (data_line at bytes ++ 10 ∷ rest)) base ≡ run_of a bytes ++ lines_named
+    (n + 1) (lines rest) base
 data_named n at a base bytes rest h k b p =
     let here : a + 0 ≡ a = omega arith in
     line_named n (data_line at bytes) rest base (plain_line (length bytes ∷ at / 256 ∷ at % 256 ∷ 0 ∷ bytes) (data_bytes at bytes h k b))
@@ -154,11 +165,14 @@ Before at base = ((at ≤ 65536) × (base ≡ Unset)) ⊎ ((65536 < at) × (base
 At : ℕ → Base → Type 0
 At at base = ((at < 65536) × (base ≡ Unset)) ⊎ ((65536 ≤ at) × (base ≡ Linear 1))
 
-base_step : (n at : ℕ) (base : Base) (rest : List ℕ) → Before at base → (m : ℕ) × (new : Base) × (lines_named n (lines ((if at == 65536 then base_line ++ 10 ∷ [] else []) ++ rest)) base ≡ lines_named m (lines rest) new) × At at new
+base_step : (n at : ℕ) (base : Base) (rest : List ℕ) → Before at base → (m : ℕ) × (new : Base)
+    × (lines_named n (lines ((if at == 65536 then base_line ++ 10 ∷ [] else []) ++ rest)) base ≡ lines_named m (lines rest) new) × At at new
 unfolding Before At
 base_step n at base rest h = by_test (at == 65536) refl h
   where
-    by_test : (x : Bool) → (at == 65536) ≡ x → ((at ≤ 65536) × (base ≡ Unset)) ⊎ ((65536 < at) × (base ≡ Linear 1)) → (m : ℕ) × (new : Base) × (lines_named n (lines ((if x then base_line ++ 10 ∷ [] else []) ++ rest)) base ≡ lines_named m (lines rest) new) × (((at < 65536) × (new ≡ Unset)) ⊎ ((65536 ≤ at) × (new ≡ Linear 1)))
+    by_test : (x : Bool) → (at == 65536) ≡ x → ((at ≤ 65536) × (base ≡ Unset)) ⊎ ((65536 < at) × (base ≡ Linear 1))
+        → (m : ℕ) × (new : Base) × (lines_named n (lines ((if x then base_line ++ 10 ∷ [] else []) ++ rest)) base ≡ lines_named m (lines rest) new)
+        × (((at < 65536) × (new ≡ Unset)) ⊎ ((65536 ≤ at) × (new ≡ Linear 1)))
     by_test true e h = (n + 1, Linear 1, base_named n base rest, inr (grind (arith, e), refl))
     by_test false e (inl h) = (n, base, refl, inl (grind (arith, e, h), h.1))
     by_test false e (inr h) = (n, base, refl, inr (grind (arith, h), h.1))
@@ -181,7 +195,9 @@ run_halves (suc n) a (x ∷ l) =
     let e : a + suc n ≡ a + 1 + n = omega arith in
     ap (λ i. Byte a x ∷ (run_of (a + 1) (take n l) ++ run_of i (drop n l))) e ∙ ap (λ r. Byte a x ∷ r) (run_halves n (a + 1) l)
 
-records_again : (n line at : ℕ) (base : Base) (bytes tail : List ℕ) → n ≡ (length bytes + 15) / 16 → at + length bytes ≤ 131072 → at % 16 ≡ 0 → AllByRecursion IsByte bytes → Before at base → (m : ℕ) × (last : Base) × (lines_named line (lines (records n at bytes ++ tail)) base ≡ run_of at bytes ++ lines_named m (lines tail) last)
+records_again : (n line at : ℕ) (base : Base) (bytes tail : List ℕ) → n ≡ (length bytes + 15) / 16 → at + length bytes ≤ 131072 → at % 16 ≡ 0
+    → AllByRecursion IsByte bytes → Before at base → (m : ℕ) × (last : Base)
+    × (lines_named line (lines (records n at bytes ++ tail)) base ≡ run_of at bytes ++ lines_named m (lines tail) last)
 unfolding run_of
 records_again zero line at base [] tail e h m b p = (line, base, refl)
 records_again zero line at base (x ∷ bytes) tail e h m b p = absurd (omega (arith, e))
@@ -189,13 +205,17 @@ records_again (suc n) line at base bytes tail e h m b p =
     let rest = records n (at + 16) (drop 16 bytes) ++ tail in
     let s = base_step line at base (data_line (at % 65536) (take 16 bytes) ++ 10 ∷ rest) p in
     let ld = length-drop 16 bytes in
-    let r = records_again n (s.0 + 1) (at + 16) s.1 (drop 16 bytes) tail (fewer n (length bytes) (length (drop 16 bytes)) e ld) (omega (arith, e, h, ld, m)) (omega (arith, m)) (all_drop 16 bytes b) (next_base at s.1 m s.3) in
+    let r = records_again n (s.0 + 1) (at + 16) s.1 (drop 16 bytes) tail (fewer n (length bytes) (length (drop 16 bytes)) e ld) (omega (arith, e, h, ld, m))
+        (omega (arith, m)) (all_drop 16 bytes b) (next_base at s.1 m s.3) in
     let in_range : at < 131072 = omega (arith, e, h) in
-    let d = data_named s.0 (at % 65536) at s.1 (take 16 bytes) rest (omega arith) (short 16 bytes) (all_take 16 bytes b) (λ i le. place_of at s.1 in_range s.3 i) in (
+    let d = data_named s.0 (at % 65536) at s.1 (take 16 bytes) rest (omega arith) (short 16 bytes) (all_take 16 bytes b)
+        (λ i le. place_of at s.1 in_range s.3 i) in (
       r.0,
       r.1,
-      ap (λ l. lines_named line (lines l) base) (append_assoc (if at == 65536 then base_line ++ 10 ∷ [] else []) (data_line (at % 65536) (take 16 bytes) ++ 10 ∷ records n (at + 16) (drop 16 bytes)) tail)
-          ∙ ap (λ l. lines_named line (lines ((if at == 65536 then base_line ++ 10 ∷ [] else []) ++ l)) base) (append_assoc (data_line (at % 65536) (take 16 bytes)) (10 ∷ records n (at + 16) (drop 16 bytes)) tail)
+      ap (λ l. lines_named line (lines l) base) (append_assoc (if at == 65536 then base_line ++ 10 ∷ []
+          else []) (data_line (at % 65536) (take 16 bytes) ++ 10 ∷ records n (at + 16) (drop 16 bytes)) tail)
+          ∙ ap (λ l. lines_named line (lines ((if at == 65536 then base_line ++ 10 ∷ [] else []) ++ l)) base)
+              (append_assoc (data_line (at % 65536) (take 16 bytes)) (10 ∷ records n (at + 16) (drop 16 bytes)) tail)
           ∙ s.2 ∙ d
           ∙ ap (λ l. run_of at (take 16 bytes) ++ l) r.2
           ∙ sym (append_assoc (run_of at (take 16 bytes)) (run_of (at + 16) (drop 16 bytes)) (lines_named r.0 (lines tail) r.1))
@@ -240,12 +260,14 @@ le_self a = omega arith
 fine : (a : ℕ) (bs : List ℕ) (seen : List ℕ) → a + length bs ≤ 131072 → Clear a seen → first_fault seen (run_of a bs) ≡ None
 unfolding Clear run_of
 fine a [] seen h c = refl
-fine a (b ∷ bs) seen h c = pass (nat_le 131072 a) (is_among a seen) (in_range a h) (c a (le_self a)) (fine (a + 1) bs (a ∷ seen) (omega (arith, h)) (clear_more a seen c))
+fine a (b ∷ bs) seen h c = pass (nat_le 131072 a) (is_among a seen) (in_range a h) (c a (le_self a))
+    (fine (a + 1) bs (a ∷ seen) (omega (arith, h)) (clear_more a seen c))
   where
     in_range : (a : ℕ) → a + suc (length bs) ≤ 131072 → nat_le 131072 a ≡ false
     in_range a h = grind (arith, h)
 
-    pass : (x y : Bool) → x ≡ false → y ≡ false → first_fault (a ∷ seen) (run_of (a + 1) bs) ≡ None → (if x then Some (Beyond a) else if y then Some (Twice a) else first_fault (a ∷ seen) (run_of (a + 1) bs)) ≡ None
+    pass : (x y : Bool) → x ≡ false → y ≡ false → first_fault (a ∷ seen) (run_of (a + 1) bs) ≡ None
+        → (if x then Some (Beyond a) else if y then Some (Twice a) else first_fault (a ∷ seen) (run_of (a + 1) bs)) ≡ None
     pass true y e f g = absurd (false≢true (sym e))
     pass false true e f g = absurd (false≢true (sym f))
     pass false false e f g = g
@@ -285,7 +307,8 @@ one_image text a b h k =
     ext_get_or 0 a b l (λ i lt. h.bytes i lt ∙ sym (k.bytes i (subst (λ n. i < n) l lt)))
 
 -- a text that is the written one of an image is read as that image
-pub written_read : (text image bytes front start : List ℕ) → start ≡ [] → front ≡ start ++ records ((length bytes + 15) / 16) 0 bytes → text ≡ front ++ (end_line ++ 10 ∷ []) → bytes ≡ image → length image ≤ 131072 → AllByRecursion (λ b. b < 256) bytes → HexImage text image
+pub written_read : (text image bytes front start : List ℕ) → start ≡ [] → front ≡ start ++ records ((length bytes + 15) / 16) 0 bytes
+    → text ≡ front ++ (end_line ++ 10 ∷ []) → bytes ≡ image → length image ≤ 131072 → AllByRecursion (λ b. b < 256) bytes → HexImage text image
 written_read text image bytes front start s f e same h b =
     let whole : text ≡ hex_text bytes =
     e ∙ ap (λ l. l ++ (end_line ++ 10 ∷ [])) (f ∙ ap (λ l. l ++ records ((length bytes + 15) / 16) 0 bytes) s) in
@@ -317,7 +340,8 @@ length_records (suc n) at bytes =
     let e = length-take 16 bytes in
     omega (arith, h, a, b, c, d, e)
 
-pub written_short : (text bytes front start : List ℕ) → start ≡ [] → front ≡ start ++ records ((length bytes + 15) / 16) 0 bytes → text ≡ front ++ (end_line ++ 10 ∷ []) → length bytes ≤ 131072 → length text ≤ 1048576
+pub written_short : (text bytes front start : List ℕ) → start ≡ [] → front ≡ start ++ records ((length bytes + 15) / 16) 0 bytes
+    → text ≡ front ++ (end_line ++ 10 ∷ []) → length bytes ≤ 131072 → length text ≤ 1048576
 written_short text bytes front start s f e h =
     let all = records ((length bytes + 15) / 16) 0 bytes in
     let whole : text ≡ all ++ (end_line ++ 10 ∷ []) = e ∙ ap (λ l. l ++ (end_line ++ 10 ∷ [])) (f ∙ ap (λ l. l ++ all) s) in

@@ -1,5 +1,6 @@
 -- Slots: how they grow, and what the bytes that a text names make of them.
-use Rattle.std.proofs.Common.{◌≡◌, ℕ, zero, suc, ◌+◌, ◌-◌, ◌<◌, Bool, true, false, List, [], ◌∷◌, ◌++◌, length, length-append, max, Option, Some, None, refl, sym, ap, ◌∙◌, subst, arith, append_assoc, ◌==◌, get_or}
+use Rattle.std.proofs.Common.{◌≡◌, ℕ, zero, suc, ◌+◌, ◌-◌, ◌<◌, Bool, true, false, List, [], ◌∷◌, ◌++◌, length, length-append, max, Option, Some}
+use Rattle.std.proofs.Common.{None, refl, sym, ap, ◌∙◌, subst, arith, append_assoc, ◌==◌, get_or}
 use Rattle.std.specs.Prelude.{if◌then◌else◌, ◌||◌, nat_le, replicate}
 use Rattle.std.proofs.lemmas.Bool.{false≢true}
 use Rattle.std.proofs.lemmas.List.{get_or-set_same, get_or-set_other, length-set, length-replicate, length-map, nil_from_length}
@@ -12,11 +13,14 @@ use Rattle.vg_hex.specs.declared.reader.Step.{Step}
 use Rattle.vg_hex.specs.declared.reader.Step.TheVariants.{Goes, Ends}
 use Rattle.vg_lines.specs.Lines.{lines}
 use Rattle.vg_hex.specs.HexRecords.{read_line}
-use Rattle.vg_hex.specs.HexImage.{Named, Byte, Bad, bytes_named, record_named, lines_named, behind_end, named, is_among, first_fault, fault_in, byte_at, reach, HexImage}
-use Rattle.vg_hex.specs.Walk.{is_some, is_taken, padded, placed, fault_at, first_of, fault_behind, slots_behind, record_fault, record_bytes, base_behind, Leaves, byte_in, bytes_in}
+use Rattle.vg_hex.specs.HexImage.{Named, Byte, Bad, bytes_named, record_named, lines_named, behind_end, named, is_among, first_fault, fault_in}
+use Rattle.vg_hex.specs.HexImage.{byte_at, reach, HexImage}
+use Rattle.vg_hex.specs.Walk.{is_some, is_taken, padded, placed, fault_at, first_of, fault_behind, slots_behind, record_fault, record_bytes}
+use Rattle.vg_hex.specs.Walk.{base_behind, Leaves, byte_in, bytes_in}
 
 -- one empty slot more
-pub pad_more : (slots more : List (Option ℕ)) (n : ℕ) (all : List (Option ℕ)) → length slots < n → more ≡ slots ++ None ∷ [] → padded slots n ≡ all → padded more n ≡ all
+pub pad_more : (slots more : List (Option ℕ)) (n : ℕ) (all : List (Option ℕ)) → length slots < n → more ≡ slots ++ None ∷ [] → padded slots n ≡ all
+    → padded more n ≡ all
 pad_more slots more n all h e whole =
     let one : List (Option ℕ) = None ∷ [] in
     let len = length-append slots one in
@@ -64,7 +68,8 @@ taken_placed slots a v b = by_test (b == a) refl
     by_test false e = ap is_some (get_placed_other slots a v b (grind (arith, e)))
 
 -- the faults with slots are those of the definition
-pub same_fault : (slots : List (Option ℕ)) (seen : List ℕ) (es : List Named) → ((a : ℕ) → is_taken a slots ≡ is_among a seen) → fault_behind slots es ≡ first_fault seen es
+pub same_fault : (slots : List (Option ℕ)) (seen : List ℕ) (es : List Named) → ((a : ℕ) → is_taken a slots ≡ is_among a seen)
+    → fault_behind slots es ≡ first_fault seen es
 same_fault slots seen [] h = refl
 same_fault slots seen (Bad f ∷ es) h = refl
 same_fault slots seen (Byte a v ∷ es) h =
@@ -81,12 +86,15 @@ same_fault slots seen (Byte a v ∷ es) h =
     by_tests false false false e rest = rest
 
 -- records one behind another
-fault_append : (slots : List (Option ℕ)) (xs ys : List Named) → fault_behind slots (xs ++ ys) ≡ first_of (fault_behind slots xs) (fault_behind (slots_behind slots xs) ys)
+fault_append : (slots : List (Option ℕ)) (xs ys : List Named) → fault_behind slots (xs ++ ys) ≡ first_of (fault_behind slots xs)
+    (fault_behind (slots_behind slots xs) ys)
 fault_append slots [] ys = refl
 fault_append slots (Bad f ∷ xs) ys = refl
 fault_append slots (Byte a v ∷ xs) ys = by_fault (fault_at slots a) (fault_append (placed slots a v) xs ys)
   where
-    by_fault : (o : Option HexFault) → fault_behind (placed slots a v) (xs ++ ys) ≡ first_of (fault_behind (placed slots a v) xs) (fault_behind (slots_behind (placed slots a v) xs) ys) → first_of o (fault_behind (placed slots a v) (xs ++ ys)) ≡ first_of (first_of o (fault_behind (placed slots a v) xs)) (fault_behind (slots_behind (placed slots a v) xs) ys)
+    by_fault : (o : Option HexFault) → fault_behind (placed slots a v) (xs ++ ys) ≡ first_of (fault_behind (placed slots a v) xs)
+        (fault_behind (slots_behind (placed slots a v) xs) ys) → first_of o (fault_behind (placed slots a v) (xs ++ ys)) ≡ first_of
+        (first_of o (fault_behind (placed slots a v) xs)) (fault_behind (slots_behind (placed slots a v) xs) ys)
     by_fault (Some f) h = refl
     by_fault None h = h
 
@@ -95,7 +103,8 @@ slots_append slots [] ys = refl
 slots_append slots (Bad f ∷ xs) ys = slots_append slots xs ys
 slots_append slots (Byte a v ∷ xs) ys = slots_append (placed slots a v) xs ys
 
-goes_named : (n : ℕ) (base next : Base) (made : HexRecord) (rest : Base → List Named) (behind : List Named) → base_behind base made ≡ Some next → record_named n base made rest behind ≡ record_bytes base made ++ rest next
+goes_named : (n : ℕ) (base next : Base) (made : HexRecord) (rest : Base → List Named) (behind : List Named) → base_behind base made ≡ Some next
+    → record_named n base made rest behind ≡ record_bytes base made ++ rest next
 goes_named n base next Blank rest behind e = ap rest (cc)
 goes_named n base next (Data at bytes) rest behind e = ap (λ b. bytes_named base at 0 bytes ++ rest b) (cc)
 goes_named n base next (Based new) rest behind e = ap rest (cc)
@@ -104,7 +113,8 @@ goes_named n base next Passed rest behind e = ap rest (cc)
 goes_named n base next NoSum rest behind e = cc
 goes_named n base next NoForm rest behind e = cc
 
-pub goes_fault : (n : ℕ) (base next : Base) (made : HexRecord) (rest : Base → List Named) (behind : List Named) (old new : List (Option ℕ)) (step : Step) (all : Option HexFault)
+pub goes_fault : (n : ℕ) (base next : Base) (made : HexRecord) (rest : Base
+    → List Named) (behind : List Named) (old new : List (Option ℕ)) (step : Step) (all : Option HexFault)
     → Leaves base made old new step → step ≡ Goes next → fault_behind old (record_named n base made rest behind) ≡ all → fault_behind new (rest next) ≡ all
 goes_fault n base next made rest behind old new step all h e whole =
     let k : Leaves base made old new (Goes next) = subst (Leaves base made old new) e h in
@@ -114,7 +124,8 @@ goes_fault n base next made rest behind old new step all h e whole =
     ∙ ap (fault_behind old) (sym (goes_named n base next made rest behind k.0))
     ∙ whole
 
-pub goes_slots : (n : ℕ) (base next : Base) (made : HexRecord) (rest : Base → List Named) (behind : List Named) (old new : List (Option ℕ)) (step : Step) (all : List (Option ℕ))
+pub goes_slots : (n : ℕ) (base next : Base) (made : HexRecord) (rest : Base
+    → List Named) (behind : List Named) (old new : List (Option ℕ)) (step : Step) (all : List (Option ℕ))
     → Leaves base made old new step → step ≡ Goes next → slots_behind old (record_named n base made rest behind) ≡ all → slots_behind new (rest next) ≡ all
 goes_slots n base next made rest behind old new step all h e whole =
     let k : Leaves base made old new (Goes next) = subst (Leaves base made old new) e h in
@@ -124,10 +135,12 @@ goes_slots n base next made rest behind old new step all h e whole =
     ∙ whole
 
 -- a record with a fault is where the text has its first
-pub stops_fault : (n : ℕ) (base : Base) (made : HexRecord) (rest : Base → List Named) (behind : List Named) (old : List (Option ℕ)) (f : HexFault) (all : Option HexFault)
+pub stops_fault : (n : ℕ) (base : Base) (made : HexRecord) (rest : Base
+    → List Named) (behind : List Named) (old : List (Option ℕ)) (f : HexFault) (all : Option HexFault)
     → record_fault n old base made ≡ Some f → fault_behind old (record_named n base made rest behind) ≡ all → all ≡ Some f
 stops_fault n base (Data at bytes) rest behind old f all h whole =
-    sym whole ∙ fault_append old (bytes_named base at 0 bytes) (rest base) ∙ ap (λ o. first_of o (fault_behind (slots_behind old (bytes_named base at 0 bytes)) (rest base))) h
+    sym whole ∙ fault_append old (bytes_named base at 0 bytes) (rest base)
+        ∙ ap (λ o. first_of o (fault_behind (slots_behind old (bytes_named base at 0 bytes)) (rest base))) h
 stops_fault n base NoSum rest behind old f all h whole = sym whole ∙ h
 stops_fault n base NoForm rest behind old f all h whole = sym whole ∙ h
 stops_fault n base Blank rest behind old f all h whole = cc
@@ -157,7 +170,8 @@ free_at slots a rest h = by_tests (nat_le 131072 a) (is_taken a slots) h
     by_tests false true h = absurd (cc)
     by_tests false false h = (refl, h)
 
-byte_slots : (slots : List (Option ℕ)) (es : List Named) (b : ℕ) → fault_behind slots es ≡ None → byte_in (get_or (slots_behind slots es) b None) ≡ or_else (get_or slots b None) (byte_at b es)
+byte_slots : (slots : List (Option ℕ)) (es : List Named) (b : ℕ) → fault_behind slots es ≡ None
+    → byte_in (get_or (slots_behind slots es) b None) ≡ or_else (get_or slots b None) (byte_at b es)
 byte_slots slots [] b h = at_end (get_or slots b None)
   where
     at_end : (o : Option ℕ) → byte_in o ≡ or_else o 255
@@ -172,7 +186,8 @@ byte_slots slots (Byte a v ∷ es) b h =
     other_byte None x e = refl
     other_byte (Some w) x e = absurd (false≢true (sym e))
 
-    by_test : (t : Bool) → (b == a) ≡ t → is_taken a slots ≡ false → or_else (get_or (placed slots a v) b None) (byte_at b es) ≡ or_else (get_or slots b None) (if t then v else byte_at b es)
+    by_test : (t : Bool) → (b == a) ≡ t → is_taken a slots ≡ false → or_else (get_or (placed slots a v) b None) (byte_at b es) ≡ or_else
+        (get_or slots b None) (if t then v else byte_at b es)
     by_test true e free =
         let same : b ≡ a = grind (arith, e) in
         ap (λ i. or_else (get_or (placed slots a v) i None) (byte_at b es)) same
@@ -185,7 +200,8 @@ bytes_at [] b h = absurd (omega (arith, h))
 bytes_at (o ∷ slots) zero h = refl
 bytes_at (o ∷ slots) (suc b) h = bytes_at slots b (omega (arith, h))
 
-pub image_read : (text image : List ℕ) (slots : List (Option ℕ)) → fault_behind [] (named text) ≡ None → slots ≡ slots_behind [] (named text) → image ≡ bytes_in slots → HexImage text image
+pub image_read : (text image : List ℕ) (slots : List (Option ℕ)) → fault_behind [] (named text) ≡ None → slots ≡ slots_behind [] (named text)
+    → image ≡ bytes_in slots → HexImage text image
 image_read text image slots h e i =
     let nowhere : (a : ℕ) → is_taken a [] ≡ is_among a [] = λ a. refl in
     let r = reach_slots [] (named text) in
@@ -194,7 +210,8 @@ image_read text image slots h e i =
     record {
       faultless = sym (same_fault [] [] (named text) nowhere) ∙ h;
       whole = whole;
-      bytes = λ a lt. ap (λ bs. get_or bs a 0) i ∙ bytes_at slots a (subst (λ n. a < n) l lt) ∙ ap (λ s. byte_in (get_or s a None)) e ∙ byte_slots [] (named text) a h;
+      bytes = λ a lt. ap (λ bs. get_or bs a 0) i ∙ bytes_at slots a (subst (λ n. a < n) l lt) ∙ ap (λ s. byte_in (get_or s a None)) e
+          ∙ byte_slots [] (named text) a h;
     }
 
 pub fault_read : (text : List ℕ) (f : HexFault) → fault_behind [] (named text) ≡ Some f → fault_in text ≡ Some f
@@ -209,28 +226,36 @@ Left text rest n base slots =
     × (slots_behind slots (lines_named n (lines rest) base) ≡ slots_behind [] (named text))
 
 -- the first line taken apart
-first_fault_left : (text rest bytes behind : List ℕ) (n : ℕ) (base : Base) (slots : List (Option ℕ)) → lines rest ≡ bytes ∷ lines behind → Left text rest n base slots
-    → fault_behind slots (record_named n base (read_line bytes) (lines_named (n + 1) (lines behind)) (behind_end (n + 1) (lines behind))) ≡ fault_behind [] (named text)
+first_fault_left : (text rest bytes behind : List ℕ) (n : ℕ) (base : Base) (slots : List (Option ℕ)) → lines rest ≡ bytes ∷ lines behind
+    → Left text rest n base slots
+    → fault_behind slots (record_named n base (read_line bytes) (lines_named (n + 1) (lines behind)) (behind_end (n + 1) (lines behind))) ≡ fault_behind []
+        (named text)
 first_fault_left text rest bytes behind n base slots e left = ap (λ ls. fault_behind slots (lines_named n ls base)) (sym e) ∙ left.0
 
-first_slots_left : (text rest bytes behind : List ℕ) (n : ℕ) (base : Base) (slots : List (Option ℕ)) → lines rest ≡ bytes ∷ lines behind → Left text rest n base slots
-    → slots_behind slots (record_named n base (read_line bytes) (lines_named (n + 1) (lines behind)) (behind_end (n + 1) (lines behind))) ≡ slots_behind [] (named text)
+first_slots_left : (text rest bytes behind : List ℕ) (n : ℕ) (base : Base) (slots : List (Option ℕ)) → lines rest ≡ bytes ∷ lines behind
+    → Left text rest n base slots
+    → slots_behind slots (record_named n base (read_line bytes) (lines_named (n + 1) (lines behind)) (behind_end (n + 1) (lines behind))) ≡ slots_behind []
+        (named text)
 first_slots_left text rest bytes behind n base slots e left = ap (λ ls. slots_behind slots (lines_named n ls base)) (sym e) ∙ left.1
 
 pub line_goes : (text rest bytes behind : List ℕ) (n : ℕ) (base next : Base) (old new : List (Option ℕ)) (step : Step) → lines rest ≡ bytes ∷ lines behind
     → Leaves base (read_line bytes) old new step → step ≡ Goes next → Left text rest n base old → Left text behind (n + 1) next new
 line_goes text rest bytes behind n base next old new step e h s left = (
-  goes_fault n base next (read_line bytes) (lines_named (n + 1) (lines behind)) (behind_end (n + 1) (lines behind)) old new step (fault_behind [] (named text)) h s (first_fault_left text rest bytes behind n base old e left),
-  goes_slots n base next (read_line bytes) (lines_named (n + 1) (lines behind)) (behind_end (n + 1) (lines behind)) old new step (slots_behind [] (named text)) h s (first_slots_left text rest bytes behind n base old e left),
+  goes_fault n base next (read_line bytes) (lines_named (n + 1) (lines behind)) (behind_end (n + 1) (lines behind)) old new step
+      (fault_behind [] (named text)) h s (first_fault_left text rest bytes behind n base old e left),
+  goes_slots n base next (read_line bytes) (lines_named (n + 1) (lines behind)) (behind_end (n + 1) (lines behind)) old new step
+      (slots_behind [] (named text)) h s (first_slots_left text rest bytes behind n base old e left),
 )
 
 pub line_stops : (text rest bytes behind : List ℕ) (n : ℕ) (base : Base) (old : List (Option ℕ)) (f : HexFault) → lines rest ≡ bytes ∷ lines behind
     → record_fault n old base (read_line bytes) ≡ Some f → Left text rest n base old → fault_in text ≡ Some f
 line_stops text rest bytes behind n base old f e h left =
-    fault_read text f (stops_fault n base (read_line bytes) (lines_named (n + 1) (lines behind)) (behind_end (n + 1) (lines behind)) old f (fault_behind [] (named text)) h (first_fault_left text rest bytes behind n base old e left))
+    fault_read text f (stops_fault n base (read_line bytes) (lines_named (n + 1) (lines behind)) (behind_end (n + 1) (lines behind)) old f
+        (fault_behind [] (named text)) h (first_fault_left text rest bytes behind n base old e left))
 
 -- the end line
-ended : (text rest bytes behind : List ℕ) (n : ℕ) (base : Base) (old new : List (Option ℕ)) (step : Step) (last : List Named) → lines rest ≡ bytes ∷ lines behind
+ended : (text rest bytes behind : List ℕ) (n : ℕ) (base : Base) (old new : List (Option ℕ)) (step : Step) (last : List Named)
+    → lines rest ≡ bytes ∷ lines behind
     → Leaves base (read_line bytes) old new step → step ≡ Ends → behind_end (n + 1) (lines behind) ≡ last → Left text rest n base old
     → (fault_behind [] (named text) ≡ fault_behind old last) × (slots_behind [] (named text) ≡ slots_behind old last) × (new ≡ old)
 ended text rest bytes behind n base old new step last e h s b left =
@@ -242,17 +267,21 @@ ended text rest bytes behind n base old new step last e h s b left =
       k.1,
     )
 
-pub end_stops : (text rest bytes behind : List ℕ) (n : ℕ) (base : Base) (old new : List (Option ℕ)) (step : Step) (f : HexFault) → lines rest ≡ bytes ∷ lines behind
-    → Leaves base (read_line bytes) old new step → step ≡ Ends → behind_end (n + 1) (lines behind) ≡ Bad f ∷ [] → Left text rest n base old → fault_in text ≡ Some f
+pub end_stops : (text rest bytes behind : List ℕ) (n : ℕ) (base : Base) (old new : List (Option ℕ)) (step : Step) (f : HexFault)
+    → lines rest ≡ bytes ∷ lines behind
+    → Leaves base (read_line bytes) old new step → step ≡ Ends → behind_end (n + 1) (lines behind) ≡ Bad f ∷ [] → Left text rest n base old
+        → fault_in text ≡ Some f
 end_stops text rest bytes behind n base old new step f e h s b left =
     fault_read text f (ended text rest bytes behind n base old new step (Bad f ∷ []) e h s b left).0
 
 pub end_image : (text rest bytes behind image : List ℕ) (n : ℕ) (base : Base) (old new : List (Option ℕ)) (step : Step) → lines rest ≡ bytes ∷ lines behind
-    → Leaves base (read_line bytes) old new step → step ≡ Ends → behind_end (n + 1) (lines behind) ≡ [] → Left text rest n base old → image ≡ bytes_in new → HexImage text image
+    → Leaves base (read_line bytes) old new step → step ≡ Ends → behind_end (n + 1) (lines behind) ≡ [] → Left text rest n base old → image ≡ bytes_in new
+        → HexImage text image
 end_image text rest bytes behind image n base old new step e h s b left i =
     let k = ended text rest bytes behind n base old new step [] e h s b left in
     image_read text image new k.0 (k.2 ∙ sym k.1) i
 
-pub no_end : (text rest : List ℕ) (n : ℕ) (base : Base) (slots : List (Option ℕ)) (f : HexFault) → length rest ≡ 0 → NoEnd ≡ f → Left text rest n base slots → fault_in text ≡ Some f
+pub no_end : (text rest : List ℕ) (n : ℕ) (base : Base) (slots : List (Option ℕ)) (f : HexFault) → length rest ≡ 0 → NoEnd ≡ f → Left text rest n base slots
+    → fault_in text ≡ Some f
 no_end text rest n base slots f e g left =
     fault_read text f (sym left.0 ∙ ap (λ r. fault_behind slots (lines_named n (lines r) base)) (nil_from_length rest e) ∙ ap Some g)

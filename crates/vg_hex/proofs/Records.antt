@@ -8,7 +8,8 @@ use Rattle.vg_hex.specs.HexText.{data_line, base_line, records}
 abbrev base_due : ℕ → List ℕ
 base_due at = if at == 65536 then base_line ++ 10 ∷ [] else []
 
-records_next : (n m at : ℕ) (bytes : List ℕ) → n ≡ m + 1 → records n at bytes ≡ base_due at ++ (data_line (at % 65536) (take 16 bytes) ++ 10 ∷ records m (at + 16) (drop 16 bytes))
+records_next : (n m at : ℕ) (bytes : List ℕ) → n ≡ m + 1 → records n at bytes ≡ base_due at ++
+    (data_line (at % 65536) (take 16 bytes) ++ 10 ∷ records m (at + 16) (drop 16 bytes))
 records_next zero m at bytes e = absurd (omega arith)
 records_next (suc n) m at bytes e =
     let same : n ≡ m = omega arith in
@@ -23,7 +24,8 @@ next_record bytes text text1 text2 piece all count k lt e1 e2 p whole =
     let left : count - k ≡ count - (k + 1) + 1 = omega arith in
     let at : (k + 1) * 16 ≡ k * 16 + 16 = omega arith in
     let tail = records (count - (k + 1)) (k * 16 + 16) (drop 16 rest) in
-    let more = ap (λ a. records (count - (k + 1)) a (drop a bytes)) at ∙ ap (λ l. records (count - (k + 1)) (k * 16 + 16) l) (sym (drop-drop 16 (k * 16) bytes)) in
+    let more = ap (λ a. records (count - (k + 1)) a (drop a bytes)) at ∙ ap (λ l. records (count - (k + 1)) (k * 16 + 16) l)
+        (sym (drop-drop 16 (k * 16) bytes)) in
     let line = data_line (k * 16 % 65536) (take 16 rest) in
     let text_now : text2 ≡ text ++ base_due (k * 16) ++ (line ++ 10 ∷ []) =
     e2 ∙ ap (λ t. t ++ (data_line (k * 16 % 65536) piece ++ 10 ∷ [])) e1 ∙ ap (λ l. text ++ base_due (k * 16) ++ (data_line (k * 16 % 65536) l ++ 10 ∷ [])) p in

@@ -1,5 +1,6 @@
 -- The image that a HEX text spells, and its first fault.
-use Rattle.std.specs.Prelude.{ℕ, ◌+◌, ◌*◌, ◌%◌, ◌<◌, ◌≡◌, ◌==◌, ◌||◌, Bool, false, List, [], ◌∷◌, ◌++◌, length, nat_le, max, Option, Some, None, get_or, if◌then◌else◌}
+use Rattle.std.specs.Prelude.{ℕ, ◌+◌, ◌*◌, ◌%◌, ◌<◌, ◌≡◌, ◌==◌, ◌||◌, Bool, false, List, [], ◌∷◌, ◌++◌, length, nat_le, max, Option, Some, None}
+use Rattle.std.specs.Prelude.{get_or, if◌then◌else◌}
 use Rattle.vg_base.specs.Limits.{flash_bytes}
 use Rattle.vg_lines.specs.Lines.{lines}
 use Rattle.vg_hex.specs.declared.fault.HexFault.{HexFault}

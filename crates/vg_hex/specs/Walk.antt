@@ -1,5 +1,6 @@
 -- Mirrors of the code that reads a text: no public clause cites them.
-use Rattle.std.specs.Prelude.{ℕ, ◌+◌, ◌-◌, ◌≡◌, Bool, true, false, List, [], ◌∷◌, ◌++◌, length, replicate, slice_set, map, nat_le, Option, Some, None, get_or, if◌then◌else◌}
+use Rattle.std.specs.Prelude.{ℕ, ◌+◌, ◌-◌, ◌≡◌, Bool, true, false, List, [], ◌∷◌, ◌++◌, length, replicate, slice_set, map, nat_le, Option, Some, None}
+use Rattle.std.specs.Prelude.{get_or, if◌then◌else◌}
 use Rattle.vg_base.specs.Limits.{flash_bytes}
 use Rattle.vg_hex.specs.declared.fault.HexFault.{HexFault}
 use Rattle.vg_hex.specs.declared.fault.HexFault.TheVariants.{Form, Sum, Twice, Beyond}

@@ -1,5 +1,6 @@
 -- The first line of a text, by how far its LF is.
-use Rattle.std.proofs.Common.{◌≡◌, ℕ, suc, ◌+◌, ◌-◌, ◌<◌, ◌≤◌, Bool, true, false, List, [], ◌∷◌, length, take, drop, length-drop, refl, sym, ap, get_or, ◌∙◌, arith, ◌==◌}
+use Rattle.std.proofs.Common.{◌≡◌, ℕ, suc, ◌+◌, ◌-◌, ◌<◌, ◌≤◌, Bool, true, false, List, [], ◌∷◌, length, take, drop, length-drop, refl, sym, ap}
+use Rattle.std.proofs.Common.{get_or, ◌∙◌, arith, ◌==◌}
 use Rattle.std.proofs.lemmas.List.{drop_all, take_all}
 use Rattle.std.specs.Prelude.{if◌then◌else◌, ◌&&◌}
 use Rattle.std.proofs.lemmas.Bool.{false≢true}
@@ -17,7 +18,8 @@ one_more b c bs x y true rows n e lf other rest = at_lf y e
     here true e = refl
     here false e = refl
 
-    at_lf : (y : Bool) → (b == 13) ≡ y → (if y && true then rows else with_first b rows) ≡ without_cr (take (suc n) (b ∷ c ∷ bs)) ∷ lines (drop (suc n + 1) (b ∷ c ∷ bs))
+    at_lf : (y : Bool) → (b == 13) ≡ y → (if y && true then rows else with_first b rows) ≡ without_cr (take (suc n) (b ∷ c ∷ bs)) ∷ lines
+        (drop (suc n + 1) (b ∷ c ∷ bs))
     at_lf y e =
         let f = lf refl in
         ap (λ r. if y && true then r else with_first b r) f.0
@@ -43,12 +45,14 @@ pub lf_line : (text : List ℕ) → before_lf text < length text → lines text 
 lf_line [] h = absurd (omega (arith, h))
 lf_line (b ∷ []) h = alone (b == 10) h
   where
-    alone : (x : Bool) → (if x then 0 else 1) < 1 → (if x then [] ∷ [] else if (b == 13) && false then [] else with_first b []) ≡ without_cr (take (if x then 0 else 1) (b ∷ [])) ∷ lines (drop ((if x then 0 else 1) + 1) (b ∷ []))
+    alone : (x : Bool) → (if x then 0 else 1) < 1 → (if x then [] ∷ [] else if (b == 13) && false then []
+        else with_first b []) ≡ without_cr (take (if x then 0 else 1) (b ∷ [])) ∷ lines (drop ((if x then 0 else 1) + 1) (b ∷ []))
     alone true h = refl
     alone false h = absurd (omega (arith, h))
 lf_line (b ∷ c ∷ bs) h = by_test (b == 10) h (λ k. lf_line (c ∷ bs) k)
   where
-    at_lf : (z : Bool) → z ≡ true → ((if z then [] ∷ lines bs else if (c == 13) && begins_lf bs then lines bs else with_first c (lines bs)) ≡ [] ∷ lines bs) × ((if z then 0 else suc (before_lf bs)) ≡ 0)
+    at_lf : (z : Bool) → z ≡ true → ((if z then [] ∷ lines bs else if (c == 13) && begins_lf bs then lines bs else with_first c (lines bs)) ≡ [] ∷ lines bs)
+        × ((if z then 0 else suc (before_lf bs)) ≡ 0)
     at_lf true e = (refl, refl)
     at_lf false e = absurd (false≢true e)
 
@@ -57,10 +61,14 @@ lf_line (b ∷ c ∷ bs) h = by_test (b == 10) h (λ k. lf_line (c ∷ bs) k)
     behind false e = (before_lf bs, refl)
 
     by_test : (x : Bool) → (if x then 0 else suc (before_lf (c ∷ bs))) < suc (suc (length bs))
-        → (before_lf (c ∷ bs) < suc (length bs) → lines (c ∷ bs) ≡ without_cr (take (before_lf (c ∷ bs)) (c ∷ bs)) ∷ lines (drop (before_lf (c ∷ bs) + 1) (c ∷ bs)))
-        → (if x then [] ∷ lines (c ∷ bs) else if (b == 13) && (c == 10) then lines (c ∷ bs) else with_first b (lines (c ∷ bs))) ≡ without_cr (take (if x then 0 else suc (before_lf (c ∷ bs))) (b ∷ c ∷ bs)) ∷ lines (drop ((if x then 0 else suc (before_lf (c ∷ bs))) + 1) (b ∷ c ∷ bs))
+        → (before_lf (c ∷ bs) < suc (length bs) → lines (c ∷ bs) ≡ without_cr (take (before_lf (c ∷ bs)) (c ∷ bs)) ∷ lines
+            (drop (before_lf (c ∷ bs) + 1) (c ∷ bs)))
+        → (if x then [] ∷ lines (c ∷ bs) else if (b == 13) && (c == 10) then lines (c ∷ bs)
+            else with_first b (lines (c ∷ bs))) ≡ without_cr (take (if x then 0 else suc (before_lf (c ∷ bs))) (b ∷ c ∷ bs)) ∷ lines
+            (drop ((if x then 0 else suc (before_lf (c ∷ bs))) + 1) (b ∷ c ∷ bs))
     by_test true h go = refl
-    by_test false h go = one_more b c bs false (b == 13) (c == 10) (lines (c ∷ bs)) (before_lf (c ∷ bs)) refl (at_lf (c == 10)) (behind (c == 10)) (go (omega (arith, h)))
+    by_test false h go = one_more b c bs false (b == 13) (c == 10) (lines (c ∷ bs)) (before_lf (c ∷ bs)) refl (at_lf (c == 10)) (behind (c == 10))
+        (go (omega (arith, h)))
 
 no_lf : (text : List ℕ) → 0 < length text → length text ≤ before_lf text → lines text ≡ text ∷ []
 no_lf [] h k = absurd (omega (arith, h))
@@ -93,14 +101,16 @@ drop_taken : (text : List ℕ) (n : ℕ) → drop n text ≡ take (length text -
 drop_taken text n = sym (take_all (length text - n) (drop n text) (omega (arith, length-drop n text)))
 
 -- what the code makes of a text with an LF, and of one without
-pub ended_line : (text line : List ℕ) (n : ℕ) → n ≡ before_lf text → n < length text → line ≡ without_cr (take n text) → lines text ≡ line ∷ lines (take (length text - (n + 1)) (drop (n + 1) text))
+pub ended_line : (text line : List ℕ) (n : ℕ) → n ≡ before_lf text → n < length text → line ≡ without_cr (take n text)
+    → lines text ≡ line ∷ lines (take (length text - (n + 1)) (drop (n + 1) text))
 ended_line text line n e h l =
     let k : before_lf text < length text = omega (arith, e, h) in
     lf_line text k ∙ ap (λ m. without_cr (take m text) ∷ lines (drop (m + 1) text)) (sym e)
     ∙ ap (λ x. x ∷ lines (drop (n + 1) text)) (sym l)
     ∙ ap (λ x. line ∷ lines x) (drop_taken text (n + 1))
 
-pub last_line : (text : List ℕ) (n : ℕ) → 0 < length text → n ≡ before_lf text → length text ≤ n → lines text ≡ text ∷ lines (take (length text - n) (drop n text))
+pub last_line : (text : List ℕ) (n : ℕ) → 0 < length text → n ≡ before_lf text → length text ≤ n
+    → lines text ≡ text ∷ lines (take (length text - n) (drop n text))
 last_line text n h e k =
     no_lf text h (omega (arith, e, k)) ∙ ap (λ l. text ∷ lines l) (sym (drop_all n text k)) ∙ ap (λ x. text ∷ lines x) (drop_taken text n)
 
@@ -114,17 +124,20 @@ cr_dropped (b ∷ c ∷ l) = step (suc (suc (length l)) - 1) (suc (length l) - 1
     under true x y = refl
     under false x y = refl
 
-    step : (n m : ℕ) → n ≡ suc m → without_cr (c ∷ l) ≡ (if get_or (c ∷ l) m 0 == 13 then take m (c ∷ l) else c ∷ l) → b ∷ without_cr (c ∷ l) ≡ (if get_or (b ∷ c ∷ l) n 0 == 13 then take n (b ∷ c ∷ l) else b ∷ c ∷ l)
+    step : (n m : ℕ) → n ≡ suc m → without_cr (c ∷ l) ≡ (if get_or (c ∷ l) m 0 == 13 then take m (c ∷ l) else c ∷ l)
+        → b ∷ without_cr (c ∷ l) ≡ (if get_or (b ∷ c ∷ l) n 0 == 13 then take n (b ∷ c ∷ l) else b ∷ c ∷ l)
     step n m e h =
         ap (λ r. b ∷ r) h ∙ under (get_or (c ∷ l) m 0 == 13) (take m (c ∷ l)) (c ∷ l)
         ∙ ap (λ k. if get_or (b ∷ c ∷ l) k 0 == 13 then take k (b ∷ c ∷ l) else b ∷ c ∷ l) (sym e)
 
 pub ends_cr : (line : List ℕ) (n : ℕ) → n ≡ length line - 1 → get_or line n 0 ≡ 13 → take n line ≡ without_cr line
-ends_cr line n e h = sym (cr_dropped line ∙ ap (λ k. if get_or line k 0 == 13 then take k line else line) (sym e) ∙ ap (λ b. if b == 13 then take n line else line) h)
+ends_cr line n e h = sym (cr_dropped line ∙ ap (λ k. if get_or line k 0 == 13 then take k line else line) (sym e)
+    ∙ ap (λ b. if b == 13 then take n line else line) h)
 
 differs : (a b : ℕ) → (a ≡ b → ⊥) → (a == b) ≡ false
 differs a b h = grind (arith, h)
 
 pub ends_not_cr : (line : List ℕ) (n : ℕ) → n ≡ length line - 1 → (get_or line n 0 ≡ 13 → ⊥) → line ≡ without_cr line
 ends_not_cr line n e h =
-    sym (cr_dropped line ∙ ap (λ k. if get_or line k 0 == 13 then take k line else line) (sym e) ∙ ap (λ t. if t then take n line else line) (differs (get_or line n 0) 13 h))
+    sym (cr_dropped line ∙ ap (λ k. if get_or line k 0 == 13 then take k line else line) (sym e)
+        ∙ ap (λ t. if t then take n line else line) (differs (get_or line n 0) 13 h))

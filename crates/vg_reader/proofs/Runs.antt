@@ -1,5 +1,6 @@
 -- The steps of a parse make its values.
-use Rattle.std.proofs.Common.{◌≡◌, ℕ, suc, ◌-◌, Err, subst, List, [], ◌∷◌, ◌++◌, length, refl, sym, ap, ◌∙◌, arith, append_assoc, append-nil, length-append, take, drop}
+use Rattle.std.proofs.Common.{◌≡◌, ℕ, suc, ◌-◌, Err, subst, List, [], ◌∷◌, ◌++◌, length, refl, sym, ap, ◌∙◌, arith, append_assoc, append-nil}
+use Rattle.std.proofs.Common.{length-append, take, drop}
 use Rattle.std.proofs.Math.Seq.{take-append_seam, drop-append_seam}
 use Rattle.vg_base.specs.declared.refusal.Refusal.TheVariants.{Fault}
 use Rattle.vg_syntax.specs.declared.token.Token.{Token}

@@ -1,5 +1,6 @@
 -- Items one behind another, and the lines that hold them.
-use Rattle.std.proofs.Common.{◌≡◌, ℕ, suc, ◌-◌, ◌<◌, Bool, true, false, List, [], ◌∷◌, ◌++◌, length, length-drop, take, drop, Option, Some, None, refl, sym, ap, ◌∙◌, subst, arith, append_assoc, append-nil, ◌==◌}
+use Rattle.std.proofs.Common.{◌≡◌, ℕ, suc, ◌-◌, ◌<◌, Bool, true, false, List, [], ◌∷◌, ◌++◌, length, length-drop, take, drop, Option, Some, None}
+use Rattle.std.proofs.Common.{refl, sym, ap, ◌∙◌, subst, arith, append_assoc, append-nil, ◌==◌}
 use Rattle.std.specs.Prelude.{if◌then◌else◌}
 use Rattle.std.proofs.lemmas.List.{take_all}
 use Rattle.vg_script.specs.declared.reader.Taken.{Taken}
@@ -15,7 +16,8 @@ ByItem o all rest = ((o ≡ None) → all ≡ None) × ((item : Item) → o ≡ 
 by_width : (n : ℕ) (o : Option ℕ) (rest : ℕ → Option (List ℕ)) → ByItem (of_width n o) (in_front o (rest n)) rest
 unfolding ByItem
 by_width n None rest = ((λ e. refl), (λ item e. cc))
-by_width n (Some v) rest = ((λ e. cc), (λ item e. let i : record { value = v; width = n } ≡ item = cc in ap (λ (x : Item). in_front (Some x.value) (rest x.width)) i))
+by_width n (Some v) rest = ((λ e. cc), (λ item e. let i : record { value = v; width = n } ≡ item = cc
+    in ap (λ (x : Item). in_front (Some x.value) (rest x.width)) i))
 
 by_read : (items : List ℕ) → 0 < length items → ByItem (first_read items) (reads_in items) (λ n. reads_in (drop n items))
 unfolding ByItem
@@ -31,7 +33,9 @@ by_interrupt (a ∷ []) h = ((λ e. refl), (λ item e. cc))
 by_interrupt (a ∷ b ∷ []) h = by_width 2 (one_digit a b) (λ n. interrupts_in (drop n (a ∷ b ∷ [])))
 by_interrupt (a ∷ b ∷ c ∷ items) h = by_test (c == 32)
   where
-    by_test : (t : Bool) → ByItem (if t then of_width 2 (one_digit a b) else of_width 3 (two_digits a b c)) (if t then in_front (one_digit a b) (interrupts_in (c ∷ items)) else in_front (two_digits a b c) (interrupts_in items)) (λ n. interrupts_in (drop n (a ∷ b ∷ c ∷ items)))
+    by_test : (t : Bool) → ByItem (if t then of_width 2 (one_digit a b)
+        else of_width 3 (two_digits a b c)) (if t then in_front (one_digit a b) (interrupts_in (c ∷ items))
+        else in_front (two_digits a b c) (interrupts_in items)) (λ n. interrupts_in (drop n (a ∷ b ∷ c ∷ items)))
     by_test true = by_width 2 (one_digit a b) (λ n. interrupts_in (drop n (a ∷ b ∷ c ∷ items)))
     by_test false = by_width 3 (two_digits a b c) (λ n. interrupts_in (drop n (a ∷ b ∷ c ∷ items)))
 
@@ -45,11 +49,13 @@ nothing old new o all e whole =
     let k : None ≡ behind old all = sym (ap (behind new) e) ∙ whole in
     subst (λ x. Takes old new x Refused) (sym (none_some old all k)) tt
 
-pub no_read : (items rest old new : List ℕ) → 0 < length rest → first_read rest ≡ None → behind new (reads_in rest) ≡ behind old (reads_in items) → Takes old new (some (reads_in items)) Refused
+pub no_read : (items rest old new : List ℕ) → 0 < length rest → first_read rest ≡ None → behind new (reads_in rest) ≡ behind old (reads_in items)
+    → Takes old new (some (reads_in items)) Refused
 unfolding ByItem
 no_read items rest old new h e whole = nothing old new (reads_in rest) (reads_in items) ((by_read rest h).0 e) whole
 
-pub no_interrupt : (items rest old new : List ℕ) → 0 < length rest → first_interrupt rest ≡ None → behind new (interrupts_in rest) ≡ behind old (interrupts_in items) → Takes old new (some (interrupts_in items)) Refused
+pub no_interrupt : (items rest old new : List ℕ) → 0 < length rest → first_interrupt rest ≡ None
+    → behind new (interrupts_in rest) ≡ behind old (interrupts_in items) → Takes old new (some (interrupts_in items)) Refused
 unfolding ByItem
 no_interrupt items rest old new h e whole = nothing old new (interrupts_in rest) (interrupts_in items) ((by_interrupt rest h).0 e) whole
 
@@ -71,7 +77,8 @@ next_read rest new more item all h e m whole =
     ∙ ap (behind new) (sym ((by_read rest h).1 item e))
     ∙ whole
 
-pub next_interrupt : (rest new more : List ℕ) (item : Item) (all : Option (List ℕ)) → 0 < length rest → first_interrupt rest ≡ Some item → more ≡ new ++ item.value ∷ []
+pub next_interrupt : (rest new more : List ℕ) (item : Item) (all : Option (List ℕ)) → 0 < length rest → first_interrupt rest ≡ Some item
+    → more ≡ new ++ item.value ∷ []
     → behind new (interrupts_in rest) ≡ all → behind more (interrupts_in (take (length rest - item.width) (drop item.width rest))) ≡ all
 unfolding ByItem
 next_interrupt rest new more item all h e m whole =
@@ -109,7 +116,8 @@ all_taken old new (Some []) h e = absurd (h refl)
 all_taken old new (Some (v ∷ vs)) h e = let k : new ++ [] ≡ old ++ v ∷ vs = cc in sym (append-nil new) ∙ k
 
 -- a line of items
-pub takes_interrupts : (line : Line) (o : Option (List ℕ)) (old new reads : List ℕ) (taken : Taken) → line ≡ interrupts_line o → Takes old new o taken → TakesLine line reads reads old new taken
+pub takes_interrupts : (line : Line) (o : Option (List ℕ)) (old new reads : List ℕ) (taken : Taken) → line ≡ interrupts_line o → Takes old new o taken
+    → TakesLine line reads reads old new taken
 takes_interrupts line o old new reads taken e h = subst (λ l. TakesLine l reads reads old new taken) (sym e) (by_cases o taken h)
   where
     by_cases : (o : Option (List ℕ)) (taken : Taken) → Takes old new o taken → TakesLine (interrupts_line o) reads reads old new taken
@@ -126,10 +134,12 @@ pub emptied : (l : List ℕ) (t : Bool) → t ≡ (length l == 0) → t ≡ true
 emptied [] t e f = refl
 emptied (b ∷ l) t e f = let g : (suc (length l) == 0) ≡ true = sym e ∙ f in absurd (grind (arith, g))
 
-pub all_reads : (items rest old new : List ℕ) → 0 < length items → rest ≡ [] → behind new (reads_in rest) ≡ behind old (reads_in items) → Takes old new (some (reads_in items)) Good
+pub all_reads : (items rest old new : List ℕ) → 0 < length items → rest ≡ [] → behind new (reads_in rest) ≡ behind old (reads_in items)
+    → Takes old new (some (reads_in items)) Good
 all_reads items rest old new h e whole =
     all_taken old new (reads_in items) (some_reads items h) (ap (λ r. behind new (reads_in r)) (sym e) ∙ whole)
 
-pub all_interrupts : (items rest old new : List ℕ) → 0 < length items → rest ≡ [] → behind new (interrupts_in rest) ≡ behind old (interrupts_in items) → Takes old new (some (interrupts_in items)) Good
+pub all_interrupts : (items rest old new : List ℕ) → 0 < length items → rest ≡ [] → behind new (interrupts_in rest) ≡ behind old (interrupts_in items)
+    → Takes old new (some (interrupts_in items)) Good
 all_interrupts items rest old new h e whole =
     all_taken old new (interrupts_in items) (some_interrupts items h) (ap (λ r. behind new (interrupts_in r)) (sym e) ∙ whole)

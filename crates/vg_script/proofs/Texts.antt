@@ -1,16 +1,19 @@
 -- A script line by line.
-use Rattle.std.proofs.Common.{◌≡◌, ℕ, ◌+◌, ◌-◌, ◌*◌, ◌≤◌, Bool, true, false, List, [], ◌∷◌, ◌++◌, length, Option, Some, None, refl, sym, ap, ◌∙◌, subst, arith, append_assoc, append-nil, ◌==◌}
+use Rattle.std.proofs.Common.{◌≡◌, ℕ, ◌+◌, ◌-◌, ◌*◌, ◌≤◌, Bool, true, false, List, [], ◌∷◌, ◌++◌, length, Option, Some, None, refl, sym, ap, ◌∙◌}
+use Rattle.std.proofs.Common.{subst, arith, append_assoc, append-nil, ◌==◌}
 use Rattle.std.specs.Prelude.{if◌then◌else◌, ◌&&◌, nat_le}
 use Rattle.std.specs.List.{flat_map}
 use Rattle.vg_meaning.specs.Outside.{IsVector, AreVectors}
 use Rattle.vg_lines.specs.Lines.{lines}
 use Rattle.vg_script.specs.declared.reader.Taken.{Taken}
 use Rattle.vg_script.specs.declared.reader.Taken.TheVariants.{Good, Bad as Refused}
-use Rattle.vg_script.specs.Script.{in_front, Line, Passed, Reads, Interrupts, Bad, one_digit, two_digits, interrupts_in, some, reads_line, interrupts_line, line_of, reads_of, interrupts_of, or_behind, bad_line, first_bad}
+use Rattle.vg_script.specs.Script.{in_front, Line, Passed, Reads, Interrupts, Bad, one_digit, two_digits, interrupts_in, some, reads_line}
+use Rattle.vg_script.specs.Script.{interrupts_line, line_of, reads_of, interrupts_of, or_behind, bad_line, first_bad}
 use Rattle.vg_script.specs.Walk.{TakesLine}
 
 -- a good line
-pub good_line : (n : ℕ) (line : Line) (rest : Option ℕ) (r r' i i' : List ℕ) → TakesLine line r r' i i' Good → (or_behind n line rest ≡ rest) × (r' ≡ r ++ reads_of line) × (i' ≡ i ++ interrupts_of line)
+pub good_line : (n : ℕ) (line : Line) (rest : Option ℕ) (r r' i i' : List ℕ) → TakesLine line r r' i i' Good
+    → (or_behind n line rest ≡ rest) × (r' ≡ r ++ reads_of line) × (i' ≡ i ++ interrupts_of line)
 good_line n Passed rest r r' i i' h = (refl, h.0 ∙ sym (append-nil r), h.1 ∙ sym (append-nil i))
 good_line n (Reads vs) rest r r' i i' h = (refl, h.0, h.1 ∙ sym (append-nil i))
 good_line n (Interrupts vs) rest r r' i i' h = (refl, h.0 ∙ sym (append-nil r), h.1)
@@ -24,7 +27,8 @@ bad_is n (Interrupts vs) rest r r' i i' h = absurd h
 bad_is n Bad rest r r' i i' h = refl
 
 -- the lists so far, and the rest
-pub goes_on : (text rest bytes behind : List ℕ) (n : ℕ) (r r' i i' : List ℕ) (taken : Taken) → lines rest ≡ bytes ∷ lines behind → TakesLine (line_of bytes) r r' i i' taken → taken ≡ Good
+pub goes_on : (text rest bytes behind : List ℕ) (n : ℕ) (r r' i i' : List ℕ) (taken : Taken) → lines rest ≡ bytes ∷ lines behind
+    → TakesLine (line_of bytes) r r' i i' taken → taken ≡ Good
     → bad_line n (lines rest) ≡ first_bad text
     → r ++ flat_map (λ x. reads_of (line_of x)) (lines rest) ≡ flat_map (λ x. reads_of (line_of x)) (lines text)
     → i ++ flat_map (λ x. interrupts_of (line_of x)) (lines rest) ≡ flat_map (λ x. interrupts_of (line_of x)) (lines text)
@@ -42,7 +46,8 @@ goes_on text rest bytes behind n r r' i i' taken e h g bad reads interrupts =
           ∙ ap (λ ls. i ++ flat_map (λ x. interrupts_of (line_of x)) ls) (sym e) ∙ interrupts,
     )
 
-pub stops : (text rest bytes behind : List ℕ) (n : ℕ) (r r' i i' : List ℕ) (taken : Taken) → lines rest ≡ bytes ∷ lines behind → TakesLine (line_of bytes) r r' i i' taken → taken ≡ Refused
+pub stops : (text rest bytes behind : List ℕ) (n : ℕ) (r r' i i' : List ℕ) (taken : Taken) → lines rest ≡ bytes ∷ lines behind
+    → TakesLine (line_of bytes) r r' i i' taken → taken ≡ Refused
     → bad_line n (lines rest) ≡ first_bad text → first_bad text ≡ Some n
 stops text rest bytes behind n r r' i i' taken e h g bad =
     sym bad ∙ ap (bad_line n) e ∙ bad_is n (line_of bytes) (bad_line (n + 1) (lines behind)) r r' i i' (subst (TakesLine (line_of bytes) r r' i i') g h)
@@ -68,7 +73,9 @@ one_vector space first k e = by_tests (space == 32) (nat_le 49 first) (nat_le fi
     by_tests false y z g h e = cc
 
 two_vector : (space first second k : ℕ) → two_digits space first second ≡ Some k → IsVector k
-two_vector space first second k e = by_tests ((space == 32) && nat_le 49 first && nat_le first 57 && nat_le 48 second && nat_le second 57) (nat_le ((first - 48) * 10 + (second - 48)) 34) (nat_le 49 first) refl (front (space == 32) (nat_le 49 first) (nat_le first 57) (nat_le 48 second) (nat_le second 57)) refl e
+two_vector space first second k e = by_tests ((space == 32) && nat_le 49 first && nat_le first 57 && nat_le 48 second && nat_le second 57)
+    (nat_le ((first - 48) * 10 + (second - 48)) 34) (nat_le 49 first) refl
+    (front (space == 32) (nat_le 49 first) (nat_le first 57) (nat_le 48 second) (nat_le second 57)) refl e
   where
     front : (a b c d f : Bool) → (a && b && c && d && f) ≡ true → b ≡ true
     front true true c d f h = refl
@@ -91,7 +98,8 @@ two_vector space first second k e = by_tests ((space == 32) && nat_le 49 first &
     by_tests true false z g h i e = cc
     by_tests false y z g h i e = cc
 
-all_front : (o : Option ℕ) (p : Option (List ℕ)) (ks : List ℕ) → ((k : ℕ) → o ≡ Some k → IsVector k) → ((js : List ℕ) → p ≡ Some js → AreVectors js) → in_front o p ≡ Some ks → AreVectors ks
+all_front : (o : Option ℕ) (p : Option (List ℕ)) (ks : List ℕ) → ((k : ℕ) → o ≡ Some k → IsVector k) → ((js : List ℕ) → p ≡ Some js → AreVectors js)
+    → in_front o p ≡ Some ks → AreVectors ks
 all_front None p ks f g e = cc
 all_front (Some k) None ks f g e = cc
 all_front (Some k) (Some js) ks f g e = let i : k ∷ js ≡ ks = cc in subst AreVectors i (f k refl, g js refl)
@@ -102,7 +110,9 @@ are_vectors (a ∷ []) ks e = cc
 are_vectors (a ∷ b ∷ []) ks e = all_front (one_digit a b) (Some []) ks (one_vector a b) (λ js f. let i : [] ≡ js = cc in subst AreVectors i tt) e
 are_vectors (a ∷ b ∷ c ∷ items) ks e = by_test (c == 32) (λ js f. are_vectors (c ∷ items) js f) (λ js f. are_vectors items js f) e
   where
-    by_test : (t : Bool) → ((js : List ℕ) → interrupts_in (c ∷ items) ≡ Some js → AreVectors js) → ((js : List ℕ) → interrupts_in items ≡ Some js → AreVectors js) → (if t then in_front (one_digit a b) (interrupts_in (c ∷ items)) else in_front (two_digits a b c) (interrupts_in items)) ≡ Some ks → AreVectors ks
+    by_test : (t : Bool) → ((js : List ℕ) → interrupts_in (c ∷ items) ≡ Some js → AreVectors js)
+        → ((js : List ℕ) → interrupts_in items ≡ Some js → AreVectors js)
+        → (if t then in_front (one_digit a b) (interrupts_in (c ∷ items)) else in_front (two_digits a b c) (interrupts_in items)) ≡ Some ks → AreVectors ks
     by_test true f g e = all_front (one_digit a b) (interrupts_in (c ∷ items)) ks (one_vector a b) f e
     by_test false f g e = all_front (two_digits a b c) (interrupts_in items) ks (two_vector a b c) g e
 
@@ -119,7 +129,9 @@ line_vectors (c ∷ items) = by_tests (c == 35) (c == 114) (c == 105) (interrupt
     these (Some []) f = tt
     these (Some (k ∷ ks)) f = f (k ∷ ks) refl
 
-    by_tests : (x y z : Bool) (o : Option (List ℕ)) → ((ks : List ℕ) → o ≡ Some ks → AreVectors ks) → AreVectors (interrupts_of (if x then Passed else if y then reads_line (some (Rattle.vg_script.specs.Script.reads_in items)) else if z then interrupts_line (some o) else Bad))
+    by_tests : (x y z : Bool) (o : Option (List ℕ)) → ((ks : List ℕ) → o ≡ Some ks → AreVectors ks)
+        → AreVectors (interrupts_of (if x then Passed else if y then reads_line (some (Rattle.vg_script.specs.Script.reads_in items))
+        else if z then interrupts_line (some o) else Bad))
     by_tests true y z o f = tt
     by_tests false true z o f = reads_none (some (Rattle.vg_script.specs.Script.reads_in items))
     by_tests false false true o f = these o f
@@ -133,6 +145,7 @@ text_vectors : (ls : List (List ℕ)) → AreVectors (flat_map (λ x. interrupts
 text_vectors [] = tt
 text_vectors (l ∷ ls) = all_append (interrupts_of (line_of l)) (flat_map (λ x. interrupts_of (line_of x)) ls) (line_vectors l) (text_vectors ls)
 
-pub read_vectors : (text rest interrupts : List ℕ) → length rest ≡ 0 → interrupts ++ flat_map (λ x. interrupts_of (line_of x)) (lines rest) ≡ flat_map (λ x. interrupts_of (line_of x)) (lines text) → AreVectors interrupts
+pub read_vectors : (text rest interrupts : List ℕ) → length rest ≡ 0 → interrupts ++ flat_map (λ x. interrupts_of (line_of x)) (lines rest) ≡ flat_map
+    (λ x. interrupts_of (line_of x)) (lines text) → AreVectors interrupts
 read_vectors text [] interrupts h e = subst AreVectors (sym e ∙ append-nil interrupts) (text_vectors (lines text))
 read_vectors text (b ∷ rest) interrupts h e = absurd (omega (arith, h))

@@ -45,7 +45,8 @@ pub fn simulate_text<O: Sink>(
 ) -> Simulated
     requires hex { length hex.now ≤ image_text_limit }
     requires script { length script.now ≤ image_text_limit }
-    ensures ended { (end : Option MachineEnd) → result ≡ Simulated.Ended end → ForRun hex.now script.now budget (λ m. (end ≡ m.ended) × AppendsAll (O.told out.old) (O.told out.new) (lines_of m)) }
+    ensures ended { (end : Option MachineEnd) → result ≡ Simulated.Ended end
+        → ForRun hex.now script.now budget (λ m. (end ≡ m.ended) × AppendsAll (O.told out.old) (O.told out.new) (lines_of m)) }
     ensures write_fault { result ≡ Simulated.WriteFault → ForRun hex.now script.now budget (λ m. AppendsFront (O.told out.old) (O.told out.new) (lines_of m)) }
     ensures cause { result ≡ Simulated.WriteFault → Rose (O.faults out.old) (O.faults out.new) }
     ensures hex_refused { (fault : HexFault) → result ≡ Simulated.HexRefused fault → fault_in hex.now ≡ Some fault }
@@ -81,7 +82,8 @@ fn put_run<O: Sink>(
 ) -> Result<Option<MachineEnd>, Failed>
     ensures ended { IfOk result (λ end. end ≡ (simulated started script.now.reads script.now.interrupts budget).ended) }
     ensures lines { OnOk result (AppendsAll (O.told out.old) (O.told out.new) (lines_of (simulated started script.now.reads script.now.interrupts budget))) }
-    ensures failed { OnErr result (AppendsFront (O.told out.old) (O.told out.new) (lines_of (simulated started script.now.reads script.now.interrupts budget))) }
+    ensures failed { OnErr result (AppendsFront (O.told out.old) (O.told out.new)
+        (lines_of (simulated started script.now.reads script.now.interrupts budget))) }
     ensures cause { OnErr result (Rose (O.faults out.old) (O.faults out.new)) }
     ensures later { O.faults out.old ≤ O.faults out.new }
 {

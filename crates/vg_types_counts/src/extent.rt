@@ -19,6 +19,14 @@ pub(crate) struct Extent {
     pub height: u32,
 }
 
+/// How many nodes there are at and below a node, or in a row.
+pub fn count_nodes(node: &Node) -> u32
+    requires { count_nodes (node_at [] node.now) < 2 ^ 32 }
+    ensures { (texts : List (List ℕ)) → result ≡ count_nodes (node_at texts node.now) }
+{
+    measure(node).nodes
+}
+
 /// What is measured of a node and all below it, or of a row.
 #[cycle(measure)]
 pub(crate) fn measure(node: &Node) -> Extent

@@ -6,6 +6,7 @@ mod extent;
 mod refused;
 mod tally;
 
+pub use extent::count_nodes;
 pub use refused::{
     CLASS_LIMIT, HEIGHT_LIMIT, LOCAL_LIMIT, METHOD_LIMIT, TooMany, limit_of, too_many,
 };

@@ -15,11 +15,13 @@ returns-then-is_some-clause-trace g c =
 
 pub returns-in_err-put_pending-clause-failed : goal.returns-in_err-put_pending-clause-failed
 returns-in_err-put_pending-clause-failed g c =
-    let h = follow_fails _ c.args.budget c.loop-step._step _ _ c.step.new.self c.take_event.result _ _ _ c.loop-step-test.true c.loop-step.invariant.0 c.step.ensures c.take_event.ensures.event c.in_err-put_pending.ensures.failed in
+    let h = follow_fails _ c.args.budget c.loop-step._step _ _ c.step.new.self c.take_event.result _ _ _ c.loop-step-test.true c.loop-step.invariant.0
+        c.step.ensures c.take_event.ensures.event c.in_err-put_pending.ensures.failed in
     search rules
 
 pub loop-step-preserved : goal.loop-step-preserved
 loop-step-preserved g c = (
-  follow_on _ c.args.budget c.loop-step._step _ _ c.step.new.self _ c.take_event.result _ _ _ c.loop-step-test.true c.loop-step.invariant.0 c.step.ensures c.take_event.ensures.event c.take_event.ensures.rest c.in_ok-put_pending.ensures.ok,
+  follow_on _ c.args.budget c.loop-step._step _ _ c.step.new.self _ c.take_event.result _ _ _ c.loop-step-test.true c.loop-step.invariant.0 c.step.ensures
+      c.take_event.ensures.event c.take_event.ensures.rest c.in_ok-put_pending.ensures.ok,
   search rules,
 )

@@ -1,0 +1,12 @@
+pub mod Tables
+pub mod Program
+pub mod HeldProgram
+pub mod Operators
+pub mod Heap
+pub mod State
+pub mod Meaning
+pub mod Session
+pub mod Types
+pub mod Typing
+pub mod Naming
+pub mod Members

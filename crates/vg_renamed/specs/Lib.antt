@@ -1,0 +1,3 @@
+pub mod IsNamed
+pub mod Stands
+pub mod NamesTell

@@ -1,0 +1,7 @@
+pub mod Values
+pub mod Cells
+pub mod Pieces
+pub mod Computing
+pub mod Steps
+pub mod Calls
+pub mod Runs

@@ -1,0 +1,4 @@
+pub mod Writing
+pub mod StoreToNull
+pub mod Dispatch
+pub mod Arrays
