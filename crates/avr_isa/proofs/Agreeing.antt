@@ -20,8 +20,10 @@ pub above_floor : (session : (reads interrupts : List ℕ) → ℕ → Seen) (fl
     → (memory : PowerOn) (reads interrupts : List ℕ) (clock : ℕ) → IsPowerOn memory → AreReads reads → AreVectors interrupts
     → Follows (machine flash memory reads interrupts) clock floor (session reads interrupts clock).ending (session reads interrupts clock).trace
 above_floor session flash floor stack a n memory reads interrupts clock p r v =
-    elim (a.each memory reads interrupts clock p r v) [ inl follows ↦ follows
-        | inr deep ↦ absurd (omega (arith, deep.1.reached, n.each memory reads interrupts (suc deep.1.k) p r v)) ]
+    elim (a.each memory reads interrupts clock p r v) [
+      | inl follows ↦ follows
+      | inr deep ↦ absurd (omega (arith, deep.1.reached, n.each memory reads interrupts (suc deep.1.k) p r v))
+    ]
 
 -- 0xA5 everywhere
 all_marks : (n : ℕ) → AllByRecursion (λ b. b < 256) (replicate n 0xA5)

@@ -35,7 +35,7 @@ pub ldi_leads : (flash : List ℕ) (cpu : CpuState) (o : Outside) (l d k : ℕ) 
     → Leads flash (going_on cpu o l) (going_on (record cpu { registers = slice_set cpu.registers d k; pc = cpu.pc + 1 }) o l)
 ldi_leads flash cpu o l d k at room =
     change_leads flash cpu o l (Ldi d k) _ _ at (ap (λ n. going (record cpu { registers = slice_set cpu.registers d k; pc = n }))
-        (forward-below 1 cpu.pc room)) refl
+    (forward-below 1 cpu.pc room)) refl
 
 stored_device : (old made : CpuState) (a v : ℕ) → 0x20 ≤ a → a < 0x100 → a ≢ 0x5B → a ≢ 0x5D → a ≢ 0x5E → a ≢ 0x5F
     → stored old made a v ≡ record { cpu = made; effect = WriteDevice a v }
@@ -52,7 +52,7 @@ out_device_leads flash cpu o l a r at dev room =
     let next : CpuState = record cpu { pc = cpu.pc + 1 } in
     change_leads flash cpu o l (Out a r) (record { cpu = next; effect = WriteDevice (a + 0x20) v }) _ at
     (ap (λ n. stored cpu (record cpu { pc = n }) (a + 0x20) v) (forward-below 1 cpu.pc room)
-        ∙ stored_device cpu next (a + 0x20) v dev.from dev.below dev.no_rampz dev.no_spl dev.no_sph dev.no_sreg)
+    ∙ stored_device cpu next (a + 0x20) v dev.from dev.below dev.no_rampz dev.no_spl dev.no_sph dev.no_sreg)
     (ap (λ n. going_on next (with_event o (Write (a + 0x20) v)) n) (lowest_other (a + 0x20) cpu.sp l dev.no_spl))
 
 -- STS to a device register
@@ -63,7 +63,7 @@ sts_device_leads flash cpu o l a r at dev room =
     let next : CpuState = record cpu { pc = cpu.pc + 2 } in
     change_leads flash cpu o l (Sts a r) (record { cpu = next; effect = WriteDevice a v }) _ at
     (ap (λ n. stored cpu (record cpu { pc = n }) a v) (forward-below 2 cpu.pc room)
-        ∙ stored_device cpu next a v dev.from dev.below dev.no_rampz dev.no_spl dev.no_sph dev.no_sreg)
+    ∙ stored_device cpu next a v dev.from dev.below dev.no_rampz dev.no_spl dev.no_sph dev.no_sreg)
     (ap (λ n. going_on next (with_event o (Write a v)) n) (lowest_other a cpu.sp l dev.no_spl))
 
 -- OUT to SPH

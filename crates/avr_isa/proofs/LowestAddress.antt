@@ -33,7 +33,7 @@ by_step flash s i going here k = subst (KeepsBelow s) (sym (steps flash s i goin
 -- PUSH
 byte_keeps : (s : State) (word value pc : ℕ) (b : Bool)
     → (let made : Change = if b then going (record s.cpu { sram = slice_set s.cpu.sram (s.cpu.sp - 0x100) value; sp = s.cpu.sp - 1; pc = pc })
-        else staying s.cpu Forbidden in
+    else staying s.cpu Forbidden in
     KeepsBelow s (done made.effect word (record s { cpu = made.cpu; lowest = min s.lowest s.cpu.sp })))
 byte_keeps s word value pc true a from below =
     let apart : a - 0x100 ≢ s.cpu.sp - 0x100 = λ h. omega arith in
@@ -120,8 +120,12 @@ written : (flash : List ℕ) (i : Instr) (cpu : CpuState) → WritesSpl i cpu �
 written flash (Out a r) cpu h = record { new = _; changes = ap (λ x. stored cpu (moved 1 cpu) x (register_of cpu r)) h; stores = ap Stores h }
 written flash (StX r) cpu h = record { new = _; changes = ap (λ x. stored cpu (moved 1 cpu) x (register_of cpu r)) h; stores = ap Stores h }
 written flash (StXPlus r) cpu h = record { new = _; changes = ap (λ x. then_next 26 (stored cpu (moved 1 cpu) x (register_of cpu r))) h; stores = ap Stores h }
-written flash (StMinusX r) cpu h = record { new = _; changes = ap (λ x. stored cpu (with_pair (moved 1 cpu) 26 x) x
-    (register_of cpu r)) h; stores = ap Stores h }
+written flash (StMinusX r) cpu h = record {
+  new = _;
+  changes = ap (λ x. stored cpu (with_pair (moved 1 cpu) 26 x) x
+      (register_of cpu r)) h;
+  stores = ap Stores h;
+}
 written flash (Std b q r) cpu h = record { new = _; changes = ap (λ x. stored cpu (moved 1 cpu) x (register_of cpu r)) h; stores = ap Stores h }
 written flash (Sts k r) cpu h = record { new = _; changes = ap (λ x. stored cpu (moved 2 cpu) x (register_of cpu r)) h; stores = ap Stores h }
 written flash _ cpu h = absurd h

@@ -31,8 +31,14 @@ leads_on flash s t u first second =
 pub one_leads : (flash : List ℕ) (cpu : CpuState) (o : Outside) (l : ℕ) (i : Instr) (t : State) → StandsAt flash cpu.pc i
     → performed flash (Some i) (word_here flash cpu) (going_on cpu o l) ≡ t → Leads flash (going_on cpu o l) t
 one_leads flash cpu o l i t at e =
-    record { by = λ k. (suc k, omega arith, ap (λ d. run_from flash k (performed flash d (word_here flash cpu) (going_on cpu o l))) at
-        ∙ ap (run_from flash k) e) }
+    record {
+      by = λ k. (
+        suc k,
+        omega arith,
+        ap (λ d. run_from flash k (performed flash d (word_here flash cpu) (going_on cpu o l))) at
+            ∙ ap (run_from flash k) e,
+      );
+    }
 
 -- the history of the stack never rises
 push_below : (sp lowest : ℕ) → lowest_by_push_two sp lowest ≤ lowest
@@ -79,7 +85,7 @@ performed_below flash None word s = omega arith
 performed_below flash (Some i) word s =
     let made = change flash i s.cpu in
     done_below made.effect word (record s { cpu = made.cpu; lowest = lowest_behind i s.cpu made.cpu s.lowest }) s.lowest
-        (behind_below i s.cpu made.cpu s.lowest)
+    (behind_below i s.cpu made.cpu s.lowest)
 
 next_below : (o : Option MachineEnd) (flash : List ℕ) (s : State) → (next_by o flash s).lowest ≤ s.lowest
 next_below (Some e) flash s = omega arith

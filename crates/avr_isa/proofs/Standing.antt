@@ -19,7 +19,7 @@ byte_behind : (front : List ℕ) (x : ℕ) (rest : List ℕ) (at : ℕ) → leng
 byte_behind front x rest at e =
     let inside : length front < length (front ++ x ∷ rest) = omega (arith, length-append front (x ∷ rest)) in
     let here : slice_get (front ++ x ∷ rest) (length front) ≡ Some x = slice_get-get_or (front ++ x ∷ rest) (length front) x inside
-        ∙ ap Some (get_or-append_seam front x rest x) in
+    ∙ ap Some (get_or-append_seam front x rest x) in
     ap (flash_byte (front ++ x ∷ rest)) (sym e) ∙ ap (λ o. unwrap_or o 0xFF) here
 
 word_behind : (front rest : List ℕ) (w pc : ℕ) → length front ≡ 2 * pc → flash_word (front ++ (word_bytes w ++ rest)) pc ≡ w
@@ -36,7 +36,7 @@ second_behind None front rest w pc e low = tt
 second_behind (Some x) front rest w pc e low =
     let longer : length (front ++ word_bytes w) ≡ 2 * (pc + 1) = omega (arith, length-append front (word_bytes w)) in
     let here = subst (λ l. flash_word l (pc + 1) ≡ x) (append_assoc front (word_bytes w) (word_bytes x ++ rest))
-        (word_behind (front ++ word_bytes w) rest x (pc + 1) longer) in
+    (word_behind (front ++ word_bytes w) rest x (pc + 1) longer) in
     ap (flash_word (front ++ (word_bytes w ++ (word_bytes x ++ rest)))) (no_wrap pc 1 low) ∙ here
 
 length-second_bytes : (o : Option ℕ) → length (second_bytes o) + 2 ≡ 2 * words_with o
@@ -63,11 +63,13 @@ emitted_stand (i ∷ is) front pc e low r =
     let rest = flat_map instr_bytes is in
     let room : pc + 1 < 65536 = wide_enough (second_word i) (widths is) pc low in
     let here = decodes i _ _ r.0 (word_behind front (second_bytes (second_word i) ++ rest) (first_word i) pc e)
-        (second_behind (second_word i) front rest (first_word i) pc e room) in
+    (second_behind (second_word i) front rest (first_word i) pc e room) in
     let longer : length (front ++ instr_bytes i) ≡ 2 * (pc + width i) = omega (arith, length-append front (instr_bytes i), length-instr_bytes i) in
-    let lower : pc + width i + widths is < 65536 = omega (arith, low) in
-    (here, subst (λ l. AllStandAt l (pc + width i) is) (append_assoc front (instr_bytes i) rest)
-        (emitted_stand is (front ++ instr_bytes i) (pc + width i) longer lower r.1))
+    let lower : pc + width i + widths is < 65536 = omega (arith, low) in (
+      here,
+      subst (λ l. AllStandAt l (pc + width i) is) (append_assoc front (instr_bytes i) rest)
+          (emitted_stand is (front ++ instr_bytes i) (pc + width i) longer lower r.1),
+    )
 
 -- of two pieces, the first stands where both begin
 pub front_stands : (flash : List ℕ) (pc : ℕ) (a b : List Instr) → AllStandAt flash pc (a ++ b) → AllStandAt flash pc a

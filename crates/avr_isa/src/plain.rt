@@ -34,8 +34,12 @@ pub struct PlainMachine<'a> {
 impl<'a> Model for PlainMachine<'a> {
     ghost Value = { State };
 
-    ghost view = { λ m. record { cpu = m.cpu; outside = record { reads = m.reads.now; interrupts = m.interrupts.now; trace = m.trace.items };
-        lowest = m.lowest; ended = m.ended } };
+    ghost view = { λ m. record {
+      cpu = m.cpu;
+      outside = record { reads = m.reads.now; interrupts = m.interrupts.now; trace = m.trace.items };
+      lowest = m.lowest;
+      ended = m.ended;
+    } };
 }
 
 impl<'a> PlainMachine<'a> {

@@ -33,8 +33,12 @@ pub record Same (t : List Event) (s m : State) : Type 0 where
 
 -- a state from its parts
 abbrev pub parts : CpuState → (reads interrupts : List ℕ) → List Event → ℕ → Option MachineEnd → State
-parts cpu reads interrupts trace lowest ended = record { cpu = cpu; outside = record { reads = reads; interrupts = interrupts; trace = trace };
-    lowest = lowest; ended = ended }
+parts cpu reads interrupts trace lowest ended = record {
+  cpu = cpu;
+  outside = record { reads = reads; interrupts = interrupts; trace = trace };
+  lowest = lowest;
+  ended = ended;
+}
 
 same_parts : (t u : List Event) (cpu : CpuState) (reads interrupts : List ℕ) (l l' : ℕ) (ended : Option MachineEnd)
     → Same t (parts cpu reads interrupts (t ++ u) l ended) (parts cpu reads interrupts u l' ended)
@@ -42,8 +46,14 @@ same_parts t u cpu reads interrupts l l' ended = record { cpu = refl; reads = re
 
 same_event : (t u : List Event) (event : Event) (cpu : CpuState) (reads interrupts : List ℕ) (l l' : ℕ) (ended : Option MachineEnd)
     → Same t (parts cpu reads interrupts ((t ++ u) ++ event ∷ []) l ended) (parts cpu reads interrupts (u ++ event ∷ []) l' ended)
-same_event t u event cpu reads interrupts l l' ended = record { cpu = refl; reads = refl; interrupts = refl; trace = append_assoc t u
-    (event ∷ []); ended = refl }
+same_event t u event cpu reads interrupts l l' ended = record {
+  cpu = refl;
+  reads = refl;
+  interrupts = refl;
+  trace = append_assoc t u
+      (event ∷ []);
+  ended = refl;
+}
 
 same_done : (effect : Effect) (word : ℕ) (t u : List Event) (cpu : CpuState) (reads interrupts : List ℕ) (l l' : ℕ)
     → Same t (done effect word (parts cpu reads interrupts (t ++ u) l None)) (done effect word (parts cpu reads interrupts u l' None))
@@ -57,9 +67,9 @@ same_done Sleep word t u cpu reads (k ∷ ks) l l' = by_test (can_push_two cpu.s
   where
     by_test : (b : Bool) → Same t
         (if b then parts (entered cpu k) reads ks ((t ++ u) ++ Enter k ∷ []) (lowest_by_push_two cpu.sp l) None
-            else parts cpu reads (k ∷ ks) (t ++ u) (lowest_by_push_two cpu.sp l) (Some (Bad cpu.pc word)))
+        else parts cpu reads (k ∷ ks) (t ++ u) (lowest_by_push_two cpu.sp l) (Some (Bad cpu.pc word)))
         (if b then parts (entered cpu k) reads ks (u ++ Enter k ∷ []) (lowest_by_push_two cpu.sp l') None
-            else parts cpu reads (k ∷ ks) u (lowest_by_push_two cpu.sp l') (Some (Bad cpu.pc word)))
+        else parts cpu reads (k ∷ ks) u (lowest_by_push_two cpu.sp l') (Some (Bad cpu.pc word)))
     by_test true = same_event t u (Enter k) (entered cpu k) reads ks (lowest_by_push_two cpu.sp l) (lowest_by_push_two cpu.sp l') None
     by_test false = same_parts t u cpu reads (k ∷ ks) (lowest_by_push_two cpu.sp l) (lowest_by_push_two cpu.sp l') (Some (Bad cpu.pc word))
 same_done Halt word t u cpu reads interrupts l l' = same_parts t u cpu reads interrupts l l' (Some (Stop (register_of cpu 24)))
@@ -121,7 +131,7 @@ same_run flash (suc n) t s m h = same_run flash n t (next_state flash s) (next_s
 -- the run of the code begins without a depth
 pub run_unstacked : (flash reads interrupts : List ℕ) (n : ℕ) (m : State) → m ≡ unstacked (started marked reads interrupts)
     → ((run_from flash n m).ended ≡ (simulated flash reads interrupts n).ended)
-        × ((run_from flash n m).outside.trace ≡ (simulated flash reads interrupts n).outside.trace)
+    × ((run_from flash n m).outside.trace ≡ (simulated flash reads interrupts n).outside.trace)
 run_unstacked flash reads interrupts n m e =
     let s = started marked reads interrupts in
     let h : Same [] s (unstacked s) = record { cpu = refl; reads = refl; interrupts = refl; trace = refl; ended = refl } in
@@ -193,7 +203,7 @@ follow_fails flash budget i first m m1 event a b c lt f e p told =
     ∙ ap (λ l. l ++ g.0) (h.trace ∙ ap (λ l. f.seen ++ l) (sym p)) ∙ append_assoc f.seen (pending event) g.0 in
     let lines : trace_lines (run_from flash budget first).outside.trace ≡ trace_lines f.seen ++ (trace_lines (pending event) ++ trace_lines g.0) =
     ap trace_lines whole ∙ flat_map-append event_line f.seen (pending event ++ g.0)
-        ∙ ap (λ l. trace_lines f.seen ++ l) (flat_map-append event_line (pending event) g.0) in
+    ∙ ap (λ l. trace_lines f.seen ++ l) (flat_map-append event_line (pending event) g.0) in
     subst (AppendsFront a c) (sym lines) (appends_front a b c (trace_lines f.seen) (trace_lines (pending event)) (trace_lines g.0) f.told told)
 
 -- no instruction more
@@ -219,7 +229,7 @@ ended_from_reset flash flash' reads interrupts reads' interrupts' budget first m
     let k = run_unstacked flash' reads' interrupts' budget first f in
     h ∙ e ∙ k.0
     ∙ ap (λ x. (simulated x reads' interrupts' budget).ended) l ∙ ap (λ x. (simulated flash x interrupts' budget).ended) r
-        ∙ ap (λ x. (simulated flash reads x budget).ended) i
+    ∙ ap (λ x. (simulated flash reads x budget).ended) i
 
 pub told_trace : (flash flash' reads interrupts reads' interrupts' : List ℕ) (budget : ℕ) (first : State)
     → flash' ≡ flash → reads' ≡ reads → interrupts' ≡ interrupts → first ≡ unstacked (started marked reads' interrupts')

@@ -27,7 +27,7 @@ appends_front (Some a) (Some b) c x y z h k =
     let front = x ++ take k.0 y in
     let whole : x ++ (y ++ z) ≡ front ++ (drop k.0 y ++ z) =
     ap (λ l. x ++ (l ++ z)) (sym (take-append-drop k.0 y)) ∙ ap (λ l. x ++ l) (append_assoc (take k.0 y) (drop k.0 y) z)
-        ∙ sym (append_assoc x (take k.0 y) (drop k.0 y ++ z)) in (
+    ∙ sym (append_assoc x (take k.0 y) (drop k.0 y ++ z)) in (
       length front,
       k.1 ∙ ap (λ l. Some (l ++ take k.0 y)) e ∙ ap Some (append_assoc a x (take k.0 y))
           ∙ ap (λ l. Some (a ++ l)) (sym (take-append_seam front (drop k.0 y ++ z))) ∙ ap (λ l. Some (a ++ take (length front) l)) (sym whole),

@@ -29,8 +29,12 @@ impl<'a> Model for Running<'a> {
 
     ghost Value = { State };
 
-    ghost view = { λ m. record { cpu = m.cpu; outside = record { reads = m.reads.now; interrupts = m.interrupts.now; trace = pending m.event }; lowest = 0;
-        ended = m.ended } };
+    ghost view = { λ m. record {
+      cpu = m.cpu;
+      outside = record { reads = m.reads.now; interrupts = m.interrupts.now; trace = pending m.event };
+      lowest = 0;
+      ended = m.ended;
+    } };
 }
 
 impl<'a> Running<'a> {

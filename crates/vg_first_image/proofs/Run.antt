@@ -45,7 +45,7 @@ store_by_leads flash cpu o l a true here dev room =
     let from = dev.from in
     let e : a - 0x20 + 0x20 ≡ a = omega arith in
     leads_to flash _ _ _ (out_device_leads flash cpu o l (a - 0x20) 16 here (subst IsDeviceAddress (sym e) dev) room)
-        (ap (λ n. going_on (record cpu { pc = cpu.pc + 1 }) (with_event o (Write n (register_of cpu 16))) l) e)
+    (ap (λ n. going_on (record cpu { pc = cpu.pc + 1 }) (with_event o (Write n (register_of cpu 16))) l) e)
 store_by_leads flash cpu o l a false here dev room = sts_device_leads flash cpu o l a 16 here dev room
 
 store_leads : (flash : List ℕ) (cpu : CpuState) (o : Outside) (l a : ℕ) → StandsAt flash cpu.pc (store_of a) → IsDeviceAddress a
@@ -71,7 +71,7 @@ write_leads flash w r m f sp pc rs is t l here dev len room =
     let pc2 : pc + 1 + step ≡ pc + widths (write_code w) = omega arith in
     leads_to flash _ _ _ (leads_on flash _ _ _ load put)
     (ap (λ v. state_at loaded m f sp (pc + 1 + step) rs is (t ++ Write w.address v ∷ []) l) value
-        ∙ ap (λ n. state_at loaded m f sp n rs is (t ++ write_event w ∷ []) l) pc2)
+    ∙ ap (λ n. state_at loaded m f sp n rs is (t ++ write_event w ∷ []) l) pc2)
 
 -- the writes
 pub writes_lead : (flash : List ℕ) (ws : List DeviceWrite) (r m : List ℕ) (f sp pc : ℕ) (rs is : List ℕ) (t : List Event) (l : ℕ)
@@ -89,10 +89,10 @@ writes_lead flash (w ∷ ws) r m f sp pc rs is t l here dev len room =
     let room2 : pc + widths front + widths back < 65536 = omega arith in
     let first = write_leads flash w r m f sp pc rs is t l (front_stands flash pc front back here) dev.0 len room1 in
     let rest = writes_lead flash ws loaded m f sp (pc + widths front) rs is (t ++ write_event w ∷ []) l (back_stands flash pc front back here) dev.1
-        (length-set r 16 w.value ∙ len) room2 in
+    (length-set r 16 w.value ∙ len) room2 in
     let e : pc + widths front + widths back ≡ pc + widths (front ++ back) = omega arith in
     let same = ap (λ n. state_at rest.0 m f sp n rs is (t ++ write_event w ∷ [] ++ map write_event ws) l) e
-        ∙ ap (λ u. state_at rest.0 m f sp (pc + widths (front ++ back)) rs is u l) (append_assoc t (write_event w ∷ []) (map write_event ws)) in
+    ∙ ap (λ u. state_at rest.0 m f sp (pc + widths (front ++ back)) rs is u l) (append_assoc t (write_event w ∷ []) (map write_event ws)) in
     (rest.0, leads_to flash _ _ _ (leads_on flash _ _ _ first rest.1) same)
 
 -- the run comes to its end idle, with this trace, and its stack stays in SRAM
@@ -149,7 +149,7 @@ module _ (flash : List ℕ) (p : ℕ) (r rs : List ℕ) (here : AllStandAt flash
   to_front m f is t l =
       let at_cli : StandsAt flash (p + 2) Cli = let e : p + 1 + 1 ≡ p + 2 = omega arith in subst (λ n. StandsAt flash n Cli) e here.1.1.0 in
       let at_jump : StandsAt flash (p + 3) (Rjmp 0xFFC) = let e : p + 1 + 1 + 1 ≡ p + 3 = omega arith
-          in subst (λ n. StandsAt flash n (Rjmp 0xFFC)) e here.1.1.1.0 in
+      in subst (λ n. StandsAt flash n (Rjmp 0xFFC)) e here.1.1.1.0 in
       let e3 : p + 2 + 1 ≡ p + 3 = omega arith in
       let off = leads_to flash _ _ _ (cli_leads flash _ _ l at_cli (omega arith)) (ap (λ n. state_at r m (disabled f) 0x10FF n rs is t l) e3) in
       leads_on flash _ _ _ off (rjmp_leads flash _ _ l 0xFFC p at_jump (back_there p low) (back_elsewhere p))
@@ -163,7 +163,7 @@ module _ (flash : List ℕ) (p : ℕ) (r rs : List ℕ) (here : AllStandAt flash
       let l' = lowest_by_push_two 0x10FF l in
       let behind : forward 1 (p + 1) ≡ p + 2 = omega arith in
       let taken = leads_to flash _ _ _ (sleep_enters_leads flash _ _ l v is here.1.0 (is_enabled-enabled f) refl refl)
-          (ap (λ n. state_at r (with_return m n) g 0x10FD (2 * v) rs is (t ++ Enter v ∷ []) l') behind) in
+      (ap (λ n. state_at r (with_return m n) g 0x10FD (2 * v) rs is (t ++ Enter v ∷ []) l') behind) in
       let in_slot = leads_on flash _ _ _ (to_sleep m f (v ∷ is) t l) taken in
       let returned = leads_on flash _ _ _ in_slot (comes_back m g v is (t ++ Enter v ∷ []) l' len lo hi) in
       (disabled (enabled g), leads_on flash _ _ _ returned (to_front (with_return m (p + 2)) (enabled g) is (t ++ Enter v ∷ []) l'))
@@ -181,7 +181,7 @@ module _ (flash : List ℕ) (p : ℕ) (r rs : List ℕ) (here : AllStandAt flash
       let above' : 0x10FE ≤ lowest_by_push_two 0x10FF l = omega arith in
       let rest = idles vs in_range.1 m' turn.0 (t ++ Enter v ∷ []) (lowest_by_push_two 0x10FF l) len' above' in
       ends_later flash _ _ _ turn.1 (subst (λ u. EndsIdle flash (state_at r m' turn.0 0x10FF p rs vs (t ++ Enter v ∷ []) (lowest_by_push_two 0x10FF l)) u)
-          (append_assoc t (Enter v ∷ []) (map Enter vs)) rest)
+      (append_assoc t (Enter v ∷ []) (map Enter vs)) rest)
 
 -- the start sets the stack pointer
 pub starts : (flash r m rs is : List ℕ) → AllStandAt flash 70 start → length r ≡ 32
@@ -196,8 +196,8 @@ starts flash r m rs is here len =
     let cpu : List ℕ → ℕ → ℕ → CpuState = λ r sp pc. record { registers = r; sram = m; sreg = 0; sp = sp; rampz = 0; pc = pc } in
     let s1 = ldi_leads flash (cpu r 0 70) o 0x1100 16 0x10 here.0 (omega arith) in
     let s2 = leads_to flash _ _ _ (out_sph_leads flash (cpu r1 0 71) o 0x1100 16 here.1.0 (omega arith))
-        (ap (λ v. state_at r1 m 0 (v * 256 + 0 % 256) 72 rs is [] 0x1100) high) in
+    (ap (λ v. state_at r1 m 0 (v * 256 + 0 % 256) 72 rs is [] 0x1100) high) in
     let s3 = ldi_leads flash (cpu r1 0x1000 72) o 0x1100 16 0xFF here.1.1.0 (omega arith) in
     let s4 = leads_to flash _ _ _ (out_spl_leads flash (cpu r2 0x1000 73) o 0x1100 16 here.1.1.1.0 (omega arith))
-        (ap (λ v. state_at r2 m 0 (0x1000 + v) 74 rs is [] (lowest_by_store 0x5D (0x1000 + v) 0x1100)) low) in
+    (ap (λ v. state_at r2 m 0 (0x1000 + v) 74 rs is [] (lowest_by_store 0x5D (0x1000 + v) 0x1100)) low) in
     (r2, length-set r1 16 0xFF ∙ len1, leads_on flash _ _ _ s1 (leads_on flash _ _ _ s2 (leads_on flash _ _ _ s3 s4)))

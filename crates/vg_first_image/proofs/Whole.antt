@@ -34,9 +34,14 @@ store_in_range a false e lo hi = (omega arith, omega arith)
 writes_in_range : (ws : List DeviceWrite) → AreDevices ws → (tail : List Instr) → AllByRecursion InRange tail
     → AllByRecursion InRange (flat_map write_code ws ++ tail)
 writes_in_range [] h tail t = t
-writes_in_range (w ∷ ws) h tail t =
-    (((omega arith, omega arith), h.0.byte), (store_in_range w.address (nat_lt w.address 0x60) refl h.0.place.from h.0.place.below, writes_in_range ws h.1
-        tail t))
+writes_in_range (w ∷ ws) h tail t = (
+  ((omega arith, omega arith), h.0.byte),
+  (
+    store_in_range w.address (nat_lt w.address 0x60) refl h.0.place.from h.0.place.below,
+    writes_in_range ws h.1
+        tail t,
+  ),
+)
 
 slots_in_range : (n : ℕ) (tail : List Instr) → AllByRecursion InRange tail → AllByRecursion InRange (replicate n Reti ++ tail)
 slots_in_range zero tail t = t
@@ -45,9 +50,13 @@ slots_in_range (suc n) tail t = (tt, slots_in_range n tail t)
 program_in_range : (n : ℕ) (ws : List DeviceWrite) → AreDevices ws → AllByRecursion InRange (program_with n ws)
 program_in_range n ws h =
     let tail = writes_in_range ws h idle (tt, (tt, (tt, (omega arith, tt)))) in
-    let from_start : AllByRecursion InRange (start ++ (flat_map write_code ws ++ idle)) =
-    (((omega arith, omega arith), omega arith), ((omega arith, omega arith),
-        (((omega arith, omega arith), omega arith), ((omega arith, omega arith), tail)))) in
+    let from_start : AllByRecursion InRange (start ++ (flat_map write_code ws ++ idle)) = (
+      ((omega arith, omega arith), omega arith),
+      (
+        (omega arith, omega arith),
+        (((omega arith, omega arith), omega arith), ((omega arith, omega arith), tail)),
+      ),
+    ) in
     (omega arith, slots_in_range n _ from_start)
 
 -- it is short
@@ -63,8 +72,14 @@ writes_short (w ∷ ws) =
 
 program_short : (n : ℕ) (ws : List DeviceWrite) → n ≡ 68 → length ws ≤ 100 → widths (program_with n ws) ≤ 378
 program_short n ws count short =
-    omega (arith, widths-append (replicate n Reti) (start ++ (flat_map write_code ws ++ idle)), widths-replicate Reti n refl, widths-append
-        (flat_map write_code ws) idle, writes_short ws)
+    omega (
+      arith,
+      widths-append (replicate n Reti) (start ++ (flat_map write_code ws ++ idle)),
+      widths-replicate Reti n refl,
+      widths-append
+          (flat_map write_code ws) idle,
+      writes_short ws,
+    )
 
 -- the whole run, on a flash on which the program stands
 runs : (flash : List ℕ) (n : ℕ) (ws : List DeviceWrite) (r m rs is : List ℕ) → n ≡ 68 → AllStandAt flash 0 (program_with n ws) → AreDevices ws
@@ -83,13 +98,13 @@ runs flash n ws r m rs is count all dev short lr lm v =
     let s1 = starts flash r m rs is (front_stands flash 70 start (writes ++ idle) body) lr in
     let s2 = writes_lead flash ws s1.0 m 0 0x10FF 74 rs is [] 0x1100 (front_stands flash 74 writes idle behind_start) dev s1.1 (omega arith) in
     let slots_return : SlotsReturn flash = λ k lo hi. let e : 2 + (2 * k - 2) ≡ 2 * k = omega arith
-        in subst (λ q. StandsAt flash q Reti) e (each_stands flash Reti n (2 * k - 2) 2 refl (omega arith) slots_here) in
+    in subst (λ q. StandsAt flash q Reti) e (each_stands flash Reti n (2 * k - 2) 2 refl (omega arith) slots_here) in
     let s3 = idles flash p s2.0 rs (back_stands flash 74 writes idle behind_start) (omega arith) slots_return is v m 0 (map write_event ws) 0x1100 lm
-        (omega arith) in
+    (omega arith) in
     let reset = state_at r m 0 0 0 rs is [] 0x1100 in
     let loop = state_at s2.0 m 0 0x10FF p rs is (map write_event ws) 0x1100 in
     ends_later flash reset loop (map write_event ws ++ map Enter is) (leads_on flash reset (state_at r m 0 0 70 rs is [] 0x1100) loop jump
-        (leads_on flash (state_at r m 0 0 70 rs is [] 0x1100) (state_at s1.0 m 0 0x10FF 74 rs is [] 0x1100) loop s1.2 s2.1)) s3
+    (leads_on flash (state_at r m 0 0 70 rs is [] 0x1100) (state_at s1.0 m 0 0x10FF 74 rs is [] 0x1100) loop s1.2 s2.1)) s3
 
 -- from reset, with n slot words, whatever memory holds at power-on
 ends_from_reset : (n : ℕ) (ws : List DeviceWrite) → n ≡ 68 → AreDevices ws → length ws ≤ 100 → (memory : PowerOn) (reads interrupts : List ℕ)
@@ -107,8 +122,10 @@ floor_below floor stack sum two = omega arith
 
 agrees_with : (n : ℕ) (ws : List DeviceWrite) → n ≡ 68 → AreDevices ws → length ws ≤ 100 → (floor stack : ℕ) → floor ≤ 0x10FE
     → Agrees (first_session ws) (flat_map instr_bytes (program_with n ws)) floor stack
-agrees_with n ws count dev short floor stack low = record { each = λ memory reads interrupts clock p are_reads are_vectors. inl
-    (by_clock memory reads interrupts clock p are_vectors) }
+agrees_with n ws count dev short floor stack low = record {
+  each = λ memory reads interrupts clock p are_reads are_vectors. inl
+      (by_clock memory reads interrupts clock p are_vectors);
+}
   where
     by_clock : (memory : PowerOn) (reads interrupts : List ℕ) (clock : ℕ) → IsPowerOn memory → AreVectors interrupts
         → (let seen = first_session ws reads interrupts clock in

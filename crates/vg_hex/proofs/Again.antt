@@ -98,7 +98,7 @@ data_record at bytes h k b =
     let len = length-append bytes (c ∷ []) in
     let place : at / 256 * 256 + at % 256 ≡ at = omega arith in
     e ∙ chosen (length (bytes ++ c ∷ []) == length bytes + 1) (sum (body ++ c ∷ []) % 256 == 0) (at / 256 * 256 + at % 256)
-        (take (length bytes) (bytes ++ c ∷ [])) (eq_test _ _ len) (eq_test _ _ (sum_zero body)) place (take-append_seam bytes (c ∷ []))
+    (take (length bytes) (bytes ++ c ∷ [])) (eq_test _ _ len) (eq_test _ _ (sum_zero body)) place (take-append_seam bytes (c ∷ []))
   where
     eq_test : (x y : ℕ) → x ≡ y → (x == y) ≡ true
     eq_test x y e = grind (arith, e)
@@ -206,16 +206,16 @@ records_again (suc n) line at base bytes tail e h m b p =
     let s = base_step line at base (data_line (at % 65536) (take 16 bytes) ++ 10 ∷ rest) p in
     let ld = length-drop 16 bytes in
     let r = records_again n (s.0 + 1) (at + 16) s.1 (drop 16 bytes) tail (fewer n (length bytes) (length (drop 16 bytes)) e ld) (omega (arith, e, h, ld, m))
-        (omega (arith, m)) (all_drop 16 bytes b) (next_base at s.1 m s.3) in
+    (omega (arith, m)) (all_drop 16 bytes b) (next_base at s.1 m s.3) in
     let in_range : at < 131072 = omega (arith, e, h) in
     let d = data_named s.0 (at % 65536) at s.1 (take 16 bytes) rest (omega arith) (short 16 bytes) (all_take 16 bytes b)
-        (λ i le. place_of at s.1 in_range s.3 i) in (
+    (λ i le. place_of at s.1 in_range s.3 i) in (
       r.0,
       r.1,
       ap (λ l. lines_named line (lines l) base) (append_assoc (if at == 65536 then base_line ++ 10 ∷ []
           else []) (data_line (at % 65536) (take 16 bytes) ++ 10 ∷ records n (at + 16) (drop 16 bytes)) tail)
           ∙ ap (λ l. lines_named line (lines ((if at == 65536 then base_line ++ 10 ∷ [] else []) ++ l)) base)
-              (append_assoc (data_line (at % 65536) (take 16 bytes)) (10 ∷ records n (at + 16) (drop 16 bytes)) tail)
+          (append_assoc (data_line (at % 65536) (take 16 bytes)) (10 ∷ records n (at + 16) (drop 16 bytes)) tail)
           ∙ s.2 ∙ d
           ∙ ap (λ l. run_of at (take 16 bytes) ++ l) r.2
           ∙ sym (append_assoc (run_of at (take 16 bytes)) (run_of (at + 16) (drop 16 bytes)) (lines_named r.0 (lines tail) r.1))

@@ -140,7 +140,7 @@ pub stops_fault : (n : ℕ) (base : Base) (made : HexRecord) (rest : Base
     → record_fault n old base made ≡ Some f → fault_behind old (record_named n base made rest behind) ≡ all → all ≡ Some f
 stops_fault n base (Data at bytes) rest behind old f all h whole =
     sym whole ∙ fault_append old (bytes_named base at 0 bytes) (rest base)
-        ∙ ap (λ o. first_of o (fault_behind (slots_behind old (bytes_named base at 0 bytes)) (rest base))) h
+    ∙ ap (λ o. first_of o (fault_behind (slots_behind old (bytes_named base at 0 bytes)) (rest base))) h
 stops_fault n base NoSum rest behind old f all h whole = sym whole ∙ h
 stops_fault n base NoForm rest behind old f all h whole = sym whole ∙ h
 stops_fault n base Blank rest behind old f all h whole = cc
@@ -229,13 +229,13 @@ Left text rest n base slots =
 first_fault_left : (text rest bytes behind : List ℕ) (n : ℕ) (base : Base) (slots : List (Option ℕ)) → lines rest ≡ bytes ∷ lines behind
     → Left text rest n base slots
     → fault_behind slots (record_named n base (read_line bytes) (lines_named (n + 1) (lines behind)) (behind_end (n + 1) (lines behind))) ≡ fault_behind []
-        (named text)
+    (named text)
 first_fault_left text rest bytes behind n base slots e left = ap (λ ls. fault_behind slots (lines_named n ls base)) (sym e) ∙ left.0
 
 first_slots_left : (text rest bytes behind : List ℕ) (n : ℕ) (base : Base) (slots : List (Option ℕ)) → lines rest ≡ bytes ∷ lines behind
     → Left text rest n base slots
     → slots_behind slots (record_named n base (read_line bytes) (lines_named (n + 1) (lines behind)) (behind_end (n + 1) (lines behind))) ≡ slots_behind []
-        (named text)
+    (named text)
 first_slots_left text rest bytes behind n base slots e left = ap (λ ls. slots_behind slots (lines_named n ls base)) (sym e) ∙ left.1
 
 pub line_goes : (text rest bytes behind : List ℕ) (n : ℕ) (base next : Base) (old new : List (Option ℕ)) (step : Step) → lines rest ≡ bytes ∷ lines behind
@@ -251,7 +251,7 @@ pub line_stops : (text rest bytes behind : List ℕ) (n : ℕ) (base : Base) (ol
     → record_fault n old base (read_line bytes) ≡ Some f → Left text rest n base old → fault_in text ≡ Some f
 line_stops text rest bytes behind n base old f e h left =
     fault_read text f (stops_fault n base (read_line bytes) (lines_named (n + 1) (lines behind)) (behind_end (n + 1) (lines behind)) old f
-        (fault_behind [] (named text)) h (first_fault_left text rest bytes behind n base old e left))
+    (fault_behind [] (named text)) h (first_fault_left text rest bytes behind n base old e left))
 
 -- the end line
 ended : (text rest bytes behind : List ℕ) (n : ℕ) (base : Base) (old new : List (Option ℕ)) (step : Step) (last : List Named)
@@ -270,13 +270,13 @@ ended text rest bytes behind n base old new step last e h s b left =
 pub end_stops : (text rest bytes behind : List ℕ) (n : ℕ) (base : Base) (old new : List (Option ℕ)) (step : Step) (f : HexFault)
     → lines rest ≡ bytes ∷ lines behind
     → Leaves base (read_line bytes) old new step → step ≡ Ends → behind_end (n + 1) (lines behind) ≡ Bad f ∷ [] → Left text rest n base old
-        → fault_in text ≡ Some f
+    → fault_in text ≡ Some f
 end_stops text rest bytes behind n base old new step f e h s b left =
     fault_read text f (ended text rest bytes behind n base old new step (Bad f ∷ []) e h s b left).0
 
 pub end_image : (text rest bytes behind image : List ℕ) (n : ℕ) (base : Base) (old new : List (Option ℕ)) (step : Step) → lines rest ≡ bytes ∷ lines behind
     → Leaves base (read_line bytes) old new step → step ≡ Ends → behind_end (n + 1) (lines behind) ≡ [] → Left text rest n base old → image ≡ bytes_in new
-        → HexImage text image
+    → HexImage text image
 end_image text rest bytes behind image n base old new step e h s b left i =
     let k = ended text rest bytes behind n base old new step [] e h s b left in
     image_read text image new k.0 (k.2 ∙ sym k.1) i

@@ -25,7 +25,7 @@ next_record bytes text text1 text2 piece all count k lt e1 e2 p whole =
     let at : (k + 1) * 16 ≡ k * 16 + 16 = omega arith in
     let tail = records (count - (k + 1)) (k * 16 + 16) (drop 16 rest) in
     let more = ap (λ a. records (count - (k + 1)) a (drop a bytes)) at ∙ ap (λ l. records (count - (k + 1)) (k * 16 + 16) l)
-        (sym (drop-drop 16 (k * 16) bytes)) in
+    (sym (drop-drop 16 (k * 16) bytes)) in
     let line = data_line (k * 16 % 65536) (take 16 rest) in
     let text_now : text2 ≡ text ++ base_due (k * 16) ++ (line ++ 10 ∷ []) =
     e2 ∙ ap (λ t. t ++ (data_line (k * 16 % 65536) piece ++ 10 ∷ [])) e1 ∙ ap (λ l. text ++ base_due (k * 16) ++ (data_line (k * 16 % 65536) l ++ 10 ∷ [])) p in

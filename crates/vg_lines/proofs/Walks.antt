@@ -62,10 +62,10 @@ lf_line (b ∷ c ∷ bs) h = by_test (b == 10) h (λ k. lf_line (c ∷ bs) k)
 
     by_test : (x : Bool) → (if x then 0 else suc (before_lf (c ∷ bs))) < suc (suc (length bs))
         → (before_lf (c ∷ bs) < suc (length bs) → lines (c ∷ bs) ≡ without_cr (take (before_lf (c ∷ bs)) (c ∷ bs)) ∷ lines
-            (drop (before_lf (c ∷ bs) + 1) (c ∷ bs)))
+        (drop (before_lf (c ∷ bs) + 1) (c ∷ bs)))
         → (if x then [] ∷ lines (c ∷ bs) else if (b == 13) && (c == 10) then lines (c ∷ bs)
-            else with_first b (lines (c ∷ bs))) ≡ without_cr (take (if x then 0 else suc (before_lf (c ∷ bs))) (b ∷ c ∷ bs)) ∷ lines
-            (drop ((if x then 0 else suc (before_lf (c ∷ bs))) + 1) (b ∷ c ∷ bs))
+        else with_first b (lines (c ∷ bs))) ≡ without_cr (take (if x then 0 else suc (before_lf (c ∷ bs))) (b ∷ c ∷ bs)) ∷ lines
+        (drop ((if x then 0 else suc (before_lf (c ∷ bs))) + 1) (b ∷ c ∷ bs))
     by_test true h go = refl
     by_test false h go = one_more b c bs false (b == 13) (c == 10) (lines (c ∷ bs)) (before_lf (c ∷ bs)) refl (at_lf (c == 10)) (behind (c == 10))
         (go (omega (arith, h)))
@@ -140,4 +140,4 @@ differs a b h = grind (arith, h)
 pub ends_not_cr : (line : List ℕ) (n : ℕ) → n ≡ length line - 1 → (get_or line n 0 ≡ 13 → ⊥) → line ≡ without_cr line
 ends_not_cr line n e h =
     sym (cr_dropped line ∙ ap (λ k. if get_or line k 0 == 13 then take k line else line) (sym e)
-        ∙ ap (λ t. if t then take n line else line) (differs (get_or line n 0) 13 h))
+    ∙ ap (λ t. if t then take n line else line) (differs (get_or line n 0) 13 h))

@@ -16,8 +16,11 @@ ByItem o all rest = ((o ≡ None) → all ≡ None) × ((item : Item) → o ≡ 
 by_width : (n : ℕ) (o : Option ℕ) (rest : ℕ → Option (List ℕ)) → ByItem (of_width n o) (in_front o (rest n)) rest
 unfolding ByItem
 by_width n None rest = ((λ e. refl), (λ item e. cc))
-by_width n (Some v) rest = ((λ e. cc), (λ item e. let i : record { value = v; width = n } ≡ item = cc
-    in ap (λ (x : Item). in_front (Some x.value) (rest x.width)) i))
+by_width n (Some v) rest = (
+  (λ e. cc),
+  (λ item e. let i : record { value = v; width = n } ≡ item = cc
+      in ap (λ (x : Item). in_front (Some x.value) (rest x.width)) i),
+)
 
 by_read : (items : List ℕ) → 0 < length items → ByItem (first_read items) (reads_in items) (λ n. reads_in (drop n items))
 unfolding ByItem

@@ -15,4 +15,4 @@ returns-in-36864-to-40959-clause-spelled c =
 pub returns-in-36864-to-40959-clause-none : goal.returns-in-36864-to-40959-clause-none
 returns-in-36864-to-40959-clause-none c = λ none i s.
     not_none c.in_nibble_9.result i (c.in_nibble_9.ensures ∙ sym (at_9 c.args.word c.args.next (omega arith) (omega arith))
-        ∙ decoded_each c.args.word c.args.next i s) none
+    ∙ decoded_each c.args.word c.args.next i s) none

@@ -16,7 +16,7 @@ returns-then-is_some-clause-trace g c =
 pub returns-in_err-put_pending-clause-failed : goal.returns-in_err-put_pending-clause-failed
 returns-in_err-put_pending-clause-failed g c =
     let h = follow_fails _ c.args.budget c.loop-step._step _ _ c.step.new.self c.take_event.result _ _ _ c.loop-step-test.true c.loop-step.invariant.0
-        c.step.ensures c.take_event.ensures.event c.in_err-put_pending.ensures.failed in
+    c.step.ensures c.take_event.ensures.event c.in_err-put_pending.ensures.failed in
     search rules
 
 pub loop-step-preserved : goal.loop-step-preserved

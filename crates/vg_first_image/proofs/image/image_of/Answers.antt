@@ -21,7 +21,7 @@ pub returns-clause-agrees : goal.returns-clause-agrees
 returns-clause-agrees c =
     let ws = c.args.writes.now in
     subst (AgreesOnStacks ws) (sym (c.from_vec.ensures ∙ bytes (goal.at.returns-clause-agrees c).In_ok-put_idle))
-        (agrees ws c.requires.devices c.requires.short)
+    (agrees ws c.requires.devices c.requires.short)
 
 pub returns-clause-never : goal.returns-clause-never
 returns-clause-never c =

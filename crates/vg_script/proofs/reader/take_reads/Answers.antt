@@ -5,16 +5,16 @@ use Rattle.vg_script.proofs.reader.take_reads.Goals as goal
 pub returns-in-None : goal.returns-in-None
 returns-in-None c =
     no_read c.args.items.now c.loop-rest.rest.now c.args.reads.now.items c.loop-rest.reads.items
-        (filled c.loop-rest.rest.now _ c.is_empty-in-loop-rest.ensures c.loop-rest-test.true) (sym c.first_read.ensures ∙ c.in-None.is) c.loop-rest.invariant
+    (filled c.loop-rest.rest.now _ c.is_empty-in-loop-rest.ensures c.loop-rest-test.true) (sym c.first_read.ensures ∙ c.in-None.is) c.loop-rest.invariant
 
 pub loop-rest-preserved : goal.loop-rest-preserved
 loop-rest-preserved c =
     next_read c.loop-rest.rest.now c.loop-rest.reads.items c.push.new.self.items c.in-Some.item _
-        (filled c.loop-rest.rest.now _ c.is_empty-in-loop-rest.ensures c.loop-rest-test.true) (sym c.first_read.ensures
-        ∙ c.in-Some.is) c.in_ok-push-in-Some.ensures.items c.loop-rest.invariant
+    (filled c.loop-rest.rest.now _ c.is_empty-in-loop-rest.ensures c.loop-rest-test.true) (sym c.first_read.ensures
+    ∙ c.in-Some.is) c.in_ok-push-in-Some.ensures.items c.loop-rest.invariant
 
 pub returns : goal.returns
 returns c =
     all_reads c.args.items.now c.loop-rest.rest.now c.args.reads.now.items c.loop-rest.reads.items
-        (filled c.args.items.now _ c.is_empty.ensures c.if-is_empty.false)
-        (emptied c.loop-rest.rest.now _ c.is_empty-in-loop-rest.ensures c.loop-rest-test.false) c.loop-rest.invariant
+    (filled c.args.items.now _ c.is_empty.ensures c.if-is_empty.false)
+    (emptied c.loop-rest.rest.now _ c.is_empty-in-loop-rest.ensures c.loop-rest-test.false) c.loop-rest.invariant

@@ -10,5 +10,5 @@ returns c =
     subst (λ s. OnOk c.finish.result (c.finish.new.self ≡ performed c.args.flash.now (Some c.args.instr) c.args.word s)) c.self.view_is
     (subst (λ t. OnOk c.finish.result (c.finish.new.self ≡ t))
     (performs c.args.flash.now c.args.instr c.args.word _ _ _ _ _ _ effect.cpu effect.effect c.stack_use-stack.ensures c.sp.ensures
-        c.lowest_by-self-inside.ensures)
+    c.lowest_by-self-inside.ensures)
     c.finish.ensures)

@@ -11,7 +11,7 @@ returns-in-Some c =
     let pc = c.pc-pc.ensures ∙ ap (λ s. s.cpu.pc) c.self.view_is in
     c.perform.ensures
     ∙ ap unstacked (next-is c.args.flash.now c.args.self.now (Some c.in-Some.instr) c.pc-pc.result c.word-word.result c.word.result going pc
-        c.word-word.ensures c.word.ensures (sym c.in-Some.is ∙ c.decode.ensures.decoded))
+    c.word-word.ensures c.word.ensures (sym c.in-Some.is ∙ c.decode.ensures.decoded))
 
 pub returns-in-None : goal.returns-in-None
 returns-in-None c =
@@ -20,4 +20,4 @@ returns-in-None c =
     ap (λ s. let t : State = record s { ended = Some (Bad c.pc-pc.result c.word-word.result) } in unstacked t) c.self.view_is
     ∙ ap (λ p. let t : State = record c.args.self.now { ended = Some (Bad p c.word-word.result) } in unstacked t) pc
     ∙ ap unstacked (next-is c.args.flash.now c.args.self.now None c.pc-pc.result c.word-word.result c.word.result going pc c.word-word.ensures
-        c.word.ensures (sym c.in-None.is ∙ c.decode.ensures.decoded))
+    c.word.ensures (sym c.in-None.is ∙ c.decode.ensures.decoded))
