@@ -7,7 +7,6 @@ use Rattle.std.specs.Prelude.{IsOk}
 use Rattle.vg_base.specs.Limits.{text_limit}
 use Rattle.vg_base.specs.declared.place.Place.{Place}
 use Rattle.vg_base.specs.declared.refusal.Refusal.TheVariants as refusal
-use Rattle.vg_io.specs.Files.{bytes_under}
 use Rattle.vg_io.specs.Piece.{AppendsAll, AppendsFront}
 use Rattle.vg_io.specs.declared.file.File.{File}
 use Rattle.vg_fetch.specs.Told.{ForFile}
@@ -59,7 +58,7 @@ refused_iff (Err refusal.NoMemory) s out note h why = (λ e. let d : s ≡ NoMem
 -- Done: all was put
 done_is : (r : Answer) (s : Status) (out note : Change) → PutBy r s out note → IsShown s
     → (built : Built) × (r ≡ Ok built) × GainsAll out built.hex × GainsAll note built.note
-done_is (Ok built) s out note (inl h) shown = (built, refl, h.1)
+done_is (Ok built) s out note (inl h) shown = (built, refl, h.1, h.2)
 done_is (Ok built) s out note (inr h) shown = absurd (subst IsShown h.0 shown)
 done_is (Err why) s out note h shown = absurd (refusal_not_shown why (subst IsShown h.0 shown))
 
@@ -73,7 +72,7 @@ failed_is (Err why) s out note h e = absurd (refusal_no_write why (sym h.0 ∙ e
 before_same : (r : Answer) (s : Status) (out note : Change) → PutBy r s out note → IsBeforePuts s → IsSame out × IsSame note
 before_same (Ok built) s out note (inl h) before = absurd (subst IsBeforePuts h.0 before)
 before_same (Ok built) s out note (inr h) before = absurd (subst IsBeforePuts h.0 before)
-before_same (Err why) s out note h before = h.1
+before_same (Err why) s out note h before = (h.1, h.2)
 
 put_answer : (r : Answer) (s : Status) (out note : Change) → PutBy r s out note → IsAnswerOfBuild s
 put_answer (Ok built) s out note (inl h) = subst IsAnswerOfBuild (sym h.0) tt
@@ -149,8 +148,8 @@ unless_long (Some files) file X (inr long) = λ writes first short. absurd (not_
 put_completes : (r : Answer) (s : Status) (out note : Change) → PutBy r s out note → IsOk r ⊎ (r ≡ Err refusal.NoMemory)
     → IsDoneOrNoMemory s ⊎ (Fails out ⊎ Fails note)
 put_completes (Ok built) s out note (inl h) k = inl (subst IsDoneOrNoMemory (sym h.0) tt)
-put_completes (Ok built) s out note (inr (e, inl f)) k = inr (inl f.1.0)
-put_completes (Ok built) s out note (inr (e, inr f)) k = inr (inr f.1.1)
+put_completes (Ok built) s out note (inr (e, inl f)) k = inr (inl f.1)
+put_completes (Ok built) s out note (inr (e, inr f)) k = inr (inr f.2)
 put_completes (Err (refusal.Fault why)) s out note h (inl ok) = cc
 put_completes (Err (refusal.Fault why)) s out note h (inr e) = cc
 put_completes (Err refusal.NoMemory) s out note h k = inl (subst IsDoneOrNoMemory (sym h.0) tt)
@@ -195,16 +194,16 @@ no_front None new piece e = e
 no_front (Some old) new piece e = (0, e ∙ ap Some (sym (append-nil old)))
 
 out_of_put : (built : Built) (out note : Change) → PutFails built out note → GainsFront out built.hex × (Fails out ⊎ GainsAll out built.hex)
-out_of_put built out note (inl f) = (f.0, inl f.1.0)
+out_of_put built out note (inl f) = (f.0, inl f.1)
 out_of_put built out note (inr f) = (all_is_front out.before out.after built.hex f.0, inr f.0)
 
 note_of_put : (built : Built) (out note : Change) → PutFails built out note → GainsFront note built.note
-note_of_put built out note (inl f) = no_front note.before note.after built.note f.1.1
-note_of_put built out note (inr f) = f.1.0
+note_of_put built out note (inl f) = no_front note.before note.after built.note f.2
+note_of_put built out note (inr f) = f.1
 
 fails_of_put : (built : Built) (out note : Change) → PutFails built out note → Fails out ⊎ Fails note
-fails_of_put built out note (inl f) = inl f.1.0
-fails_of_put built out note (inr f) = inr f.1.1
+fails_of_put built out note (inl f) = inl f.1
+fails_of_put built out note (inr f) = inr f.2
 
 pub out_front_by : (s : Status) (told : Option (List File)) (file : List ℕ) (out note : Change) → BuildBy s told file out note → s ≡ WriteFault
     → ForImage told file (λ image layout. GainsFront out (hex_text image) × (Fails out ⊎ GainsAll out (hex_text image)))

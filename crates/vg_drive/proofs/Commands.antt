@@ -1,11 +1,10 @@
 -- What an answer says, by the command that it answers: a clause on `build` or on `sim` is one on its file or files.
-use Rattle.std.proofs.Common.{◌≡◌, ℕ, ◌≤◌, ◌⊎◌, ◌↔◌, List, Option, Some, None, refl, sym, ◌∙◌, subst, arith, inl, inr}
+use Rattle.std.proofs.Common.{◌≡◌, ℕ, ◌≤◌, ◌⊎◌, ◌↔◌, List, Option, Some, None, refl, subst, arith, inl, inr}
 use Rattle.vg_io.specs.Count.{Rose}
 use Rattle.vg_io.specs.declared.file.File.{File}
 use Rattle.vg_words.specs.Commands.{Command, Build, Sim}
 use Rattle.vg_base.specs.declared.place.Place.{Place}
 use Rattle.vg_build.specs.Answer.{first_place}
-use Rattle.vg_build.specs.Image.{IsImageOf}
 use Rattle.vg_build.specs.declared.fault.Fault.TheVariants.{NotBuilt}
 use Rattle.vg_build.specs.declared.layout.Layout.{Layout}
 use Rattle.vg_drive.specs.declared.status.Status.{Status}
@@ -52,7 +51,7 @@ write_fault_of (Some (Sim hex script steps)) s told out note h e = inl (sims.wri
 -- nothing was put before the first put
 pub before_of : (c : Option Command) (s : Status) (told : Option (List File)) (out note : Change) → AnswerBy c s told out note → IsBeforePuts s
     → IsSame out × IsSame note
-before_of None s told out note h before = h.1
+before_of None s told out note h before = (h.1, h.2)
 before_of (Some (Build file)) s told out note h before = builds.before_by s told file out note h before
 before_of (Some (Sim hex script steps)) s told out note h before = (sims.before_by s told hex script steps out h.0 before, h.1)
 

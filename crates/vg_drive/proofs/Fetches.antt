@@ -1,13 +1,13 @@
 -- How the requests went, by the answer.
 use Rattle.std.proofs.Common.{◌≡◌, ◌↔◌, List, Option, Some, None, refl, sym, ◌∙◌, ap, subst}
 use Rattle.vg_io.specs.declared.asked.Asked.{Asked}
-use Rattle.vg_fetch.specs.Asking.{AsksAll, AsksFront, Fetched, HasFailed, HasPassedLimit, Request, gained, last_of}
+use Rattle.vg_fetch.specs.Asking.{AsksAll, AsksFront, HasFailed, HasPassedLimit, Request, gained, last_of}
 use Rattle.vg_fetch.specs.declared.fetch.NoFile.{NoFile}
 use Rattle.vg_fetch.specs.declared.fetch.NoFile.TheVariants as missing
 use Rattle.vg_drive.specs.declared.status.Status.{Status}
 use Rattle.vg_drive.specs.declared.status.Status.TheVariants.{ReadFault, TooLong}
 use Rattle.vg_drive.specs.Mirrors.{FetchedBy, IsBehindFiles, TellsFiles}
-use Rattle.vg_drive.specs.Statuses.{IsSettled, status_without_file}
+use Rattle.vg_drive.specs.Statuses.{IsSettled}
 use Rattle.vg_drive.proofs.Statuses.{long_is_long, missing_unsettled, read_is_failed}
 
 pub asks_front_by : (s : Status) (old new : List Asked) (requests : List Request) → FetchedBy s old new requests → AsksFront old new requests

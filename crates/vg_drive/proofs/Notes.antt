@@ -3,14 +3,16 @@ use Rattle.std.proofs.Common.{◌≡◌, ℕ, ◌⊎◌, List, [], ◌++◌, tak
 use Rattle.vg_io.specs.Piece.{AppendsAll, AppendsFront}
 use Rattle.vg_io.specs.declared.file.File.{File}
 use Rattle.vg_words.specs.Commands.{Command, Build, Sim}
+use Rattle.vg_hex.specs.HexText.{hex_text}
+use Rattle.vg_build.specs.Layout.{layout_text}
 use Rattle.vg_drive.specs.declared.status.Status.{Status}
-use Rattle.vg_drive.specs.declared.status.Status.TheVariants.{WriteFault}
-use Rattle.vg_drive.specs.Answers.{AppendsBegun, AppendsFronts, AppendsFrontAndAll}
-use Rattle.vg_drive.specs.Commands.{second_text}
+use Rattle.vg_drive.specs.declared.status.Status.TheVariants.{Done, WriteFault}
+use Rattle.vg_drive.specs.Answers.{AppendsBegun, AppendsFronts, AppendsFrontAndAll, ForImage}
+use Rattle.vg_drive.specs.Commands.{OnBuild, second_text}
 use Rattle.vg_drive.specs.Mirrors.{AnswerBy, Change, GainsAll, GainsFront}
 use Rattle.vg_drive.specs.Statuses.{IsBeforePuts, IsShown}
-use Rattle.vg_drive.proofs.Builds.{no_front, second_by, second_front_by}
-use Rattle.vg_drive.proofs.Commands.{before_of}
+use Rattle.vg_drive.proofs.Builds.{headline_by, no_front, second_by, second_front_by}
+use Rattle.vg_drive.proofs.Commands.{before_of, of_image, on_build}
 
 -- nothing is appended
 nothing : (old new : Option (List ℕ)) → new ≡ old → AppendsAll old new []
@@ -19,7 +21,7 @@ nothing (Some old) new e = e ∙ ap Some (sym (append-nil old))
 
 second_all : (c : Option Command) (s : Status) (told : Option (List File)) (out note : Change) → AnswerBy c s told out note → IsShown s
     → GainsAll note (second_text c)
-second_all None s told out note h shown = nothing note.before note.after h.1.1
+second_all None s told out note h shown = nothing note.before note.after h.2
 second_all (Some (Build file)) s told out note h shown = second_by s told file out note h shown
 second_all (Some (Sim hex script steps)) s told out note h shown = nothing note.before note.after h.1
 
@@ -29,15 +31,23 @@ pub second_of : (c : Option Command) (s : Status) (told : Option (List File)) (o
     → new ≡ note.after → AppendsAll note.before new (second_text c)
 second_of c s told out note new h shown e = subst (λ x. AppendsAll note.before x (second_text c)) (sym e) (second_all c s told out note h shown)
 
--- a text that begins so, where nothing came behind it
-pub begun_of : (note : Change) (new : Option (List ℕ)) (beginning : List ℕ) → new ≡ note.after → AppendsBegun note.before note.after beginning
-    → AppendsBegun note.before new beginning
-begun_of note new beginning e h = subst (λ x. AppendsBegun note.before x beginning) (sym e) h
+-- the layout of the image, where nothing came behind the second text
+pub headline_of : (c : Option Command) (s : Status) (told : Option (List File)) (out note : Change) (new : Option (List ℕ)) → AnswerBy c s told out note
+    → (IsShown s → new ≡ note.after) → s ≡ Done
+    → OnBuild c (λ file. ForImage told file (λ image layout. GainsAll out (hex_text image) × AppendsBegun note.before new (layout_text layout)))
+headline_of c s told out note new h same e =
+    on_build c s told out note
+    (λ file. ForImage told file (λ image layout. GainsAll out (hex_text image) × AppendsBegun note.before new (layout_text layout))) h
+    (λ file b. of_image told file
+    (λ image layout. GainsAll out (hex_text image) × AppendsBegun note.before note.after (layout_text layout))
+    (λ image layout. GainsAll out (hex_text image) × AppendsBegun note.before new (layout_text layout))
+    (λ image layout k. (k.0, subst (λ x. AppendsBegun note.before x (layout_text layout)) (sym (same (subst IsShown (sym e) tt))) k.1))
+    (headline_by s told file out note b e))
 
 -- a front of the second text where a put failed
 second_front : (c : Option Command) (s : Status) (told : Option (List File)) (out note : Change) → AnswerBy c s told out note → s ≡ WriteFault
     → GainsFront note (second_text c)
-second_front None s told out note h e = no_front note.before note.after [] h.1.1
+second_front None s told out note h e = no_front note.before note.after [] h.2
 second_front (Some (Build file)) s told out note h e = second_front_by s told file out note h e
 second_front (Some (Sim hex script steps)) s told out note h e = no_front note.before note.after [] h.1
 

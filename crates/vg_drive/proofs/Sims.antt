@@ -15,17 +15,35 @@ use Rattle.vg_hex.specs.HexImage.{HexImage, fault_in}
 use Rattle.vg_hex.specs.declared.fault.HexFault.{HexFault}
 use Rattle.vg_hex.proofs.Again.{one_image}
 use Rattle.vg_script.specs.Script.{IsScript, Lists, first_bad}
+use Rattle.vg_sim.specs.Refusal.{IsRefusal}
 use Rattle.vg_sim.specs.Shown.{ForRun, lines_of}
 use Rattle.vg_sim.specs.declared.simulate.Simulated.{Simulated}
 use Rattle.vg_sim.specs.declared.simulate.Simulated.TheVariants.{Ended, WriteFault as PutFailed, HexRefused as HexFails}
 use Rattle.vg_sim.specs.declared.simulate.Simulated.TheVariants.{ScriptRefused as ScriptFails, NoMemory as Wanting}
 use Rattle.vg_drive.specs.declared.status.Status.{Status}
-use Rattle.vg_drive.specs.declared.status.Status.TheVariants.{Done, ReadFault, WriteFault, NoMemory, HexRefused, ScriptRefused}
+use Rattle.vg_drive.specs.declared.status.Status.TheVariants.{ReadFault, WriteFault, NoMemory, HexRefused, ScriptRefused}
 use Rattle.vg_drive.specs.Answers.{ForTexts}
 use Rattle.vg_drive.specs.Commands.{IsAnswerOfSim}
 use Rattle.vg_drive.specs.Mirrors.{Change, Fails, GainsAll, GainsFront, IsBehindFiles, IsLong, IsSame, SimBy, Simulates}
 use Rattle.vg_drive.specs.Statuses.{IsBeforePuts, IsSettled, IsShown, status_of_ending, status_of_simulated, status_without_file}
 use Rattle.vg_drive.proofs.Statuses.{missing_no_write, missing_not_shown, missing_of_sim, missing_unsettled}
+
+-- what the clauses of a simulation say together
+pub simulates : (answer : Simulated) (hex script : List ℕ) (steps : ℕ) (out : Change)
+    → ((end : Option MachineEnd) → answer ≡ Ended end → ForRun hex script steps (λ m. (end ≡ m.ended) × GainsAll out (lines_of m)))
+    → (answer ≡ PutFailed → ForRun hex script steps (λ m. GainsFront out (lines_of m))) → (answer ≡ PutFailed → Fails out)
+    → ((fault : HexFault) → answer ≡ HexFails fault → fault_in hex ≡ Some fault)
+    → ((line : ℕ) → answer ≡ ScriptFails line → (fault_in hex ≡ None) × (first_bad script ≡ Some line)) → (IsRefusal answer → IsSame out)
+    → Simulates answer hex script steps out
+simulates (Ended end) hex script steps out ended failed cause spelled scripted nothing = ended end refl
+simulates PutFailed hex script steps out ended failed cause spelled scripted nothing = (failed refl, cause refl)
+simulates (HexFails fault) hex script steps out ended failed cause spelled scripted nothing = (spelled fault refl, nothing tt)
+simulates (ScriptFails line) hex script steps out ended failed cause spelled scripted nothing = (scripted line refl, nothing tt)
+simulates Wanting hex script steps out ended failed cause spelled scripted nothing = nothing tt
+
+pub as_given : (answer : Simulated) (a b c d : List ℕ) (steps : ℕ) (out : Change) → c ≡ a → d ≡ b → Simulates answer c d steps out
+    → Simulates answer a b steps out
+as_given answer a b c d steps out e f h = subst (λ u. Simulates answer u b steps out) e (subst (λ v. Simulates answer c v steps out) f h)
 
 -- THE ANSWER TO THE TEXTS, BY THE STATUS
 

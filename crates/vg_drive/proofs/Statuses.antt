@@ -1,5 +1,5 @@
 -- What a status says of the answer that it tells of.
-use Rattle.std.proofs.Common.{◌≡◌, ◌↔◌, ℕ, Option, Some, None, Ok, Err, refl, sym, ap, ◌∙◌, subst}
+use Rattle.std.proofs.Common.{◌≡◌, Option, Some, None, refl}
 use Rattle.vg_base.specs.declared.refusal.Refusal.{Refusal}
 use Rattle.vg_base.specs.declared.refusal.Refusal.TheVariants as refusal
 use Rattle.avr_isa.specs.declared.ending.MachineEnd.{MachineEnd}
@@ -10,8 +10,7 @@ use Rattle.vg_build.specs.declared.fault.Fault.{Fault}
 use Rattle.vg_drive.specs.Commands.{IsAnswerOfBuild, IsAnswerOfSim}
 use Rattle.vg_drive.specs.Mirrors.{IsBehindFiles}
 use Rattle.vg_drive.specs.Statuses.{IsSettled, IsShown, status_of_ending, status_of_refusal, status_without_file}
-use Rattle.vg_drive.specs.declared.status.Status.{Status}
-use Rattle.vg_drive.specs.declared.status.Status.TheVariants.{Done, Refused, Usage, ReadFault, WriteFault, NoMemory, TooLong}
+use Rattle.vg_drive.specs.declared.status.Status.TheVariants.{Refused, ReadFault, WriteFault, TooLong}
 
 -- A FILE IS MISSING
 

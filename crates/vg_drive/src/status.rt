@@ -36,7 +36,7 @@ pub enum Status {
 }
 
 impl Status {
-    ghost use Rattle.vg_drive.specs.Codes.{code_of};
+    ghost use Rattle.vg_drive.specs.Statuses.{code_of};
 
     /// The exit status of the program, from 0. It takes no memory.
     pub fn code(&self) -> u8

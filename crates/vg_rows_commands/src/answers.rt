@@ -45,10 +45,10 @@ pub fn words_of(table: &Table, words: &str) -> Result<Option<Vec<String>>, NoMem
         let Some(bytes) = table.bytes_of(word)? else {
             return Ok(None);
         };
-        let Ok(text) = str::from_utf8(bytes.as_slice()) else {
+        let Ok(text) = String::from_utf8(bytes.into_vec()) else {
             return Ok(None);
         };
-        list.push(String::from_str(table.alloc, text)?)?;
+        list.push(text)?;
     }
     Ok(Some(list))
 }

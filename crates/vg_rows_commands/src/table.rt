@@ -130,11 +130,11 @@ impl Table {
         let (Some(name), Some(bytes)) = (spelled(self.alloc, name)?, self.bytes_of(word)?) else {
             return Ok(false);
         };
-        let Ok(name) = str::from_utf8(name.as_slice()) else {
+        let Ok(name) = String::from_utf8(name.into_vec()) else {
             return Ok(false);
         };
-        self.shelf.add(name, bytes.as_slice())?;
-        self.steady.add(name, bytes.as_slice())?;
+        self.shelf.add(name.as_str(), bytes.as_slice())?;
+        self.steady.add(name.as_str(), bytes.as_slice())?;
         Ok(true)
     }
 

@@ -1,12 +1,10 @@
 -- Each clause of the top call: what the answer says of its command, and then what the fault line adds to the second sink.
 -- A clause on `build` or `sim` is one lemma on its files (Builds, Sims), lifted to all words by on_build or on_sim.
-use Rattle.std.proofs.Common.{sym, subst}
-use Rattle.vg_drive.specs.Statuses.{IsShown}
 use Rattle.vg_drive.proofs.Builds as builds
 use Rattle.vg_drive.proofs.Sims as sims
-use Rattle.vg_drive.proofs.Commands.{answers_of, before_of, either_later, first_of, of_image, on_build, on_sim, rose_later, usage_of, write_fault_of}
+use Rattle.vg_drive.proofs.Commands.{answers_of, before_of, either_later, first_of, on_build, on_sim, rose_later, usage_of, write_fault_of}
 use Rattle.vg_drive.proofs.Fetches.{asks_all_by, asks_front_by, failed_by, too_long_by}
-use Rattle.vg_drive.proofs.Notes.{begun_of, fronts_of, line_front_of, line_last_of, line_of, second_of}
+use Rattle.vg_drive.proofs.Notes.{fronts_of, headline_of, line_front_of, line_last_of, line_of, second_of}
 use Rattle.vg_drive.proofs.call.run.Goals as goal
 
 pub returns-clause-usage : goal.returns-clause-usage
@@ -48,10 +46,7 @@ returns-clause-complete g c =
     (λ file h. builds.complete_by _ _ file _ _ _ _ h c.answer-status.ensures.read (either_later _ _ _ _ c.put_fault_line.ensures.later))
 
 pub returns-clause-headline : goal.returns-clause-headline
-returns-clause-headline g c =
-    λ e. on_build _ _ _ _ _ _ c.answer-status.ensures.holds
-    (λ file h. of_image _ file _ _ (λ image layout k. (k.0, begun_of _ _ _ (c.put_fault_line.ensures.none (subst IsShown (sym e) tt)) k.1))
-    (builds.headline_by _ _ file _ _ h e))
+returns-clause-headline g c = headline_of _ _ _ _ _ _ c.answer-status.ensures.holds c.put_fault_line.ensures.none
 
 pub returns-clause-out_front : goal.returns-clause-out_front
 returns-clause-out_front g c =
