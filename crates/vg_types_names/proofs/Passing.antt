@@ -15,12 +15,12 @@ use Rattle.vg_types_names.specs.declared.declaration.Sort.TheVariants.{Class, Co
 use Rattle.vg_types_names.specs.declared.declaration.Declaration.{Declaration}
 use Rattle.vg_types_names.specs.declared.declaration.Counts.{Counts}
 use Rattle.vg_types_names.specs.declared.declaration.Named.{Named as HeldNamed}
-use Rattle.vg_types_names.specs.Declarations.{no_counts, next_declaration, counted, entries}
+use Rattle.vg_types_names.specs.Declarations.{no_counts, next_declaration, counted, entries, are_declarations}
 use Rattle.vg_types_names.specs.Naming.{Named, named_as, named_view, IsCounts, one_program, names_in}
 
 -- ---- one declaration
 
-abbrev the : Option Named → Named
+abbrev pub the : Option Named → Named
 the (Some x) = x
 the None = record { sort = Class; name = [] }
 
@@ -66,6 +66,13 @@ programs_one i (DeviceDecl at d registers) rest x e = ap (λ o. programs_more (t
 programs_one i (ProgramDecl at p members) rest x e = ap (λ o. programs_more (the o).sort (programs rest)) e
 programs_one i _ rest x e = cc
 
+both_hold : (i : ℕ) (d rest : Node) (x : Named) → named_as d ≡ Some x → are_declarations rest ≡ true → are_declarations (Then (numbered i d) rest) ≡ true
+both_hold i (ClassDecl at c above members) rest x e h = h
+both_hold i (ComponentDecl at c members) rest x e h = h
+both_hold i (DeviceDecl at d registers) rest x e h = h
+both_hold i (ProgramDecl at p members) rest x e h = h
+both_hold i _ rest x e h = cc
+
 -- a declaration is a node
 one_node : (d : Node) (x : Named) → named_as d ≡ Some x → 1 ≤ count_nodes d
 one_node (ClassDecl at c above members) x e = omega arith
@@ -74,7 +81,7 @@ one_node (DeviceDecl at d registers) x e = omega arith
 one_node (ProgramDecl at p members) x e = omega arith
 one_node _ x e = cc
 
-all_one : (s : Sort) (n : Counts) → (counted s n).all ≡ suc n.all
+pub all_one : (s : Sort) (n : Counts) → (counted s n).all ≡ suc n.all
 all_one Class n = refl
 all_one Component n = refl
 all_one Device n = refl
@@ -127,6 +134,7 @@ pub record Passing (texts : List (List ℕ)) (all : List held.Node) (here : List
   pub listed : entries no_counts (numbered 1 (row_at texts all)) ≡ here ++ entries n (numbered next (row_at texts rest))
   pub count : next + count_nodes (row_at [] rest) ≡ 1 + count_nodes (row_at [] all)
   pub before : n.all ≤ next
+  pub declared : are_declarations (numbered next (row_at texts rest)) ≡ true → are_declarations (numbered 1 (row_at texts all)) ≡ true
   pub sound : IsCounts n
 
 pub passing_starts : (texts : List (List ℕ)) (all : List held.Node) (here : List (Name × Declaration)) (n : Counts) → here ≡ [] → n ≡ no_counts → IsCounts n
@@ -139,6 +147,7 @@ passing_starts texts all here n e f s = record {
   listed = ap (λ z. entries z (numbered 1 (row_at texts all))) (sym f) ∙ ap (λ z. z ++ entries n (numbered 1 (row_at texts all))) (sym e);
   count = refl;
   before = subst (λ z. z.all ≤ 1) (sym f) (omega arith);
+  declared = λ e. e;
   sound = s;
 }
 
@@ -190,6 +199,8 @@ named_once texts all here there n m next after d rest h p k f t g s a =
           ∙ ap (λ i. there ++ entries m (behind i)) (sym (a texts));
       count = omega (arith, c, a0);
       before = omega (arith, b, a0, o, w);
+      declared = λ q. p.declared (both_hold next (node_at texts d) (behind (next + count_nodes (node_at texts d))) x (k texts)
+          (subst (λ i. are_declarations (behind i) ≡ true) (a texts) q));
       sound = s;
     }
   where

@@ -1,5 +1,5 @@
 -- Mirrors: how the code goes through declarations. No clause of a public function cites them.
-use Rattle.std.specs.Prelude.{ℕ, ◌==◌, ◌≤◌, List, [], Option, Some, None, if◌then◌else◌}
+use Rattle.std.specs.Prelude.{◌≡◌, true, ℕ, ◌==◌, ◌≤◌, List, [], Option, Some, None, if◌then◌else◌}
 use Rattle.vg_base.specs.declared.place.Place.{Place}
 use Rattle.vg_syntax.specs.Tree.{Node, Text, ClassDecl, ComponentDecl, DeviceDecl, ProgramDecl}
 use Rattle.vg_syntax.specs.Reads.{spot}
@@ -9,7 +9,9 @@ use Rattle.vg_rules.specs.Breach.{Breach, ◌or◌}
 use Rattle.vg_rules.specs.Names.{names_breach, programs}
 use Rattle.vg_types_names.specs.declared.declaration.Sort.{Sort}
 use Rattle.vg_types_names.specs.declared.declaration.Sort.TheVariants.{Class, Component, Device, Program}
+use Rattle.vg_types_names.specs.declared.declaration.Declaration.{Declaration}
 use Rattle.vg_types_names.specs.declared.declaration.Counts.{Counts}
+use Rattle.vg_types_names.specs.Declarations.{entries, no_counts, are_declarations}
 use Rattle.vg_types_names.specs.declared.declaration.Named.{Named as HeldNamed}
 
 -- the sort and the name of a declaration
@@ -49,3 +51,8 @@ place_of _ = record { line = 1; col = 1 }
 
 abbrev pub text_node : Place → Node → Node
 text_node place ds = Text (spot place) ds
+
+-- the map of these declarations, each of which is one
+pub record IsMapIn (ds : Node) (m : List (List ℕ × Declaration)) : Type 0 where
+  pub map : m ≡ entries no_counts ds
+  pub declared : are_declarations ds ≡ true

@@ -2,7 +2,9 @@
 #![tactic(auto)]
 
 mod declaration;
+mod laws;
 mod pass;
 
 pub use declaration::{Declaration, Sort};
+pub use laws::map_agrees;
 pub use pass::declared_names;

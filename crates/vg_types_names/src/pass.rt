@@ -3,11 +3,10 @@ ghost use Rattle.std.specs.Prelude.{◌≡◌, ◌<◌, ◌+◌, ◌^◌, []};
 ghost use Rattle.vg_syntax.specs.Numbering.{count_nodes, numbered};
 ghost use Rattle.vg_tree.specs.Held.{row_at, tree_at};
 ghost use Rattle.vg_tree.specs.Lookups.{node_count};
-ghost use Rattle.vg_source.specs.Program.{declarations_of};
 ghost use Rattle.vg_base.specs.declared.refusal.Refusal.TheVariants.{Fault};
 ghost use Rattle.vg_types_views.specs.Judges.{Judges};
-ghost use Rattle.vg_types_names.specs.Declarations.{entries, no_counts, names_part};
-ghost use Rattle.vg_types_names.specs.Naming.{names_in};
+ghost use Rattle.vg_types_names.specs.Declarations.{IsMapOf, names_part};
+ghost use Rattle.vg_types_names.specs.Naming.{names_in, IsMapIn};
 
 use crate::declaration::{
     Declaration, counted, declarations_of, name_and_sort, next_declaration, no_counts,
@@ -27,7 +26,7 @@ pub fn declared_names(
     tree: &Tree,
 ) -> Result<ByText<Declaration>, Refusal<Broken>>
     requires { node_count tree.now < 2 ^ 32 }
-    ensures { Judges (λ m. m ≡ entries no_counts (declarations_of (tree_at names.now tree.now))) result (names_part (tree_at names.now tree.now)) }
+    ensures { Judges (IsMapOf (tree_at names.now tree.now)) result (names_part (tree_at names.now tree.now)) }
 {
     match declarations_of(&tree.root) {
         Some(nodes) => named_in(alloc, names, nodes),
@@ -42,7 +41,7 @@ fn named_in(
     nodes: &[Node],
 ) -> Result<ByText<Declaration>, Refusal<Broken>>
     requires { 1 + count_nodes (row_at [] nodes.now) < 2 ^ 32 }
-    ensures { Judges (λ m. m ≡ entries no_counts (numbered 1 (row_at names.now nodes.now))) result (names_in (numbered 1 (row_at names.now nodes.now))) }
+    ensures { Judges (IsMapIn (numbered 1 (row_at names.now nodes.now))) result (names_in (numbered 1 (row_at names.now nodes.now))) }
 {
     let mut map = ByText::new(alloc);
     let mut counts = no_counts();
