@@ -5,16 +5,15 @@ use Rattle.vg_meaning.specs.Outside.{before}
 use Rattle.vg_meaning.specs.History.{Calling, History, no_history, full}
 use Rattle.vg_meaning.specs.World.{World, Running}
 use Rattle.vg_meaning.specs.Answer.{Stops, Wants, Done, OutOfClock, Wrong, Answer}
-use Rattle.vg_meaning.specs.Code.{Code, Nothing, Then, Do, If, Loop, Return}
+use Rattle.vg_meaning.specs.Code.{Code, Nothing, Then, Do, Loop}
 use Rattle.vg_codes.specs.Codes.{Codes}
 use Rattle.vg_firm.specs.declared.step.Home.TheVariants.{Ram, Flash}
-use Rattle.vg_firm.specs.declared.step.Order.TheVariants.{Signed}
-use Rattle.vg_firm.specs.declared.step.Operator.TheVariants.{Plus, Minus, Divide, Less}
+use Rattle.vg_firm.specs.declared.step.Operator.TheVariants.{Plus, Minus, Divide}
 use Rattle.vg_firm.specs.declared.step.Prefix.TheVariants.{Cut}
 use Rattle.vg_firm.specs.declared.step.Elements.{Elements}
 use Rattle.vg_firm.specs.declared.step.Step.{Step}
 use Rattle.vg_firm.specs.declared.step.Step.TheVariants.{Number, Local, SetLocal, Forget, Operate, Apply, ReadDevice, WriteDevice, Load, Store}
-use Rattle.vg_firm.specs.declared.step.Step.TheVariants.{LoadAt, StoreNothing, LoadItem, Bind, CallFor, CallValue}
+use Rattle.vg_firm.specs.declared.step.Step.TheVariants.{StoreNothing, LoadItem, Bind, CallFor, CallValue}
 use Rattle.vg_firm.specs.Program.{Procedure, Program}
 use Rattle.vg_firm.specs.Meaning.{State}
 use Rattle.vg_firm.specs.Session.{first_state, running}
