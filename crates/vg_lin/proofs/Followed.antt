@@ -39,10 +39,10 @@ abbrev pub Leave' : Type 0 → Type 0
 Leave' S = Signal → Deciding S → World History → Config S
 
 module _ {S : Type 0} (l : Language S) (procs : List (List Instr)) where
-  leads_here : (c : Config S) → Leads l procs 0 c c
+  pub leads_here : (c : Config S) → Leads l procs 0 c c
   leads_here c = record { by = λ k. (k, omega arith, refl) }
 
-  leads_then : (t u : ℕ) (c d e : Config S) → Leads l procs t c d → Leads l procs u d e → Leads l procs (t + u) c e
+  pub leads_then : (t u : ℕ) (c d e : Config S) → Leads l procs t c d → Leads l procs u d e → Leads l procs (t + u) c e
   leads_then t u c d e p q = record { by = λ k. via k (q.by k) }
     where
       onto : (k j : ℕ) → k + u ≤ j → steps l procs j d ≡ steps l procs k e → (i : ℕ) × (j + t ≤ i) × (steps l procs i c ≡ steps l procs j d)
@@ -52,7 +52,7 @@ module _ {S : Type 0} (l : Language S) (procs : List (List Instr)) where
       via : (k : ℕ) → (j : ℕ) × (k + u ≤ j) × (steps l procs j d ≡ steps l procs k e) → (i : ℕ) × (k + (t + u) ≤ i) × (steps l procs i c ≡ steps l procs k e)
       via k (j, h, f) = onto k j h f (p.by j)
 
-  leads_step : (c d : Config S) → step l procs c ≡ d → Leads l procs 1 c d
+  pub leads_step : (c d : Config S) → step l procs c ≡ d → Leads l procs 1 c d
   leads_step c d e = record { by = λ k. (suc k, omega arith, ap (steps l procs k) e) }
 
   leads_fewer : (t u : ℕ) (c d : Config S) → u ≤ t → Leads l procs t c d → Leads l procs u c d
@@ -105,7 +105,7 @@ module _ {S : Type 0} (l : Language S) (procs : List (List Instr)) where
       → Leads l procs 1 (conf m pc fs s w) d
   one m pc fs s w i d h e = leads_step _ d (ap (performed l (conf m pc fs s w)) h ∙ e)
 
-  free : (m pc : ℕ) (fs : List (Frame S)) (s : S) (w : World History) (i : Instr) (d : Config S) → fetch procs m pc ≡ Some i
+  pub free : (m pc : ℕ) (fs : List (Frame S)) (s : S) (w : World History) (i : Instr) (d : Config S) → fetch procs m pc ≡ Some i
       → performed l (conf m pc fs s w) (Some i) ≡ d
       → Leads l procs 0 (conf m pc fs s w) d
   free m pc fs s w i d h e = leads_fewer 1 0 _ d (omega arith) (one m pc fs s w i d h e)

@@ -1,0 +1,4 @@
+//! Arithmetic that the machine has no instruction for, as routines of linear code.
+#![tactic(auto)]
+
+pub mod shifts;
