@@ -1,1 +1,2 @@
 pub mod ShiftRoutines
+pub mod ProductRoutine

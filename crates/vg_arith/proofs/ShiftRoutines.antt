@@ -23,7 +23,7 @@ use Rattle.vg_lin.proofs.Followed.{leads_then, free}
 use Rattle.vg_arith.specs.Routines.{with_locals, Gives, IsRoutineOf}
 use Rattle.vg_arith.specs.Shifts.{shift, shl, shr}
 
-some_is : {A : Type 0} (a b : A) → Some a ≡ Some b → a ≡ b
+pub some_is : {A : Type 0} (a b : A) → Some a ≡ Some b → a ≡ b
 some_is {A} a b e = ap (λ o. or_else o) e
   where
     or_else : Option A → A
@@ -31,7 +31,7 @@ some_is {A} a b e = ap (λ o. or_else o) e
     or_else None = a
 
 -- the instructions of a procedure of a program
-fetch_of : (ps : List Procedure) (q : ℕ) (m : Procedure) → slice_get ps q ≡ Some m → (at : ℕ) → fetch (codes_in ps) q at ≡ slice_get m.code at
+pub fetch_of : (ps : List Procedure) (q : ℕ) (m : Procedure) → slice_get ps q ≡ Some m → (at : ℕ) → fetch (codes_in ps) q at ≡ slice_get m.code at
 fetch_of [] q m e at = absurd (grind arith)
 fetch_of (a ∷ ps) zero m e at = ap (λ x. slice_get x.code at) (some_is a m e)
 fetch_of (a ∷ ps) (suc q) m e at = fetch_of ps q m e at
@@ -45,7 +45,7 @@ not_below n k h g e = grind arith
 taken : (n k : ℕ) → n < 32 → k ≤ n → low 4 (low 1 (n + (256 ^ 1 - low 1 k))) ≡ n - k
 taken n k h g = omega arith
 
-low_same : (x : ℕ) → x < 2 ^ 32 → low 4 x ≡ x
+pub low_same : (x : ℕ) → x < 2 ^ 32 → low 4 x ≡ x
 low_same x h = omega arith
 
 module _ (op : Operator) (sh : ℕ → ℕ) (small : (m : ℕ) → sh m < 2 ^ 32) (law : (m k : ℕ) → k < 32 → computed op 4 (sh m) k ≡ Some (sh (m + k)))
