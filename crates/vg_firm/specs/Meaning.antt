@@ -1,6 +1,6 @@
 -- What the steps of a packed program do. They know no names and no types: where a number is not what a program made of a legal text
 -- has there, the run is Wrong.
-use Rattle.std.specs.Prelude.{ℕ, zero, suc, ◌+◌, ◌-◌, ◌*◌, ◌/◌, ◌^◌, Bool, true, false, nat_lt, List, [], ◌∷◌, ◌++◌, take, drop}
+use Rattle.std.specs.Prelude.{ℕ, zero, suc, ◌+◌, ◌-◌, ◌/◌, ◌%◌, ◌^◌, Bool, true, false, ◌==◌, ◌&&◌, nat_lt, nat_le, List, [], ◌∷◌, ◌++◌, take, drop}
 use Rattle.std.specs.Prelude.{Option, Some, None, slice_get, slice_set}
 use Rattle.vg_meaning.specs.Answer.{Wrong, Gives, Piece, go_on, over, stops}
 use Rattle.vg_meaning.specs.Interrupts.{take_interrupt}
@@ -109,6 +109,10 @@ set_found c i v None s w = over Wrong s w
 abbrev pub store : {H : Type 0} → (column i v : ℕ) → Piece State H
 store c i v s w = set_found c i v (entry s.columns c i) s w
 
+-- What is done with the index of an object in a column that begins with another, behind the null check. The object stands in it.
+abbrev pub at_object : {H : Type 0} → (first : ℕ) → (ℕ → Piece State H) → ℕ → Piece State H
+at_object first go = not_null (λ n. checked (nat_le first n) (go (n - first)))
+
 -- ---- arrays
 
 abbrev pub arrays_of : Option (List ArrayPlace) → List ArrayPlace
@@ -119,14 +123,19 @@ arrays_of None = []
 abbrev pub array_at : Program → (table n : ℕ) → Option ArrayPlace
 array_at f table n = slice_get (arrays_of (slice_get f.tables table)) (n - 1)
 
--- The index of an element in the column of its type, by the addresses of the array and of the column.
-abbrev pub item_index : Elements → (address i : ℕ) → ℕ
-item_index e address i = (address + e.width * i - e.address) / e.width
+-- The array stands in the column of its type: a whole number of elements behind its address.
+abbrev pub stands_in : Elements → (address : ℕ) → Bool
+stands_in e address = nat_le e.address address && ((address - e.address) % e.width == 0)
 
--- What is done with the index of an element in its column, behind the null check and the bounds check.
+-- The index of an element in that column.
+abbrev pub item_index : Elements → (address i : ℕ) → ℕ
+item_index e address i = (address - e.address) / e.width + i
+
+-- What is done with it, behind the null check and the bounds check.
 abbrev pub at_item : {H : Type 0} → Program → Elements → (ℕ → Piece State H) → (i n : ℕ) → Piece State H
 at_item f e go i =
-    not_null (λ n. with_found (array_at f e.table n) (λ a. stop_unless (nat_lt i a.length) 2 (go (item_index e a.address i))))
+    not_null (λ n. with_found (array_at f e.table n) (λ a.
+    stop_unless (nat_lt i a.length) 2 (checked (stands_in e a.address) (go (item_index e a.address i)))))
 
 abbrev pub put_length : {H : Type 0} → ArrayPlace → Piece State H
 put_length a = put a.length
@@ -161,8 +170,8 @@ step k f m call handle (ReadDevice address) = read_device address put
 step k f m call handle (WriteDevice address) = taking (of_width 1 (write_device address))
 step k f m call handle (Load home c) = load f home c 0
 step k f m call handle (Store c width) = taking (of_width width (store c 0))
-step k f m call handle (LoadAt home c first) = taking (not_null (λ n. load f home c (n - first)))
-step k f m call handle (StoreAt c first width) = taking (of_width width (λ v. taking (not_null (λ n. store c (n - first) v))))
+step k f m call handle (LoadAt home c first) = taking (at_object first (load f home c))
+step k f m call handle (StoreAt c first width) = taking (of_width width (λ v. taking (at_object first (λ i. store c i v))))
 step k f m call handle LoadNothing = taking (not_null (λ n. put 0))
 step k f m call handle StoreNothing = taking (λ v. taking (not_null (λ n. go_on)))
 step k f m call handle (LoadItem e) = taking (λ i. taking (at_item f e (load f e.home e.column) i))

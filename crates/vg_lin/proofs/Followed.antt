@@ -1,31 +1,31 @@
 -- That linear code follows structured code, where it stands.
-use Rattle.std.specs.Prelude.{ℕ, zero, suc, ◌+◌, ◌-◌, ◌≤◌, Bool, true, false, not, List, [], ◌∷◌, drop, length, Option, Some, None}
+use Rattle.std.specs.Prelude.{ℕ, zero, suc, ◌+◌, ◌≤◌, Bool, true, false, not, List, [], ◌∷◌, drop, length, Option, Some, None}
 use Rattle.std.proofs.Common.{◌≡◌, refl, sym, ap, ◌∙◌, subst, arith}
 use Rattle.vg_meaning.specs.declared.event.Event.TheVariants.{Enter}
-use Rattle.vg_meaning.specs.Outside.{Outside, before as outside_before, with_event}
+use Rattle.vg_meaning.specs.Outside.{before as outside_before, with_event}
 use Rattle.vg_meaning.specs.History.{Active, History, full, note_tick}
 use Rattle.vg_meaning.specs.World.{World}
-use Rattle.vg_meaning.specs.Answer.{End, Stops as StopsAt, Wants, Touches, Done, OutOfClock, OutOfDepth, OutOfRoom, Wrong, Signal, Breaks, Continues}
-use Rattle.vg_meaning.specs.Answer.{Returns, Over, Answer, Gives, Ends, Piece, go_on, over, and_then, unless, passes}
+use Rattle.vg_meaning.specs.Answer.{Stops as StopsAt, Wants, Done, OutOfClock, OutOfDepth, Wrong, Signal, Breaks, Continues}
+use Rattle.vg_meaning.specs.Answer.{Returns, Over, Answer, Gives, Ends, go_on, over, and_then, unless, passes}
 use Rattle.vg_meaning.specs.Clock.{tick_at, ticked}
 use Rattle.vg_meaning.specs.Calls.{closed, closing, unless_deep, note_call, opened, returned}
 use Rattle.vg_meaning.specs.Loops.{choose, where_holds, turned, turns}
 use Rattle.vg_meaning.specs.Interrupts.{interrupt_from, take_interrupt, idles}
-use Rattle.vg_meaning.specs.Code.{Code, Nothing, Then, Do, If, Loop, Break, Continue, Return as Returning, performed as does}
+use Rattle.vg_meaning.specs.Code.{Code, performed as does}
 use Rattle.vg_lin.specs.declared.instr.Operand.{Operand}
 use Rattle.vg_lin.specs.declared.instr.Plain.{Plain as PlainInstr}
 use Rattle.vg_lin.specs.declared.instr.Test.{Test as Testing}
 use Rattle.vg_lin.specs.declared.instr.Call.{Call as Calling}
 use Rattle.vg_lin.specs.declared.instr.Instr.{Instr}
 use Rattle.vg_lin.specs.declared.instr.Instr.TheVariants.{Plain, When, Unless, Jump, Call, Return, Idle}
-use Rattle.vg_lin.specs.Steps.{Awaits, Result, Interrupt, Frame, Went, Goes, Raises, Lacks, Fails, Entry, Language, Config, with_named, open_below}
-use Rattle.vg_lin.specs.Steps.{open_calls, noted, begins, went, branched, calls, goes_back, returns, takes, handles, performed, fetch, stepped, step}
+use Rattle.vg_lin.specs.Steps.{Result, Interrupt, Frame, Went, Goes, Raises, Lacks, Fails, Entry, Language, Config, with_named, open_below}
+use Rattle.vg_lin.specs.Steps.{open_calls, noted, went, branched, calls, returns, takes, handles, performed, fetch, step}
 use Rattle.vg_lin.specs.Steps.{steps, ends}
-use Rattle.vg_lin.specs.Structured.{Step, Here, Pick, Decide, Flip, Give, To, Rest, Deciding, fresh, Doing, with_found, lifted, with_truth, resumed}
-use Rattle.vg_lin.specs.Structured.{Caller, entered, handled, handle, taken, truth, body, called, running, step as does_step}
-use Rattle.vg_lin.specs.Stands.{Goal, Next, Either, at_ease, Stands, nothing, sequence, plain, call, idle, when, unless as unless_test, holds, fails}
+use Rattle.vg_lin.specs.Structured.{Step, Deciding, fresh, Doing, with_found, lifted, with_truth, resumed}
+use Rattle.vg_lin.specs.Structured.{Caller, entered, handle, taken, truth, body, called, running, step as does_step}
+use Rattle.vg_lin.specs.Stands.{Goal, Next, Either, Stands, nothing, sequence, plain, call, idle, when, unless as unless_test, holds, fails}
 use Rattle.vg_lin.specs.Stands.{flip, choice, loop, break', continue', return, before, behind, AllStand, StandsFirst}
-use Rattle.vg_lin.specs.Follows.{Leads, conf, EndsBy, IsLegal, Finishes, Comes, Follows, by_truth, arriving, more_steps, back, leaving, Opened}
+use Rattle.vg_lin.specs.Follows.{Leads, conf, EndsBy, Finishes, Follows, by_truth, arriving, more_steps, back, leaving, Opened}
 use Rattle.vg_lin.specs.Follows.{FollowsFrom, entry, FollowsCalls, FollowsRun}
 use Rattle.vg_lin.specs.Program.{Program}
 use Rattle.vg_lin.specs.State.{State}
@@ -39,10 +39,10 @@ abbrev pub Leave' : Type 0 → Type 0
 Leave' S = Signal → Deciding S → World History → Config S
 
 module _ {S : Type 0} (l : Language S) (procs : List (List Instr)) where
-  leads_here : (c : Config S) → Leads l procs 0 c c
+  pub leads_here : (c : Config S) → Leads l procs 0 c c
   leads_here c = record { by = λ k. (k, omega arith, refl) }
 
-  leads_then : (t u : ℕ) (c d e : Config S) → Leads l procs t c d → Leads l procs u d e → Leads l procs (t + u) c e
+  pub leads_then : (t u : ℕ) (c d e : Config S) → Leads l procs t c d → Leads l procs u d e → Leads l procs (t + u) c e
   leads_then t u c d e p q = record { by = λ k. via k (q.by k) }
     where
       onto : (k j : ℕ) → k + u ≤ j → steps l procs j d ≡ steps l procs k e → (i : ℕ) × (j + t ≤ i) × (steps l procs i c ≡ steps l procs j d)
@@ -52,7 +52,7 @@ module _ {S : Type 0} (l : Language S) (procs : List (List Instr)) where
       via : (k : ℕ) → (j : ℕ) × (k + u ≤ j) × (steps l procs j d ≡ steps l procs k e) → (i : ℕ) × (k + (t + u) ≤ i) × (steps l procs i c ≡ steps l procs k e)
       via k (j, h, f) = onto k j h f (p.by j)
 
-  leads_step : (c d : Config S) → step l procs c ≡ d → Leads l procs 1 c d
+  pub leads_step : (c d : Config S) → step l procs c ≡ d → Leads l procs 1 c d
   leads_step c d e = record { by = λ k. (suc k, omega arith, ap (steps l procs k) e) }
 
   leads_fewer : (t u : ℕ) (c d : Config S) → u ≤ t → Leads l procs t c d → Leads l procs u c d
@@ -105,7 +105,7 @@ module _ {S : Type 0} (l : Language S) (procs : List (List Instr)) where
       → Leads l procs 1 (conf m pc fs s w) d
   one m pc fs s w i d h e = leads_step _ d (ap (performed l (conf m pc fs s w)) h ∙ e)
 
-  free : (m pc : ℕ) (fs : List (Frame S)) (s : S) (w : World History) (i : Instr) (d : Config S) → fetch procs m pc ≡ Some i
+  pub free : (m pc : ℕ) (fs : List (Frame S)) (s : S) (w : World History) (i : Instr) (d : Config S) → fetch procs m pc ≡ Some i
       → performed l (conf m pc fs s w) (Some i) ≡ d
       → Leads l procs 0 (conf m pc fs s w) d
   free m pc fs s w i d h e = leads_fewer 1 0 _ d (omega arith) (one m pc fs s w i d h e)

@@ -1,5 +1,5 @@
 -- Linear code follows a structured answer: with at least one step for each tick, the same outside, and the same calls open at each opening.
-use Rattle.std.specs.Prelude.{◌≡◌, ℕ, zero, suc, ◌+◌, ◌≤◌, Bool, true, false, List, [], ◌∷◌, Option, Some, None}
+use Rattle.std.specs.Prelude.{◌≡◌, ℕ, suc, ◌+◌, ◌≤◌, Bool, true, false, List, [], ◌∷◌, Option, Some, None}
 use Rattle.vg_meaning.specs.History.{Active, History}
 use Rattle.vg_meaning.specs.World.{World}
 use Rattle.vg_meaning.specs.Answer.{End, OutOfClock, OutOfDepth, Wrong, Signal, Breaks, Continues, Returns, Over, Answer, Gives, Ends}

@@ -1,5 +1,5 @@
 -- Linear code by small steps: places, jumps, calls and interrupts. What a plain instruction does, a language says itself.
-use Rattle.std.specs.Prelude.{ℕ, zero, suc, Bool, true, false, List, [], ◌∷◌, ◌++◌, Option, Some, None, slice_get}
+use Rattle.std.specs.Prelude.{ℕ, zero, suc, Bool, true, false, List, [], ◌∷◌, Option, Some, None, slice_get}
 use Rattle.vg_meaning.specs.declared.event.Event.TheVariants.{Enter}
 use Rattle.vg_meaning.specs.Outside.{Outside, with_event}
 use Rattle.vg_meaning.specs.History.{Active}

@@ -1,8 +1,6 @@
 -- Structured code whose steps are the instructions of linear code: the form from which linear code is made.
-use Rattle.std.specs.Prelude.{ℕ, zero, suc, Bool, true, false, not, List, [], ◌∷◌, Option, Some, None}
-use Rattle.vg_meaning.specs.Outside.{Outside}
-use Rattle.vg_meaning.specs.History.{Active, History, full}
-use Rattle.vg_meaning.specs.World.{World}
+use Rattle.std.specs.Prelude.{ℕ, zero, suc, Bool, not, Option, Some, None}
+use Rattle.vg_meaning.specs.History.{History, full}
 use Rattle.vg_meaning.specs.Answer.{Stops, Wants, OutOfClock, Wrong, Gives, Piece, over, and_then, go_on}
 use Rattle.vg_meaning.specs.Calls.{opened, returned}
 use Rattle.vg_meaning.specs.Loops.{Test as Tested', Tested, Untested}

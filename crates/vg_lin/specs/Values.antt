@@ -1,5 +1,5 @@
 -- What operators and comparisons make of numbers. A value is a number; an operation sees so many of its low bytes as its width says.
-use Rattle.std.specs.Prelude.{ℕ, zero, suc, ◌+◌, ◌-◌, ◌*◌, ◌/◌, ◌%◌, ◌^◌, Bool, true, false, ◌==◌, nat_lt, nat_le, bit_and, bit_or, bit_xor, Option}
+use Rattle.std.specs.Prelude.{ℕ, zero, suc, ◌+◌, ◌-◌, ◌*◌, ◌/◌, ◌%◌, ◌^◌, Bool, ◌==◌, nat_lt, nat_le, bit_and, bit_or, bit_xor, Option}
 use Rattle.std.specs.Prelude.{Some, None, if◌then◌else◌}
 use Rattle.std.specs.Prelude.{ℤ, pos, negsuc, int_lt, int_rem}
 use Rattle.std.specs.Int.{w32, cast_unsigned, int_wrapping_div}

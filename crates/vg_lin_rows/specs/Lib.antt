@@ -3,3 +3,4 @@ pub mod Packed
 pub mod Linear
 pub mod Steps
 pub mod Standing
+pub mod Smallest

@@ -5,16 +5,15 @@ use Rattle.vg_meaning.specs.Outside.{before}
 use Rattle.vg_meaning.specs.History.{Calling, History, no_history, full}
 use Rattle.vg_meaning.specs.World.{World, Running}
 use Rattle.vg_meaning.specs.Answer.{Stops, Wants, Done, OutOfClock, Wrong, Answer}
-use Rattle.vg_meaning.specs.Code.{Code, Nothing, Then, Do, If, Loop, Return}
+use Rattle.vg_meaning.specs.Code.{Code, Nothing, Then, Do, Loop}
 use Rattle.vg_codes.specs.Codes.{Codes}
 use Rattle.vg_firm.specs.declared.step.Home.TheVariants.{Ram, Flash}
-use Rattle.vg_firm.specs.declared.step.Order.TheVariants.{Signed}
-use Rattle.vg_firm.specs.declared.step.Operator.TheVariants.{Plus, Minus, Divide, Less}
+use Rattle.vg_firm.specs.declared.step.Operator.TheVariants.{Plus, Minus, Divide}
 use Rattle.vg_firm.specs.declared.step.Prefix.TheVariants.{Cut}
 use Rattle.vg_firm.specs.declared.step.Elements.{Elements}
 use Rattle.vg_firm.specs.declared.step.Step.{Step}
-use Rattle.vg_firm.specs.declared.step.Step.TheVariants.{Number, Local, SetLocal, Forget, Operate, Apply, ReadDevice, WriteDevice, Load, Store}
-use Rattle.vg_firm.specs.declared.step.Step.TheVariants.{LoadAt, StoreNothing, LoadItem, Bind, CallFor, CallValue}
+use Rattle.vg_firm.specs.declared.step.Step.TheVariants.{Number, Local, SetLocal, Forget, Operate, Apply, ReadDevice, WriteDevice, Load, Store, LoadAt}
+use Rattle.vg_firm.specs.declared.step.Step.TheVariants.{StoreNothing, LoadItem, Bind, CallFor, CallValue}
 use Rattle.vg_firm.specs.Program.{Procedure, Program}
 use Rattle.vg_firm.specs.Meaning.{State}
 use Rattle.vg_firm.specs.Session.{first_state, running}
@@ -160,3 +159,10 @@ too_wide = refl
 
 not_named : (alone_ends (Bind 0 ∷ CallValue 0 ∷ [])).ending ≡ Some Wrong
 not_named = refl
+
+-- The entry of an object in a column that begins with object 2; object 1 does not stand in it.
+object_two : (alone_ends (Number 2 ∷ LoadAt Ram 0 2 ∷ WriteDevice 0x38 ∷ [])).trace ≡ Write 0x38 0 ∷ []
+object_two = refl
+
+object_one : (alone_ends (Number 1 ∷ LoadAt Ram 0 2 ∷ Forget ∷ [])).ending ≡ Some Wrong
+object_one = refl

@@ -1,5 +1,5 @@
 -- What a run shows, for the worked rows.
-use Rattle.std.specs.Prelude.{ℕ, List, Option, Some, None}
+use Rattle.std.specs.Prelude.{List, Option, Some, None}
 use Rattle.vg_meaning.specs.declared.event.Event.{Event}
 use Rattle.vg_meaning.specs.History.{Active, History}
 use Rattle.vg_meaning.specs.Answer.{End, Over, Answer, Gives, Ends}

@@ -1,5 +1,5 @@
 -- Operators and comparisons of linear code at their edges. The values were worked by hand.
-use Rattle.std.specs.Prelude.{◌≡◌, refl, ℕ, true, false, Some, None}
+use Rattle.std.specs.Prelude.{◌≡◌, refl, true, false, Some, None}
 use Rattle.vg_lin.specs.declared.instr.Operator.TheVariants.{Plus, Minus, Times, Divide, Remainder, And, Or, Xor, ShiftLeft, ShiftRight}
 use Rattle.vg_lin.specs.declared.instr.Comparison.TheVariants.{Below, Less, Same}
 use Rattle.vg_lin.specs.Values.{computed, compared, next_remainder, next_dividend}

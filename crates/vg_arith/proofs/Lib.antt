@@ -1,0 +1,2 @@
+pub mod ShiftRoutines
+pub mod ProductRoutine

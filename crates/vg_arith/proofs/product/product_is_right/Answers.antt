@@ -1,0 +1,9 @@
+use Rattle.std.proofs.Common.{refl, arith}
+use Rattle.vg_arith.proofs.ProductRoutine.{mul_is}
+use Rattle.vg_arith.proofs.product.product_is_right.Goals as goal
+
+pub returns-clause-product : goal.returns-clause-product
+returns-clause-product c = mul_is
+
+pub returns-clause-short : goal.returns-clause-short
+returns-clause-short c = record { few = omega arith; onwards = refl }

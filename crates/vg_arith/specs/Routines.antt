@@ -1,0 +1,47 @@
+-- What it means that a procedure of linear code is the routine of an operator.
+use Rattle.std.specs.Prelude.{◌≡◌, ℕ, suc, ◌<◌, ◌≤◌, ◌^◌, Bool, true, ◌&&◌, nat_lt, List, [], ◌∷◌, length, Some, slice_get}
+use Rattle.vg_meaning.specs.History.{History}
+use Rattle.vg_meaning.specs.World.{World}
+use Rattle.vg_lin.specs.declared.instr.Operator.{Operator}
+use Rattle.vg_lin.specs.declared.instr.Instr.{Instr}
+use Rattle.vg_lin.specs.declared.instr.Instr.TheVariants.{When, Unless, Jump}
+use Rattle.vg_lin.specs.Values.{computed}
+use Rattle.vg_lin.specs.Program.{Procedure, Program}
+use Rattle.vg_lin.specs.State.{LocalState, State}
+use Rattle.vg_lin.specs.Meaning.{begun, resume, language, codes_in}
+use Rattle.vg_lin.specs.Steps.{Frame}
+use Rattle.vg_lin.specs.Follows.{Leads, conf}
+
+-- The state of a procedure with these locals, where nothing waits.
+abbrev pub with_locals : (ram : List ℕ) → List LocalState → State
+with_locals ram ls = record { locals = ls; waiting = []; ram = ram }
+
+-- In every program that has the procedure, a call with these arguments comes back with this result. Its frame, the columns and the
+-- outside are as they were.
+abbrev pub Gives : Procedure → (arguments : List ℕ) → (result : ℕ) → Type 0
+Gives m xs v =
+    (p : Program) (q : ℕ) → slice_get p.procedures q ≡ Some m
+    → (f : Frame State) (fs : List (Frame State)) (ram : List ℕ) (w : World History)
+    → (left : List LocalState) × Leads (language p) (codes_in p.procedures) 0
+    (conf q 0 (f ∷ fs) (with_locals ram (begun m.widths xs)) w)
+    (conf f.proc (suc f.pc) fs (resume f.awaits f.kept (with_locals ram left) v) w)
+
+-- The procedure is the routine of the operator: it gives what the operator computes of all numbers of four bytes.
+abbrev pub IsRoutineOf : Operator → Procedure → Type 0
+IsRoutineOf op m = (x y v : ℕ) → x < 2 ^ 32 → y < 2 ^ 32 → computed op 4 x y ≡ Some v → Gives m (x ∷ y ∷ []) v
+
+-- No instruction leads back, where the first of these stands at a place.
+abbrev pub leads_on : (at : ℕ) → Instr → Bool
+leads_on at (When test to) = nat_lt at to
+leads_on at (Unless test to) = nat_lt at to
+leads_on at (Jump to) = nat_lt at to
+leads_on at i = true
+
+abbrev pub all_lead_on : (at : ℕ) → List Instr → Bool
+all_lead_on at [] = true
+all_lead_on at (i ∷ is) = leads_on at i && all_lead_on (suc at) is
+
+-- A routine is small and ends: it has at most six parameters and locals, and no jump back.
+pub record IsShort (m : Procedure) : Type 0 where
+  pub few : length m.widths ≤ 6
+  pub onwards : all_lead_on 0 m.code ≡ true

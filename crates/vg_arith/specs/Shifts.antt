@@ -1,0 +1,36 @@
+-- The routines of the shifts by an amount that is not known.
+use Rattle.std.specs.Prelude.{ℕ, suc, List, [], ◌∷◌, ◌++◌, None}
+use Rattle.vg_lin.specs.declared.instr.Operand.TheVariants.{Local, Known}
+use Rattle.vg_lin.specs.declared.instr.Operator.{Operator}
+use Rattle.vg_lin.specs.declared.instr.Operator.TheVariants.{Minus, ShiftLeft, ShiftRight}
+use Rattle.vg_lin.specs.declared.instr.Comparison.TheVariants.{Below}
+use Rattle.vg_lin.specs.declared.instr.Plain.TheVariants.{Compute}
+use Rattle.vg_lin.specs.declared.instr.Instr.{Instr}
+use Rattle.vg_lin.specs.declared.instr.Instr.TheVariants.{Plain, Unless, When, Return}
+use Rattle.vg_lin.specs.Program.{Procedure}
+
+-- The three instructions from a place on: where the amount is not below k, the value is shifted by k, and k is taken from the amount.
+abbrev pub stage : Operator → (at k : ℕ) → List Instr
+stage op at k =
+    When (record { comparison = Below; width = 1; left = Local 1; right = Known k }) (suc (suc (suc at)))
+    ∷ Plain (Compute (record { operator = op; width = 4; to = 0; left = Local 0; right = Known k }))
+    ∷ Plain (Compute (record { operator = Minus; width = 1; to = 1; left = Local 1; right = Known k })) ∷ []
+
+-- The value is the first local, the amount the second. An amount of 32 or more leaves nothing; else its binary digits are taken from
+-- the highest to the lowest.
+abbrev pub shift : Operator → Procedure
+shift op =
+    record {
+      method = None;
+      params = 2;
+      widths = 4 ∷ 4 ∷ [];
+      code =
+          Unless (record { comparison = Below; width = 4; left = Local 1; right = Known 32 }) 17
+          ∷ stage op 1 16 ++ (stage op 4 8 ++ (stage op 7 4 ++ (stage op 10 2 ++ (stage op 13 1 ++ (Return (Local 0) ∷ Return (Known 0) ∷ [])))));
+    }
+
+abbrev pub shl : Procedure
+shl = shift ShiftLeft
+
+abbrev pub shr : Procedure
+shr = shift ShiftRight

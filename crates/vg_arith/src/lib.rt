@@ -1,0 +1,5 @@
+//! Arithmetic that the machine has no instruction for, as routines of linear code.
+#![tactic(auto)]
+
+pub mod product;
+pub mod shifts;

@@ -1,0 +1,37 @@
+-- That the smallest procedure keeps what every procedure keeps.
+use Rattle.std.specs.Prelude.{ℕ, zero, suc, [], ◌∷◌, List, Some, None, slice_get}
+use Rattle.std.proofs.Common.{◌≡◌, refl, sym, subst, arith}
+use Rattle.vg_lin.specs.declared.instr.Operand.TheVariants.{Known}
+use Rattle.vg_lin.specs.declared.instr.Instr.{Instr}
+use Rattle.vg_lin.specs.declared.instr.Instr.TheVariants.{Return}
+use Rattle.vg_lin.specs.Sound.{AreOperands, Waits, IsSound}
+use Rattle.vg_lin_rows.specs.Smallest.{smallest}
+
+abbrev waits : ℕ → List ℕ
+waits at = []
+
+operands : (at : ℕ) (i : Instr) → slice_get smallest.code at ≡ Some i → AreOperands smallest i
+operands zero i e = grind arith
+operands (suc at) i e = grind arith
+
+goes_on : (at : ℕ) (i : Instr) → slice_get smallest.code at ≡ Some i → Waits smallest waits at i
+goes_on zero i e = grind arith
+goes_on (suc at) i e = grind arith
+
+pub smallest_sound : IsSound smallest
+smallest_sound =
+    record {
+      few = omega arith;
+      params = omega arith;
+      widths = tt {0};
+      operands = operands;
+      waits = waits;
+      begins = (omega arith, refl);
+      goes_on = goes_on;
+    }
+
+pub sound_as : (ws : List ℕ) (code : List Instr) → ws ≡ [] → code ≡ Return (Known 0) ∷ []
+    → IsSound (record { method = None; params = 0; widths = ws; code = code })
+sound_as ws code e h =
+    subst (λ z. IsSound (record { method = None; params = 0; widths = z; code = code })) (sym e)
+    (subst (λ z. IsSound (record { method = None; params = 0; widths = []; code = z })) (sym h) smallest_sound)

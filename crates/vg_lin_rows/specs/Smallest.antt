@@ -1,0 +1,9 @@
+-- The smallest procedure of linear code.
+use Rattle.std.specs.Prelude.{[], ◌∷◌, None}
+use Rattle.vg_lin.specs.declared.instr.Operand.TheVariants.{Known}
+use Rattle.vg_lin.specs.declared.instr.Instr.TheVariants.{Return}
+use Rattle.vg_lin.specs.Program.{Procedure}
+
+-- It has no locals, and returns 0.
+abbrev pub smallest : Procedure
+smallest = record { method = None; params = 0; widths = []; code = Return (Known 0) ∷ [] }
