@@ -1,5 +1,6 @@
 // The law that the routine of the product computes the product.
 ghost use Rattle.vg_lin.specs.declared.instr.Operator.TheVariants.{Times};
+ghost use Rattle.vg_lin.specs.Sound.{IsSound};
 ghost use Rattle.vg_arith.specs.Routines.{IsRoutineOf, IsShort};
 ghost use Rattle.vg_arith.specs.Product.{mul};
 
@@ -7,4 +8,5 @@ ghost use Rattle.vg_arith.specs.Product.{mul};
 pub fn product_is_right()
     ensures product { IsRoutineOf Times mul }
     ensures short { IsShort mul }
+    ensures sound { IsSound mul }
 {}

@@ -1,5 +1,6 @@
 // The laws that the routines of the shifts compute the shifts.
 ghost use Rattle.vg_lin.specs.declared.instr.Operator.TheVariants.{ShiftLeft, ShiftRight};
+ghost use Rattle.vg_lin.specs.Sound.{IsSound};
 ghost use Rattle.vg_arith.specs.Routines.{IsRoutineOf, IsShort};
 ghost use Rattle.vg_arith.specs.Shifts.{shl, shr};
 
@@ -8,4 +9,5 @@ pub fn shifts_are_right()
     ensures left { IsRoutineOf ShiftLeft shl }
     ensures right { IsRoutineOf ShiftRight shr }
     ensures short { IsShort shl × IsShort shr }
+    ensures sound { IsSound shl × IsSound shr }
 {}
