@@ -1,9 +1,10 @@
 -- That routines keep what every procedure of linear code keeps, by a test over their instructions.
-use Rattle.std.specs.Prelude.{ℕ, zero, suc, ◌+◌, ◌<◌, ◌≤◌, Bool, true, false, not, ◌==◌, ◌&&◌, nat_lt, nat_le, List, [], ◌∷◌, length, Some, slice_get}
+use Rattle.std.specs.Prelude.{ℕ, zero, suc, ◌+◌, ◌<◌, ◌≤◌, Bool, true, false, not, ◌==◌, ◌&&◌, nat_lt, nat_le, List, [], ◌∷◌, length, Some, None, slice_get}
 use Rattle.std.specs.List.{AllByRecursion}
 use Rattle.std.proofs.Common.{◌≡◌, refl, sym, subst, arith}
 use Rattle.vg_lin.specs.declared.instr.Operand.{Operand}
 use Rattle.vg_lin.specs.declared.instr.Operand.TheVariants.{Local, Known}
+use Rattle.vg_lin.specs.declared.instr.Operator.{Operator}
 use Rattle.vg_lin.specs.declared.instr.Test.{Test}
 use Rattle.vg_lin.specs.declared.instr.Plain.{Plain as PlainInstr}
 use Rattle.vg_lin.specs.declared.instr.Plain.TheVariants.{Copy, Compute, Product, DivideStep, Load, Store, ReadDevice, WriteDevice, Push, Find, Stop}
@@ -11,7 +12,7 @@ use Rattle.vg_lin.specs.declared.instr.Instr.{Instr}
 use Rattle.vg_lin.specs.declared.instr.Instr.TheVariants.{Plain, When, Unless, Jump, Call, Return, Idle}
 use Rattle.vg_lin.specs.Program.{Procedure}
 use Rattle.vg_lin.specs.Sound.{IsWidth, IsLocal, IsOperand, IsTest, IsPlain, AreOperands, PlainWaits, Waits, IsSound}
-use Rattle.vg_arith.specs.Shifts.{shl, shr}
+use Rattle.vg_arith.specs.Shifts.{shift}
 use Rattle.vg_arith.specs.Product.{mul}
 use Rattle.vg_arith.proofs.ShiftRoutines.{some_is}
 
@@ -176,11 +177,14 @@ sound m few params widths some e =
       goes_on = λ at i h. let z : 0 + at ≡ at = omega arith in subst (λ n. Waits m nothing_waits n i) z (waits_kept m (0 + at) i (kept_at m m.code 0 at i e h));
     }
 
-pub shl_sound : IsSound shl
-shl_sound = sound shl (omega arith) (omega arith) (a_width 4 refl, (a_width 4 refl, tt {0})) (omega arith) refl
+pub shift_sound : (op : Operator) → IsSound (shift op)
+shift_sound op = sound (shift op) (omega arith) (omega arith) (a_width 4 refl, (a_width 4 refl, tt {0})) (omega arith) refl
 
-pub shr_sound : IsSound shr
-shr_sound = sound shr (omega arith) (omega arith) (a_width 4 refl, (a_width 4 refl, tt {0})) (omega arith) refl
+pub shift_sound_as : (op : Operator) (ws : List ℕ) (code : List Instr) → ws ≡ (shift op).widths → code ≡ (shift op).code
+    → IsSound (record { method = None; params = 2; widths = ws; code = code })
+shift_sound_as op ws code e h =
+    subst (λ z. IsSound (record { method = None; params = 2; widths = z; code = code })) (sym e)
+    (subst (λ z. IsSound (record { method = None; params = 2; widths = (shift op).widths; code = z })) (sym h) (shift_sound op))
 
 pub mul_sound : IsSound mul
 mul_sound =
