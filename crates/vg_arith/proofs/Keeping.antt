@@ -190,3 +190,9 @@ pub mul_sound : IsSound mul
 mul_sound =
     sound mul (omega arith) (omega arith)
     (a_width 4 refl, (a_width 4 refl, (a_width 4 refl, (a_width 1 refl, (a_width 1 refl, (a_width 4 refl, tt {0})))))) (omega arith) refl
+
+pub mul_sound_as : (ws : List ℕ) (code : List Instr) → ws ≡ mul.widths → code ≡ mul.code
+    → IsSound (record { method = None; params = 2; widths = ws; code = code })
+mul_sound_as ws code e h =
+    subst (λ z. IsSound (record { method = None; params = 2; widths = z; code = code })) (sym e)
+    (subst (λ z. IsSound (record { method = None; params = 2; widths = mul.widths; code = z })) (sym h) mul_sound)

@@ -48,7 +48,12 @@ fn amount_below(width: u8, amount: u32) -> Test
     }
 }
 
-fn push_stage(code: &mut Row<Instr>, operator: Operator, at: u16, amount: u32) -> Result<(), NoMemory>
+fn push_stage(
+    code: &mut Row<Instr>,
+    operator: Operator,
+    at: u16,
+    amount: u32,
+) -> Result<(), NoMemory>
     requires { at < 1000 }
     ensures { OnOk result (code.new ≡ code.old ++ stage operator at amount) }
 {
