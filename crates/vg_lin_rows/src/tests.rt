@@ -8,6 +8,7 @@ fn procedures_are_made(rt: HostRuntime) {
     let alloc = rt.alloc();
     let smallest = smallest_procedure(alloc).map(|p| p.code().len());
     let product = product_routine(alloc).map(|p| p.code().len() + p.widths().len());
-    let shift = shift_routine(alloc, Operator::ShiftLeft).map(|p| p.code().len() + p.widths().len());
+    let shift = shift_routine(alloc, Operator::ShiftLeft).map(|p| p.code().len()
+        + p.widths().len());
     assert!(rt; smallest == Ok(1) && product == Ok(52) && shift == Ok(20));
 }
