@@ -1,2 +1,3 @@
 pub mod ShiftRoutines
 pub mod ProductRoutine
+pub mod Keeping

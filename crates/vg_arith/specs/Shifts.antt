@@ -1,5 +1,5 @@
 -- The routines of the shifts by an amount that is not known.
-use Rattle.std.specs.Prelude.{ℕ, suc, List, [], ◌∷◌, ◌++◌, None}
+use Rattle.std.specs.Prelude.{ℕ, ◌+◌, List, [], ◌∷◌, ◌++◌, None}
 use Rattle.vg_lin.specs.declared.instr.Operand.TheVariants.{Local, Known}
 use Rattle.vg_lin.specs.declared.instr.Operator.{Operator}
 use Rattle.vg_lin.specs.declared.instr.Operator.TheVariants.{Minus, ShiftLeft, ShiftRight}
@@ -12,7 +12,7 @@ use Rattle.vg_lin.specs.Program.{Procedure}
 -- The three instructions from a place on: where the amount is not below k, the value is shifted by k, and k is taken from the amount.
 abbrev pub stage : Operator → (at k : ℕ) → List Instr
 stage op at k =
-    When (record { comparison = Below; width = 1; left = Local 1; right = Known k }) (suc (suc (suc at)))
+    When (record { comparison = Below; width = 1; left = Local 1; right = Known k }) (at + 3)
     ∷ Plain (Compute (record { operator = op; width = 4; to = 0; left = Local 0; right = Known k }))
     ∷ Plain (Compute (record { operator = Minus; width = 1; to = 1; left = Local 1; right = Known k })) ∷ []
 

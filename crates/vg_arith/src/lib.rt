@@ -3,3 +3,6 @@
 
 pub mod product;
 pub mod shifts;
+
+pub use product::product_routine;
+pub use shifts::shift_routine;

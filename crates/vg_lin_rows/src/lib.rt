@@ -3,3 +3,5 @@
 
 pub mod example;
 pub mod smallest;
+#[cfg(test)]
+mod tests;
