@@ -1,4 +1,6 @@
 // Rows of shelves.
+ghost use Rattle.std.specs.Prelude.{◌<◌, ◌^◌, ◌-◌, IfSome};
+
 use crate::answers::{one_part, push_part};
 use crate::table::Table;
 use std::alloc::Global;
@@ -49,8 +51,10 @@ pub fn given_files(table: &mut Table, words: &str) -> Result<Option<Row<u8>>, No
     }
 }
 
-// A name and a limit.
-fn name_and_limit(words: &str) -> Option<(&str, usize)> {
+// A name and a limit, which is below 2^32.
+fn name_and_limit(words: &str) -> Option<(&str, usize)>
+    ensures { IfSome result (λ pair. pair.1 < 2 ^ 32) }
+{
     let (name, limit) = words.split_once(' ')?;
     Some((name, limit.parse::<u32>().ok()? as usize))
 }
