@@ -1,5 +1,5 @@
 -- The image of writes is that of the text that they come from.
-use Rattle.std.proofs.Common.{◌≡◌, ℕ, ◌+◌, List, None, refl, sym, ap, ◌∙◌, subst, arith}
+use Rattle.std.proofs.Common.{◌≡◌, ℕ, List, None, refl, sym, subst, arith}
 use Rattle.vg_syntax.specs.Reads.{Reads}
 use Rattle.vg_syntax.specs.Tree.{Node}
 use Rattle.vg_first_text.specs.declared.device_write.DeviceWrite.{DeviceWrite}
@@ -12,7 +12,7 @@ use Rattle.vg_hex.proofs.Again.{one_image}
 use Rattle.vg_build.specs.declared.building.Built.{Built}
 use Rattle.vg_build.specs.declared.layout.Layout.{Layout}
 use Rattle.vg_build.specs.Image.{IsBuiltOf, IsImageOf}
-use Rattle.vg_build.specs.Mirrors.{IsMadeOf, all_sram}
+use Rattle.vg_build.specs.Mirrors.{HasTree, IsMadeOf, all_sram}
 
 -- with all of SRAM for the stack
 image_of_text : (bytes image : List ℕ) (layout : Layout) (writes : List DeviceWrite) (tree : Node) → all_sram ≡ layout → Reads bytes tree → IsFirst bytes writes
@@ -35,13 +35,13 @@ image_of_text bytes image layout writes tree same reads first agrees never spell
     })
 
 -- what is made of the writes of a text is built of the text
-pub built_of : (bytes : List ℕ) (built : Built) (writes given : List DeviceWrite) → given ≡ writes → ((tree : Node) × Reads bytes tree)
-    → IsFirst bytes writes → IsMadeOf given built → IsBuiltOf bytes built
-built_of bytes built writes given same (tree, reads) first made =
+pub built_of : (bytes : List ℕ) (built : Built) (writes given : List DeviceWrite) → given ≡ writes → HasTree bytes → IsFirst bytes writes
+    → IsMadeOf given built → IsBuiltOf bytes built
+built_of bytes built writes given same read first made =
     let first' = subst (λ ws. IsFirst bytes ws) (sym same) first in
     record {
-      image = image_of_text bytes built.image built.layout given tree (sym made.layout) reads first' (made.agrees 0x0100 4096 refl (omega arith))
-          (made.never 0x0100 4096 refl (omega arith)) made.spelled;
+      image = image_of_text bytes built.image built.layout given read.tree (sym made.layout) read.reads first'
+          (made.agrees 0x0100 4096 refl (omega arith)) (made.never 0x0100 4096 refl (omega arith)) made.spelled;
       hex = made.hex;
       note = made.note;
     }

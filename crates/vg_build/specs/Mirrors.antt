@@ -28,7 +28,13 @@ pub record IsMadeOf (writes : List DeviceWrite) (built : Built) : Type 0 where
   pub spelled : HexImage (hex_text built.image) built.image
   pub note : built.note ≡ layout_text built.layout
 
--- the bytes are a text of the language with a tree, or there is a cause
+-- the bytes are a text of the language with a tree
+pub record HasTree (bytes : List ℕ) : Type 0 where
+  pub text : IsText bytes
+  pub tree : Node
+  pub reads : Reads bytes tree
+
+-- they have one, or there is a cause
 abbrev pub ReadBy : List ℕ → {V : Type 0} → Result V (Refusal Fault) → Type 0
-ReadBy bytes (Ok v) = IsText bytes × (tree : Node) × Reads bytes tree
+ReadBy bytes (Ok v) = HasTree bytes
 ReadBy bytes (Err why) = IsCause why bytes
