@@ -25,15 +25,25 @@ pub fn shown_text(alloc: Global, bytes: &[u8]) -> Result<String, NoMemory> {
 
 /// An image: the digits of its bytes behind those 0xFF that it begins with, and how many these are.
 pub fn shown_image(alloc: Global, image: &Image) -> Result<String, NoMemory> {
-    let mut gap = 0u64;
-    let mut rest = image.as_slice();
-    while let [0xFF, behind @ ..] = rest {
-        gap = gap.saturating_add(1);
-        rest = behind;
-    }
+    let bytes = image.as_slice();
+    let gap = erased_front(bytes);
+    let rest = match bytes.get(gap..) {
+        Some(rest) => rest,
+        None => bytes,
+    };
     let digits = encode(alloc, rest)?;
     let digits = digits.as_str();
     Ok(format!(in alloc; "{digits} behind {gap}")?)
+}
+
+// How many bytes 0xFF stand in front of the others.
+fn erased_front(bytes: &[u8]) -> usize {
+    for (index, byte) in bytes.iter().enumerate() {
+        if *byte != 0xFF {
+            return index;
+        }
+    }
+    bytes.len()
 }
 
 /// A fault of a HEX text.
