@@ -12,7 +12,7 @@ use Rattle.avr_isa.specs.Change.{Change, going, staying, moved, register_of, wit
 use Rattle.avr_isa.specs.Flags.{is_set, carry_of, with_flags, sum_of, flags_of_sum, difference_of, flags_of_difference, sticky, flags_of_logic}
 use Rattle.avr_isa.specs.Flags.{flags_of_complement, flags_of_count, flags_of_shift, flags_of_wide_sum, flags_of_wide_difference, sreg_of_product}
 use Rattle.avr_isa.specs.Access.{displaced, stored, loaded, then_next, pushed, popped, can_pop_two, with_popped}
-use Rattle.avr_isa.specs.Flow.{jumped, far_from, branched, called, returned}
+use Rattle.avr_isa.specs.Flow.{jumped, far_from, branched, subroutine_called, returned}
 
 -- an instruction of one word leaves these flags alone
 abbrev pub flagging : CpuState → Flags → Change
@@ -78,7 +78,7 @@ change flash (Brbc s k) cpu = branched cpu (not (is_set s cpu.sreg)) k
 -- BRBS: if the bit s of SREG is 1 then PC ← PC + k + 1
 change flash (Brbs s k) cpu = branched cpu (is_set s cpu.sreg) k
 -- CALL: STACK ← PC + 2, PC ← k
-change flash (Call k) cpu = called cpu (forward 2 cpu.pc) k
+change flash (Call k) cpu = subroutine_called cpu (forward 2 cpu.pc) k
 -- CLI: I ← 0
 change flash Cli cpu = going (with_sreg (moved 1 cpu) (disabled cpu.sreg))
 -- COM: Rd ← 0xFF - Rd
@@ -94,7 +94,7 @@ change flash (Dec d) cpu = counted cpu d ((register_of cpu d + 255) % 256) 0x7F
 -- EOR: Rd ← Rd ⊕ Rr
 change flash (Eor d r) cpu = combined cpu d (bit_xor (register_of cpu d) (register_of cpu r))
 -- ICALL: STACK ← PC + 1, PC ← Z
-change flash Icall cpu = called cpu (forward 1 cpu.pc) (pair_of cpu 30)
+change flash Icall cpu = subroutine_called cpu (forward 1 cpu.pc) (pair_of cpu 30)
 -- IJMP: PC ← Z
 change flash Ijmp cpu = going (record cpu { pc = pair_of cpu 30 })
 -- IN: Rd ← I/O(A)
@@ -142,7 +142,7 @@ change flash (Pop d) cpu = popped cpu (moved 1 cpu) d
 -- PUSH: STACK ← Rr, SP ← SP - 1
 change flash (Push r) cpu = pushed cpu (moved 1 cpu) (register_of cpu r)
 -- RCALL: STACK ← PC + 1, PC ← PC + k + 1
-change flash (Rcall k) cpu = called cpu (forward 1 cpu.pc) (far_from cpu.pc k)
+change flash (Rcall k) cpu = subroutine_called cpu (forward 1 cpu.pc) (far_from cpu.pc k)
 -- RET: PC ← STACK
 change flash Ret cpu = returned cpu
 -- RETI: PC ← STACK, I ← 1

@@ -25,8 +25,8 @@ abbrev pub branched : CpuState → Bool → ℕ → Change
 branched cpu taken k = going (if taken then record cpu { pc = near_from cpu.pc k } else moved 1 cpu)
 
 -- a call pushes the word address behind it
-abbrev pub called : CpuState → (behind to : ℕ) → Change
-called cpu behind to = if can_push_two cpu.sp then going (record (with_pushed cpu behind) { pc = to }) else staying cpu Outside
+abbrev pub subroutine_called : CpuState → (behind to : ℕ) → Change
+subroutine_called cpu behind to = if can_push_two cpu.sp then going (record (with_pushed cpu behind) { pc = to }) else staying cpu Outside
 
 -- a return goes to the word address that it pops
 abbrev pub returned : CpuState → Change

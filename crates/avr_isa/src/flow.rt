@@ -2,7 +2,7 @@
 ghost use Rattle.std.specs.Prelude.{◌≡◌, ◌+◌, ◌%◌, ◌<◌, ◌≤◌, ℕ, []};
 ghost use Rattle.avr_instr.specs.declared.instr.Instr.TheVariants.{Sleep as SleepInstr, Reti};
 ghost use Rattle.avr_isa.specs.Change.{WaitsInRegister};
-ghost use Rattle.avr_isa.specs.Flow.{jumped, far_from, near_from, branched, called, returned};
+ghost use Rattle.avr_isa.specs.Flow.{jumped, far_from, near_from, branched, subroutine_called, returned};
 ghost use Rattle.avr_isa.specs.Effect.{change};
 
 use crate::cpu::Cpu;
@@ -75,8 +75,8 @@ pub(crate) fn branch(cpu: &mut Cpu, taken: bool, offset: u8) -> Effect
 
 // Calls the code at a word address, from an instruction that ends before another.
 pub(crate) fn call(cpu: &mut Cpu, behind: u16, to: u16) -> Effect
-    ensures cpu { cpu.new ≡ (called cpu.old behind to).cpu }
-    ensures effect { result ≡ (called cpu.old behind to).effect }
+    ensures cpu { cpu.new ≡ (subroutine_called cpu.old behind to).cpu }
+    ensures effect { result ≡ (subroutine_called cpu.old behind to).effect }
     ensures waiting { WaitsInRegister result }
 {
     if !memory::can_push_two(cpu) {

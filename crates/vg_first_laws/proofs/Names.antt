@@ -10,7 +10,7 @@ use Rattle.std.proofs.lemmas.Slice.Eq.{bytes_eq-Decides}
 use Rattle.std.proofs.lemmas.Grind.{flat_map-append}
 use Rattle.vg_syntax.specs.Hexadecimal.{hex_value}
 use Rattle.vg_syntax.specs.Lexemes.{is_hexadecimal}
-use Rattle.vg_first_text.specs.FirstText.{FirstAssignment, FirstRegister, First, IsByteNumber, IsAssignment, address_of, AreRegisters, FirstFits, write_of}
+use Rattle.vg_first_text.specs.FirstText.{FirstAssignment, FirstRegister, First, IsByteNumber, IsAssignment, register_address, AreRegisters, FirstFits, write_of}
 use Rattle.vg_first_text.specs.FirstText.{writes_of}
 use Rattle.vg_syntax.specs.Tree.{Spot, Node, Then, EntryDecl}
 use Rattle.vg_syntax.specs.Tree as tree
@@ -20,7 +20,7 @@ use Rattle.vg_source.specs.Values.{Raw, default}
 use Rattle.vg_source.specs.Types.{NoType}
 use Rattle.vg_source.specs.Steps.{Method, Start, Routine, Source}
 use Rattle.vg_source.specs.State.{of_count, find_routine, handler_of}
-use Rattle.vg_source.specs.Literals.{decimal, number_of, int_of, number_value}
+use Rattle.vg_source.specs.Literals.{decimal_behind, number_of, int_of, number_value}
 use Rattle.vg_syntax.specs.Numbering.{count_nodes}
 use Rattle.vg_meaning.specs.History.{Calling}
 use Rattle.vg_first_text.specs.FirstSession.{main_cost, first_session}
@@ -52,23 +52,23 @@ some_of None h = absurd (h refl)
 -- ---- registers
 
 number_is : (digits : List ℕ) → is_hexadecimal digits ≡ true → number_of digits ≡ hex_value digits
-number_is digits e = ap (λ b. if b then hex_value digits else decimal 0 digits) e
+number_is digits e = ap (λ b. if b then hex_value digits else decimal_behind 0 digits) e
 
 found_register : (b : Bool) (m n : ℕ) (o p : Option ℕ) → m ≡ n → o ≡ p → or_else (if b then Some m else None) o ≡ (if b then Some n else p)
 found_register true m n o p e h = ap Some e
 found_register false m n o p e h = h
 
-registers_in : (at : ℕ → Spot) (k : ℕ) (rs : List FirstRegister) (x : Name) → AreRegisters rs → register_in (register_row at k rs) x ≡ address_of rs x
+registers_in : (at : ℕ → Spot) (k : ℕ) (rs : List FirstRegister) (x : Name) → AreRegisters rs → register_in (register_row at k rs) x ≡ register_address rs x
 registers_in at k [] x h = refl
 registers_in at k (r ∷ rs) x (number, once, h) =
-    found_register (bytes_eq r.name x) (number_of r.digits) (hex_value r.digits) (register_in (register_row at (k + 1) rs) x) (address_of rs x)
+    found_register (bytes_eq r.name x) (number_of r.digits) (hex_value r.digits) (register_in (register_row at (k + 1) rs) x) (register_address rs x)
     (number_is r.digits number.hexadecimal) (registers_in at (k + 1) rs x h)
 
 -- ---- assignments
 
 byte_is : (digits : List ℕ) → IsByteNumber digits → number_value digits ≡ Raw 8 (hex_value digits)
 byte_is digits h =
-    ap (λ b. if b then Raw (4 * (length digits - 2)) (hex_value digits) else int_of (decimal 0 digits)) h.hexadecimal ∙ ap
+    ap (λ b. if b then Raw (4 * (length digits - 2)) (hex_value digits) else int_of (decimal_behind 0 digits)) h.hexadecimal ∙ ap
     (λ n. Raw (4 * (n - 2)) (hex_value digits)) h.two
 
 module _ (at : ℕ → Spot) (ds : Node) (c d : Name) (k : ℕ) (rs : List FirstRegister)
@@ -77,7 +77,7 @@ module _ (at : ℕ → Spot) (ds : Node) (c d : Name) (k : ℕ) (rs : List First
   assignment_is : (n : ℕ) (a : FirstAssignment) → IsAssignment d rs a
       → resolved ds (InComponent c) (assignment_node at n a) Fresh no_names ≡ doing (write_code (write_of rs a)) NoHead no_names
   assignment_is n a h =
-      let some : (m : ℕ) × (address_of rs a.register ≡ Some m) = some_of (address_of rs a.register) h.register in
+      let some : (m : ℕ) × (register_address rs a.register ≡ Some m) = some_of (register_address rs a.register) h.register in
       let e1 : component_member ds c a.device ≡ None = ap (component_member ds c) h.device ∙ no_member in
       let e2 : component_named ds a.device ≡ None = ap (component_named ds) h.device ∙ no_component in
       let e3 : device_named ds a.device ≡ Some (register_row at k rs) = ap (device_named ds) h.device ∙ device in

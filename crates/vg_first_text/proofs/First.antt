@@ -16,7 +16,7 @@ use Rattle.vg_syntax.specs.Tokens.{IsTokens}
 use Rattle.vg_scan.proofs.Reading.{only_tokens}
 use Rattle.vg_first_text.proofs.Hexadecimal.{two_digits_below}
 use Rattle.vg_first_text.specs.FirstText.{First, FirstAssignment, FirstRegister, head_pieces, assignment_pieces, middle_pieces, register_pieces, tail_pieces}
-use Rattle.vg_first_text.specs.FirstText.{first_pieces, AreRegisters, IsAssignment, FirstFits, IsFirst, address_of, write_of, writes_of}
+use Rattle.vg_first_text.specs.FirstText.{first_pieces, AreRegisters, IsAssignment, FirstFits, IsFirst, register_address, write_of, writes_of}
 use Rattle.vg_first_text.specs.FirstViews.{IsBehindAssignments, IsBehindRegisters}
 use Rattle.vg_first_text.specs.Pieces.{Piece, pieces}
 
@@ -155,14 +155,14 @@ not_fitting bytes tokens f t e none writes a =
     none (subst FirstFits (sym same) a.fits)
 
 -- the address of a register that is there is that of a device register
-address_fits : (rs : List FirstRegister) (name : List ℕ) → AreRegisters rs → (address_of rs name ≡ None → ⊥)
-    → IsDeviceAddress (unwrap_or (address_of rs name) 0)
+address_fits : (rs : List FirstRegister) (name : List ℕ) → AreRegisters rs → (register_address rs name ≡ None → ⊥)
+    → IsDeviceAddress (unwrap_or (register_address rs name) 0)
 address_fits [] name h some = absurd (some refl)
 address_fits (r ∷ rs) name h some = by_test (bytes_eq r.name name) some (address_fits rs name h.2)
   where
-    by_test : (t : Bool) → ((if t then Some (hex_value r.digits) else address_of rs name) ≡ None → ⊥)
-        → ((address_of rs name ≡ None → ⊥) → IsDeviceAddress (unwrap_or (address_of rs name) 0))
-        → IsDeviceAddress (unwrap_or (if t then Some (hex_value r.digits) else address_of rs name) 0)
+    by_test : (t : Bool) → ((if t then Some (hex_value r.digits) else register_address rs name) ≡ None → ⊥)
+        → ((register_address rs name ≡ None → ⊥) → IsDeviceAddress (unwrap_or (register_address rs name) 0))
+        → IsDeviceAddress (unwrap_or (if t then Some (hex_value r.digits) else register_address rs name) 0)
     by_test true some again = h.0.address
     by_test false some again = again some
 

@@ -81,19 +81,19 @@ pub record IsByteNumber (digits : List ℕ) : Type 0 where
   pub two : length digits ≡ 4
 
 -- the address of the register of this name, where there is one
-abbrev pub address_of : List FirstRegister → List ℕ → Option ℕ
-address_of [] name = None
-address_of (r ∷ rs) name = if bytes_eq r.name name then Some (hex_value r.digits) else address_of rs name
+abbrev pub register_address : List FirstRegister → List ℕ → Option ℕ
+register_address [] name = None
+register_address (r ∷ rs) name = if bytes_eq r.name name then Some (hex_value r.digits) else register_address rs name
 
 -- each register has a number of a device register, and a name that no later one has
 abbrev pub AreRegisters : List FirstRegister → Type 0
 AreRegisters [] = Unit {0}
-AreRegisters (r ∷ rs) = IsRegisterNumber r.digits × (address_of rs r.name ≡ None) × AreRegisters rs
+AreRegisters (r ∷ rs) = IsRegisterNumber r.digits × (register_address rs r.name ≡ None) × AreRegisters rs
 
 -- an assignment writes a byte to a register of the device
 pub record IsAssignment (declared : List ℕ) (registers : List FirstRegister) (a : FirstAssignment) : Type 0 where
   pub device : a.device ≡ declared
-  pub register : address_of registers a.register ≢ None
+  pub register : register_address registers a.register ≢ None
   pub value : IsByteNumber a.digits
 
 -- which names are equal, and which differ
@@ -115,7 +115,7 @@ pub record FirstFits (f : First) : Type 0 where
 
 -- the write of an assignment
 abbrev pub write_of : List FirstRegister → FirstAssignment → DeviceWrite
-write_of registers a = record { address = unwrap_or (address_of registers a.register) 0; value = hex_value a.digits }
+write_of registers a = record { address = unwrap_or (register_address registers a.register) 0; value = hex_value a.digits }
 
 -- the writes of the main method, in order
 abbrev pub writes_of : First → List DeviceWrite

@@ -5,7 +5,7 @@ use denote.Bor.{Bor}
 use Rattle.vg_first_text.specs.declared.first_text.parts.Assignment.{Assignment}
 use Rattle.vg_first_text.specs.declared.first_text.parts.Register.{Register}
 use Rattle.vg_first_text.specs.declared.first_text.parts.Program.{Program}
-use Rattle.vg_first_text.specs.FirstText.{First, FirstAssignment, FirstRegister, assignment_pieces, register_pieces, address_of, IsAssignment}
+use Rattle.vg_first_text.specs.FirstText.{First, FirstAssignment, FirstRegister, assignment_pieces, register_pieces, register_address, IsAssignment}
 use Rattle.vg_first_text.specs.Pieces.{Piece}
 
 abbrev pub assignment_view : Assignment → FirstAssignment
@@ -41,7 +41,7 @@ same_name a b = bytes_eq a.now b.now
 
 -- a look-up gives the address of each register
 abbrev pub TellsAddresses : (Bor (List ℕ) → Option ℕ) → List FirstRegister → Type 0
-TellsAddresses found registers = (name : Bor (List ℕ)) → found name ≡ address_of registers name.now
+TellsAddresses found registers = (name : Bor (List ℕ)) → found name ≡ register_address registers name.now
 
 -- each assignment writes a byte to a register of the device
 abbrev pub AreAssignments : First → Type 0

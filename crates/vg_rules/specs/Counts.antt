@@ -48,10 +48,10 @@ all_members text = flat_map members_at (declared text)
 -- ---- the counts
 
 -- A class or component.
-abbrev pub class_at : Node → List Spot
-class_at (ClassDecl at c above members) = at ∷ []
-class_at (ComponentDecl at c members) = at ∷ []
-class_at _ = []
+abbrev pub class_spots : Node → List Spot
+class_spots (ClassDecl at c above members) = at ∷ []
+class_spots (ComponentDecl at c members) = at ∷ []
+class_spots _ = []
 
 -- A method or constructor.
 abbrev pub method_at : Node → List Spot
@@ -80,7 +80,7 @@ in_order n (at ∷ rest) = record { node = at.id; number = suc n } ∷ in_order 
 -- What is counted of a text: its classes and components, and its methods and constructors, one by one; the parameters and locals of each
 -- method and constructor; and the height of each member.
 abbrev pub counts : What → Node → List Counted
-counts Classes text = in_order 0 (flat_map class_at (declared text))
+counts Classes text = in_order 0 (flat_map class_spots (declared text))
 counts Methods text = in_order 0 (flat_map method_at (all_members text))
 counts Locals text = flat_map locals_at (all_members text)
 counts Height text = flat_map height_at (all_members text)

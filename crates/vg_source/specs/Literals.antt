@@ -6,13 +6,13 @@ use Rattle.vg_source.specs.Types.{StaticType, IntType, RawType}
 use Rattle.vg_source.specs.Values.{Value, Int, Raw}
 
 -- The number that decimal digits write, behind the number that was written before them.
-abbrev pub decimal : ℕ → List ℕ → ℕ
-decimal n [] = n
-decimal n (b ∷ bs) = decimal (n * 10 + digit_value b) bs
+abbrev pub decimal_behind : ℕ → List ℕ → ℕ
+decimal_behind n [] = n
+decimal_behind n (b ∷ bs) = decimal_behind (n * 10 + digit_value b) bs
 
 -- The number of a token: hexadecimal behind 0x, else decimal.
 abbrev pub number_of : List ℕ → ℕ
-number_of bs = if is_hexadecimal bs then hex_value bs else decimal 0 bs
+number_of bs = if is_hexadecimal bs then hex_value bs else decimal_behind 0 bs
 
 -- A decimal number is an int, and 2147483648 the least int.
 abbrev pub int_of : ℕ → Value
@@ -20,7 +20,7 @@ int_of n = Int (if n == 2147483648 then negsuc 2147483647 else pos n)
 
 -- The value of a number token: a hexadecimal one of d digits, as written, is a bit string of 4 d bits.
 abbrev pub number_value : List ℕ → Value
-number_value bs = if is_hexadecimal bs then Raw (4 * (length bs - 2)) (hex_value bs) else int_of (decimal 0 bs)
+number_value bs = if is_hexadecimal bs then Raw (4 * (length bs - 2)) (hex_value bs) else int_of (decimal_behind 0 bs)
 
 -- The static type of a number.
 abbrev pub number_type : List ℕ → StaticType

@@ -10,7 +10,7 @@ use Rattle.vg_source.specs.Declared.{or_else}
 use Rattle.vg_source.specs.Program.{declarations_of}
 use Rattle.vg_rules.specs.declared.what.What.TheVariants.{Classes, Methods, Locals, Height}
 use Rattle.vg_rules.specs.Limits.{limit_of}
-use Rattle.vg_rules.specs.Counts.{Counted, height, in_row, members_at, class_at, method_at, locals_at, height_at, in_order}
+use Rattle.vg_rules.specs.Counts.{Counted, height, in_row, members_at, class_spots, method_at, locals_at, height_at, in_order}
 use Rattle.vg_rules.specs.Refusal.{Refused, first_past, too_many, too_many_at}
 use Rattle.vg_tree.specs.declared.node.Node as held
 use Rattle.vg_tree.specs.Held.{node_at, nodes_at, arms_at}
@@ -184,7 +184,7 @@ members_next t (Then m rest) = let e = members_next (tally_member t m) rest in l
 members_next t _ = refl
 
 after_declaration : (t : Tally) (d : Node)
-    → After t (tally_declaration t d) (class_at (numbered t.next d)) (flat_map method_at (members_at (numbered t.next d)))
+    → After t (tally_declaration t d) (class_spots (numbered t.next d)) (flat_map method_at (members_at (numbered t.next d)))
     (flat_map locals_at (members_at (numbered t.next d))) (flat_map height_at (members_at (numbered t.next d)))
 after_declaration t (ClassDecl at c above members) =
     after_both t (with_class t) _ (with_id t.next at ∷ []) [] [] _ [] _ [] _ (after_class t at) (after_members (with_class t) members)
@@ -198,7 +198,7 @@ declaration_next t (ComponentDecl at c members) = let e = members_next (with_cla
 declaration_next t _ = refl
 
 after_declarations : (t : Tally) (r : Node)
-    → After t (tally_declarations t r) (flat_map class_at (in_row (numbered t.next r))) (flat_map method_at (flat_map members_at (in_row (numbered t.next r))))
+    → After t (tally_declarations t r) (flat_map class_spots (in_row (numbered t.next r))) (flat_map method_at (flat_map members_at (in_row (numbered t.next r))))
     (flat_map locals_at (flat_map members_at (in_row (numbered t.next r)))) (flat_map height_at (flat_map members_at (in_row (numbered t.next r))))
 after_declarations t Nothing = after_none t
 after_declarations t (Then d rest) =
@@ -209,7 +209,7 @@ after_declarations t (Then d rest) =
     (subst (λ z. After t all classes (apart method_at) (apart locals_at) z)
     (sym (flat_map-append height_at (members_at here) (flat_map members_at behind)))
     (after_both t (tally_declaration t d) all _ _ _ _ _ _ _ _ (after_declaration t d)
-    (subst (λ i. After (tally_declaration t d) all (flat_map class_at (rest_from i)) (flat_map method_at (flat_map members_at (rest_from i)))
+    (subst (λ i. After (tally_declaration t d) all (flat_map class_spots (rest_from i)) (flat_map method_at (flat_map members_at (rest_from i)))
     (flat_map locals_at (flat_map members_at (rest_from i))) (flat_map height_at (flat_map members_at (rest_from i))))
     (declaration_next t d) (after_declarations (tally_declaration t d) rest)))))
   where
@@ -223,7 +223,7 @@ after_declarations t (Then d rest) =
     behind = rest_from (t.next + count_nodes d)
 
     classes : List Spot
-    classes = class_at here ++ flat_map class_at behind
+    classes = class_spots here ++ flat_map class_spots behind
 
     apart : {A : Type 0} → (Node → List A) → List A
     apart f = flat_map f (members_at here) ++ flat_map f (flat_map members_at behind)
@@ -245,7 +245,7 @@ of_four classes methods locals height =
 pub text_counted : (text ds : Node) → declarations_of text ≡ numbered 1 ds → answer (tally_declarations first_tally ds) ≡ too_many text
 text_counted text ds e =
     ap (λ p. of_four p u.past_methods u.past_locals u.past_height)
-    (a.past_classes ∙ ap (λ z. first_past (limit_of Classes) (in_order 0 (flat_map class_at (in_row z)))) (sym e))
+    (a.past_classes ∙ ap (λ z. first_past (limit_of Classes) (in_order 0 (flat_map class_spots (in_row z)))) (sym e))
     ∙ ap (λ p. of_four classes p u.past_locals u.past_height)
     (a.past_methods ∙ ap (λ z. first_past (limit_of Methods) (in_order 0 (flat_map method_at (flat_map members_at (in_row z))))) (sym e))
     ∙ ap (λ p. of_four classes methods p u.past_height)
@@ -256,12 +256,12 @@ text_counted text ds e =
     u : Tally
     u = tally_declarations first_tally ds
 
-    a : After first_tally u (flat_map class_at (in_row (numbered 1 ds))) (flat_map method_at (flat_map members_at (in_row (numbered 1 ds))))
+    a : After first_tally u (flat_map class_spots (in_row (numbered 1 ds))) (flat_map method_at (flat_map members_at (in_row (numbered 1 ds))))
         (flat_map locals_at (flat_map members_at (in_row (numbered 1 ds)))) (flat_map height_at (flat_map members_at (in_row (numbered 1 ds))))
     a = after_declarations first_tally ds
 
     classes : Option ℕ
-    classes = first_past (limit_of Classes) (in_order 0 (flat_map class_at (in_row (declarations_of text))))
+    classes = first_past (limit_of Classes) (in_order 0 (flat_map class_spots (in_row (declarations_of text))))
 
     methods : Option ℕ
     methods = first_past (limit_of Methods) (in_order 0 (flat_map method_at (flat_map members_at (in_row (declarations_of text)))))

@@ -3,7 +3,7 @@ use Rattle.std.proofs.Common.{◌≡◌, ℕ, ◌+◌, ◌-◌, ◌*◌, ◌<◌
 use Rattle.std.proofs.lemmas.List.{at_drop_more}
 use Rattle.std.specs.Prelude.{if◌then◌else◌, ◌&&◌, nat_le}
 use Rattle.std.specs.List.{list_all}
-use Rattle.vg_words.specs.Numbers.{is_digit, decimal, decimal_behind}
+use Rattle.vg_words.specs.Numbers.{is_digit, decimal_number, decimal_behind}
 use Rattle.vg_words.specs.Walk.{decimal_to}
 
 -- digits behind a number make it no smaller
@@ -19,10 +19,10 @@ none_for true b n e = rw e refl
 none_for false b n e = refl
 
 -- a digit that leads past the limit
-pub too_large : (most value i : ℕ) (text : List ℕ) → i < length text → decimal_behind value (drop i text) ≡ decimal text
+pub too_large : (most value i : ℕ) (text : List ℕ) → i < length text → decimal_behind value (drop i text) ≡ decimal_number text
     → most < value * 10 + (get_or text i 0 - 48) → None ≡ decimal_to most text
 too_large most value i text l e h =
     let longer = value * 10 + (get_or text i 0 - 48) in
-    let k : decimal_behind longer (drop (i + 1) text) ≡ decimal text = sym (at_drop_more (decimal_behind value) text i 0 l) ∙ e in
-    none_for (list_all is_digit text) (nat_le (decimal text) most) (decimal text)
-    (above (decimal text) most (omega (arith, k, h, grows longer (drop (i + 1) text))))
+    let k : decimal_behind longer (drop (i + 1) text) ≡ decimal_number text = sym (at_drop_more (decimal_behind value) text i 0 l) ∙ e in
+    none_for (list_all is_digit text) (nat_le (decimal_number text) most) (decimal_number text)
+    (above (decimal_number text) most (omega (arith, k, h, grows longer (drop (i + 1) text))))

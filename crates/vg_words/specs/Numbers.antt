@@ -11,12 +11,12 @@ abbrev pub decimal_behind : ℕ → List ℕ → ℕ
 decimal_behind front [] = front
 decimal_behind front (digit ∷ digits) = decimal_behind (front * 10 + (digit - 48)) digits
 
-abbrev pub decimal : List ℕ → ℕ
-decimal = decimal_behind 0
+abbrev pub decimal_number : List ℕ → ℕ
+decimal_number = decimal_behind 0
 
 -- a number from 1 to the most, in at most so many digits; leading zeros are digits too
 abbrev pub number : (digits most : ℕ) → List ℕ → Option ℕ
 number digits most text =
-    if list_all is_digit text && nat_le (length text) digits && nat_le 1 (decimal text) && nat_le (decimal text) most
-    then Some (decimal text)
+    if list_all is_digit text && nat_le (length text) digits && nat_le 1 (decimal_number text) && nat_le (decimal_number text) most
+    then Some (decimal_number text)
     else None

@@ -7,7 +7,7 @@ use Rattle.vg_words.specs.declared.items.First.{First}
 use Rattle.vg_words.specs.declared.items.First.TheVariants as first
 use Rattle.vg_words.specs.Items.{Item, Plain, Set, Bare, items}
 use Rattle.vg_words.specs.Commands.{words_in}
-use Rattle.vg_words.specs.Numbers.{is_digit, decimal}
+use Rattle.vg_words.specs.Numbers.{is_digit, decimal_number}
 
 -- the items of the rest of the words
 abbrev pub items_in : Rest → List Item
@@ -39,4 +39,4 @@ with_next word (value ∷ behind) = Set word value ∷ items behind
 
 -- what digits spell, up to a limit
 abbrev pub decimal_to : ℕ → List ℕ → Option ℕ
-decimal_to most text = if list_all is_digit text && nat_le (decimal text) most then Some (decimal text) else None
+decimal_to most text = if list_all is_digit text && nat_le (decimal_number text) most then Some (decimal_number text) else None
