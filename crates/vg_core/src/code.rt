@@ -3,8 +3,10 @@ use crate::step::Step;
 
 /// Structured code. Blocks, chains of operators and the arms of an `if` are rows, so that nothing recurses along them.
 pub enum Code {
-    /// One behind another.
+    /// One behind another, and then nothing.
     Row(Vec<Code>),
+    /// One behind another; the last of them ends it.
+    Chain(Vec<Code>),
     Do(Step),
     /// Takes a truth value: the first where it holds, else the second.
     If(Box<Code>, Box<Code>),
@@ -25,6 +27,7 @@ impl Drop for Code {
     fn drop(self) {
         match self {
             Code::Row(_) => {}
+            Code::Chain(_) => {}
             Code::Do(_) => {}
             Code::If(_, _) => {}
             Code::Arms(_, _) => {}

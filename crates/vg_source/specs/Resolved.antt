@@ -232,14 +232,14 @@ prefix_of kind.Not = Not
 prefix_of kind.Complement = Complement
 prefix_of _ = Negative
 
--- All operators before an operand: the one that is nearest to it comes first.
-abbrev pub apply_all : List Kind → code.Code Step
-apply_all [] = code.Nothing
-apply_all (k ∷ ks) = code.Then (apply_all ks) (code.Do (step.Apply (prefix_of k)))
+-- All operators before an operand, and then more: the one that is nearest to the operand comes first.
+abbrev pub apply_all : List Kind → (more : code.Code Step) → code.Code Step
+apply_all [] more = more
+apply_all (k ∷ ks) more = apply_all ks (code.Then (code.Do (step.Apply (prefix_of k))) more)
 
 -- An operand with the operators before it: their value has the operand's type.
 abbrev pub with_prefixes : List Kind → Resolved → Resolved
-with_prefixes ks m = doing (code.Then m.does (apply_all ks)) m.head m.scope
+with_prefixes ks m = doing (code.Then m.does (apply_all ks code.Nothing)) m.head m.scope
 
 -- The type of two bit strings side by side.
 abbrev pub side_by_side : Head → Head → Head
