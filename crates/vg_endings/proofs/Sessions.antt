@@ -124,4 +124,5 @@ module _ (n : Naming) (p : Program) (q : Source) (named : IsNamed n p q) (good :
       → (reads interrupts : List ℕ) (clock : ℕ) → (source.session q heap None reads interrupts clock).ending ≢ Some ending.Deep
   session_is_not_deep c heap e reads interrupts clock =
       let (h, typed, is) = started_typed c heap e in
-      subst (λ x. (source.session q x None reads interrupts clock).ending ≢ Some ending.Deep) (sym is) (typed_session_is_not_deep h typed reads interrupts clock)
+      subst (λ x. (source.session q x None reads interrupts clock).ending ≢ Some ending.Deep) (sym is)
+      (typed_session_is_not_deep h typed reads interrupts clock)

@@ -17,7 +17,8 @@ use Rattle.vg_meaning.specs.Code.{Code, Nothing, Then, Do, If, Loop, Break, Cont
 use Rattle.vg_endings.specs.InRun.{InRun, IsLimited, IsEnd, StaysInRun, StaysPiece, EndsRun}
 
 -- a run that goes on with another clock, outside and history is in the same run
-pub in_run : {H : Type 0} (d : Option ℕ) (ints : List ℕ) (w v : World H) → v.phase ≡ w.phase → v.deepest ≡ w.deepest → v.largest ≡ w.largest → v.outside.interrupts ≡ w.outside.interrupts
+pub in_run : {H : Type 0} (d : Option ℕ) (ints : List ℕ) (w v : World H) → v.phase ≡ w.phase → v.deepest ≡ w.deepest → v.largest ≡ w.largest
+    → v.outside.interrupts ≡ w.outside.interrupts
     → InRun d ints w → InRun d ints v
 in_run d ints w v p q r i h =
     record { phase = p ∙ h.phase; deepest_is = q ∙ h.deepest_is; largest_is = r ∙ h.largest_is; interrupts_are = i ∙ h.interrupts_are }
