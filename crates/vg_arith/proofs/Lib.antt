@@ -1,3 +1,5 @@
 pub mod ShiftRoutines
 pub mod ProductRoutine
 pub mod Keeping
+pub mod DivisionLaws
+pub mod DivisionRoutine

@@ -3,6 +3,7 @@ use Rattle.std.specs.Prelude.{◌≡◌, ℕ, suc, ◌<◌, ◌≤◌, ◌^◌, 
 use Rattle.vg_meaning.specs.History.{History}
 use Rattle.vg_meaning.specs.World.{World}
 use Rattle.vg_lin.specs.declared.instr.Operator.{Operator}
+use Rattle.vg_lin.specs.declared.instr.Operator.TheVariants.{Divide, Remainder}
 use Rattle.vg_lin.specs.declared.instr.Instr.{Instr}
 use Rattle.vg_lin.specs.declared.instr.Instr.TheVariants.{When, Unless, Jump}
 use Rattle.vg_lin.specs.Values.{computed}
@@ -26,9 +27,15 @@ Gives m xs v =
     (conf q 0 (f ∷ fs) (with_locals ram (begun m.widths xs)) w)
     (conf f.proc (suc f.pc) fs (resume f.awaits f.kept (with_locals ram left) v) w)
 
+-- The arguments behind the two operands: which result of a division is wanted.
+abbrev pub others : Operator → List ℕ
+others Divide = 0 ∷ []
+others Remainder = 1 ∷ []
+others op = []
+
 -- The procedure is the routine of the operator: it gives what the operator computes of all numbers of four bytes.
 abbrev pub IsRoutineOf : Operator → Procedure → Type 0
-IsRoutineOf op m = (x y v : ℕ) → x < 2 ^ 32 → y < 2 ^ 32 → computed op 4 x y ≡ Some v → Gives m (x ∷ y ∷ []) v
+IsRoutineOf op m = (x y v : ℕ) → x < 2 ^ 32 → y < 2 ^ 32 → computed op 4 x y ≡ Some v → Gives m (x ∷ y ∷ others op) v
 
 -- No instruction leads back, where the first of these stands at a place.
 abbrev pub leads_on : (at : ℕ) → Instr → Bool
