@@ -1,23 +1,25 @@
 -- That the routine of division computes quotient and remainder. The run is in four parts: the signs are taken off, by cases; the steps
 -- follow one another, by induction over those to come; and the result that is wanted gets its sign.
 use Rattle.std.specs.Prelude.{ℕ, zero, suc, ◌+◌, ◌-◌, ◌*◌, ◌/◌, ◌%◌, ◌^◌, ◌<◌, ◌≤◌, Bool, true, false, List, [], ◌∷◌, ◌++◌, length, replicate}
-use Rattle.std.specs.Prelude.{Option, Some, None, slice_get}
+use Rattle.std.specs.Prelude.{ℤ, int_rem, Option, Some, None, slice_get}
+use Rattle.std.specs.Int.{w32, cast_unsigned, int_wrapping_div}
 use Rattle.std.proofs.Common.{◌≡◌, refl, ap, ◌∙◌, subst, arith}
 use Rattle.std.proofs.Math.Nat.{pow-succ', mod-le}
 use Rattle.vg_meaning.specs.History.{History}
 use Rattle.vg_meaning.specs.World.{World}
 use Rattle.vg_lin.specs.declared.instr.Operator.TheVariants.{Divide, Remainder}
 use Rattle.vg_lin.specs.declared.instr.Instr.{Instr}
-use Rattle.vg_lin.specs.Values.{low, next_remainder, next_dividend}
+use Rattle.vg_lin.specs.Values.{low, signed, divided as divided_by, computed, next_remainder, next_dividend}
+use Rattle.vg_lin.specs.Sound.{IsWidth}
 use Rattle.vg_lin.specs.Program.{Program}
 use Rattle.vg_lin.specs.State.{LocalState, State}
 use Rattle.vg_lin.specs.Meaning.{begun, resume, language, codes_in}
 use Rattle.vg_lin.specs.Steps.{Frame, Config, branched, performed}
 use Rattle.vg_lin.specs.Follows.{Leads, conf}
 use Rattle.vg_lin.proofs.Followed.{leads_then, free}
-use Rattle.vg_arith.specs.Routines.{with_locals, IsRoutineOf}
+use Rattle.vg_arith.specs.Routines.{with_locals, Gives, IsRoutineOf}
 use Rattle.vg_arith.specs.Division.{divide, divide_step, of_dividend, of_divisor, of_result}
-use Rattle.vg_arith.proofs.ShiftRoutines.{fetch_of, low_same}
+use Rattle.vg_arith.proofs.ShiftRoutines.{some_is, fetch_of, low_same, low_low}
 use Rattle.vg_arith.proofs.DivisionLaws.{Divides, divides_on, divides_fits, divides_first, divides_last, is_positive, magnitude, turned, with_sign, same}
 use Rattle.vg_arith.proofs.DivisionLaws.{turned_is, magnitude_small, magnitude_below, magnitude_some, negative_some, sign_test, divides, leaves}
 
@@ -203,16 +205,35 @@ module _ (p : Program) (q : ℕ) (has : slice_get p.procedures q ≡ Some divide
       (one 42 (magnitude a x / magnitude b y) (magnitude b y) 1 (Some (magnitude a x % magnitude b y)) (Some (bit a)) _ _ refl
       (ap (λ z. at 43 z (magnitude b y) 1 (Some (magnitude a x % magnitude b y)) (Some (bit a))) (low_same _ rest)))))
 
-pub divides_is : IsRoutineOf Divide divide
-divides_is x y v hx hy e p q has f fs ram w =
+-- at the width of four bytes
+gives_divide : (x y v : ℕ) → x < 2 ^ 32 → y < 2 ^ 32 → computed Divide 4 x y ≡ Some v → Gives divide (x ∷ y ∷ 0 ∷ []) v
+gives_divide x y v hx hy e p q has f fs ram w =
     let h : (0 < y) × (with_sign (same (is_positive x) (is_positive y)) (magnitude (is_positive x) x / magnitude (is_positive y) y) ≡ v) =
     divides (is_positive x) (is_positive y) x y v hx hy refl refl e in
     subst (λ z. Back p q has f fs ram w z (begins p q has f fs ram w x y 0)) (h.1)
     (gives_quotient p q has f fs ram w (is_positive x) (is_positive y) x y hx hy (h.0) refl refl)
 
-pub leaves_is : IsRoutineOf Remainder divide
-leaves_is x y v hx hy e p q has f fs ram w =
+gives_leave : (x y v : ℕ) → x < 2 ^ 32 → y < 2 ^ 32 → computed Remainder 4 x y ≡ Some v → Gives divide (x ∷ y ∷ 1 ∷ []) v
+gives_leave x y v hx hy e p q has f fs ram w =
     let h : (0 < y) × (with_sign (is_positive x) (magnitude (is_positive x) x % magnitude (is_positive y) y) ≡ v) =
     leaves (is_positive x) (is_positive y) x y v hx hy refl refl e in
     subst (λ z. Back p q has f fs ram w z (begins p q has f fs ram w x y 1)) (h.1)
     (gives_remainder p q has f fs ram w (is_positive x) (is_positive y) x y hx hy (h.0) refl refl)
+
+-- a division at a width is the low bytes of that at four
+at_width : (w d v : ℕ) (z : ℤ) → IsWidth w → divided_by w d z ≡ Some v
+    → (v4 : ℕ) × (low w v4 ≡ v) × (divided_by 4 d z ≡ Some v4)
+at_width w zero v z hw e = absurd (grind arith)
+at_width w (suc d) v z hw e = (low 4 (cast_unsigned w32 z), low_low w (cast_unsigned w32 z) hw ∙ some_is _ v e, refl)
+
+pub divides_is : IsRoutineOf Divide divide
+divides_is w x y v hw hx hy e = given (at_width w (low 4 y) v (int_wrapping_div w32 (signed 4 x) (signed 4 y)) hw e)
+  where
+    given : (v4 : ℕ) × (low w v4 ≡ v) × (computed Divide 4 x y ≡ Some v4) → (z : ℕ) × (low w z ≡ v) × Gives divide (x ∷ y ∷ 0 ∷ []) z
+    given (v4, l, g) = (v4, l, gives_divide x y v4 hx hy g)
+
+pub leaves_is : IsRoutineOf Remainder divide
+leaves_is w x y v hw hx hy e = given (at_width w (low 4 y) v (int_rem (signed 4 x) (signed 4 y)) hw e)
+  where
+    given : (v4 : ℕ) × (low w v4 ≡ v) × (computed Remainder 4 x y ≡ Some v4) → (z : ℕ) × (low w z ≡ v) × Gives divide (x ∷ y ∷ 1 ∷ []) z
+    given (v4, l, g) = (v4, l, gives_leave x y v4 hx hy g)

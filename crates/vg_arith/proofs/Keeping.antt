@@ -183,13 +183,13 @@ sound m few params widths some e =
     }
 
 pub shift_sound : (op : Operator) → IsSound (shift op)
-shift_sound op = sound (shift op) (omega arith) (omega arith) (a_width 4 refl, (a_width 4 refl, tt {0})) (omega arith) refl
+shift_sound op = sound (shift op) (omega arith) (omega arith) (a_width 4 refl, (a_width 4 refl, (a_width 4 refl, tt {0}))) (omega arith) refl
 
 pub shift_sound_as : (op : Operator) (ws : List ℕ) (code : List Instr) → ws ≡ (shift op).widths → code ≡ (shift op).code
-    → IsSound (record { method = None; params = 2; widths = ws; code = code })
+    → IsSound (record { method = None; params = 3; widths = ws; code = code })
 shift_sound_as op ws code e h =
-    subst (λ z. IsSound (record { method = None; params = 2; widths = z; code = code })) (sym e)
-    (subst (λ z. IsSound (record { method = None; params = 2; widths = (shift op).widths; code = z })) (sym h) (shift_sound op))
+    subst (λ z. IsSound (record { method = None; params = 3; widths = z; code = code })) (sym e)
+    (subst (λ z. IsSound (record { method = None; params = 3; widths = (shift op).widths; code = z })) (sym h) (shift_sound op))
 
 pub mul_sound : IsSound mul
 mul_sound =

@@ -3,3 +3,4 @@ pub mod ProductRoutine
 pub mod Keeping
 pub mod DivisionLaws
 pub mod DivisionRoutine
+pub mod Numbered

@@ -3,8 +3,10 @@
 
 pub mod division;
 pub mod product;
+pub mod routines;
 pub mod shifts;
 
 pub use division::division_routine;
 pub use product::product_routine;
+pub use routines::{ROUTINES, routine};
 pub use shifts::shift_routine;
