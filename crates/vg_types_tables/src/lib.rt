@@ -5,6 +5,7 @@ pub mod body;
 pub mod build;
 pub mod declared;
 pub mod judged;
+pub mod laws;
 pub mod locals;
 pub mod lookups;
 pub mod scope;
