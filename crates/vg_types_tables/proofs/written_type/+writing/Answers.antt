@@ -2,7 +2,7 @@ use Rattle.std.proofs.Common.{◌≡◌, ◌<◌, ◌-◌, length, ap, ◌∙◌
 use Rattle.std.proofs.lemmas.Option.{IfSome_then}
 use Rattle.vg_source.specs.Declared.{written_type}
 use Rattle.vg_types_tables.proofs.WrittenTypes.{one_smaller, size_of_row, row_same}
-use Rattle.vg_types_tables.proofs.written.+writing.Goals as goal
+use Rattle.vg_types_tables.proofs.written_type.+writing.Goals as goal
 
 pub written_row-written-requires : goal.written_row-written-requires
 written_row-written-requires t c =

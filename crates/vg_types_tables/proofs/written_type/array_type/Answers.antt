@@ -1,5 +1,5 @@
 use Rattle.vg_types_tables.proofs.Entries.{array_view}
-use Rattle.vg_types_tables.proofs.written.array_type.Goals as goal
+use Rattle.vg_types_tables.proofs.written_type.array_type.Goals as goal
 
 pub returns : goal.returns
 returns c = (

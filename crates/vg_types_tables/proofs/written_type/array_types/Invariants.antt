@@ -4,7 +4,7 @@ use Rattle.vg_syntax.specs.Made.{arrays}
 use Rattle.vg_source.specs.Declared.{written_type}
 use Rattle.vg_types_tables.specs.Views.{type_view}
 use Rattle.vg_types_tables.specs.Declares.{IsKnown}
-use Rattle.vg_types_tables.proofs.written.array_types.Given as goal
+use Rattle.vg_types_tables.proofs.written_type.array_types.Given as goal
 
 abbrev pub invariant-loop-level : goal.invariant-loop-level
 invariant-loop-level l =

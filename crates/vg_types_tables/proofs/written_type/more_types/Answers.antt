@@ -1,5 +1,5 @@
 use Rattle.vg_types_tables.proofs.Entries.{more_view}
-use Rattle.vg_types_tables.proofs.written.more_types.Goals as goal
+use Rattle.vg_types_tables.proofs.written_type.more_types.Goals as goal
 
 pub returns : goal.returns
 returns c = (

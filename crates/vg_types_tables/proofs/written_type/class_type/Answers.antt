@@ -1,6 +1,6 @@
 use Rattle.std.proofs.Common.{ap, sym, ◌∙◌}
 use Rattle.vg_source.specs.Types as source
-use Rattle.vg_types_tables.proofs.written.class_type.Goals as goal
+use Rattle.vg_types_tables.proofs.written_type.class_type.Goals as goal
 
 pub returns-in-Some : goal.returns-in-Some
 returns-in-Some c =

@@ -3,7 +3,7 @@ use Rattle.vg_tree.specs.Held.{type_row}
 use Rattle.vg_rules.specs.Written.{type_keeps}
 use Rattle.vg_types_tables.specs.Views.{declarations_at}
 use Rattle.vg_types_tables.specs.Sizes.{size_of, size_row}
-use Rattle.vg_types_tables.proofs.written.+keeping.Given as goal
+use Rattle.vg_types_tables.proofs.written_type.+keeping.Given as goal
 
 abbrev pub decreases-all_keep : goal.decreases-all_keep
 decreases-all_keep l = 2 * size_row l.all.now

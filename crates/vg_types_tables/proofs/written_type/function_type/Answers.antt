@@ -1,5 +1,5 @@
 use Rattle.vg_types_tables.proofs.Entries.{function_view}
-use Rattle.vg_types_tables.proofs.written.function_type.Goals as goal
+use Rattle.vg_types_tables.proofs.written_type.function_type.Goals as goal
 
 pub returns : goal.returns
 returns c = (

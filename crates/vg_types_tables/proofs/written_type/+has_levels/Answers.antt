@@ -2,7 +2,7 @@ use Rattle.std.proofs.Common.{ap, ◌∙◌, nat_le, ◌-◌, sym}
 use Rattle.vg_tree.specs.Held.{type_at}
 use Rattle.vg_rules.specs.Written.{levels}
 use Rattle.vg_types_tables.proofs.WrittenTypes.{levels_within, levels_beyond, no_levels_within}
-use Rattle.vg_types_tables.proofs.written.+has_levels.Goals as goal
+use Rattle.vg_types_tables.proofs.written_type.+has_levels.Goals as goal
 
 pub returns-then-levels-most : goal.returns-then-levels-most
 returns-then-levels-most t c = λ texts.

@@ -4,7 +4,7 @@ use Rattle.vg_source.specs.Declared.{written_type}
 use Rattle.vg_types_tables.specs.Views.{type_view}
 use Rattle.vg_types_tables.specs.Declares.{IsKnown}
 use Rattle.vg_types_tables.specs.Sizes.{size_of, size_row}
-use Rattle.vg_types_tables.proofs.written.+writing.Given as goal
+use Rattle.vg_types_tables.proofs.written_type.+writing.Given as goal
 
 abbrev pub decreases-written_row : goal.decreases-written_row
 decreases-written_row l = 2 * size_row l.all.now

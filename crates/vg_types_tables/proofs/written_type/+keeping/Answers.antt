@@ -3,7 +3,7 @@ use Rattle.vg_tree.specs.Held.{type_at}
 use Rattle.vg_rules.specs.Written.{type_keeps}
 use Rattle.vg_types_tables.specs.Views.{declarations_at}
 use Rattle.vg_types_tables.proofs.WrittenTypes.{keeps_array, keeps_no_array, keeps_row, one_smaller, size_of_row}
-use Rattle.vg_types_tables.proofs.written.+keeping.Goals as goal
+use Rattle.vg_types_tables.proofs.written_type.+keeping.Goals as goal
 
 pub all_keep-type_keeps-requires : goal.all_keep-type_keeps-requires
 all_keep-type_keeps-requires t c =
