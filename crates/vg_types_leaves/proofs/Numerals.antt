@@ -31,9 +31,11 @@ digits_most (suc k) (d ∷ ds) m n l h e =
 -- a hexadecimal number of at most 8 digits fits 32 bits
 pub bits_whole : (bs : List ℕ) → is_hexadecimal bs ≡ true → length bs ≤ 10 → min (number_of bs) 4294967295 ≡ hex_value bs
 bits_whole (z ∷ x ∷ first ∷ ds) e l =
-    let all = (both (x == 120) _ (both (z == 48) _ e).1).1 in
+    let outer = both ((z == 48) && (x == 120) && is_hex_digit first) (list_all is_hex_digit ds) e in
+    let inner = both ((z == 48) && (x == 120)) (is_hex_digit first) outer.0 in
+    let all : list_all is_hex_digit (first ∷ ds) ≡ true = ap (λ b. b && list_all is_hex_digit ds) inner.1 ∙ outer.1 in
     let most : more_digits 0 (first ∷ ds) ≤ 4294967295 = digits_most 8 (first ∷ ds) 0 0 (omega arith) (omega (arith, l)) all in
     let is : number_of (z ∷ x ∷ first ∷ ds) ≡ more_digits 0 (first ∷ ds)
-        = ap (λ b. if b then more_digits 0 (first ∷ ds) else decimal_behind 0 (z ∷ x ∷ first ∷ ds)) e in
+    = ap (λ b. if b then more_digits 0 (first ∷ ds) else decimal_behind 0 (z ∷ x ∷ first ∷ ds)) e in
     omega (arith, is, most)
 bits_whole _ e l = absurd (let clash : false ≡ true = e in cc)

@@ -2,8 +2,11 @@
 #![tactic(auto)]
 
 mod literal;
+mod member;
 mod numeral;
+mod reached;
 mod single;
 
 pub use literal::{character, number};
+pub use reached::Reached;
 pub use single::{leaf, put};

@@ -38,7 +38,14 @@ pub fn number(
     let token = text_of(names, digits);
     if is_hexadecimal(token) {
         match hexadecimal(token) {
-            Some((width, bits)) => Ok(put(declared, body, locals, CoreType::RawType(width), CoreValue::Raw(width, bits), id)),
+            Some((width, bits)) => Ok(put(
+                declared,
+                body,
+                locals,
+                CoreType::RawType(width),
+                CoreValue::Raw(width, bits),
+                id,
+            )),
             None => Err(Refusal::Fault(Broken {
                 rule: 13,
                 node: NodeId(id),
@@ -46,7 +53,14 @@ pub fn number(
         }
     } else {
         match decimal(token) {
-            Some(value) => Ok(put(declared, body, locals, CoreType::IntType, CoreValue::Int(value), id)),
+            Some(value) => Ok(put(
+                declared,
+                body,
+                locals,
+                CoreType::IntType,
+                CoreValue::Int(value),
+                id,
+            )),
             None => Err(Refusal::Fault(Broken {
                 rule: 13,
                 node: NodeId(id),
@@ -73,7 +87,14 @@ pub fn character(
     ensures next { IfOk result (λ j. j.next ≡ id + 1) }
 {
     match byte_of(text_of(names, spelled)) {
-        Some(byte) => Ok(put(declared, body, locals, CoreType::CharType, CoreValue::Char(byte), id)),
+        Some(byte) => Ok(put(
+            declared,
+            body,
+            locals,
+            CoreType::CharType,
+            CoreValue::Char(byte),
+            id,
+        )),
         // No tree of a text has this: its token is no char.
         None => Err(Refusal::NoMemory),
     }
