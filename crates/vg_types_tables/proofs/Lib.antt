@@ -1,2 +1,6 @@
 pub mod Found
+pub mod OneClass
+pub mod OneType
 pub mod Rows
+pub mod Scopes
+pub mod TypeViews
