@@ -1,3 +1,4 @@
 pub mod Nodes
 pub mod Judgements
 pub mod Reached
+pub mod Named

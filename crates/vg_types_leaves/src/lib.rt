@@ -3,10 +3,13 @@
 
 mod literal;
 mod member;
+mod name;
 mod numeral;
 mod reached;
 mod single;
 
 pub use literal::{character, number};
+pub use member::reach_member;
+pub use name::Named;
 pub use reached::Reached;
 pub use single::{leaf, put};
