@@ -233,10 +233,20 @@ pub divides_is : IsRoutineOf Divide divide
 divides_is w x y v hw ha e = given (at_width w (low 4 y) v (int_wrapping_div w32 (signed 4 x) (signed 4 y)) hw e)
   where
     given : (v4 : ℕ) × (low w v4 ≡ v) × (computed Divide 4 x y ≡ Some v4) → (z : ℕ) × (low w z ≡ v) × Gives divide (x ∷ y ∷ 0 ∷ []) z
-    given (v4, l, g) = (v4, l, gives_low divide (1 ∷ 4 ∷ 1 ∷ []) (0 ∷ []) x y v4 refl (gives_divide (low 4 x) (low 4 y) v4 (small x) (small y) (divide_low x y ∙ g)))
+    given (v4, l, g) = (
+      v4,
+      l,
+      gives_low divide (1 ∷ 4 ∷ 1 ∷ []) (0 ∷ []) x y v4 refl (gives_divide (low 4 x) (low 4 y) v4 (small x) (small y)
+          (divide_low x y ∙ g)),
+    )
 
 pub leaves_is : IsRoutineOf Remainder divide
 leaves_is w x y v hw ha e = given (at_width w (low 4 y) v (int_rem (signed 4 x) (signed 4 y)) hw e)
   where
     given : (v4 : ℕ) × (low w v4 ≡ v) × (computed Remainder 4 x y ≡ Some v4) → (z : ℕ) × (low w z ≡ v) × Gives divide (x ∷ y ∷ 1 ∷ []) z
-    given (v4, l, g) = (v4, l, gives_low divide (1 ∷ 4 ∷ 1 ∷ []) (1 ∷ []) x y v4 refl (gives_leave (low 4 x) (low 4 y) v4 (small x) (small y) (leave_low x y ∙ g)))
+    given (v4, l, g) = (
+      v4,
+      l,
+      gives_low divide (1 ∷ 4 ∷ 1 ∷ []) (1 ∷ []) x y v4 refl (gives_leave (low 4 x) (low 4 y) v4 (small x) (small y)
+          (leave_low x y ∙ g)),
+    )

@@ -1,4 +1,5 @@
--- That the routine of the product computes the product.
+-- That the routine of the product computes the product. One part is four instructions, which add a product of two bytes at its place;
+-- the ten parts follow one another, and their sum is the product, but for what is cut away.
 use Rattle.std.specs.Prelude.{ℕ, suc, ◌+◌, ◌*◌, ◌/◌, ◌^◌, ◌<◌, Bool, true, false, nat_lt, List, [], ◌∷◌, Option, Some, None}
 use Rattle.std.specs.Prelude.{slice_get, if◌then◌else◌}
 use Rattle.std.proofs.Common.{◌≡◌, refl, sym, ap, ◌∙◌, subst, arith}
@@ -210,10 +211,12 @@ four_bytes : (x : ℕ) → x < 2 ^ 32 → x ≡ byte x 0 + byte x 8 * 256 + byte
 four_bytes x h = omega (arith, h)
 
 pub mul_is : IsRoutineOf Times mul
-mul_is w x y v hw ha e =
-    (low 4 (x * y), low_low w (x * y) hw ∙ some_is _ v e,
-    subst (Gives mul (x ∷ y ∷ [])) (of_low x y)
-    (gives_low mul (4 ∷ 1 ∷ 1 ∷ 4 ∷ []) [] x y (low 4 (low 4 x * low 4 y)) refl (gives (low 4 x) (low 4 y) (small x) (small y))))
+mul_is w x y v hw ha e = (
+  low 4 (x * y),
+  low_low w (x * y) hw ∙ some_is _ v e,
+  subst (Gives mul (x ∷ y ∷ [])) (of_low x y)
+      (gives_low mul (4 ∷ 1 ∷ 1 ∷ 4 ∷ []) [] x y (low 4 (low 4 x * low 4 y)) refl (gives (low 4 x) (low 4 y) (small x) (small y))),
+)
   where
     of_low : (x y : ℕ) → low 4 (low 4 x * low 4 y) ≡ low 4 (x * y)
     of_low x y = mul-mod_first x (low 4 y) (256 ^ 4) ∙ ap (low 4) (mul_comm x (low 4 y)) ∙ mul-mod_first y x (256 ^ 4) ∙ ap (low 4) (mul_comm y x)

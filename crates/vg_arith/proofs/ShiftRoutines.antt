@@ -1,4 +1,5 @@
--- That the routines of the shifts compute the shifts.
+-- That the routines of the shifts compute the shifts. Each stage takes one binary digit from the amount, by cases of a test; five stages
+-- leave nothing of an amount below 32. The laws of both shifts at all widths follow.
 use Rattle.std.specs.Prelude.{ℕ, zero, suc, ◌+◌, ◌-◌, ◌*◌, ◌/◌, ◌^◌, ◌<◌, ◌≤◌, Bool, true, false, nat_lt, List, [], ◌∷◌, Option, Some, None}
 use Rattle.std.specs.Prelude.{slice_get, if◌then◌else◌, bit_and}
 use Rattle.std.proofs.Common.{◌≡◌, refl, sym, ap, ◌∙◌, subst, arith}

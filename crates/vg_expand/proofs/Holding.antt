@@ -1,6 +1,6 @@
 -- That locals keep their widths, and values that the widths hold.
 use Rattle.std.specs.Prelude.{ℕ, zero, suc, ◌+◌, ◌*◌, ◌<◌, ◌^◌, List, [], ◌∷◌, Option, Some, None}
-use Rattle.std.proofs.Common.{◌≡◌, refl, subst, arith}
+use Rattle.std.proofs.Common.{refl, subst, arith}
 use Rattle.std.proofs.Math.Nat.{one-le-pow, mod-lt}
 use Rattle.vg_meaning.specs.Outside.{Outside}
 use Rattle.vg_lin.specs.declared.instr.Memory.TheVariants.{Ram}
@@ -13,7 +13,7 @@ use Rattle.vg_lin.specs.Program.{Program}
 use Rattle.vg_lin.specs.State.{LocalState, State, using, value, with_local, number_at, index_of, loaded, stores, reads_from, plain}
 use Rattle.vg_codes.specs.Dispatch.{dispatched}
 use Rattle.vg_lin.specs.Meaning.{begun, resume}
-use Rattle.vg_expand.specs.Expansion.{Holds, IsHeld}
+use Rattle.vg_expand.specs.Expansion.{Holds}
 
 low_below : (w x : ℕ) → low w x < 256 ^ w
 low_below w x = mod-lt x (let h = one-le-pow w 256 (omega arith) in omega (arith, h))

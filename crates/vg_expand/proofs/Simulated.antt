@@ -10,7 +10,6 @@ use Rattle.vg_meaning.specs.World.{World, Running}
 use Rattle.vg_meaning.specs.Answer.{End, Stops, Wants, Done, Wrong}
 use Rattle.vg_lin.specs.declared.instr.Operand.{Operand}
 use Rattle.vg_lin.specs.declared.instr.Computation.{Computation}
-use Rattle.vg_lin.specs.declared.instr.Test.{Test}
 use Rattle.vg_lin.specs.declared.instr.Plain.{Plain as PlainInstr}
 use Rattle.vg_lin.specs.declared.instr.Plain.TheVariants.{Copy, Compute, Product, DivideStep, Load, Store, ReadDevice, WriteDevice, Push, Find, Stop}
 use Rattle.vg_lin.specs.declared.instr.Callee.{Callee}
@@ -29,7 +28,7 @@ use Rattle.vg_lin.specs.Steps.{Awaits, Result, Interrupt, Frame, Went, Goes, Rai
 use Rattle.vg_lin.specs.Steps.{begins, went, branched, calls, goes_back, returns, takes, handles, performed, fetch, step, steps}
 use Rattle.vg_lin.specs.Follows.{Leads}
 use Rattle.vg_lin.proofs.Followed.{leads_step}
-use Rattle.vg_arith.proofs.ShiftRoutines.{some_is, fetch_of}
+use Rattle.vg_arith.proofs.ShiftRoutines.{fetch_of}
 use Rattle.vg_expand.specs.Expansion.{HasRoutines, Holds, Does, Kept, PlainStands, StandsFor, Expands}
 use Rattle.vg_expand.specs.Runs.{with_procedures, AllExpand, IsClosed, ShowsSame, RunsAs}
 use Rattle.vg_expand.proofs.Holding.{begun_holds, sets_holds, Keeps, plain_keeps, resume_holds}
@@ -301,7 +300,8 @@ module _ (first : ℕ) (p : Program) (ms : List Procedure) (all : AllExpand firs
     return : (a : Operand) → slice_get now.code (ex.place pc) ≡ Some (Return a) → Stepped d (performed (language p) c (Some (Return a)))
     return a e = by_value (result a s) (one (Return a) e)
       where
-        to_caller : (v : ℕ) (hs ks : List (Frame State)) → FramesStand hs ks → To d (goes_back (language new) d ks v) → Stepped d (goes_back (language p) c hs v)
+        to_caller : (v : ℕ) (hs ks : List (Frame State)) → FramesStand hs ks → To d (goes_back (language new) d ks v)
+            → Stepped d (goes_back (language p) c hs v)
         to_caller v [] [] h t = fails refl
         to_caller v [] (k ∷ ks) h t = absurd h
         to_caller v (f ∷ hs) [] h t = absurd h
@@ -390,7 +390,8 @@ module _ (first : ℕ) (p : Program) (ms : List Procedure) (all : AllExpand firs
       enters : (r : ℕ) (m n : Procedure) → slice_get p.procedures r ≡ Some m → slice_get ms r ≡ Some n → Expands first m n → IsSound m
           → To d (handles (language new) d (Some r)) → Stepped d (handles (language p) c (Some r))
       enters r m n e g en so t =
-          goes (going r 0 (wake p r s) (record caller { pc = at } ∷ gs) None o (noted (name_of (slice_get p.procedures r)) (open_below (language p) (caller ∷ fs)) opens))
+          goes (going r 0 (wake p r s) (record caller { pc = at } ∷ gs) None o (noted (name_of (slice_get p.procedures r)) (open_below (language p)
+          (caller ∷ fs)) opens))
           (subst (λ a. To d (going r 0 (wake p r s) (record caller { pc = at } ∷ gs) None o (noted a (open_below (language p) (caller ∷ fs)) opens)))
           (name_same r m n e g en.method)
           (subst (λ b. To d (going r 0 (wake p r s) (record caller { pc = at } ∷ gs) None o (noted (name_of (slice_get ms r)) b opens)))
@@ -477,7 +478,8 @@ module _ (first : ℕ) (p : Program) (ms : List Procedure) (all : AllExpand firs
       by_step runs x (fails f) legal = absurd (legal (ap (λ z. z.ending) (stays_old n x Wrong f) ∙ f))
 
   pub runs_same : RunsAs p new
-  runs_same n reads interrupts = runs_on n (at_start p (before reads interrupts)) (at_start new (before reads interrupts)) (starts (within p.procedures p.start closed.start))
+  runs_same n reads interrupts = runs_on n (at_start p (before reads interrupts)) (at_start new (before reads interrupts)) (starts
+      (within p.procedures p.start closed.start))
     where
       o : Outside
       o = before reads interrupts

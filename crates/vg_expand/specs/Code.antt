@@ -1,16 +1,17 @@
 -- The expanded code as lists: what the functions of this crate make, in their own shape. No clause of a public function cites these.
-use Rattle.std.specs.Prelude.{ℕ, zero, suc, ◌+◌, ◌-◌, ◌^◌, Bool, true, false, nat_lt, List, [], ◌∷◌, ◌++◌, length, Some, get_or, if◌then◌else◌}
+use Rattle.std.specs.Prelude.{ℕ, ◌+◌, ◌-◌, ◌^◌, nat_lt, List, [], ◌∷◌, ◌++◌, length, Some, get_or, if◌then◌else◌}
 use Rattle.vg_lin.specs.declared.instr.Operand.{Operand}
 use Rattle.vg_lin.specs.declared.instr.Operand.TheVariants.{Local, Known}
 use Rattle.vg_lin.specs.declared.instr.Operator.{Operator}
 use Rattle.vg_lin.specs.declared.instr.Operator.TheVariants.{Plus, Times, Divide, Remainder, ShiftLeft, ShiftRight}
 use Rattle.vg_lin.specs.declared.instr.Computation.{Computation}
+use Rattle.vg_lin.specs.declared.instr.Plain.{Plain as PlainInstr}
 use Rattle.vg_lin.specs.declared.instr.Plain.TheVariants.{Compute}
 use Rattle.vg_lin.specs.declared.instr.Callee.TheVariants.{Procedure as ByNumber}
 use Rattle.vg_lin.specs.declared.instr.Registers.{Registers}
 use Rattle.vg_lin.specs.declared.instr.Registers.TheVariants.{Two, Three}
 use Rattle.vg_lin.specs.declared.instr.Instr.{Instr}
-use Rattle.vg_lin.specs.declared.instr.Instr.TheVariants.{Plain, When, Unless, Jump, Call, Return, Idle}
+use Rattle.vg_lin.specs.declared.instr.Instr.TheVariants.{Plain, When, Unless, Jump, Call}
 use Rattle.vg_lin.specs.Program.{Procedure}
 
 -- The result of a call is cut to the width of its computation.
@@ -21,8 +22,9 @@ cut_to w to = if nat_lt w 4 then Plain (Compute (record { operator = Plus; width
 abbrev pub calling : (routine : ℕ) → Registers → Computation → List Instr
 calling q rs c = Call (record { callee = ByNumber q; pushed = 0; registers = rs; to = Some c.to }) ∷ cut_to c.width c.to
 
+-- The bits of a width.
 abbrev pub mask : (width : ℕ) → Operand
-mask w = Known (256 ^ w - 1)
+mask w = Known (if nat_lt w 4 then 256 ^ w - 1 else 0xFFFFFFFF)
 
 -- A shift by an amount that is not known is a call.
 abbrev pub shifting : (routine : ℕ) → Computation → (amount : Operand) → List Instr
@@ -37,9 +39,13 @@ computing first c ShiftLeft = shifting (first + 2) c c.right
 computing first c ShiftRight = shifting (first + 3) c c.right
 computing first c op = Plain (Compute c) ∷ []
 
+abbrev pub plain_at : (first : ℕ) → PlainInstr → List Instr
+plain_at first (Compute c) = computing first c c.operator
+plain_at first p = Plain p ∷ []
+
 -- What stands for an instruction, by the new places of the procedure.
 abbrev pub expanded_at : (first : ℕ) → (place : ℕ → ℕ) → Instr → List Instr
-expanded_at first place (Plain (Compute c)) = computing first c c.operator
+expanded_at first place (Plain p) = plain_at first p
 expanded_at first place (When t to) = When t (place to) ∷ []
 expanded_at first place (Unless t to) = Unless t (place to) ∷ []
 expanded_at first place (Jump to) = Jump (place to) ∷ []

@@ -6,7 +6,7 @@ use Rattle.vg_lin.specs.Program.{Procedure, Program}
 use Rattle.vg_lin.specs.State.{State}
 use Rattle.vg_lin.specs.Meaning.{run}
 use Rattle.vg_lin.specs.Steps.{Config}
-use Rattle.vg_expand.specs.Expansion.{HasRoutines, Expands}
+use Rattle.vg_expand.specs.Expansion.{Expands}
 
 -- The program with these procedures in place of its own.
 abbrev pub with_procedures : Program → List Procedure → Program
