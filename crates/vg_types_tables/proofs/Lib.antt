@@ -3,8 +3,10 @@ pub mod Fitting
 pub mod Found
 pub mod OneClass
 pub mod OneType
+pub mod Rowing
 pub mod Rows
 pub mod SameType
 pub mod Scopes
+pub mod Typed
 pub mod TypeViews
 pub mod WrittenTypes
