@@ -1,6 +1,7 @@
 pub mod Entries
 pub mod Fitting
 pub mod Found
+pub mod Lists
 pub mod OneClass
 pub mod OneType
 pub mod Rowing

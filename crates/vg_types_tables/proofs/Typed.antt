@@ -18,7 +18,7 @@ use Rattle.vg_types_tables.specs.declared.judged.Head.{Head}
 use Rattle.vg_types_tables.specs.declared.judged.Storing.{Storing}
 use Rattle.vg_types_tables.specs.declared.locals.Locals.{Locals}
 use Rattle.vg_types_tables.specs.Promises.{Leads, Puts, Stores, Runs}
-use Rattle.vg_types_tables.proofs.Scopes.{still_there}
+use Rattle.vg_types_tables.proofs.Lists.{still_there}
 
 module _ (p : Tables) (ts more : List CoreType) (o : Owner) where
   -- a step under more locals
