@@ -1,4 +1,5 @@
--- Types as they are written: their sizes, their array levels, and rows of them.
+-- Types as they are written: their sizes, their array levels, and rows of them. A row in memory is a list, by induction along it. So
+-- many array levels add to those of the type below them; where there are at most four in all, each level by itself keeps rule 8.
 use Rattle.std.proofs.Common.{◌≡◌, ◌<◌, ◌≤◌, ◌+◌, ◌-◌, ◌&&◌, nat_le, ℕ, zero, suc, Bool, true, false, List, [], ◌∷◌, length, get_or, drop, Vec, Box, Global}
 use Rattle.std.proofs.Common.{refl, sym, ap, ◌∙◌, arith}
 use Rattle.vg_tree.specs.declared.type_tree.TypeTree as held
