@@ -10,6 +10,6 @@ mod single;
 
 pub use literal::{character, number};
 pub use member::reach_member;
-pub use name::Named;
+pub use name::{Named, name_alone, name_in_front, name_target};
 pub use reached::Reached;
 pub use single::{leaf, put};

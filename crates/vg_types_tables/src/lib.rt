@@ -9,6 +9,7 @@ pub mod laws;
 pub mod locals;
 pub mod lookups;
 pub mod scope;
+pub mod types;
 
 pub use body::BodyKind;
 pub use build::{chain, row, three, two};
@@ -20,3 +21,4 @@ pub use lookups::{
     number_of, register_of, type_of_number,
 };
 pub use scope::find_local;
+pub use types::fits;
