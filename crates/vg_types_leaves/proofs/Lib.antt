@@ -3,3 +3,4 @@ pub mod Members
 pub mod Types
 pub mod Reading
 pub mod NameLaws
+pub mod Strings
