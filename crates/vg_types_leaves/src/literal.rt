@@ -1,9 +1,13 @@
 // Literals.
-ghost use Rattle.std.specs.Prelude.{◌≡◌, ◌+◌, ◌<◌, ◌^◌, true, IfOk};
+ghost use Rattle.std.specs.Prelude.{◌≡◌, ◌+◌, ◌<◌, ◌^◌, ℕ, List, Some, is_some, IfOk, IfSome};
 ghost use Rattle.vg_syntax.specs.Reads.{spot};
 ghost use Rattle.vg_tree.specs.Held.{text_at};
 ghost use Rattle.vg_source.specs.Resolved.{Fresh};
+ghost use Rattle.vg_rules.specs.Bodies.{has_this};
+ghost use Rattle.vg_core.specs.declared.program.Owner.TheVariants.{InClass};
 ghost use Rattle.vg_core.specs.HeldProgram.{code_of};
+ghost use Rattle.vg_types_tables.specs.declared.declared.Declared.{Declared as SpecDeclared};
+ghost use Rattle.vg_types_tables.specs.Views.{owner_view};
 ghost use Rattle.vg_types_tables.specs.declared.judged.Head.TheVariants.{Nothing};
 ghost use Rattle.vg_types_tables.specs.Declares.{Declares};
 ghost use Rattle.vg_types_tables.specs.Promises.{IsBody, Leads};
@@ -150,8 +154,8 @@ pub fn this_object(
     ensures value { IfOk result (λ j. HasValue j.head) }
     ensures next { IfOk result (λ j. j.next ≡ id + 1) }
 {
-    match body.owner {
-        Some(Owner::InClass(class)) => Ok(leaf(
+    match class_around(body.owner) {
+        Some(class) => Ok(leaf(
             declared,
             body,
             locals,
@@ -159,13 +163,20 @@ pub fn this_object(
             Step::This,
             id,
         )),
-        Some(Owner::InComponent(_)) => Err(Refusal::Fault(Broken {
-            rule: 15,
-            node: NodeId(id),
-        })),
         None => Err(Refusal::Fault(Broken {
             rule: 15,
             node: NodeId(id),
         })),
+    }
+}
+
+// The class of which a body stands.
+fn class_around(owner: Option<Owner>) -> Option<u16>
+    ensures some { IfSome result (λ class. owner ≡ Some (InClass class)) }
+    ensures keeps { (texts : List (List ℕ)) (d : SpecDeclared) → is_some result ≡ has_this (owner_view texts d owner) }
+{
+    match owner {
+        Some(Owner::InClass(class)) => Some(class),
+        _ => None,
     }
 }

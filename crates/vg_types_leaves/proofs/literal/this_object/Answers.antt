@@ -6,5 +6,5 @@ use Rattle.vg_types_leaves.proofs.literal.this_object.Goals as goal
 
 pub leaf-requires-clause-typed : goal.leaf-requires-clause-typed
 leaf-requires-clause-typed c =
-    let e : c.args.body.owner ≡ Some (InClass c.in-Some-InClass.class) = c.in-Some-InClass.is ∙ ap Some c.in-Some-InClass.field-0-is in
+    let e : c.args.body.owner ≡ Some (InClass c.in-Some.class) = c.in-Some.ensures.some in
     λ o x s. t_this (sym (subst (λ z. Sees z o) e s))
