@@ -4,3 +4,4 @@ pub mod Types
 pub mod Reading
 pub mod NameLaws
 pub mod Strings
+pub mod Suffixes
