@@ -1,6 +1,6 @@
 use Rattle.std.proofs.Common.{◌≡◌, ◌+◌, drop, map, IfOk, sym, subst, ap, ◌∙◌}
 use Rattle.vg_tree.specs.Held.{row_at}
-use Rattle.vg_tree.proofs.Passing.{left_of}
+use Rattle.vg_tree_walks.proofs.Passing.{left_of}
 use Rattle.vg_source.specs.Program.{constructor_in}
 use Rattle.vg_types_members.specs.Members.{view_of, written_params}
 use Rattle.vg_types_members.proofs.Makings.{params_written, no_constructor}
