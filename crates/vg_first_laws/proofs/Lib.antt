@@ -7,3 +7,4 @@ mod Depth
 mod Texts
 mod Placed
 mod Legal
+pub mod Means
