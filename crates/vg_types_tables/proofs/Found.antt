@@ -1,5 +1,6 @@
 -- Places of things in lists.
-use Rattle.std.proofs.Common.{◌≡◌, ◌<◌, ℕ, ◌+◌, ◌==◌, Bool, true, List, [], ◌∷◌, ◌++◌, length, Option, Some, None, refl, sym, ap, ◌∙◌, subst, suc, cond, arith, get_or, flat_map, length-append, rules}
+use Rattle.std.proofs.Common.{◌≡◌, ◌<◌, ℕ, suc, ◌==◌, Bool, true, List, [], ◌∷◌, ◌++◌, length, Option, Some, Decides}
+use Rattle.std.proofs.Common.{refl, sym, ap, ◌∙◌, subst, arith, get_or, flat_map, rules}
 use Rattle.std.specs.List.{slice_get, position, position_or_len}
 use Rattle.std.proofs.lemmas.Option.{slice_get-get_or}
 use Rattle.std.proofs.lemmas.List.Quantifiers.{position-Some}
@@ -13,6 +14,13 @@ use Rattle.vg_source.specs.Nodes.{nodes, literal_node, literal_bytes, literal_no
 -- what the derived test finds equal is equal
 pub same : (t u : CoreType) → derived.eq-value.it t u ≡ true → t ≡ u
 same t u e = search rules
+
+itself : (t : CoreType) → derived.eq-value.it t t ≡ true
+itself t = search rules
+
+-- the derived test decides whether two types are one
+pub equal_decides : (t u : CoreType) (b : Bool) → b ≡ derived.eq-value.it t u → Decides b (t ≡ u)
+equal_decides t u b e = (λ h. same t u (sym e ∙ h), λ h. e ∙ subst (λ x. derived.eq-value.it t x ≡ true) h (itself t))
 
 -- the place of a thing holds it
 pub found_at : {X : Type 0} (test : X → Bool) (x : X) → ((y : X) → test y ≡ true → x ≡ y) → (xs : List X) (i : ℕ) → position test xs ≡ Some i
