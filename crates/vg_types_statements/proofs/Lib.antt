@@ -1,0 +1,7 @@
+pub mod MoreLocals
+pub mod Judging
+pub mod Typing
+pub mod Written
+pub mod Rows
+pub mod ArmCodes
+pub mod ArmRows
