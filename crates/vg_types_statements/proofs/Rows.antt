@@ -1,6 +1,7 @@
 -- Rows of statements. A loop keeps how far the row has come: what is left of it has the breach of all, behind the codes so far, in the
 -- scope that the statements so far have left; and all codes so far run under the locals so far.
-use Rattle.std.proofs.Common.{◌≡◌, ℕ, zero, suc, ◌≤◌, ◌+◌, ◌<◌, List, [], ◌∷◌, ◌++◌, length, drop, take, get_or, slice_get, Option, Some, None, refl, sym, ap, ◌∙◌, subst, arith}
+use Rattle.std.proofs.Common.{◌≡◌, ℕ, zero, suc, ◌≤◌, ◌+◌, ◌<◌, List, [], ◌∷◌, ◌++◌, length, drop, take, get_or, slice_get, Option, Some, None, refl}
+use Rattle.std.proofs.Common.{sym, ap, ◌∙◌, subst, arith}
 use Rattle.std.specs.List.{AllByRecursion}
 use Rattle.std.proofs.Math.Seq.{take-append_seam}
 use Rattle.std.proofs.lemmas.List.{append_assoc, append-nil}
@@ -26,7 +27,7 @@ use Rattle.vg_types_tables.specs.Promises.{IsDeclared, AreDeclared, Does, Runs}
 use Rattle.vg_types_tables.specs.Views.{declarations_at, naming, owner_view, body_view, scope_view, code_view}
 use Rattle.vg_core.specs.declared.step.Step.{Step}
 use Rattle.vg_core.specs.Naming.{named_code}
-use Rattle.vg_tree.proofs.Passing.{left_of}
+use Rattle.vg_tree_walks.proofs.Passing.{left_of}
 use Rattle.vg_types_statements.specs.Grows.{Grows, first_breach}
 use Rattle.vg_types_statements.specs.Arms.{RunsIn}
 use Rattle.vg_types_statements.proofs.MoreLocals.{got_in_front}
@@ -125,12 +126,13 @@ module _ (texts : List (List ℕ)) (d : Declared) where
       → Rowing ds k ls id all (codes ++ c ∷ []) after behind rest
   rowing_one ds k ls id all codes next now first rest c after behind r b e sc hd n =
       let st : settled (resolved ds k.owner (numbered next first) Fresh now) ≡ resolved ds k.owner (numbered next first) Fresh now
-          = settled_statement (resolved ds k.owner (numbered next first) Fresh now) hd in
+      = settled_statement (resolved ds k.owner (numbered next first) Fresh now) hd in
       record {
         from = let f = r.from in omega (arith, f, n);
         count = let rc = r.count in omega (arith, rc, n);
         broken = r.broken
-            ∙ ap (λ z. z or breach ds k (numbered (next + count_nodes first) rest) Fresh (settled (resolved ds k.owner (numbered next first) Fresh now)).scope) b
+            ∙ ap (λ z. z or breach ds k (numbered (next + count_nodes first) rest) Fresh (settled (resolved ds k.owner (numbered next first) Fresh
+            now)).scope) b
             ∙ ap (λ z. breach ds k (numbered (next + count_nodes first) rest) Fresh z.scope) st
             ∙ ap (λ z. breach ds k (numbered (next + count_nodes first) rest) Fresh z) sc
             ∙ ap (λ z. breach ds k (numbered z rest) Fresh behind) (sym n);
@@ -198,7 +200,7 @@ pub left_grows : (p : Tables) (old inside new : Locals) (count : ℕ) → Grows 
     → new.in_scope ≡ take count inside.in_scope → new.declared ≡ inside.declared → Grows p old new
 left_grows p old inside new count g h n e f =
     let names : new.in_scope ≡ old.in_scope = e ∙ ap (λ z. take z inside.in_scope) n ∙ ap (take (length old.in_scope)) g.names
-        ∙ take-append_seam old.in_scope g.more_names in
+    ∙ take-append_seam old.in_scope g.more_names in
     let types : new.declared ≡ old.declared ++ g.more_types = f ∙ g.types in
     record {
       more_names = [];
@@ -260,8 +262,8 @@ module _ (texts : List (List ℕ)) (root : held_node.Node) (d : Declared) (k : B
       → (first_breach texts root d k old (numbered id all) ≡ None) × Does texts root d k old (numbered id all) now j
   going_done codes next now left j g e c =
       let w = passed texts d (declarations_at texts root) (body_view texts d k) (scope_view texts d old) id all codes next (scope_view texts d now) j.code c
-          (subst (Rowing texts d (declarations_at texts root) (body_view texts d k) (scope_view texts d old) id all codes next (scope_view texts d now))
-          e g.rowing) in
+      (subst (Rowing texts d (declarations_at texts root) (body_view texts d k) (scope_view texts d old) id all codes next (scope_view texts d now))
+      e g.rowing) in
       (w.kept, record { head = w.head; does = w.does; scope = w.scope })
 
   pub going_next : (codes : List held.Code) (next : ℕ) (now : Locals) (left : Node) → Going texts root d k old id all codes next now left

@@ -54,17 +54,30 @@ pub then_runs : (p : Tables) (k : BodyKind) (ls : Locals) (a b code : Code Step)
 then_runs p k ls a b code f g e = subst (Runs p k ls) (sym e) (λ o s. ([], f o s, g o s))
 
 -- a loop, whose body may have declared more locals
-pub loop_runs : (p : Tables) (k l : BodyKind) (old new : Locals) (c body next code : Code Step) (t : CoreType) → l ≡ record k { in_loop = true } → t ≡ BoolType
+pub loop_runs : (p : Tables) (k l : BodyKind) (old new : Locals) (c body next code : Code Step) (t : CoreType) → l ≡ record k { in_loop = true }
+    → t ≡ BoolType
     → Puts p k old c t → Grows p old new → Runs p l new body → Runs p k old next → code ≡ Loop c body next → Runs p k new code
 loop_runs p k l old new c body next code t el et h g b n e =
-    subst (Runs p k new) (sym e) (λ o s. (refl, refl, t ∷ [], puts_more p k old.declared g.more_types new.declared c t g.types h o [] s, subst (λ z. t ∷ [] ≡ z ∷ []) et refl,
-    subst (λ z. RunsIn p z new.declared body) el b o s, runs_more p k old.declared g.more_types new.declared next g.types n o s))
+    subst (Runs p k new) (sym e) (λ o s. (
+      refl,
+      refl,
+      t ∷ [],
+      puts_more p k old.declared g.more_types new.declared c t g.types h o [] s,
+      subst (λ z. t ∷ [] ≡ z ∷ []) et refl,
+      subst (λ z. RunsIn p z new.declared body) el b o s,
+      runs_more p k old.declared g.more_types new.declared next g.types n o s,
+    ))
 
 module _ (p : Tables) (k : BodyKind) (ls : Locals) where
   pub stores : (s : Storing) (c code : Code Step) (t : CoreType) → Stores p k ls NoHead s → Puts p k ls c t → Sub p t s.type_
       → code ≡ Then (code_of s.aims) (Then c (Do s.store)) → Runs p k ls code
   stores s c code t h g sub e =
       subst (Runs p k ls) (sym e) (λ o sees. let w = h o [] sees in (w.0, w.1, (t ∷ w.0, g o w.0 sees, w.2 t sub)))
+
+  -- the same for what is known to be the place
+  pub stores_that : (v s : Storing) → v ≡ s → (c code : Code Step) (t : CoreType) → Stores p k ls NoHead s → Puts p k ls c t → Sub p t v.type_
+      → code ≡ Then (code_of v.aims) (Then c (Do v.store)) → Runs p k ls code
+  stores_that v s q c code t h = stores v c code t (subst (Stores p k ls NoHead) (sym q) h)
 
   pub returns_value : (c code : Code Step) (t : CoreType) → Puts p k ls c t → Sub p t k.result → code ≡ Then c Return → Runs p k ls code
   returns_value c code t h sub e = subst (Runs p k ls) (sym e) (λ o s. (t ∷ [], h o [] s, (t, [], refl, sub)))
@@ -92,8 +105,11 @@ one_arm_more p k ts more us cs a c b e h g r f more' last l =
     let code : code_arms (cs ++ a ∷ []) last ≡ code_arms cs (Then c (If b last)) = arms_more cs a last ∙ ap (code_arms cs) (f last) in
     subst (λ z. RunsIn p k z (code_arms (cs ++ a ∷ []) last)) (sym all) (subst (RunsIn p k (ts ++ (more ++ more'))) (sym code)
     (h (more ++ more') (Then c (If b last)) (subst (λ z. RunsIn p k z (Then c (If b last))) all
-    (λ o s. (BoolType ∷ [], puts_more p k ts (more ++ more') (us ++ more') c BoolType all g o [] s,
-    ([], refl, runs_more p k us more' (us ++ more') b refl r o s, l o s))))))
+    (λ o s. (
+      BoolType ∷ [],
+      puts_more p k ts (more ++ more') (us ++ more') c BoolType all g o [] s,
+      ([], refl, runs_more p k us more' (us ++ more') b refl r o s, l o s),
+    )))))
 
 -- all arms, and what is done where no condition holds
 pub if_runs : (p : Tables) (k : BodyKind) (ts more us : List CoreType) (cs : List held.Code) (last code : Code Step) → us ≡ ts ++ more → ArmsRun p k ts cs

@@ -1,4 +1,4 @@
 pub mod Nodes
 pub mod Grows
-pub mod Values
+pub mod Asked
 pub mod Arms

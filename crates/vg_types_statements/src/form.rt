@@ -42,10 +42,7 @@ pub(crate) fn an_arm(alloc: Global, condition: Code, block: Code) -> Result<Code
     ensures named { IfOk result (λ c. (texts : List (List ℕ)) (d : Declared) (rest : MeantCode SourceStep)
         → before_named texts d c rest ≡ Then (code_view texts d condition) (If (code_view texts d block) rest)) }
 {
-    Ok(Code::Arm(
-        Box::new(alloc, condition)?,
-        Box::new(alloc, block)?,
-    ))
+    Ok(Code::Arm(Box::new(alloc, condition)?, Box::new(alloc, block)?))
 }
 
 /// The arms of an `if`, and what is done where no condition holds.

@@ -5,9 +5,10 @@ mod arms;
 mod fault;
 mod form;
 mod jumps;
+mod local;
+mod nested;
+mod returns;
 mod simple;
-mod statements;
-mod stub;
 mod values;
 
-pub use statements::statement;
+pub use nested::{statement, statements};

@@ -3,27 +3,21 @@ ghost use Rattle.std.specs.Prelude.{◌≡◌, ◌+◌, ◌<◌, ◌^◌, IfOk};
 ghost use Rattle.vg_syntax.specs.Numbering.{count_nodes, numbered};
 ghost use Rattle.vg_syntax.specs.Reads.{spot};
 ghost use Rattle.vg_tree.specs.Held.{node_at};
-ghost use Rattle.vg_meaning.specs.Code.{Nothing, Then, Do};
-ghost use Rattle.vg_rules.specs.Inherited.{has_no_type};
-ghost use Rattle.vg_core.specs.declared.step.Step.TheVariants.{Put};
-ghost use Rattle.vg_core.specs.declared.value.CoreValue.TheVariants.{Null};
 ghost use Rattle.vg_core.specs.HeldProgram.{code_of};
 ghost use Rattle.vg_types_views.specs.Judges.{Judges};
-ghost use Rattle.vg_types_tables.specs.Views.{type_view};
 ghost use Rattle.vg_types_tables.specs.Declares.{Declares};
 ghost use Rattle.vg_types_tables.specs.Promises.{AreDeclared, IsBody, Does, Runs};
-ghost use Rattle.vg_types_statements.specs.Nodes.{eval_node, assign_node, return_node};
+ghost use Rattle.vg_types_statements.specs.Nodes.{eval_node, assign_node};
 ghost use Rattle.vg_types_statements.specs.Grows.{first_breach};
 
 use crate::fault::broken;
 use crate::form::nothing;
-use crate::values::{Valued, value_of};
 use std::alloc::Global;
-use vg_base::{Names, NoMemory, Place, Refusal};
-use vg_core::{Code, CoreType, CoreValue, Step};
+use vg_base::{Names, Place, Refusal};
+use vg_core::{Code, Step};
 use vg_tree::Node;
 use vg_types_expressions::{expression, target};
-use vg_types_tables::{BodyKind, Declared, Done, Locals, fits, row, three, two};
+use vg_types_tables::{BodyKind, Declared, Done, Locals, fits, three, two};
 use vg_types_views::Broken;
 
 /// What may stand in the head of a `for`: an expression, an assignment, or nothing.
@@ -52,7 +46,9 @@ pub(crate) fn simple_statement(
             next: id,
         }),
         Node::Eval(place, value) => {
-            eval_statement(alloc, names, root, declared, body, locals, *place, value, id)
+            eval_statement(
+                alloc, names, root, declared, body, locals, *place, value, id,
+            )
         }
         Node::Assign(place, aim, value) => assign_statement(
             alloc, names, root, declared, body, locals, *place, aim, value, id,
@@ -120,7 +116,9 @@ pub(crate) fn assign_statement(
     ensures next { IfOk result (λ j. j.next ≡ id + 1 + count_nodes (node_at names.now aim.now) + count_nodes (node_at names.now value.now)) }
 {
     let aimed = target(alloc, names, root, declared, body, locals, aim, id + 1)?;
-    let judged = expression(alloc, names, root, declared, body, locals, value, aimed.next)?;
+    let judged = expression(
+        alloc, names, root, declared, body, locals, value, aimed.next,
+    )?;
     let storing = match aimed.place {
         Some(storing) => storing,
         None => return Err(broken(21, id)),
@@ -133,69 +131,4 @@ pub(crate) fn assign_statement(
         code,
         next: judged.next,
     })
-}
-
-/// A `return`.
-pub(crate) fn return_statement(
-    alloc: Global,
-    names: &Names,
-    root: &Node,
-    declared: &Declared,
-    body: BodyKind,
-    locals: &Locals,
-    place: Place,
-    value: &Node,
-    id: u32,
-) -> Result<Done, Refusal<Broken>>
-    requires declares { Declares names.now root.now declared.now }
-    requires body { IsBody declared.now.tables body }
-    requires scope { AreDeclared declared.now.tables locals.now }
-    requires room { id + 1 + count_nodes (node_at names.now value.now) < 2 ^ 32 }
-    ensures judged { Judges (Does names.now root.now declared.now body locals.now
-        (return_node id (spot place) (numbered (id + 1) (node_at names.now value.now))) locals.now) result
-        (first_breach names.now root.now declared.now body locals.now (return_node id (spot place) (numbered (id + 1) (node_at names.now value.now)))) }
-    ensures typed { IfOk result (λ j. Runs declared.now.tables body locals.now (code_of j.code)) }
-    ensures next { IfOk result (λ j. j.next ≡ id + 1 + count_nodes (node_at names.now value.now)) }
-{
-    let Valued { judged, next } =
-        value_of(alloc, names, root, declared, body, locals, value, id + 1)?;
-    let none = is_no_type(names, declared, body.result);
-    match judged {
-        None => {
-            if !none {
-                return Err(broken(23, id));
-            }
-            let code = two(alloc, no_value(alloc)?, Code::Return)?;
-            Ok(Done { code, next })
-        }
-        Some(judged) => {
-            if none {
-                return Err(broken(23, id));
-            }
-            if !fits(names, root, declared, judged.type_, body.result) {
-                return Err(broken(23, id));
-            }
-            let code = two(alloc, judged.code, Code::Return)?;
-            Ok(Done { code, next })
-        }
-    }
-}
-
-// The value of a `return` that has none.
-fn no_value(alloc: Global) -> Result<Code, NoMemory>
-    ensures { IfOk result (λ c. code_of c ≡ Then (Do (Put Null)) Nothing) }
-{
-    let mut codes = Vec::with_capacity(alloc, 1)?;
-    codes.push(Code::Do(Step::Put(CoreValue::Null)))?;
-    Ok(row(codes))
-}
-
-// Whether there is no type.
-fn is_no_type(names: &Names, declared: &Declared, type_: CoreType) -> bool
-    ensures exact { result ≡ has_no_type (type_view names.now declared.now type_) }
-{
-    match type_ {
-        CoreType::NoType => true,
-        _ => false,
-    }
 }

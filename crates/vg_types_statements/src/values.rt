@@ -1,65 +1,19 @@
-// Values that may be left out.
-ghost use Rattle.std.specs.Prelude.{◌≡◌, ◌+◌, ◌<◌, ◌^◌, IfOk, IfSome};
-ghost use Rattle.vg_syntax.specs.Numbering.{count_nodes, numbered};
-ghost use Rattle.vg_tree.specs.Held.{node_at};
+// Values, and tests of their types.
+ghost use Rattle.std.specs.Prelude.{◌≡◌, IfOk, IsTrue};
+ghost use Rattle.vg_meaning.specs.Code.{Nothing, Then, Do};
+ghost use Rattle.vg_source.specs.Resolved.{IsValue};
+ghost use Rattle.vg_rules.specs.Bodies.{is_bool};
+ghost use Rattle.vg_rules.specs.Inherited.{has_no_type};
+ghost use Rattle.vg_core.specs.declared.types.CoreType.TheVariants.{BoolType, NoType};
+ghost use Rattle.vg_core.specs.declared.step.Step.TheVariants.{Put};
+ghost use Rattle.vg_core.specs.HeldProgram.{code_of};
 ghost use Rattle.vg_core.specs.Heap.{default};
-ghost use Rattle.vg_types_views.specs.Judges.{Judges};
-ghost use Rattle.vg_types_tables.specs.Declares.{Declares};
-ghost use Rattle.vg_types_tables.specs.Promises.{AreDeclared, IsBody};
-ghost use Rattle.vg_types_statements.specs.Grows.{first_breach};
-ghost use Rattle.vg_types_statements.specs.Values.{IsValued, PutsValue};
+ghost use Rattle.vg_types_tables.specs.Views.{type_view};
 
 use std::alloc::Global;
-use vg_base::{Names, Refusal};
-use vg_core::{CoreType, CoreValue};
-use vg_tree::Node;
-use vg_tree::nothing::is_nothing;
-use vg_types_expressions::expression;
-use vg_types_tables::{BodyKind, Declared, Judged, Locals};
-use vg_types_views::Broken;
-
-/// A value that may be left out.
-#[derive(Drop)]
-pub(crate) struct Valued {
-    /// What is judged of it, where it is written.
-    pub judged: Option<Judged>,
-    /// The number of the node behind it.
-    pub next: u32,
-}
-
-/// A value, where one is written, or the first breach in it. `id` is the number of its node.
-pub(crate) fn value_of(
-    alloc: Global,
-    names: &Names,
-    root: &Node,
-    declared: &Declared,
-    body: BodyKind,
-    locals: &Locals,
-    node: &Node,
-    id: u32,
-) -> Result<Valued, Refusal<Broken>>
-    requires declares { Declares names.now root.now declared.now }
-    requires body { IsBody declared.now.tables body }
-    requires scope { AreDeclared declared.now.tables locals.now }
-    requires room { id + count_nodes (node_at names.now node.now) < 2 ^ 32 }
-    ensures judged { Judges (IsValued names.now root.now declared.now body locals.now (numbered id (node_at names.now node.now))) result
-        (first_breach names.now root.now declared.now body locals.now (numbered id (node_at names.now node.now))) }
-    ensures typed { IfOk result (λ v. IfSome v.judged (PutsValue declared.now.tables body locals.now)) }
-    ensures next { IfOk result (λ v. v.next ≡ id + count_nodes (node_at names.now node.now)) }
-{
-    if is_nothing(node) {
-        return Ok(Valued {
-            judged: None,
-            next: id,
-        });
-    }
-    let judged = expression(alloc, names, root, declared, body, locals, node, id)?;
-    let next = judged.next;
-    Ok(Valued {
-        judged: Some(judged),
-        next,
-    })
-}
+use vg_base::{Names, NoMemory};
+use vg_core::{Code, CoreType, CoreValue, Step};
+use vg_types_tables::{Declared, row};
 
 /// What a place of this type holds before anything is put there.
 pub(crate) fn default_of(type_: CoreType) -> CoreValue
@@ -71,5 +25,36 @@ pub(crate) fn default_of(type_: CoreType) -> CoreValue
         CoreType::CharType => CoreValue::Char(0),
         CoreType::RawType(width) => CoreValue::Raw(width, 0),
         _ => CoreValue::Null,
+    }
+}
+
+/// The code that stands for a value of this type that is not written.
+pub(crate) fn unwritten(alloc: Global, type_: CoreType) -> Result<Code, NoMemory>
+    ensures { IfOk result (λ c. code_of c ≡ Then (Do (Put (default type_))) Nothing) }
+{
+    let mut codes = Vec::with_capacity(alloc, 1)?;
+    codes.push(Code::Do(Step::Put(default_of(type_))))?;
+    Ok(row(codes))
+}
+
+/// Whether there is no type.
+pub(crate) fn is_no_type(names: &Names, declared: &Declared, type_: CoreType) -> bool
+    ensures exact { result ≡ has_no_type (type_view names.now declared.now type_) }
+    ensures none { IsTrue result → type_ ≡ NoType }
+{
+    match type_ {
+        CoreType::NoType => true,
+        _ => false,
+    }
+}
+
+/// Whether a value of this type is a truth value.
+pub(crate) fn is_bool(names: &Names, declared: &Declared, type_: CoreType) -> bool
+    ensures exact { result ≡ is_bool (IsValue (type_view names.now declared.now type_)) }
+    ensures bool { IsTrue result → type_ ≡ BoolType }
+{
+    match type_ {
+        CoreType::BoolType => true,
+        _ => false,
     }
 }

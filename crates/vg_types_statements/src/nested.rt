@@ -1,5 +1,5 @@
 // Statements.
-ghost use Rattle.std.specs.Prelude.{◌≡◌, ◌+◌, ◌<◌, ◌^◌, ℕ, List, true, IfOk, IfSome, IsTrue, OnOk};
+ghost use Rattle.std.specs.Prelude.{◌≡◌, ◌&&◌, ◌+◌, ◌<◌, ◌^◌, ℕ, List, true, IfOk, IfSome, IsTrue, OnOk};
 ghost use Rattle.vg_syntax.specs.Numbering.{count_nodes, numbered};
 ghost use Rattle.vg_syntax.specs.Reads.{spot};
 ghost use Rattle.vg_tree.specs.Held.{node_at, row_at, arm_row};
@@ -18,10 +18,13 @@ use crate::arms::{AllArms, Armed};
 use crate::fault::broken;
 use crate::form::{a_loop, all_arms, an_arm, nothing};
 use crate::jumps::jump;
-use crate::simple::{assign_statement, eval_statement, return_statement, simple_statement};
+use crate::local::local_statement;
+use crate::returns::return_statement;
+use crate::simple::{assign_statement, eval_statement, simple_statement};
+use crate::values::is_bool;
 use std::alloc::Global;
 use vg_base::{Names, Place, Refusal};
-use vg_core::{Code, CoreType};
+use vg_core::Code;
 use vg_tree::Node;
 use vg_types_expressions::expression;
 use vg_types_tables::{BodyKind, Declared, Done, Locals, row, two};
@@ -57,21 +60,32 @@ pub fn statement(
             next: id,
         }),
         Node::Eval(place, value) => {
-            eval_statement(alloc, names, root, declared, body, locals, *place, value, id)
+            eval_statement(
+                alloc, names, root, declared, body, locals, *place, value, id,
+            )
         }
         Node::Assign(place, aim, value) => assign_statement(
             alloc, names, root, declared, body, locals, *place, aim, value, id,
         ),
         Node::Return(place, value) => {
-            return_statement(alloc, names, root, declared, body, locals, *place, value, id)
+            return_statement(
+                alloc, names, root, declared, body, locals, *place, value, id,
+            )
         }
+        Node::Local(place, name, type_, value) => local_statement(
+            alloc, names, root, declared, body, locals, *place, *name, type_, value, id,
+        ),
         Node::Block(place, inner) => match row_of(inner) {
-            Some(nodes) => block_statement(alloc, names, root, declared, body, locals, *place, nodes, id),
+            Some(nodes) => block_statement(
+                alloc, names, root, declared, body, locals, *place, nodes, id,
+            ),
             // No text has such a block.
             None => Err(Refusal::NoMemory),
         },
         Node::If(place, arms, otherwise) => match arms_of(arms) {
-            Some(pairs) => if_statement(alloc, names, root, declared, body, locals, *place, pairs, otherwise, id),
+            Some(pairs) => if_statement(
+                alloc, names, root, declared, body, locals, *place, pairs, otherwise, id,
+            ),
             // No text has such an `if`.
             None => Err(Refusal::NoMemory),
         },
@@ -146,7 +160,10 @@ pub fn statements(
     let mut codes = Vec::new(alloc);
     let mut next = id;
     'each: for node in nodes {
-        let done = statement(alloc, names, root, declared, body, locals, node, next)?;
+        let done = match statement(alloc, names, root, declared, body, locals, node, next) {
+            Ok(done) => done,
+            Err(fault) => return Err(fault),
+        };
         codes.push(done.code)?;
         next = done.next;
     }
@@ -184,9 +201,27 @@ fn while_statement(
     ensures grows { OnOk result (Grows declared.now.tables locals.old locals.new) }
     ensures next { IfOk result (λ j. j.next ≡ id + 1 + count_nodes (node_at names.now condition.now) + count_nodes (node_at names.now inner.now)) }
 {
-    let judged = expression(alloc, names, root, declared, body, locals, condition, id + 1)?;
-    let done = statement(alloc, names, root, declared, looped(body), locals, inner, judged.next)?;
-    if judged.type_ != CoreType::BoolType {
+    let judged = expression(
+        alloc,
+        names,
+        root,
+        declared,
+        body,
+        locals,
+        condition,
+        id + 1,
+    )?;
+    let done = statement(
+        alloc,
+        names,
+        root,
+        declared,
+        looped(body),
+        locals,
+        inner,
+        judged.next,
+    )?;
+    if !is_bool(names, declared, judged.type_) {
         return Err(broken(22, id));
     }
     let code = a_loop(alloc, judged.code, done.code, nothing(alloc))?;
@@ -215,26 +250,57 @@ fn for_statement(
     requires declares { Declares names.now root.now declared.now }
     requires body { IsBody declared.now.tables body }
     requires scope { AreDeclared declared.now.tables locals.old }
-    requires room { id + 1 + count_nodes (node_at names.now first.now) + count_nodes (node_at names.now condition.now) + count_nodes (node_at names.now next.now) + count_nodes (node_at names.now inner.now) < 2 ^ 32 }
+    requires room { id + 1 + count_nodes (node_at names.now first.now) + count_nodes (node_at names.now condition.now) + count_nodes (node_at
+        names.now next.now) + count_nodes (node_at names.now inner.now) < 2 ^ 32 }
     ensures judged { Judges (Does names.now root.now declared.now body locals.old
         (for_node id (spot place) (numbered (id + 1) (node_at names.now first.now))
         (numbered (id + 1 + count_nodes (node_at names.now first.now)) (node_at names.now condition.now))
         (numbered (id + 1 + count_nodes (node_at names.now first.now) + count_nodes (node_at names.now condition.now)) (node_at names.now next.now))
-        (numbered (id + 1 + count_nodes (node_at names.now first.now) + count_nodes (node_at names.now condition.now) + count_nodes (node_at names.now next.now)) (node_at names.now inner.now))) locals.new) result
+        (numbered (id + 1 + count_nodes (node_at names.now first.now) + count_nodes (node_at names.now condition.now) + count_nodes (node_at
+        names.now next.now)) (node_at names.now inner.now))) locals.new) result
         (first_breach names.now root.now declared.now body locals.old
         (for_node id (spot place) (numbered (id + 1) (node_at names.now first.now))
         (numbered (id + 1 + count_nodes (node_at names.now first.now)) (node_at names.now condition.now))
         (numbered (id + 1 + count_nodes (node_at names.now first.now) + count_nodes (node_at names.now condition.now)) (node_at names.now next.now))
-        (numbered (id + 1 + count_nodes (node_at names.now first.now) + count_nodes (node_at names.now condition.now) + count_nodes (node_at names.now next.now)) (node_at names.now inner.now)))) }
+        (numbered (id + 1 + count_nodes (node_at names.now first.now) + count_nodes (node_at names.now condition.now) + count_nodes (node_at
+        names.now next.now)) (node_at names.now inner.now)))) }
     ensures typed { IfOk result (λ j. Runs declared.now.tables body locals.new (code_of j.code)) }
     ensures grows { OnOk result (Grows declared.now.tables locals.old locals.new) }
-    ensures next { IfOk result (λ j. j.next ≡ id + 1 + count_nodes (node_at names.now first.now) + count_nodes (node_at names.now condition.now) + count_nodes (node_at names.now next.now) + count_nodes (node_at names.now inner.now)) }
+    ensures next { IfOk result (λ j. j.next ≡ id + 1 + count_nodes (node_at names.now first.now) + count_nodes (node_at names.now condition.now) +
+        count_nodes (node_at names.now next.now) + count_nodes (node_at names.now inner.now)) }
 {
     let before = simple_statement(alloc, names, root, declared, body, locals, first, id + 1)?;
-    let judged = expression(alloc, names, root, declared, body, locals, condition, before.next)?;
-    let behind = simple_statement(alloc, names, root, declared, body, locals, next, judged.next)?;
-    let done = statement(alloc, names, root, declared, looped(body), locals, inner, behind.next)?;
-    if judged.type_ != CoreType::BoolType {
+    let judged = expression(
+        alloc,
+        names,
+        root,
+        declared,
+        body,
+        locals,
+        condition,
+        before.next,
+    )?;
+    let behind = simple_statement(
+        alloc,
+        names,
+        root,
+        declared,
+        body,
+        locals,
+        next,
+        judged.next,
+    )?;
+    let done = statement(
+        alloc,
+        names,
+        root,
+        declared,
+        looped(body),
+        locals,
+        inner,
+        behind.next,
+    )?;
+    if !is_bool(names, declared, judged.type_) {
         return Err(broken(22, id));
     }
     let loop_code = a_loop(alloc, judged.code, done.code, behind.code)?;
@@ -274,7 +340,9 @@ fn if_statement(
     ensures next { IfOk result (λ j. j.next ≡ id + 1 + count_nodes (arm_row names.now pairs.now) + count_nodes (node_at names.now otherwise.now)) }
 {
     let arms = arms(alloc, names, root, declared, body, locals, pairs, id + 1)?;
-    let last = statement(alloc, names, root, declared, body, locals, otherwise, arms.next)?;
+    let last = statement(
+        alloc, names, root, declared, body, locals, otherwise, arms.next,
+    )?;
     if !arms.holds {
         return Err(broken(22, id));
     }
@@ -311,9 +379,13 @@ fn arms(
     let mut holds = true;
     let mut next = id;
     'each: for pair in pairs {
-        let one = arm(alloc, names, root, declared, body, locals, pair, next)?;
-        codes.push(an_arm(alloc, one.condition, one.block)?)?;
-        holds = holds && one.holds;
+        let one = match arm(alloc, names, root, declared, body, locals, pair, next) {
+            Ok(one) => one,
+            Err(fault) => return Err(fault),
+        };
+        let code = an_arm(alloc, one.condition, one.block)?;
+        codes.push(code)?;
+        holds = both(holds, one.holds);
         next = one.next;
     }
     Ok(AllArms { codes, holds, next })
@@ -349,17 +421,33 @@ fn arm(
     match pair {
         Node::Pair(condition, block) => {
             let judged = expression(alloc, names, root, declared, body, locals, condition, id)?;
-            let done = statement(alloc, names, root, declared, body, locals, block, judged.next)?;
+            let done = statement(
+                alloc,
+                names,
+                root,
+                declared,
+                body,
+                locals,
+                block,
+                judged.next,
+            )?;
             Ok(Armed {
                 condition: judged.code,
                 block: done.code,
-                holds: judged.type_ == CoreType::BoolType,
+                holds: is_bool(names, declared, judged.type_),
                 next: done.next,
             })
         }
         // No text has another node here.
         _ => Err(Refusal::NoMemory),
     }
+}
+
+// Whether both hold.
+fn both(one: bool, other: bool) -> bool
+    ensures { result ≡ (one && other) }
+{
+    one && other
 }
 
 // The body of a loop.
