@@ -1,0 +1,5 @@
+pub mod Numerals
+pub mod Members
+pub mod Types
+pub mod Reading
+pub mod NameLaws
