@@ -1,5 +1,5 @@
 -- The call of a delegate.
-use Rattle.std.proofs.Common.{◌≡◌, ℕ, List, [], ◌∷◌, Some, refl, ap, ◌∙◌}
+use Rattle.std.proofs.Common.{◌≡◌, ℕ, List, [], ◌∷◌, Some, ap, ◌∙◌}
 use Rattle.std.specs.List.{slice_get}
 use Rattle.vg_source.specs.Steps as source
 use Rattle.vg_core.specs.declared.types.CoreType.{CoreType}
