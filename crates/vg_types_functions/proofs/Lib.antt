@@ -1,2 +1,3 @@
-mod Methods
-mod Walking
+pub mod Calls
+pub mod Methods
+pub mod Walking

@@ -9,7 +9,7 @@ use Rattle.vg_core.specs.declared.program.Method.{Method}
 use Rattle.vg_core.specs.Typing.{HasFunction}
 use Rattle.vg_types_tables.specs.declared.declared.Declared.{Declared}
 use Rattle.vg_types_tables.specs.Views.{type_view, params_view, result_view}
-use Rattle.vg_types_tables.specs.Declares.{IsFormed, IsKnown}
+use Rattle.vg_types_tables.specs.Declares.{IsFormed}
 use Rattle.vg_types_tables.proofs.Entries.{known_entry, row_function_view}
 use Rattle.vg_source.specs.Types as source
 use Rattle.vg_types_functions.specs.Functions.{IsMethodType}

@@ -1,11 +1,11 @@
 -- What rows of code stand for while they are made.
-use Rattle.std.proofs.Common.{◌≡◌, ℕ, List, [], ◌∷◌, ◌++◌, refl, sym, ap, Option, None, Some}
+use Rattle.std.proofs.Common.{◌≡◌, ℕ, List, [], ◌∷◌, ◌++◌, refl, ap, None, Some}
 use Rattle.std.specs.List.{slice_get}
-use Rattle.vg_meaning.specs.Code.{Code, Nothing, Then, replaced}
+use Rattle.vg_meaning.specs.Code.{Code, Nothing, Then}
 use Rattle.vg_tree.specs.Held.{text_or_none, text_at}
 use Rattle.vg_source.specs.Steps as source
 use Rattle.vg_core.specs.declared.code.Code as held
-use Rattle.vg_core.specs.HeldProgram.{code_of, code_row, code_chain}
+use Rattle.vg_core.specs.HeldProgram.{code_row, code_chain}
 use Rattle.vg_core.specs.Naming.{text_in, named_code}
 use Rattle.vg_core.specs.Naming as core
 use Rattle.vg_types_tables.specs.declared.declared.Declared.{Declared}

@@ -1,6 +1,6 @@
 -- Code typed under some locals is typed under more: of all steps only those of a local look at the types of locals. And rows and
 -- chains of typed code are typed.
-use Rattle.std.proofs.Common.{◌≡◌, ℕ, Bool, true, List, [], ◌∷◌, ◌++◌, refl, sym, subst}
+use Rattle.std.proofs.Common.{◌≡◌, Bool, true, List, [], ◌∷◌, ◌++◌, refl, sym, subst}
 use Rattle.vg_meaning.specs.Code.{Code, Nothing, Then, Do, If, Loop, Break, Continue, Return}
 use Rattle.vg_meaning.specs.Shapes.{Shapes, Fits}
 use Rattle.vg_core.specs.declared.types.CoreType.{CoreType}
@@ -15,9 +15,8 @@ use Rattle.vg_core.specs.Typing.{t_is_below, t_field, t_item, t_length, t_method
 use Rattle.vg_core.specs.Typing.{t_new_array, t_set_local, t_set_component_field, t_set_register, t_set_field, t_set_item, t_forget, t_super}
 use Rattle.vg_types_tables.specs.declared.body.BodyKind.{BodyKind}
 use Rattle.vg_types_tables.specs.declared.judged.Head.{Head}
-use Rattle.vg_types_tables.specs.declared.judged.Storing.{Storing}
 use Rattle.vg_types_tables.specs.declared.locals.Locals.{Locals}
-use Rattle.vg_types_tables.specs.Promises.{Leads, Puts, Stores, Runs}
+use Rattle.vg_types_tables.specs.Promises.{Leads, Puts, Runs}
 use Rattle.vg_types_tables.proofs.Lists.{still_there}
 
 module _ (p : Tables) (ts more : List CoreType) (o : Owner) where
