@@ -4,7 +4,7 @@ pub mod Spelled
 mod Nodes
 mod Parts
 mod Depth
-mod Texts
+pub mod Texts
 mod Placed
 mod Legal
 pub mod Means
