@@ -1,16 +1,12 @@
 //! The program: the words of the command line come in, files are read, and the top call's outputs go to standard output and standard error.
 #![tactic(auto)]
 
-mod file_shelf;
-mod stream_sink;
-
-use crate::file_shelf::FileShelf;
-use crate::stream_sink::StreamSink;
 use std::env;
 use std::env::Env;
 use std::io::ErrorKind;
 use std::process::ExitCode;
 use vg_drive::{Status, run};
+use vg_files::{FileShelf, StreamSink};
 
 // The words behind the program's name, or the answer where they can't be had.
 fn words_behind_name<R: Env + AllocGlobal>(rt: &R) -> Result<Vec<String>, Status> {

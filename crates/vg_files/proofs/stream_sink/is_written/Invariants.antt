@@ -1,7 +1,7 @@
 -- What is gone from `rest` was appended.
 use Rattle.std.proofs.Common.{◌≡◌, ℕ, List, ◌++◌}
 use Rattle.std.specs.Io.KnownBytes.{Appends}
-use Rattle.vg_cli.proofs.stream_sink.is_written.Given as goal
+use Rattle.vg_files.proofs.stream_sink.is_written.Given as goal
 
 abbrev pub invariant-turns : goal.invariant-turns
 invariant-turns g l =

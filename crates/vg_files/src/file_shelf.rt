@@ -16,11 +16,14 @@ const CHUNK: usize = 4096;
 pub struct FileShelf<'a, R: Files> {
     files: &'a R,
     alloc: Global,
-    asked: Row<Asked>,
-    faults: u64,
+    /// The fetches so far.
+    pub asked: Row<Asked>,
+    /// How many of them failed.
+    pub faults: u64,
 }
 
 impl<'a, R: Files> FileShelf<'a, R> {
+    /// A shelf that has fetched nothing.
     pub fn new(files: &'a R, alloc: Global) -> Self
         ensures none { result.faults ≡ 0 }
         ensures new { result.asked ≡ [] }

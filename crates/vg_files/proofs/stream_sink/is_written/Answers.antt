@@ -1,7 +1,7 @@
 use Rattle.std.proofs.Common.{◌≡◌, ℕ, ◌-◌, List, ◌++◌, length, take, drop, sym, ap, ◌∙◌, append_assoc, take-append-drop}
 use Rattle.std.proofs.lemmas.List.{take_rest}
 use Rattle.std.proofs.KnownBytes.{Appends-trans}
-use Rattle.vg_cli.proofs.stream_sink.is_written.Goals as goal
+use Rattle.vg_files.proofs.stream_sink.is_written.Goals as goal
 
 -- of what was to go on, so many bytes are gone now
 goes_on : (piece done rest : List ℕ) (count : ℕ) → piece ≡ done ++ rest → piece ≡ done ++ take count rest ++ take (length rest - count) (drop count rest)

@@ -10,11 +10,13 @@ use vg_io::{Failed, Sink};
 /// A sink over a writer. It counts its faults, and tells nothing of what the stream holds.
 #[derive(Drop)]
 pub struct StreamSink<W: Write> {
-    stream: W,
-    faults: u64,
+    pub stream: W,
+    /// How many puts failed.
+    pub faults: u64,
 }
 
 impl<W: Write> StreamSink<W> {
+    /// A sink that has put nothing.
     pub fn new(stream: W) -> Self
         ensures { result.faults ≡ 0 }
     {
