@@ -41,7 +41,8 @@ get_front [] ys k h = absurd (omega arith)
 get_front (x ∷ xs) ys zero h = refl
 get_front (x ∷ xs) ys (suc k) h = get_front xs ys k (omega (arith, h))
 
-located : (base : Base) (place : ℕ → ℕ) (is : List Instr) (j : ℕ) (x : Instr) → slice_get (expanded_code base place is) j ≡ Some x → Located base place is j x
+pub located : (base : Base) (place : ℕ → ℕ) (is : List Instr) (j : ℕ) (x : Instr) → slice_get (expanded_code base place is) j ≡ Some x
+    → Located base place is j x
 located base place [] j x e = absurd (grind arith)
 located base place (i ∷ is) j x e =
     by_test (λ k g. located base place is k x g) (nat_lt j (length (expanded_at base place i))) refl
@@ -86,7 +87,7 @@ computing_some : (base : Base) (c : Computation) (op : Operator) → 0 < length 
 computing_some base c Plus = omega arith
 computing_some base c Minus = omega arith
 computing_some base c Times =
-    each_product (λ xs. 0 < length xs) base c (λ q a b. omega arith) (λ a b. omega arith) (omega arith) (λ a n. omega arith) (λ a n. omega arith)
+    each_product (λ xs. 0 < length xs) base c (λ a b. omega arith) (λ a b. omega arith) (omega arith) (λ a n. omega arith) (λ a n. omega arith)
     (λ a n. omega arith) c.left c.right
 computing_some base c Divide = omega arith
 computing_some base c Remainder = omega arith
@@ -128,7 +129,7 @@ place_end base place (j ∷ is) (suc at) i e =
     length-append (expanded_at base place j) (expanded_code base place is) in omega (arith, s, h, l)
 
 -- places grow
-place_grows : (base : Base) (is : List Instr) (at to : ℕ) → to < length is → at < to → place_of base is at < place_of base is to
+pub place_grows : (base : Base) (is : List Instr) (at to : ℕ) → to < length is → at < to → place_of base is at < place_of base is to
 place_grows base [] at to h g = absurd (omega arith)
 place_grows base (i ∷ is) zero zero h g = absurd (omega arith)
 place_grows base (i ∷ is) (suc at) zero h g = absurd (omega arith)
@@ -278,7 +279,7 @@ module _ (first : ℕ) (m : Procedure) (width to : ℕ) (left right : Operand) (
   multiplying_is (Known k) (Local i) ha hb = factor_is (Local i) k hb (k == 0)
   multiplying_is (Local i) (Local j) ha hb = product_is (Local i) (Local j) ha hb
 
-  computing_is : (op : Operator) → AllByRecursion (IsOfComputation n) (computing its_base (of op) op)
+  pub computing_is : (op : Operator) → AllByRecursion (IsOfComputation n) (computing its_base (of op) op)
   computing_is Plus = itself Plus
   computing_is Minus = itself Minus
   computing_is Times = multiplying_is left right l' r'
@@ -290,7 +291,7 @@ module _ (first : ℕ) (m : Procedure) (width to : ℕ) (left right : Operand) (
   computing_is ShiftLeft = shifting_is (first + 2) ShiftLeft right refl
   computing_is ShiftRight = shifting_is (first + 3) ShiftRight right refl
 
-one_of : (P : Instr → Type 0) (xs : List Instr) (k : ℕ) (x : Instr) → AllByRecursion P xs → slice_get xs k ≡ Some x → P x
+pub one_of : (P : Instr → Type 0) (xs : List Instr) (k : ℕ) (x : Instr) → AllByRecursion P xs → slice_get xs k ≡ Some x → P x
 one_of P [] k x h e = absurd (grind arith)
 one_of P (y ∷ xs) zero x (h, g) e = subst P (some_is y x e) h
 one_of P (y ∷ xs) (suc k) x (h, g) e = one_of P xs k x g e
@@ -337,7 +338,7 @@ waits_of m ws j Idle h g = absurd h
 -- ---- the whole procedure
 
 -- an instruction that stands alone
-alone : (P : ℕ → Instr → Type 0) (y : Instr) (k : ℕ) (x : Instr) → slice_get (y ∷ []) k ≡ Some x → P 0 y → P k x
+pub alone : (P : ℕ → Instr → Type 0) (y : Instr) (k : ℕ) (x : Instr) → slice_get (y ∷ []) k ≡ Some x → P 0 y → P k x
 alone P y zero x e h = subst (P 0) (some_is y x e) h
 alone P y (suc k) x e h = absurd (grind arith)
 

@@ -7,3 +7,4 @@ pub mod Expanded
 pub mod Kept
 pub mod Powers
 pub mod Walked
+pub mod Flowing

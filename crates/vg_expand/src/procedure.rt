@@ -1,6 +1,9 @@
 // The pass over a procedure.
 ghost use Rattle.std.specs.Prelude.{◌≡◌, ◌<◌, ◌≤◌, ◌*◌, true, length, get_or, IfOk};
-ghost use Rattle.vg_expand.specs.Expansion.{are_expanded, Expands};
+ghost use Rattle.vg_arith.specs.Routines.{all_lead_on};
+ghost use Rattle.vg_arith.specs.Simple.{are_simple};
+ghost use Rattle.vg_expand.specs.Expansion.{Expands};
+ghost use Rattle.vg_expand.specs.Flow.{calls_of};
 ghost use Rattle.vg_expand.specs.Code.{expanded_code, expanded as expanded_procedure};
 
 use crate::calls::push_instr;
@@ -15,7 +18,9 @@ pub fn expand(alloc: Global, proc: &LinProc, first: u16) -> Result<LinProc, NoMe
     requires few { length proc.now.code ≤ 32767 }
     requires room { first < 65533 }
     ensures meaning { IfOk result (λ new. Expands first proc.now new) }
-    ensures nothing_left { IfOk result (λ new. are_expanded new.code ≡ true) }
+    ensures nothing_left { IfOk result (λ new. are_simple new.code ≡ true) }
+    ensures calls { IfOk result (λ new. calls_of first new.code ≡ calls_of first proc.now.code) }
+    ensures onwards { IfOk result (λ new. all_lead_on 0 proc.now.code ≡ true → all_lead_on 0 new.code ≡ true) }
     ensures size { IfOk result (λ new. length new.code ≤ 2 * length proc.now.code) }
 {
     proc.keeps();

@@ -3,10 +3,14 @@ use Rattle.std.proofs.Common.{◌≡◌, sym, ap, ◌∙◌, subst}
 use Rattle.vg_lin.specs.declared.instr.Instr.{Instr}
 use Rattle.vg_lin.specs.Sound.{IsSound}
 use Rattle.vg_lin.specs.Program.{Procedure}
-use Rattle.vg_expand.specs.Expansion.{are_expanded, Expands}
+use Rattle.vg_arith.specs.Simple.{are_simple}
+use Rattle.vg_expand.specs.Expansion.{Expands}
 use Rattle.vg_expand.specs.Code.{place_in, base_of, expanded}
+use Rattle.vg_expand.specs.Flow.{calls_of}
+use Rattle.vg_arith.specs.Routines.{all_lead_on}
+use Rattle.vg_expand.proofs.Flowing.{code_calls, code_onwards}
 use Rattle.vg_expand.proofs.Kept.{expanded_sound}
-use Rattle.vg_expand.proofs.Expanded.{expands, code_expanded, code_small}
+use Rattle.vg_expand.proofs.Expanded.{expands, code_simple, code_small}
 use Rattle.vg_expand.proofs.procedure.expand.Goals as goal
 
 -- what is made of a procedure is the expanded one
@@ -35,11 +39,11 @@ returns-clause-meaning c =
 
 pub returns-clause-nothing_left : goal.returns-clause-nothing_left
 returns-clause-nothing_left c =
-    subst (λ m. are_expanded m.code ≡ true)
+    subst (λ m. are_simple m.code ≡ true)
     (sym (c.new.ensures ∙ (is_expanded c.args.first c.args.proc.now c.method.result c.params.result c.in_ok-widths.widths
     c.in_ok-code.code c.method.ensures c.params.ensures
     (c.in_ok-widths.ensures ∙ c.widths.ensures) c.in_ok-code.ensures)))
-    (code_expanded (base_of c.args.first c.args.proc.now) (place_in (base_of c.args.first c.args.proc.now) c.args.proc.now.code) c.args.proc.now.code)
+    (code_simple (base_of c.args.first c.args.proc.now) (place_in (base_of c.args.first c.args.proc.now) c.args.proc.now.code) c.args.proc.now.code)
 
 pub returns-clause-size : goal.returns-clause-size
 returns-clause-size c =
@@ -48,3 +52,19 @@ returns-clause-size c =
     c.in_ok-code.code c.method.ensures c.params.ensures
     (c.in_ok-widths.ensures ∙ c.widths.ensures) c.in_ok-code.ensures)))
     (code_small (base_of c.args.first c.args.proc.now) (place_in (base_of c.args.first c.args.proc.now) c.args.proc.now.code) c.args.proc.now.code)
+
+pub returns-clause-calls : goal.returns-clause-calls
+returns-clause-calls c =
+    subst (λ m. calls_of c.args.first m.code ≡ calls_of c.args.first c.args.proc.now.code)
+    (sym (c.new.ensures ∙ (is_expanded c.args.first c.args.proc.now c.method.result c.params.result c.in_ok-widths.widths
+    c.in_ok-code.code c.method.ensures c.params.ensures
+    (c.in_ok-widths.ensures ∙ c.widths.ensures) c.in_ok-code.ensures)))
+    (code_calls (base_of c.args.first c.args.proc.now) (place_in (base_of c.args.first c.args.proc.now) c.args.proc.now.code) c.args.proc.now.code)
+
+pub returns-clause-onwards : goal.returns-clause-onwards
+returns-clause-onwards c =
+    subst (λ m. all_lead_on 0 c.args.proc.now.code ≡ true → all_lead_on 0 m.code ≡ true)
+    (sym (c.new.ensures ∙ (is_expanded c.args.first c.args.proc.now c.method.result c.params.result c.in_ok-widths.widths
+    c.in_ok-code.code c.method.ensures c.params.ensures
+    (c.in_ok-widths.ensures ∙ c.widths.ensures) c.in_ok-code.ensures)))
+    (code_onwards c.args.first c.args.proc.now c.keeps.ensures)
