@@ -21,7 +21,8 @@ use Rattle.vg_arith.specs.Routines.{with_locals, Gives, IsRoutineOf}
 use Rattle.vg_arith.specs.Division.{divide, divide_step, of_dividend, of_divisor, of_result}
 use Rattle.vg_arith.proofs.ShiftRoutines.{some_is, fetch_of, low_same, low_low, gives_low}
 use Rattle.vg_arith.proofs.DivisionLaws.{Divides, divides_on, divides_fits, divides_first, divides_last, is_positive, magnitude, turned, with_sign, same}
-use Rattle.vg_arith.proofs.DivisionLaws.{turned_is, magnitude_small, magnitude_below, magnitude_some, negative_some, sign_test, divides, leaves, divide_low, leave_low}
+use Rattle.vg_arith.proofs.DivisionLaws.{turned_is, magnitude_small, magnitude_below, magnitude_some, negative_some}
+use Rattle.vg_arith.proofs.DivisionLaws.{sign_test, divides, leaves, divide_low, leave_low}
 
 -- ---- the code
 

@@ -35,6 +35,7 @@ mul_routine =
           (λ e. absurd (grind arith)) (λ e. absurd (grind arith)) op;
       unnamed = refl;
       short = record { few = omega arith; onwards = refl };
+      simple = refl;
     }
 
 pub divide_routine : IsRoutine 1 divide
@@ -46,6 +47,7 @@ divide_routine =
           (λ e. absurd (grind arith)) (λ e. absurd (grind arith)) op;
       unnamed = refl;
       short = record { few = omega arith; onwards = refl };
+      simple = refl;
     }
 
 pub shl_routine : IsRoutine 2 shl
@@ -57,6 +59,7 @@ shl_routine =
           (λ e. absurd (grind arith)) (λ e. refl) (λ e. absurd (grind arith)) op;
       unnamed = refl;
       short = record { few = omega arith; onwards = refl };
+      simple = refl;
     }
 
 pub shr_routine : IsRoutine 3 shr
@@ -68,4 +71,5 @@ shr_routine =
           (λ e. absurd (grind arith)) (λ e. absurd (grind arith)) (λ e. refl) op;
       unnamed = refl;
       short = record { few = omega arith; onwards = refl };
+      simple = refl;
     }

@@ -13,6 +13,7 @@ use Rattle.vg_lin.specs.State.{LocalState, State}
 use Rattle.vg_lin.specs.Meaning.{begun, resume, language, codes_in}
 use Rattle.vg_lin.specs.Steps.{Frame}
 use Rattle.vg_lin.specs.Follows.{Leads, conf}
+use Rattle.vg_arith.specs.Simple.{are_simple}
 
 -- The state of a procedure with these locals, where nothing waits.
 abbrev pub with_locals : (ram : List ℕ) → List LocalState → State
@@ -73,9 +74,10 @@ routine_of ShiftLeft = Some 2
 routine_of ShiftRight = Some 3
 routine_of op = None
 
--- The procedure is the routine with this number, for each operator that has it.
+-- The procedure is the routine with this number, for each operator that has it. It calls no other one, and needs none.
 pub record IsRoutine (which : ℕ) (m : Procedure) : Type 0 where
   pub gives : (op : Operator) → routine_of op ≡ Some which → IsRoutineOf op m
   pub takes : (op : Operator) (w : ℕ) → routine_of op ≡ Some which → m.params ≡ suc (suc (length (others op w)))
   pub unnamed : m.method ≡ None
   pub short : IsShort m
+  pub simple : are_simple m.code ≡ true

@@ -9,7 +9,7 @@ use Rattle.vg_meaning.specs.World.{World}
 use Rattle.vg_lin.specs.declared.instr.Operand.{Operand}
 use Rattle.vg_lin.specs.declared.instr.Operand.TheVariants.{Local, Known}
 use Rattle.vg_lin.specs.declared.instr.Operator.{Operator}
-use Rattle.vg_lin.specs.declared.instr.Operator.TheVariants.{Plus, Minus, Times, Divide, Remainder, And, Or, Xor, ShiftLeft, ShiftRight}
+use Rattle.vg_lin.specs.declared.instr.Operator.TheVariants.{Plus, Times}
 use Rattle.vg_lin.specs.declared.instr.Computation.{Computation}
 use Rattle.vg_lin.specs.declared.instr.Plain.TheVariants.{Compute}
 use Rattle.vg_lin.specs.declared.instr.Callee.TheVariants.{Procedure as ByNumber}
@@ -29,7 +29,7 @@ use Rattle.vg_lin.proofs.Followed.{leads_then, leads_step, free}
 use Rattle.vg_arith.specs.Routines.{with_locals, Gives, IsAmount, others, routine_of, IsRoutine}
 use Rattle.vg_arith.proofs.ShiftRoutines.{fetch_of, by_width, low_low}
 use Rattle.vg_expand.specs.Expansion.{HasRoutines, IsHeld, Holds, Does}
-use Rattle.vg_expand.specs.Code.{calling, mask, shifting, computing}
+use Rattle.vg_expand.specs.Code.{calling, mask, shifting}
 
 -- these instructions stand in code, from a place on
 abbrev pub StandAt : List Instr → ℕ → List Instr → Type 0
@@ -46,7 +46,7 @@ pub record Set (ls : List LocalState) (to x : ℕ) : Type 0 where
   pub again : (u : ℕ) → with_local (with_local ls to x) to u ≡ with_local ls to u
   pub same : (u v : ℕ) → low width u ≡ low width v → with_local ls to u ≡ with_local ls to v
 
-set_is : (ws : List ℕ) (ls : List LocalState) (to x : ℕ) → Holds ws ls → AllByRecursion IsWidth ws → to < length ws → Set ls to x
+pub set_is : (ws : List ℕ) (ls : List LocalState) (to x : ℕ) → Holds ws ls → AllByRecursion IsWidth ws → to < length ws → Set ls to x
 set_is [] [] to x h a b = absurd (omega arith)
 set_is [] (l ∷ ls) to x h a b = absurd h
 set_is (w ∷ ws) [] to x h a b = absurd h
@@ -75,7 +75,7 @@ local_small (w ∷ ws) (l ∷ ls) zero x (g, v, h) (a, more) e = held_small w a 
 local_small (w ∷ ws) (l ∷ ls) (suc i) x (g, v, h) (a, more) e = local_small ws ls i x h more e
 
 -- a number that is cut twice
-cut_twice : (w t x : ℕ) → IsWidth w → IsWidth t → low t (low w (low t x + 0)) ≡ low t (low w x)
+pub cut_twice : (w t x : ℕ) → IsWidth w → IsWidth t → low t (low w (low t x + 0)) ≡ low t (low w x)
 cut_twice w t x hw ht =
     by_width (λ w. low t (low w (low t x + 0)) ≡ low t (low w x)) w hw (by_width (λ t. low t (low 1 (low t x + 0)) ≡ low t (low 1 x)) t ht (omega arith)
     (omega arith) (omega arith) (omega arith))
@@ -174,7 +174,7 @@ module _ (first : ℕ) (m : Procedure) (c : Computation) (p : Program) (q : ℕ)
                   }
 
   -- the result is cut where the computation is narrow
-  cut : (pc z v : ℕ) → IsWidth c.width → low c.width z ≡ v → Set s.locals c.to z → (b : Bool) → nat_lt c.width 4 ≡ b
+  pub cut : (pc z v : ℕ) → IsWidth c.width → low c.width z ≡ v → Set s.locals c.to z → (b : Bool) → nat_lt c.width 4 ≡ b
       → StandAt m.code (suc pc)
       (if b then Plain (Compute (record { operator = Plus; width = c.width; to = c.to; left = Local c.to; right = Known 0 })) ∷ [] else [])
       → To 1 (at pc s) (at (suc pc) (sets c.to z s)) → To 1 (at pc s) (at (suc pc + cuts b) (sets c.to v s))
@@ -216,7 +216,7 @@ length_calling r rs c from = by_test (nat_lt c.width 4)
     by_test false = omega arith
 
 -- a call of a routine does the computation, where its registers have the operands and what else the routine takes
-calling_does : (first : ℕ) (m : Procedure) (from : ℕ) (c : Computation) (which : ℕ) (rs : Registers) → AllByRecursion IsWidth m.widths → IsWidth c.width
+pub calling_does : (first : ℕ) (m : Procedure) (from : ℕ) (c : Computation) (which : ℕ) (rs : Registers) → AllByRecursion IsWidth m.widths → IsWidth c.width
     → c.to < length m.widths → which < 4 → routine_of c.operator ≡ Some which
     → ((s : State) (x y : ℕ) → value c.left s ≡ Some x → value c.right s ≡ Some y → values (operands rs) s ≡ Some (x ∷ y ∷ others c.operator c.width))
     → ((s : State) (y : ℕ) → Holds m.widths s.locals → value c.right s ≡ Some y → IsAmount c.operator y)
@@ -230,7 +230,7 @@ calling_does first m from c which rs ws hw to hk ro vs amount (f, g) p q has rou
     done = called first m c p q has routines fs s w from which x y z rs c.operator hk ro hw (amount s y held h) r (vs s x y e h) f
 
 -- the computation itself
-kept_does : (first : ℕ) (m : Procedure) (from : ℕ) (c : Computation) → StandAt m.code from (Plain (Compute c) ∷ []) → Does first m from (from + 1) c
+pub kept_does : (first : ℕ) (m : Procedure) (from : ℕ) (c : Computation) → StandAt m.code from (Plain (Compute c) ∷ []) → Does first m from (from + 1) c
 kept_does first m from c (f, g) p q has routines fs s w x y z held e h r =
     subst (λ k. Leads (language p) (codes_in p.procedures) 1 (conf q from fs s w) (conf q k fs (sets c.to z s) w)) (next from)
     (leads_step (language p) (codes_in p.procedures) (conf q from fs s w) (conf q (suc from) fs (sets c.to z s) w)
@@ -243,7 +243,7 @@ kept_does first m from c (f, g) p q has routines fs s w x y z held e h r =
     next from = omega arith
 
 -- the operands in registers
-two_values : (a b : Operand) (s : State) (x y : ℕ) → value a s ≡ Some x → value b s ≡ Some y → values (operands (Two a b)) s ≡ Some (x ∷ y ∷ [])
+pub two_values : (a b : Operand) (s : State) (x y : ℕ) → value a s ≡ Some x → value b s ≡ Some y → values (operands (Two a b)) s ≡ Some (x ∷ y ∷ [])
 two_values a b s x y e h = ap (λ v. both_values v (both_values (value b s) (Some []))) e ∙ ap (λ v. both_values (Some x) (both_values v (Some []))) h
 
 three_values : (a b : Operand) (k : ℕ) (s : State) (x y : ℕ) → value a s ≡ Some x → value b s ≡ Some y
@@ -256,7 +256,7 @@ module _ (first : ℕ) (m : Procedure) (from width to : ℕ) (left right : Opera
   abbrev pub of : Operator → Computation
   of op = record { operator = op; width = width; to = to; left = left; right = right }
 
-  shifting_does : (op : Operator) (which : ℕ) (a : Operand) → a ≡ right → which < 4 → routine_of op ≡ Some which
+  pub shifting_does : (op : Operator) (which : ℕ) (a : Operand) → a ≡ right → which < 4 → routine_of op ≡ Some which
       → ((k : ℕ) → others op k ≡ (256 ^ k - 1) ∷ []) → ((y : ℕ) → y < 2 ^ 32 → IsAmount op y)
       → StandAt m.code from (shifting (first + which) (of op) a) → Does first m from (from + length (shifting (first + which) (of op) a)) (of op)
   shifting_does op which (Known n) e hk ro ot am st = kept_does first m from (of op) st
@@ -267,27 +267,20 @@ module _ (first : ℕ) (m : Procedure) (from width to : ℕ) (left right : Opera
       ∙ ap (λ more. Some (x ∷ y ∷ more)) (sym (ot width)))
       (λ s y held h. am y (local_small m.widths s.locals i y held ws (ap (λ b. value b s) e ∙ h))) st
 
-  pub computing_does : (op : Operator) → StandAt m.code from (computing first (of op) op)
-      → Does first m from (from + length (computing first (of op) op)) (of op)
-  computing_does Plus st = kept_does first m from (of Plus) st
-  computing_does Minus st = kept_does first m from (of Minus) st
-  computing_does Times st =
-      subst (λ r. StandAt m.code from (calling r (Two left right) (of Times)) → Does first m from (from + length (calling r (Two left right) (of Times)))
-      (of Times))
-      none
-      (calling_does first m from (of Times) 0 (Two left right) ws hw within (omega arith) refl (λ s x y g h. two_values left right s x y g h)
-      (λ s y held h. tt {0})) st
+  pub division_does : (op : Operator) (wanted : ℕ) → routine_of op ≡ Some 1 → ((k : ℕ) → others op k ≡ wanted ∷ []) → ((y : ℕ) → IsAmount op y)
+      → StandAt m.code from (calling (first + 1) (Three left right (Known wanted)) (of op))
+      → Does first m from (from + length (calling (first + 1) (Three left right (Known wanted)) (of op))) (of op)
+  division_does op wanted ro ot am st =
+      calling_does first m from (of op) 1 (Three left right (Known wanted)) ws hw within (omega arith) ro
+      (λ s x y g h. three_values left right wanted s x y g h ∙ ap (λ more. Some (x ∷ y ∷ more)) (sym (ot width))) (λ s y held h. am y) st
+
+  pub call_of_product : (a b : Operand) → StandAt m.code from (calling first (Two a b) (of Times))
+      → Does first m from (from + length (calling first (Two a b) (of Times))) (record { operator = Times; width = width; to = to; left = a; right = b })
+  call_of_product a b st =
+      subst (λ r. StandAt m.code from (calling r (Two a b) (of Times)) → Does first m from (from + length (calling r (Two a b) (of Times)))
+      (record { operator = Times; width = width; to = to; left = a; right = b })) none
+      (calling_does first m from (record { operator = Times; width = width; to = to; left = a; right = b }) 0 (Two a b) ws hw within (omega arith) refl
+      (λ s x y g h. two_values a b s x y g h) (λ s y held h. tt {0})) st
     where
       none : first + 0 ≡ first
       none = omega arith
-  computing_does Divide st =
-      calling_does first m from (of Divide) 1 (Three left right (Known 0)) ws hw within (omega arith) refl
-      (λ s x y g h. three_values left right 0 s x y g h) (λ s y held h. tt {0}) st
-  computing_does Remainder st =
-      calling_does first m from (of Remainder) 1 (Three left right (Known 1)) ws hw within (omega arith) refl
-      (λ s x y g h. three_values left right 1 s x y g h) (λ s y held h. tt {0}) st
-  computing_does And st = kept_does first m from (of And) st
-  computing_does Or st = kept_does first m from (of Or) st
-  computing_does Xor st = kept_does first m from (of Xor) st
-  computing_does ShiftLeft st = shifting_does ShiftLeft 2 right refl (omega arith) refl (λ k. refl) (λ y h. h) st
-  computing_does ShiftRight st = shifting_does ShiftRight 3 right refl (omega arith) refl (λ k. refl) (λ y h. h) st

@@ -3,75 +3,54 @@
 use Rattle.std.specs.Prelude.{ℕ, zero, suc, ◌+◌, ◌<◌, List, [], ◌∷◌, ◌++◌, length, Some}
 use Rattle.std.specs.Prelude.{slice_get, get_or}
 use Rattle.std.proofs.Common.{◌≡◌, refl, ap, ◌∙◌, subst, arith}
-use Rattle.vg_lin.specs.declared.instr.Operand.{Operand}
-use Rattle.vg_lin.specs.declared.instr.Operand.TheVariants.{Local, Known}
-use Rattle.vg_lin.specs.declared.instr.Operator.{Operator}
-use Rattle.vg_lin.specs.declared.instr.Operator.TheVariants.{Plus, Minus, Times, Divide, Remainder, And, Or, Xor, ShiftLeft, ShiftRight}
-use Rattle.vg_lin.specs.declared.instr.Computation.{Computation}
 use Rattle.vg_lin.specs.declared.instr.Plain.TheVariants.{Copy, Compute, Product, DivideStep, Load, Store, ReadDevice, WriteDevice, Push, Find, Stop}
 use Rattle.vg_lin.specs.declared.instr.Instr.{Instr}
 use Rattle.vg_lin.specs.declared.instr.Instr.TheVariants.{Plain, When, Unless, Jump, Call, Return, Idle}
 use Rattle.vg_arith.proofs.ShiftRoutines.{some_is}
-use Rattle.vg_expand.specs.Code.{shifting, computing, expanded_at, expanded_code, size, places_from, place_in}
+use Rattle.vg_expand.specs.Code.{Base, expanded_at, expanded_code, size, places_from, place_in}
 use Rattle.vg_expand.proofs.Computing.{StandAt}
 
 -- ---- sizes
 
-shifting_size : (r r' : ℕ) (c : Computation) (a : Operand) → length (shifting r c a) ≡ length (shifting r' c a)
-shifting_size r r' c (Known n) = refl
-shifting_size r r' c (Local i) = refl
-
-pub computing_size : (first first' : ℕ) (c : Computation) (op : Operator) → length (computing first c op) ≡ length (computing first' c op)
-computing_size f g c Plus = refl
-computing_size f g c Minus = refl
-computing_size f g c Times = refl
-computing_size f g c Divide = refl
-computing_size f g c Remainder = refl
-computing_size f g c And = refl
-computing_size f g c Or = refl
-computing_size f g c Xor = refl
-computing_size f g c ShiftLeft = shifting_size (f + 2) (g + 2) c c.right
-computing_size f g c ShiftRight = shifting_size (f + 3) (g + 3) c c.right
-
-pub size_is : (first : ℕ) (place : ℕ → ℕ) (i : Instr) → length (expanded_at first place i) ≡ size i
-size_is first place (Plain (Copy to a)) = refl
-size_is first place (Plain (Compute c)) = computing_size first 0 c c.operator
-size_is first place (Plain (Product to a b)) = refl
-size_is first place (Plain (DivideStep r d a)) = refl
-size_is first place (Plain (Load m w to a)) = refl
-size_is first place (Plain (Store w a from)) = refl
-size_is first place (Plain (ReadDevice to a)) = refl
-size_is first place (Plain (WriteDevice to a)) = refl
-size_is first place (Plain (Push w a)) = refl
-size_is first place (Plain (Find d to a)) = refl
-size_is first place (Plain (Stop c)) = refl
-size_is first place (When t to) = refl
-size_is first place (Unless t to) = refl
-size_is first place (Jump to) = refl
-size_is first place (Call c) = refl
-size_is first place (Return a) = refl
-size_is first place Idle = refl
+pub size_is : (base : Base) (place : ℕ → ℕ) (i : Instr) → length (expanded_at base place i) ≡ size base i
+size_is base place (Plain (Copy to a)) = refl
+size_is base place (Plain (Compute c)) = refl
+size_is base place (Plain (Product to a b)) = refl
+size_is base place (Plain (DivideStep r d a)) = refl
+size_is base place (Plain (Load m w to a)) = refl
+size_is base place (Plain (Store w a from)) = refl
+size_is base place (Plain (ReadDevice to a)) = refl
+size_is base place (Plain (WriteDevice to a)) = refl
+size_is base place (Plain (Push w a)) = refl
+size_is base place (Plain (Find d to a)) = refl
+size_is base place (Plain (Stop c)) = refl
+size_is base place (When t to) = refl
+size_is base place (Unless t to) = refl
+size_is base place (Jump to) = refl
+size_is base place (Call c) = refl
+size_is base place (Return a) = refl
+size_is base place Idle = refl
 
 -- ---- places
 
-abbrev pub place_of : List Instr → ℕ → ℕ
-place_of [] k = 0
-place_of (i ∷ is) zero = 0
-place_of (i ∷ is) (suc k) = size i + place_of is k
+abbrev pub place_of : Base → List Instr → ℕ → ℕ
+place_of base [] k = 0
+place_of base (i ∷ is) zero = 0
+place_of base (i ∷ is) (suc k) = size base i + place_of base is k
 
-pub place_next : (is : List Instr) (at : ℕ) (i : Instr) → slice_get is at ≡ Some i → place_of is (suc at) ≡ place_of is at + size i
-place_next [] at i e = absurd (grind arith)
-place_next (j ∷ []) zero i e = ap (λ z. size z + 0) (some_is j i e) ∙ omega arith
-place_next (j ∷ k ∷ is) zero i e = ap (λ z. size z + 0) (some_is j i e) ∙ omega arith
-place_next (j ∷ is) (suc at) i e = ap (λ z. size j + z) (place_next is at i e) ∙ omega arith
+pub place_next : (base : Base) (is : List Instr) (at : ℕ) (i : Instr) → slice_get is at ≡ Some i → place_of base is (suc at) ≡ place_of base is at + size base i
+place_next base [] at i e = absurd (grind arith)
+place_next base (j ∷ []) zero i e = ap (λ z. size base z + 0) (some_is j i e) ∙ omega arith
+place_next base (j ∷ k ∷ is) zero i e = ap (λ z. size base z + 0) (some_is j i e) ∙ omega arith
+place_next base (j ∷ is) (suc at) i e = ap (λ z. size base j + z) (place_next base is at i e) ∙ omega arith
 
-places_from_is : (is : List Instr) (from k : ℕ) → k < length is → get_or (places_from from is) k 0 ≡ from + place_of is k
-places_from_is [] from k h = absurd (omega arith)
-places_from_is (i ∷ is) from zero h = omega arith
-places_from_is (i ∷ is) from (suc k) h = places_from_is is (from + size i) k (omega (arith, h)) ∙ omega arith
+places_from_is : (base : Base) (is : List Instr) (from k : ℕ) → k < length is → get_or (places_from base from is) k 0 ≡ from + place_of base is k
+places_from_is base [] from k h = absurd (omega arith)
+places_from_is base (i ∷ is) from zero h = omega arith
+places_from_is base (i ∷ is) from (suc k) h = places_from_is base is (from + size base i) k (omega (arith, h)) ∙ omega arith
 
-pub place_in_is : (is : List Instr) (k : ℕ) → k < length is → place_in is k ≡ place_of is k
-place_in_is is k h = places_from_is is 0 k h ∙ omega arith
+pub place_in_is : (base : Base) (is : List Instr) (k : ℕ) → k < length is → place_in base is k ≡ place_of base is k
+place_in_is base is k h = places_from_is base is 0 k h ∙ omega arith
 
 -- ---- code
 
@@ -90,12 +69,12 @@ stand_front [] ys = tt {0}
 stand_front (x ∷ xs) ys = (refl, stand_behind (x ∷ []) (xs ++ ys) 0 xs (stand_front xs ys))
 
 -- what stands for an instruction stands at its new place
-pub stands : (first : ℕ) (place : ℕ → ℕ) (is : List Instr) (at : ℕ) (i : Instr) → slice_get is at ≡ Some i
-    → StandAt (expanded_code first place is) (place_of is at) (expanded_at first place i)
-stands first place [] at i e = absurd (grind arith)
-stands first place (j ∷ is) zero i e =
-    subst (λ z. StandAt (expanded_at first place j ++ expanded_code first place is) 0 (expanded_at first place z)) (some_is j i e)
-    (stand_front (expanded_at first place j) (expanded_code first place is))
-stands first place (j ∷ is) (suc at) i e =
-    subst (λ n. StandAt (expanded_at first place j ++ expanded_code first place is) (n + place_of is at) (expanded_at first place i)) (size_is first place j)
-    (stand_behind (expanded_at first place j) (expanded_code first place is) (place_of is at) (expanded_at first place i) (stands first place is at i e))
+pub stands : (base : Base) (place : ℕ → ℕ) (is : List Instr) (at : ℕ) (i : Instr) → slice_get is at ≡ Some i
+    → StandAt (expanded_code base place is) (place_of base is at) (expanded_at base place i)
+stands base place [] at i e = absurd (grind arith)
+stands base place (j ∷ is) zero i e =
+    subst (λ z. StandAt (expanded_at base place j ++ expanded_code base place is) 0 (expanded_at base place z)) (some_is j i e)
+    (stand_front (expanded_at base place j) (expanded_code base place is))
+stands base place (j ∷ is) (suc at) i e =
+    subst (λ n. StandAt (expanded_at base place j ++ expanded_code base place is) (n + place_of base is at) (expanded_at base place i)) (size_is base place j)
+    (stand_behind (expanded_at base place j) (expanded_code base place is) (place_of base is at) (expanded_at base place i) (stands base place is at i e))

@@ -1,12 +1,13 @@
 -- The expanded code as lists: what the functions of this crate make, in their own shape. No clause of a public function cites these.
-use Rattle.std.specs.Prelude.{ℕ, ◌+◌, ◌-◌, ◌^◌, nat_lt, List, [], ◌∷◌, ◌++◌, length, Some, get_or, if◌then◌else◌}
+use Rattle.std.specs.Prelude.{ℕ, zero, suc, ◌+◌, ◌-◌, ◌^◌, Bool, true, false, ◌==◌, ◌&&◌, nat_lt, List, [], ◌∷◌, ◌++◌, length, Option, Some, None, get_or}
+use Rattle.std.specs.Prelude.{if◌then◌else◌}
 use Rattle.vg_lin.specs.declared.instr.Operand.{Operand}
 use Rattle.vg_lin.specs.declared.instr.Operand.TheVariants.{Local, Known}
 use Rattle.vg_lin.specs.declared.instr.Operator.{Operator}
-use Rattle.vg_lin.specs.declared.instr.Operator.TheVariants.{Plus, Times, Divide, Remainder, ShiftLeft, ShiftRight}
+use Rattle.vg_lin.specs.declared.instr.Operator.TheVariants.{Plus, Minus, Times, Divide, Remainder, ShiftLeft, ShiftRight}
 use Rattle.vg_lin.specs.declared.instr.Computation.{Computation}
 use Rattle.vg_lin.specs.declared.instr.Plain.{Plain as PlainInstr}
-use Rattle.vg_lin.specs.declared.instr.Plain.TheVariants.{Compute}
+use Rattle.vg_lin.specs.declared.instr.Plain.TheVariants.{Copy, Compute, Product}
 use Rattle.vg_lin.specs.declared.instr.Callee.TheVariants.{Procedure as ByNumber}
 use Rattle.vg_lin.specs.declared.instr.Registers.{Registers}
 use Rattle.vg_lin.specs.declared.instr.Registers.TheVariants.{Two, Three}
@@ -14,7 +15,14 @@ use Rattle.vg_lin.specs.declared.instr.Instr.{Instr}
 use Rattle.vg_lin.specs.declared.instr.Instr.TheVariants.{Plain, When, Unless, Jump, Call}
 use Rattle.vg_lin.specs.Program.{Procedure}
 
--- The result of a call is cut to the width of its computation.
+-- What the pass is told: the number of the first routine, and the widths of the locals.
+pub record Base : Type 0 where
+  pub first : ℕ
+  pub widths : List ℕ
+
+-- ---- calls
+
+-- A result is cut to the width of its computation.
 abbrev pub cut_to : (width to : ℕ) → List Instr
 cut_to w to = if nat_lt w 4 then Plain (Compute (record { operator = Plus; width = w; to = to; left = Local to; right = Known 0 })) ∷ [] else []
 
@@ -31,41 +39,106 @@ abbrev pub shifting : (routine : ℕ) → Computation → (amount : Operand) →
 shifting q c (Known n) = Plain (Compute c) ∷ []
 shifting q c (Local i) = calling q (Three c.left (Local i) (mask c.width)) c
 
-abbrev pub computing : (first : ℕ) → Computation → Operator → List Instr
-computing first c Times = calling first (Two c.left c.right) c
-computing first c Divide = calling (first + 1) (Three c.left c.right (Known 0)) c
-computing first c Remainder = calling (first + 1) (Three c.left c.right (Known 1)) c
-computing first c ShiftLeft = shifting (first + 2) c c.right
-computing first c ShiftRight = shifting (first + 3) c c.right
-computing first c op = Plain (Compute c) ∷ []
+-- ---- products
 
-abbrev pub plain_at : (first : ℕ) → PlainInstr → List Instr
-plain_at first (Compute c) = computing first c c.operator
-plain_at first p = Plain p ∷ []
+-- An operand of one byte.
+abbrev pub is_narrow : (widths : List ℕ) → Operand → Bool
+is_narrow ws (Local i) = get_or ws i 4 == 1
+is_narrow ws (Known v) = nat_lt v 256
+
+abbrev pub narrow_or : (narrow : Bool) → (routine : ℕ) → Computation → (left right : Operand) → List Instr
+narrow_or true q c a b = Plain (Product c.to a b) ∷ cut_to c.width c.to
+narrow_or false q c a b = calling q (Two a b) c
+
+-- The product of two bytes is one instruction.
+abbrev pub product_of : Base → Computation → (left right : Operand) → List Instr
+product_of base c a b = narrow_or (is_narrow base.widths a && is_narrow base.widths b) base.first c a b
+
+-- The number whose power of 2 this is, from n on, among so many.
+abbrev pub power_from : (left n k : ℕ) → Option ℕ
+power_from zero n k = None
+power_from (suc left) n k = if 2 ^ n == k then Some n else power_from left (suc n) k
+
+abbrev pub power_of : ℕ → Option ℕ
+power_of k = power_from 32 0 k
+
+abbrev pub shifted_by : Computation → Operand → (n : ℕ) → Instr
+shifted_by c a n = Plain (Compute (record c { operator = ShiftLeft; left = a; right = Known n }))
+
+-- The operand is added to the local of the result, or taken from it.
+abbrev pub joined_by : Operator → Computation → Operand → Instr
+joined_by op c a = Plain (Compute (record c { operator = op; left = Local c.to; right = a }))
+
+abbrev pub by_difference : Base → Computation → Operand → (k : ℕ) → Option ℕ → List Instr
+by_difference base c a k (Some n) = shifted_by c a n ∷ joined_by Minus c a ∷ []
+by_difference base c a k None = product_of base c a (Known k)
+
+abbrev pub by_sum : Base → Computation → Operand → (k : ℕ) → Option ℕ → List Instr
+by_sum base c a k (Some n) = shifted_by c a n ∷ joined_by Plus c a ∷ []
+by_sum base c a k None = by_difference base c a k (power_of (k + 1))
+
+abbrev pub is_in : Operand → (local : ℕ) → Bool
+is_in (Local i) to = i == to
+is_in (Known v) to = false
+
+-- Two instructions serve only where the first does not overwrite the operand.
+abbrev pub in_two : Base → Computation → Operand → (k : ℕ) → (overwritten : Bool) → List Instr
+in_two base c a k true = product_of base c a (Known k)
+in_two base c a k false = by_sum base c a k (power_of (k - 1))
+
+abbrev pub by_power : Base → Computation → Operand → (k : ℕ) → Option ℕ → List Instr
+by_power base c a k (Some n) = shifted_by c a n ∷ []
+by_power base c a k None = in_two base c a k (is_in a c.to)
+
+abbrev pub by_factor : Base → Computation → Operand → (k : ℕ) → (none : Bool) → List Instr
+by_factor base c a k true = Plain (Copy c.to (Known 0)) ∷ []
+by_factor base c a k false = by_power base c a k (power_of k)
+
+abbrev pub multiplying : Base → Computation → (left right : Operand) → List Instr
+multiplying base c a (Known k) = by_factor base c a k (k == 0)
+multiplying base c (Known k) (Local i) = by_factor base c (Local i) k (k == 0)
+multiplying base c (Local i) (Local j) = product_of base c (Local i) (Local j)
+
+-- ---- instructions
+
+abbrev pub computing : Base → Computation → Operator → List Instr
+computing base c Times = multiplying base c c.left c.right
+computing base c Divide = calling (base.first + 1) (Three c.left c.right (Known 0)) c
+computing base c Remainder = calling (base.first + 1) (Three c.left c.right (Known 1)) c
+computing base c ShiftLeft = shifting (base.first + 2) c c.right
+computing base c ShiftRight = shifting (base.first + 3) c c.right
+computing base c op = Plain (Compute c) ∷ []
+
+abbrev pub plain_at : Base → PlainInstr → List Instr
+plain_at base (Compute c) = computing base c c.operator
+plain_at base p = Plain p ∷ []
 
 -- What stands for an instruction, by the new places of the procedure.
-abbrev pub expanded_at : (first : ℕ) → (place : ℕ → ℕ) → Instr → List Instr
-expanded_at first place (Plain p) = plain_at first p
-expanded_at first place (When t to) = When t (place to) ∷ []
-expanded_at first place (Unless t to) = Unless t (place to) ∷ []
-expanded_at first place (Jump to) = Jump (place to) ∷ []
-expanded_at first place i = i ∷ []
+abbrev pub expanded_at : Base → (place : ℕ → ℕ) → Instr → List Instr
+expanded_at base place (Plain p) = plain_at base p
+expanded_at base place (When t to) = When t (place to) ∷ []
+expanded_at base place (Unless t to) = Unless t (place to) ∷ []
+expanded_at base place (Jump to) = Jump (place to) ∷ []
+expanded_at base place i = i ∷ []
 
-abbrev pub expanded_code : (first : ℕ) → (place : ℕ → ℕ) → List Instr → List Instr
-expanded_code first place [] = []
-expanded_code first place (i ∷ is) = expanded_at first place i ++ expanded_code first place is
+abbrev pub expanded_code : Base → (place : ℕ → ℕ) → List Instr → List Instr
+expanded_code base place [] = []
+expanded_code base place (i ∷ is) = expanded_at base place i ++ expanded_code base place is
 
 -- How many instructions stand for one.
-abbrev pub size : Instr → ℕ
-size i = length (expanded_at 0 (λ to. 0) i)
+abbrev pub size : Base → Instr → ℕ
+size base i = length (expanded_at base (λ to. 0) i)
 
 -- The places of instructions, the first of which stands at this one.
-abbrev pub places_from : (at : ℕ) → List Instr → List ℕ
-places_from at [] = []
-places_from at (i ∷ is) = at ∷ places_from (at + size i) is
+abbrev pub places_from : Base → (at : ℕ) → List Instr → List ℕ
+places_from base at [] = []
+places_from base at (i ∷ is) = at ∷ places_from base (at + size base i) is
 
-abbrev pub place_in : List Instr → ℕ → ℕ
-place_in is to = get_or (places_from 0 is) to 0
+abbrev pub place_in : Base → List Instr → ℕ → ℕ
+place_in base is to = get_or (places_from base 0 is) to 0
+
+abbrev pub base_of : (first : ℕ) → Procedure → Base
+base_of first m = record { first = first; widths = m.widths }
 
 abbrev pub expanded : (first : ℕ) → Procedure → Procedure
-expanded first m = record m { code = expanded_code first (place_in m.code) m.code }
+expanded first m = record m { code = expanded_code (base_of first m) (place_in (base_of first m) m.code) m.code }

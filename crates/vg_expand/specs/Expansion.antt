@@ -1,11 +1,7 @@
 -- What it means that a procedure of linear code is another one with its arithmetic as calls of routines.
-use Rattle.std.specs.Prelude.{◌≡◌, ℕ, suc, ◌+◌, ◌<◌, ◌^◌, Bool, true, false, ◌&&◌, List, [], ◌∷◌, Option, Some, None, slice_get}
+use Rattle.std.specs.Prelude.{◌≡◌, ℕ, suc, ◌+◌, ◌<◌, ◌^◌, List, [], ◌∷◌, Option, Some, None, slice_get}
 use Rattle.vg_meaning.specs.History.{History}
 use Rattle.vg_meaning.specs.World.{World}
-use Rattle.vg_lin.specs.declared.instr.Operand.{Operand}
-use Rattle.vg_lin.specs.declared.instr.Operand.TheVariants.{Local, Known}
-use Rattle.vg_lin.specs.declared.instr.Operator.{Operator}
-use Rattle.vg_lin.specs.declared.instr.Operator.TheVariants.{Times, Divide, Remainder, ShiftLeft, ShiftRight}
 use Rattle.vg_lin.specs.declared.instr.Computation.{Computation}
 use Rattle.vg_lin.specs.declared.instr.Plain.TheVariants.{Compute}
 use Rattle.vg_lin.specs.declared.instr.Plain.{Plain as PlainInstr}
@@ -18,29 +14,6 @@ use Rattle.vg_lin.specs.Meaning.{language, codes_in}
 use Rattle.vg_lin.specs.Steps.{Frame}
 use Rattle.vg_lin.specs.Follows.{Leads, conf}
 use Rattle.vg_arith.specs.Routines.{IsRoutine}
-
--- ---- what is left
-
-abbrev pub is_known : Operand → Bool
-is_known (Known v) = true
-is_known (Local i) = false
-
--- A computation that needs no routine: no product, no division, no remainder, and no shift by an amount that is not known.
-abbrev pub is_simple : Operator → (right : Operand) → Bool
-is_simple Times a = false
-is_simple Divide a = false
-is_simple Remainder a = false
-is_simple ShiftLeft a = is_known a
-is_simple ShiftRight a = is_known a
-is_simple op a = true
-
-abbrev pub is_expanded : Instr → Bool
-is_expanded (Plain (Compute c)) = is_simple c.operator c.right
-is_expanded i = true
-
-abbrev pub are_expanded : List Instr → Bool
-are_expanded [] = true
-are_expanded (i ∷ is) = is_expanded i && are_expanded is
 
 -- ---- what is done
 

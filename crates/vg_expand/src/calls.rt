@@ -5,21 +5,23 @@ ghost use Rattle.vg_lin.specs.declared.instr.Registers.TheVariants.{Three};
 ghost use Rattle.vg_expand.specs.Code.{cut_to, calling, mask as mask_of, shifting, computing, plain_at, expanded_at};
 
 use crate::places::place_at;
+use crate::products::push_product;
 use vg_base::{NoMemory, Row};
 use vg_lin::{Call, Callee, Computation, Instr, Operand, Operator, Plain, Registers};
 
-/// Puts what stands for an instruction behind the code, where the first routine has this number.
+/// Puts what stands for an instruction behind the code, where the first routine has this number and locals have these widths.
 pub fn push_instr(
     code: &mut Row<Instr>,
     instr: Instr,
     places: &[u16],
     first: u16,
+    widths: &[u8],
 ) -> Result<(), NoMemory>
     requires { first < 65533 }
-    ensures { OnOk result (code.new ≡ code.old ++ expanded_at first (λ to. get_or places.now to 0) instr) }
+    ensures { OnOk result (code.new ≡ code.old ++ expanded_at (record { first = first; widths = widths.now }) (λ to. get_or places.now to 0) instr) }
 {
     match instr {
-        Instr::Plain(plain) => push_plain(code, plain, first),
+        Instr::Plain(plain) => push_plain(code, plain, first, widths),
         Instr::When(test, to) => code.push(Instr::When(test, place_at(places, to))),
         Instr::Unless(test, to) => code.push(Instr::Unless(test, place_at(places, to))),
         Instr::Jump(to) => code.push(Instr::Jump(place_at(places, to))),
@@ -29,22 +31,32 @@ pub fn push_instr(
     }
 }
 
-fn push_plain(code: &mut Row<Instr>, plain: Plain, first: u16) -> Result<(), NoMemory>
+fn push_plain(
+    code: &mut Row<Instr>,
+    plain: Plain,
+    first: u16,
+    widths: &[u8],
+) -> Result<(), NoMemory>
     requires { first < 65533 }
-    ensures { OnOk result (code.new ≡ code.old ++ plain_at first plain) }
+    ensures { OnOk result (code.new ≡ code.old ++ plain_at (record { first = first; widths = widths.now }) plain) }
 {
     match plain {
-        Plain::Compute(c) => push_computation(code, c, first),
+        Plain::Compute(c) => push_computation(code, c, first, widths),
         _ => code.push(Instr::Plain(plain)),
     }
 }
 
-fn push_computation(code: &mut Row<Instr>, c: Computation, first: u16) -> Result<(), NoMemory>
+fn push_computation(
+    code: &mut Row<Instr>,
+    c: Computation,
+    first: u16,
+    widths: &[u8],
+) -> Result<(), NoMemory>
     requires { first < 65533 }
-    ensures { OnOk result (code.new ≡ code.old ++ computing first c c.operator) }
+    ensures { OnOk result (code.new ≡ code.old ++ computing (record { first = first; widths = widths.now }) c c.operator) }
 {
     match c.operator {
-        Operator::Times => push_call(code, first, Registers::Two(c.left, c.right), c),
+        Operator::Times => push_product(code, c, first, widths),
         Operator::Divide => push_division(code, first + 1, c, 0),
         Operator::Remainder => push_division(code, first + 1, c, 1),
         Operator::ShiftLeft => push_shift(code, first + 2, c),
@@ -75,14 +87,12 @@ fn push_shift(code: &mut Row<Instr>, routine: u16, c: Computation) -> Result<(),
 {
     match c.right {
         Operand::Known(_) => code.push(Instr::Plain(Plain::Compute(c))),
-        Operand::Local(_) => {
-            push_call(
-                code,
-                routine,
-                Registers::Three(c.left, c.right, mask(c.width)),
-                c,
-            )
-        }
+        Operand::Local(_) => push_call(
+            code,
+            routine,
+            Registers::Three(c.left, c.right, mask(c.width)),
+            c,
+        ),
     }
 }
 
@@ -104,7 +114,8 @@ fn mask(width: u8) -> Operand
     Operand::Known(bits)
 }
 
-fn push_call(
+/// Puts the call of a routine behind the code, whose result is cut to the width of the computation.
+pub fn push_call(
     code: &mut Row<Instr>,
     routine: u16,
     registers: Registers,
@@ -121,7 +132,8 @@ fn push_call(
     push_cut(code, c.width, c.to)
 }
 
-fn push_cut(code: &mut Row<Instr>, width: u8, to: u8) -> Result<(), NoMemory>
+/// Cuts what a local has to a width.
+pub fn push_cut(code: &mut Row<Instr>, width: u8, to: u8) -> Result<(), NoMemory>
     ensures { OnOk result (code.new ≡ code.old ++ cut_to width to) }
 {
     if width < 4 {

@@ -4,6 +4,7 @@
 mod calls;
 mod places;
 pub mod procedure;
+mod products;
 pub mod runs;
 
 pub use procedure::expand;

@@ -1,21 +1,28 @@
 // The new places of instructions.
-ghost use Rattle.std.specs.Prelude.{◌≡◌, suc, ◌≤◌, length, get_or, IfOk};
-ghost use Rattle.vg_expand.specs.Code.{size as size_of, places_from, computing, shifting, cut_to};
+ghost use Rattle.std.specs.Prelude.{◌≡◌, ◌≤◌, ◌<◌, length, get_or, IfOk};
+ghost use Rattle.vg_expand.specs.Code.{places_from};
 
+use crate::calls::push_instr;
 use std::alloc::Global;
 use vg_base::{NoMemory, Row};
-use vg_lin::{Computation, Instr, Operand, Operator, Plain};
+use vg_lin::Instr;
 
-/// The new place of each instruction: as many as stand for those before it.
-pub fn places(alloc: Global, code: &[Instr]) -> Result<Row<u16>, NoMemory>
-    requires { length code.now ≤ 32767 }
-    ensures { IfOk result (λ found. found ≡ places_from 0 code.now) }
+/// The new place of each instruction: as many as stand for those before it. The code is made once to see how long it gets.
+pub fn places(
+    alloc: Global,
+    code: &[Instr],
+    first: u16,
+    widths: &[u8],
+) -> Result<Row<u16>, NoMemory>
+    requires few { length code.now ≤ 32767 }
+    requires room { first < 65533 }
+    ensures { IfOk result (λ found. found ≡ places_from (record { first = first; widths = widths.now }) 0 code.now) }
 {
     let mut found = Row::new(alloc);
-    let mut next = 0u16;
+    let mut draft = Row::new(alloc);
     for instr in code {
-        found.push(next)?;
-        next += size(*instr);
+        found.push(draft.len() as u16)?;
+        push_instr(&mut draft, *instr, found.as_slice(), first, widths)?;
     }
     Ok(found)
 }
@@ -28,39 +35,4 @@ pub fn place_at(places: &[u16], at: u16) -> u16
         Some(place) => *place,
         None => 0,
     }
-}
-
-// How many instructions stand for one.
-fn size(instr: Instr) -> u16
-    ensures { result ≡ size_of instr }
-{
-    match instr {
-        Instr::Plain(Plain::Compute(c)) => computation_size(c),
-        _ => 1,
-    }
-}
-
-fn computation_size(c: Computation) -> u16
-    ensures { result ≡ length (computing 0 c c.operator) }
-{
-    match c.operator {
-        Operator::Times | Operator::Divide | Operator::Remainder => call_size(c),
-        Operator::ShiftLeft | Operator::ShiftRight => shift_size(c),
-        _ => 1,
-    }
-}
-
-fn shift_size(c: Computation) -> u16
-    ensures { result ≡ length (shifting 0 c c.right) }
-{
-    match c.right {
-        Operand::Known(_) => 1,
-        Operand::Local(_) => call_size(c),
-    }
-}
-
-fn call_size(c: Computation) -> u16
-    ensures { result ≡ suc (length (cut_to c.width c.to)) }
-{
-    if c.width < 4 { 2 } else { 1 }
 }

@@ -3,11 +3,12 @@ use Rattle.std.specs.Prelude.{◌≡◌, refl, ℕ, List, [], ◌∷◌, Some, N
 use Rattle.vg_meaning.specs.declared.event.Event.TheVariants.{Write}
 use Rattle.vg_meaning.specs.History.{Calling as OpenCall}
 use Rattle.vg_meaning.specs.Answer.{Done}
+use Rattle.vg_lin.specs.declared.instr.Operand.{Operand}
 use Rattle.vg_lin.specs.declared.instr.Operand.TheVariants.{Local, Known}
-use Rattle.vg_lin.specs.declared.instr.Operator.TheVariants.{Plus, Times, Divide, Remainder, ShiftLeft, ShiftRight}
+use Rattle.vg_lin.specs.declared.instr.Operator.TheVariants.{Plus, Minus, Times, Divide, Remainder, ShiftLeft, ShiftRight}
 use Rattle.vg_lin.specs.declared.instr.Comparison.TheVariants.{Same}
 use Rattle.vg_lin.specs.declared.instr.Test.{Test}
-use Rattle.vg_lin.specs.declared.instr.Plain.TheVariants.{Copy, Compute, WriteDevice}
+use Rattle.vg_lin.specs.declared.instr.Plain.TheVariants.{Copy, Compute, Product, WriteDevice}
 use Rattle.vg_lin.specs.declared.instr.Callee.TheVariants.{Procedure as ByNumber}
 use Rattle.vg_lin.specs.declared.instr.Registers.{Registers}
 use Rattle.vg_lin.specs.declared.instr.Registers.TheVariants.{Empty, Two, Three}
@@ -18,7 +19,7 @@ use Rattle.vg_lin.specs.Meaning.{run}
 use Rattle.vg_arith.specs.Product.{mul}
 use Rattle.vg_arith.specs.Division.{divide}
 use Rattle.vg_arith.specs.Shifts.{shl, shr}
-use Rattle.vg_expand.specs.Code.{expanded}
+use Rattle.vg_expand.specs.Code.{computing, expanded}
 use Rattle.vg_lin_rows.specs.Shown.{Shown, seen}
 use Rattle.vg_lin_rows.specs.Packed.{codes}
 
@@ -96,3 +97,56 @@ before_run = refl
 -- With the calls of routines it takes more steps, and shows the same.
 expanded_run : seen (run (program (expanded 2 main ∷ expanded 2 start ∷ mul ∷ divide ∷ shl ∷ shr ∷ [])) 300 [] []) ≡ shows
 expanded_run = refl
+
+-- ---- products
+
+-- What stands for the product of an operand with another one: locals 0 and 1 have four bytes, locals 2 and 3 one, and the result goes to
+-- local 1.
+abbrev pub product_code : (width : ℕ) → Operand → Operand → List Instr
+product_code w a b =
+    computing (record { first = 2; widths = 4 ∷ 4 ∷ 1 ∷ 1 ∷ [] }) (record { operator = Times; width = w; to = 1; left = a; right = b }) Times
+
+abbrev pub shift_into : (from bits : ℕ) → Instr
+shift_into i n = Plain (Compute (record { operator = ShiftLeft; width = 4; to = 1; left = Local i; right = Known n }))
+
+by_none : product_code 4 (Local 0) (Known 0) ≡ Plain (Copy 1 (Known 0)) ∷ []
+by_none = refl
+
+by_one : product_code 4 (Local 0) (Known 1) ≡ shift_into 0 0 ∷ []
+by_one = refl
+
+by_eight : product_code 4 (Local 0) (Known 8) ≡ shift_into 0 3 ∷ []
+by_eight = refl
+
+-- also where the number is the left operand, and where the result overwrites the other
+eight_by : product_code 4 (Known 8) (Local 1) ≡ shift_into 1 3 ∷ []
+eight_by = refl
+
+by_greatest : product_code 4 (Local 0) (Known 0x80000000) ≡ shift_into 0 31 ∷ []
+by_greatest = refl
+
+-- next to a power of 2
+by_five : product_code 4 (Local 0) (Known 5)
+    ≡ shift_into 0 2 ∷ Plain (Compute (record { operator = Plus; width = 4; to = 1; left = Local 1; right = Local 0 })) ∷ []
+by_five = refl
+
+by_seven : product_code 4 (Local 0) (Known 7)
+    ≡ shift_into 0 3 ∷ Plain (Compute (record { operator = Minus; width = 4; to = 1; left = Local 1; right = Local 0 })) ∷ []
+by_seven = refl
+
+-- the local of the result is the operand, so that a shift would lose it
+five_times_itself : product_code 4 (Local 1) (Known 5) ≡ routine_call 2 (Two (Local 1) (Known 5)) 1 ∷ []
+five_times_itself = refl
+
+by_ten : product_code 4 (Local 0) (Known 10) ≡ routine_call 2 (Two (Local 0) (Known 10)) 1 ∷ []
+by_ten = refl
+
+-- two bytes
+of_bytes : product_code 4 (Local 2) (Local 3) ≡ Plain (Product 1 (Local 2) (Local 3)) ∷ []
+of_bytes = refl
+
+of_byte_and_known : product_code 1 (Local 2) (Known 10) ≡ Plain (Product 1 (Local 2) (Known 10)) ∷ cut 1 1 ∷ []
+of_byte_and_known = refl
+
+of_byte_and_more : product_code 4 (Local 2) (Local 0) ≡ routine_call 2 (Two (Local 2) (Local 0)) 1 ∷ []
+of_byte_and_more = refl
