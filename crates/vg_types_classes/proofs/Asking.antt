@@ -46,13 +46,15 @@ other_keeps ds texts _ h = refl
 
 -- with the rest, all are asked
 pub record Asking (texts : List (List ℕ)) (all : List held.Node) (next : ℕ) (rest : List held.Node) : Type 0 where
-  pub breach : classes_breach (declarations_in texts all) (declarations_in texts all) ≡ classes_breach (declarations_in texts all) (numbered next (row_at texts rest))
+  pub breach : classes_breach (declarations_in texts all) (declarations_in texts all)
+      ≡ classes_breach (declarations_in texts all) (numbered next (row_at texts rest))
   pub count : next + count_nodes (row_at [] rest) ≡ 1 + count_nodes (row_at [] all)
 
 pub asking_starts : (texts : List (List ℕ)) (all : List held.Node) → Asking texts all 1 all
 asking_starts texts all = record { breach = refl; count = refl }
 
-pub asking_ends : (texts : List (List ℕ)) (all : List held.Node) (next : ℕ) → Asking texts all next [] → classes_breach (declarations_in texts all) (declarations_in texts all) ≡ None
+pub asking_ends : (texts : List (List ℕ)) (all : List held.Node) (next : ℕ) → Asking texts all next []
+    → classes_breach (declarations_in texts all) (declarations_in texts all) ≡ None
 asking_ends texts all next a = a.breach
 
 pub asking_stops : (texts : List (List ℕ)) (all : List held.Node) (next : ℕ) (d : held.Node) (rest : List held.Node) → Asking texts all next (d ∷ rest)

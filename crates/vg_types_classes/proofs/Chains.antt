@@ -1,5 +1,6 @@
 -- Walks over the classes above one another.
-use Rattle.std.proofs.Common.{◌≡◌, ℕ, zero, suc, ◌+◌, ◌-◌, ◌<◌, ◌≤◌, ◌||◌, Bool, true, false, [], Option, Some, None, is_some, bytes_eq, not, ◌&&◌, refl, sym, ap, ◌∙◌, arith}
+use Rattle.std.proofs.Common.{◌≡◌, ℕ, zero, suc, ◌+◌, ◌-◌, ◌<◌, ◌≤◌, ◌||◌, Bool, true, false, [], Option, Some, None, is_some, bytes_eq, not, ◌&&◌}
+use Rattle.std.proofs.Common.{refl, sym, ap, ◌∙◌, arith}
 use Rattle.vg_syntax.specs.Tree.{Node}
 use Rattle.vg_syntax.specs.Classes.{class_named}
 use Rattle.vg_source.specs.Names.{Name, is_among}

@@ -1,5 +1,6 @@
 -- A look-up in the map of declarations finds a class.
-use Rattle.std.proofs.Common.{◌≡◌, ℕ, zero, suc, ◌+◌, ◌==◌, Bool, true, false, List, [], ◌∷◌, Option, Some, None, slice_get, get_or, length, ◌≤◌, ◌<◌, if◌then◌else◌, refl, sym, ap, ◌∙◌, arith}
+use Rattle.std.proofs.Common.{◌≡◌, ℕ, zero, suc, ◌+◌, ◌==◌, Bool, true, false, List, [], ◌∷◌, Option, Some, None, slice_get, get_or, length, ◌≤◌}
+use Rattle.std.proofs.Common.{◌<◌, if◌then◌else◌, refl, sym, ap, ◌∙◌, arith}
 use Rattle.std.proofs.lemmas.Bool.{eq-eqb, eqb-true}
 use Rattle.std.specs.Option.{option_map, MatchOption, IfSome}
 use Rattle.std.specs.List.{HoldsAt}
@@ -42,12 +43,14 @@ at_place : (texts : List (List ℕ)) (nodes : List held.Node) (k i j : ℕ)
     → above_in (node_from k (numbered i (row_at texts nodes)) (k + j)) ≡ class_at texts (slice_get nodes j)
 at_place texts [] k i j = refl
 at_place texts (n ∷ nodes) k i zero =
-    ap (λ b. above_in (if b then Some (numbered i (node_at texts n)) else node_from (suc k) (numbered (i + count_nodes (node_at texts n)) (row_at texts nodes)) (k + zero)))
+    ap (λ b. above_in (if b then Some (numbered i (node_at texts n)) else node_from (suc k) (numbered (i + count_nodes (node_at texts n)) (row_at texts
+    nodes)) (k + zero)))
     (eq-eqb k (k + zero) (omega arith))
     ∙ one_class texts i n
 at_place texts (n ∷ nodes) k i (suc j) =
     by (k == k + suc j) refl
-    ∙ ap (λ z. above_in (node_from (suc k) (numbered (i + count_nodes (node_at texts n)) (row_at texts nodes)) z)) (let e : k + suc j ≡ suc k + j = omega arith in e)
+    ∙ ap (λ z. above_in (node_from (suc k) (numbered (i + count_nodes (node_at texts n)) (row_at texts nodes)) z)) (let e : k + suc j
+    ≡ suc k + j = omega arith in e)
     ∙ at_place texts nodes (suc k) (i + count_nodes (node_at texts n)) j
   where
     behind : Option Node

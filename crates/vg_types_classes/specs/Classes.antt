@@ -1,8 +1,10 @@
 -- The declarations of a text and their map.
 use Rattle.std.specs.Prelude.{◌≡◌, ℕ, true, List, [], Option, None}
 use Rattle.std.specs.Option.{option_map}
-use Rattle.vg_syntax.specs.Tree.{Node}
-use Rattle.vg_syntax.specs.Numbering.{numbered}
+use Rattle.vg_syntax.specs.Tree.{Spot, Node}
+use Rattle.vg_syntax.specs.Numbering.{numbered, with_id}
+use Rattle.vg_syntax.specs.Reads.{spot}
+use Rattle.vg_tree.specs.declared.node.Node as held
 use Rattle.vg_tree.specs.declared.node.Node.{Node as HeldNode}
 use Rattle.vg_tree.specs.Held.{text_at, row_at}
 use Rattle.vg_source.specs.Names.{Name}
@@ -24,3 +26,8 @@ pub record IsMapAt (texts : List (List ℕ)) (nodes : List HeldNode) (m : List (
 -- The name of the class above a class that was found.
 abbrev pub class_view : List (List ℕ) → FoundClass → Option Name
 class_view texts k = option_map (text_at texts) k.above
+
+-- Where a text stands.
+abbrev pub text_spot : HeldNode → Spot
+text_spot (held.Text' place p declarations) = with_id 0 (spot place)
+text_spot _ = with_id 0 (spot (record { line = 1; col = 1 }))

@@ -3,6 +3,8 @@
 
 mod class;
 mod extends;
+mod rows;
 
 pub use class::{FoundClass, class_of};
 pub use extends::classes;
+pub use rows::{declared_nodes, row_of};

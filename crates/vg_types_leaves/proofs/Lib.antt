@@ -3,3 +3,5 @@ pub mod Members
 pub mod Types
 pub mod Reading
 pub mod NameLaws
+pub mod Strings
+pub mod Suffixes

@@ -1,16 +1,30 @@
 -- What a name stands for.
-use Rattle.std.proofs.Common.{◌≡◌, ℕ, ◌||◌, Bool, true, false, List, Option, Some, None, is_some, refl, sym, ap, ◌∙◌}
-use Rattle.vg_meaning.specs.Code.{Do}
-use Rattle.vg_syntax.specs.Tree.{Node}
+use Rattle.std.proofs.Common.{◌≡◌, ℕ, ◌||◌, Bool, true, false, List, Option, Some, None, is_some, refl, sym, ap, ◌∙◌, subst}
+use Rattle.vg_meaning.specs.Code.{Do, Nothing as NoCode}
+use Rattle.vg_syntax.specs.Tree.{Node, Spot}
 use Rattle.vg_source.specs.Names.{Name}
 use Rattle.vg_source.specs.Steps as source
-use Rattle.vg_source.specs.Declared.{Member, AField, AMethod, class_member, component_member}
-use Rattle.vg_source.specs.Resolved.{Scope, Head, NoHead, IsValue, OwnMethod, ItsMethod, Resolved, InClass, InComponent, Typed}
+use Rattle.vg_source.specs.Declared.{Member, AField, AMethod, class_member, component_member, component_named, device_named}
+use Rattle.vg_source.specs.Resolved.{Scope, NoHead, IsValue, IsComponent, OwnMethod, ItsMethod, InClass, InComponent, Fresh, top_head}
 use Rattle.vg_source.specs.Resolved.{nothing, in_front, object_member, its_member, own_member, near_member, top_name, find_local, local_or_outer, resolved_name}
-use Rattle.vg_rules.specs.Bodies.{name_keeps}
+use Rattle.vg_rules.specs.Breach.{asks}
+use Rattle.vg_rules.specs.Bodies.{name_keeps, front_keeps}
 use Rattle.vg_types_tables.specs.declared.declared.Declared.{Declared}
 use Rattle.vg_types_leaves.specs.declared.reached.Reached.{Reached}
 use Rattle.vg_types_leaves.specs.declared.reached.Reached.TheVariants as reached
+use Rattle.vg_tree.specs.declared.node.Node as held_node
+use Rattle.vg_core.specs.HeldProgram.{code_of}
+use Rattle.vg_core.specs.Naming.{named_code}
+use Rattle.vg_types_views.specs.ByText.{found}
+use Rattle.vg_types_tables.specs.declared.locals.Locals.{Locals}
+use Rattle.vg_types_tables.specs.declared.body.BodyKind.{BodyKind}
+use Rattle.vg_types_tables.specs.declared.judged.Head.TheVariants.{Component}
+use Rattle.vg_types_tables.specs.declared.judged.Standing.{Standing}
+use Rattle.vg_types_tables.specs.Views.{declarations_at, naming, head_view, owner_view, scope_view}
+use Rattle.vg_types_tables.specs.Declares.{Declares}
+use Rattle.vg_types_tables.specs.Promises.{IsHead, Leaves}
+use Rattle.vg_types_leaves.specs.Nodes.{name_node}
+use Rattle.vg_types_leaves.specs.Judgements.{Shows}
 use Rattle.vg_types_leaves.specs.Reached.{reached_at}
 
 -- what is reached leaves something
@@ -75,3 +89,45 @@ module _ (ds : Node) (x : Name) (ls : Scope) (none : find_local ls.names x ≡ N
   named_none_near at c e =
       let h = no_near c (component_member ds c x) e in
       (kept (component_member ds c x) false h.0, ap (λ z. local_or_outer ds (InComponent c) at x z ls) none ∙ h.1)
+
+module _ (texts : List (List ℕ)) (root : held_node.Node) (d : Declared) (all : Declares texts root d) (k : BodyKind) (ls : Locals) where
+  -- a name that is no local and no member, but a component
+  front_component : (at c : ℕ) (spot : Spot) (x : Name) (j : Standing)
+      → name_keeps (declarations_at texts root) (owner_view texts d k.owner) x (scope_view texts d ls) ≡ false
+      → resolved_name (declarations_at texts root) (owner_view texts d k.owner) at x (scope_view texts d ls)
+      ≡ top_name (declarations_at texts root) x (scope_view texts d ls) → found x d.components ≡ Some c → j.head ≡ Component c → code_of j.code ≡ NoCode
+      → (asks (front_keeps (declarations_at texts root) (owner_view texts d k.owner) x (scope_view texts d ls)) 14 spot ≡ None)
+      × Leaves texts root d k ls (name_node at spot x) Fresh j
+  front_component at c spot x j ek er ec eh eo =
+      let ds : Node = declarations_at texts root in
+      let there : is_some (component_named ds x) ≡ true = sym (all.components x) ∙ ap is_some ec in
+      let is = all.component_names x c ec in
+      let shown : Shows texts d ls (top_name ds x (scope_view texts d ls)) j = record {
+        head = by (component_named ds x) there ∙ ap IsComponent (sym is.1) ∙ ap (head_view texts d) (sym eh);
+        does = ap (named_code (naming texts d) d.tables) eo;
+        scope = refl;
+        known = subst (IsHead texts d) (sym eh) is.0;
+      } in (
+        ap (λ b. asks (b || is_some (component_named ds x) || is_some (device_named ds x)) 14 spot) ek
+            ∙ ap (λ b. asks (b || is_some (device_named ds x)) 14 spot) there,
+        record {
+          head = ap (λ m. m.head) er ∙ shown.head;
+          does = shown.does ∙ sym (ap (λ m. m.does) er);
+          scope = ap (λ m. m.scope) er ∙ shown.scope;
+          known = shown.known;
+        },
+      )
+    where
+      by : (o : Option Node) → is_some o ≡ true → top_head o x ≡ IsComponent x
+      by None e = absurd (let clash : false ≡ true = e in cc)
+      by (Some m) e = refl
+
+  pub front_is_component : (at c : ℕ) (spot : Spot) (x y : Name) (j : Standing) → y ≡ x
+      → name_keeps (declarations_at texts root) (owner_view texts d k.owner) y (scope_view texts d ls) ≡ false
+      → resolved_name (declarations_at texts root) (owner_view texts d k.owner) at y (scope_view texts d ls)
+      ≡ top_name (declarations_at texts root) y (scope_view texts d ls) → found y d.components ≡ Some c → j.head ≡ Component c → code_of j.code ≡ NoCode
+      → (asks (front_keeps (declarations_at texts root) (owner_view texts d k.owner) x (scope_view texts d ls)) 14 spot ≡ None)
+      × Leaves texts root d k ls (name_node at spot x) Fresh j
+  front_is_component at c spot x y j e ek er ec eh eo =
+      subst (λ z. (asks (front_keeps (declarations_at texts root) (owner_view texts d k.owner) z (scope_view texts d ls)) 14 spot ≡ None)
+      × Leaves texts root d k ls (name_node at spot z) Fresh j) e (front_component at c spot y j ek er ec eh eo)

@@ -1,9 +1,9 @@
 -- What is reached is read and set as its step says.
 use Rattle.std.proofs.Common.{◌≡◌, ℕ, Bool, true, false, List, [], ◌∷◌, Option, Some, None, slice_get, refl, sym, ap, ◌∙◌, subst}
-use Rattle.vg_meaning.specs.Code.{Code, Nothing as NoCode, Then, Do}
+use Rattle.vg_meaning.specs.Code.{Code, Nothing as SourceNothing, Then, Do}
 use Rattle.vg_meaning.specs.Shapes.{Fits}
 use Rattle.vg_source.specs.Steps as source
-use Rattle.vg_source.specs.Resolved.{Resolved, in_front}
+use Rattle.vg_source.specs.Resolved.{Resolved, IsValue, in_front}
 use Rattle.vg_core.specs.declared.types.CoreType.{CoreType}
 use Rattle.vg_core.specs.declared.types.CoreType.TheVariants.{RawType, ClassType}
 use Rattle.vg_core.specs.declared.step.Step.{Step}
@@ -21,13 +21,15 @@ use Rattle.vg_types_tables.specs.declared.body.BodyKind.{BodyKind}
 use Rattle.vg_types_tables.specs.declared.judged.Head.{Head}
 use Rattle.vg_types_tables.specs.declared.judged.Head.TheVariants as head
 use Rattle.vg_types_tables.specs.declared.judged.Standing.{Standing}
-use Rattle.vg_types_tables.specs.Views.{naming, code_view, head_view, scope_view}
-use Rattle.vg_types_tables.specs.Promises.{IsHead, Sees, waiting, Leads}
+use Rattle.vg_types_tables.specs.declared.judged.Storing.{Storing}
+use Rattle.vg_types_tables.specs.Views.{naming, type_view, step_view, head_view, scope_view}
+use Rattle.vg_types_tables.specs.Declares.{IsKnown}
+use Rattle.vg_types_tables.specs.Promises.{IsHead, Sees, waiting, Leads, Stores}
 use Rattle.vg_types_leaves.specs.declared.reached.Reached.{Reached}
 use Rattle.vg_types_leaves.specs.declared.reached.Reached.TheVariants as reached
 use Rattle.vg_types_leaves.specs.declared.name.Named.{Named}
-use Rattle.vg_types_leaves.specs.Judgements.{Shows}
-use Rattle.vg_types_leaves.specs.Reached.{front, reached_head, reached_code, reached_at, IsReached}
+use Rattle.vg_types_leaves.specs.Judgements.{Shows, ShowsPlace}
+use Rattle.vg_types_leaves.specs.Reached.{front, reached_head, reached_code, reached_at, IsReached, SetBy, Places}
 use Rattle.vg_types_leaves.specs.Named.{with_this, IsFront}
 
 module _ (texts : List (List ℕ)) (d : Declared) (ls : Locals) where
@@ -116,3 +118,77 @@ module _ (texts : List (List ℕ)) (d : Declared) (ls : Locals) where
         t_this (sym is),
         subst (λ z. Fits (known d.tables ls.declared o k.result) k.in_loop (reached_code at r) (ClassType c ∷ x) (waiting z x)) (sym eh) reading,
       )
+
+  -- what is set by one step, where what waits for it is there
+  stores_by : (k : BodyKind) (h : Head) (s : Storing) (st : Step) (t : CoreType) → SetBy st t (Some s)
+      → ((o : Owner) (x : List CoreType) (u : CoreType) → Sub d.tables u t → Takes d.tables ls.declared o st (u ∷ waiting h x) x) → Stores d.tables k ls h s
+  stores_by k h s st t (ea, es, et) f o x sees = (
+    waiting h x,
+    subst (λ z. Fits (known d.tables ls.declared o k.result) k.in_loop z (waiting h x) (waiting h x)) (sym ea) refl,
+    λ u sub. subst (λ z. Takes d.tables ls.declared o z (u ∷ waiting h x) x) (sym es) (f o x u (subst (Sub d.tables u) et sub)),
+  )
+
+  set_register : (o : Owner) (a : ℕ) (x : List CoreType) (u : CoreType) → Sub d.tables u (RawType 8)
+      → Takes d.tables ls.declared o (step.SetRegister a) (u ∷ x) x
+  set_register o a x u same = t_set_register
+
+  pub sets : (k : BodyKind) (at : ℕ) (r : Reached) (s : Storing) → IsReached texts d ls r → Places at r (Some s) → Stores d.tables k ls (front r) s
+  sets k at (reached.Local i t) s h p = stores_by k head.Nothing s (step.SetLocal i t) t p (λ o x u sub. t_set_local h.0 sub)
+  sets k at (reached.Field c f t) s h p = stores_by k (head.Value (ClassType c)) s (step.SetField at f) t p
+      (λ o x u sub. t_set_field h.0 h.1 h.4.1 h.4.2 (subst (Sub d.tables u) (sym h.2) sub))
+  sets k at (reached.Global f t) s h p = stores_by k head.Nothing s (step.SetComponentField f) t p
+      (λ o x u sub. t_set_component_field h.0 h.1 h.4.1 (subst (Sub d.tables u) (sym h.2) sub))
+  sets k at (reached.Register a) s h p = stores_by k head.Nothing s (step.SetRegister a) (RawType 8) p (λ o x u sub. set_register o a x u sub)
+  sets k at (reached.Length n) s h p = absurd p
+  sets k at (reached.OwnMethod c m) s h p = absurd p
+  sets k at (reached.ItsMethod m) s h p = absurd p
+
+  pub sets_this : (k : BodyKind) (at c : ℕ) (r : Reached) (s t : Storing) → IsReached texts d ls r → Places at r (Some s)
+      → front r ≡ head.Value (ClassType c) → k.owner ≡ Some (InClass c) → code_of t.aims ≡ Then (Do step.This) (code_of s.aims) → t.store ≡ s.store
+      → t.type_ ≡ s.type_ → Stores d.tables k ls head.Nothing t
+  sets_this k at c r s t h p ef eo ea es et o x sees =
+      let is : InClass c ≡ o = subst (λ z. Sees z o) eo sees in
+      let inner = subst (λ z. Stores d.tables k ls z s) ef (sets k at r s h p) o x sees in (
+        inner.0,
+        subst (λ z. Fits (known d.tables ls.declared o k.result) k.in_loop z x inner.0) (sym ea) (ClassType c ∷ x, t_this (sym is), inner.1),
+        λ u sub. subst (λ z. Takes d.tables ls.declared o z (u ∷ inner.0) x) (sym es) (inner.2 u (subst (Sub d.tables u) et sub)),
+      )
+
+  -- what is set by one step is that place
+  place_by : (m : Resolved) (s : Storing) (st : Step) (t : CoreType) → SetBy st t (Some s) → IsKnown d.tables t → m.head ≡ IsValue (type_view texts d t)
+      → m.aims ≡ SourceNothing → m.store ≡ Some (step_view texts d st) → ShowsPlace texts d m s
+  place_by m s st t (ea, es, et) k h a e = record {
+    head = h ∙ ap (λ z. IsValue (type_view texts d z)) (sym et);
+    aims = ap (named_code (naming texts d) d.tables) ea ∙ sym a;
+    store = e ∙ ap (λ z. Some (step_view texts d z)) (sym es);
+    known = subst (IsKnown d.tables) (sym et) k;
+  }
+
+  pub places : (at : ℕ) (r : Reached) (s : Storing) → IsReached texts d ls r → Places at r (Some s)
+      → ShowsPlace texts d (reached_at texts d at (scope_view texts d ls) r) s
+  places at (reached.Local i t) s h p = place_by _ s (step.SetLocal i t) t p h.1 refl refl refl
+  places at (reached.Field c f t) s h p = place_by _ s (step.SetField at f) t p h.3 refl refl refl
+  places at (reached.Global f t) s h p = place_by _ s (step.SetComponentField f) t p h.3 refl refl refl
+  places at (reached.Register a) s h p = place_by _ s (step.SetRegister a) (RawType 8) p tt refl refl refl
+  places at (reached.Length n) s h p = absurd p
+  places at (reached.OwnMethod c m) s h p = absurd p
+  places at (reached.ItsMethod m) s h p = absurd p
+
+  pub places_this : (m : Resolved) (s t : Storing) → ShowsPlace texts d m s → code_of t.aims ≡ Then (Do step.This) (code_of s.aims) → t.store ≡ s.store
+      → t.type_ ≡ s.type_ → ShowsPlace texts d (in_front (Do source.This) m) t
+  places_this m s t p ea es et = record {
+    head = p.head ∙ ap (λ z. IsValue (type_view texts d z)) (sym et);
+    aims = ap (named_code (naming texts d) d.tables) ea ∙ ap (Then (Do source.This)) p.aims;
+    store = p.store ∙ ap (λ z. Some (step_view texts d z)) (sym es);
+    known = subst (IsKnown d.tables) (sym et) p.known;
+  }
+
+  -- what is no place
+  pub no_places : (at : ℕ) (r : Reached) → Places at r None → (reached_at texts d at (scope_view texts d ls) r).store ≡ None
+  no_places at (reached.Local i t) p = absurd p
+  no_places at (reached.Field c f t) p = absurd p
+  no_places at (reached.Global f t) p = absurd p
+  no_places at (reached.Register a) p = absurd p
+  no_places at (reached.Length n) p = refl
+  no_places at (reached.OwnMethod c m) p = refl
+  no_places at (reached.ItsMethod m) p = refl

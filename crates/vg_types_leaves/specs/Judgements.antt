@@ -34,6 +34,7 @@ module _ (texts : List (List ℕ)) (d : Declared) (ls : Locals) where
     pub scope : m.scope ≡ scope_view texts d ls
     pub known : IsHead texts d j.head
 
+module _ (texts : List (List ℕ)) (d : Declared) where
   -- The place that it is.
   pub record ShowsPlace (m : Resolved) (j : Storing) : Type 0 where
     pub head : m.head ≡ IsValue (type_view texts d j.type_)

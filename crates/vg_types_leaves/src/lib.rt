@@ -8,8 +8,8 @@ mod numeral;
 mod reached;
 mod single;
 
-pub use literal::{character, number};
-pub use member::reach_member;
-pub use name::Named;
+pub use literal::{character, number, string, this_object};
+pub use member::{member_behind, reach_member};
+pub use name::{Named, name_alone, name_in_front, name_target};
 pub use reached::Reached;
 pub use single::{leaf, put};

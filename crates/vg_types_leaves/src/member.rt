@@ -1,23 +1,30 @@
 // What a Member suffix reaches.
-ghost use Rattle.std.specs.Prelude.{◌≡◌, slice_get, IfSome, List};
-ghost use Rattle.vg_source.specs.Resolved.{object_member, its_member, its_register, register_of, member_suffix};
+ghost use Rattle.std.specs.Prelude.{◌≡◌, ◌+◌, ◌<◌, ◌^◌, slice_get, IfOk, IfSome, List};
+ghost use Rattle.vg_source.specs.Resolved.{object_member, its_member, its_register, register_of, member_suffix, Onto};
+ghost use Rattle.vg_syntax.specs.Reads.{spot};
+ghost use Rattle.vg_tree.specs.Held.{text_at};
+ghost use Rattle.vg_core.specs.HeldProgram.{code_of};
 ghost use Rattle.vg_core.specs.declared.types.CoreType.{CoreType as SpecType};
 ghost use Rattle.vg_core.specs.declared.types.CoreType.TheVariants.{ClassType};
 ghost use Rattle.vg_types_tables.specs.declared.judged.Head.TheVariants.{Nothing, Value};
 ghost use Rattle.vg_source.specs.Declared.{class_member, component_member, device_named};
 ghost use Rattle.vg_types_tables.specs.Views.{declarations_at, naming, scope_view, head_view};
 ghost use Rattle.vg_types_tables.specs.Declares.{Declares, IsClass, IsComponent, IsKnown};
-ghost use Rattle.vg_types_tables.specs.Promises.{IsHead, waiting};
+ghost use Rattle.vg_types_tables.specs.Promises.{IsHead, waiting, Leads};
+ghost use Rattle.vg_types_leaves.specs.Nodes.{member_node};
+ghost use Rattle.vg_types_leaves.specs.Judgements.{Behind, HasValue};
 ghost use Rattle.vg_types_leaves.specs.Reached.{Reaches, front};
 
 use crate::reached::Reached;
-use vg_base::Names;
+use std::alloc::Global;
+use vg_base::{Name, Names, NodeId, Place, Refusal};
 use vg_core::{CoreType, Field};
 use vg_tree::Node;
 use vg_types_tables::{
-    Declared, Head, Locals, MemberNumber, class_member, component_member, register_of,
+    BodyKind, Declared, Head, Locals, MemberNumber, Standing, class_member, component_member,
+    register_of,
 };
-use vg_types_views::text_of;
+use vg_types_views::{Broken, text_of};
 
 /// What a Member suffix reaches from what is in front of it: rule 16.
 pub fn reach_member(
@@ -174,4 +181,47 @@ fn field_at(declared: &Declared, number: u32) -> Option<Field>
         .as_slice()
         .get(number as usize)
         .copied()
+}
+
+/// A Member suffix behind what is in front of it: rule 16.
+pub fn member_behind(
+    alloc: Global,
+    names: &Names,
+    root: &Node,
+    declared: &Declared,
+    body: BodyKind,
+    locals: &Locals,
+    head: Head,
+    place: Place,
+    name: Name,
+    id: u32,
+) -> Result<Standing, Refusal<Broken>>
+    requires declares { Declares names.now root.now declared.now }
+    requires head { IsHead names.now declared.now head }
+    requires room { id + 1 < 2 ^ 32 }
+    ensures judged { Behind names.now root.now declared.now body locals.now (member_node id (spot place) (text_at names.now name))
+        (Onto (head_view names.now declared.now head)) result }
+    ensures typed { IfOk result (λ j. Leads declared.now.tables body locals.now head (code_of j.code) j.head) }
+    ensures value { IfOk result (λ j. HasValue j.head) }
+    ensures next { IfOk result (λ j. j.next ≡ id + 1) }
+{
+    match reach_member(
+        names,
+        root,
+        declared,
+        locals,
+        head,
+        text_of(names, name),
+        id,
+    ) {
+        Some(reached) => Ok(Standing {
+            head: reached.head(id),
+            code: reached.code(alloc, id),
+            next: id + 1,
+        }),
+        None => Err(Refusal::Fault(Broken {
+            rule: 16,
+            node: NodeId(id),
+        })),
+    }
 }

@@ -6,7 +6,8 @@ use Rattle.vg_types_classes.proofs.class.class_of.Goals as goal
 pub returns-in-Some : goal.returns-in-Some
 returns-in-Some c texts h =
     c.class_at.ensures texts
-    ∙ ap (class_at texts) (got _ c.args.nodes.now c.in-Some.declaration.now.place c.get-in-Some.result c.get-in-Some.ensures.lookup.3 c.get-in-Some.ensures.lookup.1
+    ∙ ap (class_at texts) (got _ c.args.nodes.now c.in-Some.declaration.now.place c.get-in-Some.result c.get-in-Some.ensures.lookup.3
+    c.get-in-Some.ensures.lookup.1
     ∙ ap (place_in c.args.nodes.now) c.in-Some.ensures)
     ∙ sym (class_found texts c.args.nodes.now c.args.declarations.now c.args.text.now h)
 

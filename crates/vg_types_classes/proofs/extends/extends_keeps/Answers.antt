@@ -11,6 +11,8 @@ pub returns-then-is_some : goal.returns-then-is_some
 returns-then-is_some c =
     kept_above (class_view c.args.names.now) c.class_of.result (declarations_in c.args.names.now c.args.nodes.now) (length c.args.nodes.now)
     (text_at c.args.names.now c.args.class) (text_at c.args.names.now c.in-Some.above) c.text_of.result.now c.text_of-then-is_some.result.now c.is_above.result
-    (c.class_of.ensures c.args.names.now c.requires) c.text_of.ensures (sym c.is_some.ensures ∙ c.if-is_some.true) c.is_above.ensures c.text_of-then-is_some.ensures
+    (c.class_of.ensures c.args.names.now c.requires) c.text_of.ensures (sym c.is_some.ensures
+    ∙ c.if-is_some.true) c.is_above.ensures c.text_of-then-is_some.ensures
     (as_many c.args.names.now 1 c.args.nodes.now)
-    ∙ ap (λ o. extends_keeps (declarations_in c.args.names.now c.args.nodes.now) (text_at c.args.names.now c.args.class) (option_map (text_at c.args.names.now) o)) (sym c.in-Some.is)
+    ∙ ap (λ o. extends_keeps (declarations_in c.args.names.now c.args.nodes.now) (text_at c.args.names.now c.args.class) (option_map (text_at
+    c.args.names.now) o)) (sym c.in-Some.is)
