@@ -9,6 +9,7 @@ use Rattle.vg_core.specs.declared.types.CoreType.TheVariants.{NoType, MoreTypes}
 use Rattle.vg_core.specs.declared.program.Tables.{Tables}
 use Rattle.vg_core.specs.Tables.{IsRow}
 use Rattle.vg_types_tables.specs.Declares.{IsFormed, IsKnown}
+use Rattle.vg_types_tables.proofs.Lists.{one_behind}
 use Rattle.vg_types_tables.proofs.Entries.{known_entry}
 use Rattle.vg_types_functions.specs.Functions.{AreParams}
 use Rattle.vg_types_functions.specs.Rows.{parts_of, is_end}
@@ -20,10 +21,6 @@ pub record Walking (p : Tables) (done : List CoreType) (number params : ℕ) : T
 
 pub starts : (p : Tables) (n : ℕ) → Walking p [] n n
 starts p n = record { back = λ us h. h; forth = λ ts h. (ts, h); known = tt }
-
-one_behind : {A : Type 0} (P : A → Type 0) (xs : List A) (x : A) → AllByRecursion P xs → P x → AllByRecursion P (xs ++ x ∷ [])
-one_behind P [] x h p = (p, tt)
-one_behind P (y ∷ xs) x (q, h) p = (q, one_behind P xs x h p)
 
 -- a type with parts is one before a row
 with_parts : (t : CoreType) (first rest : ℕ) → parts_of t ≡ Some (first, rest) → t ≡ MoreTypes first rest
