@@ -1,6 +1,6 @@
 -- What stands where in lists.
 use Rattle.std.proofs.Common.{◌≡◌, ◌<◌, ℕ, zero, suc, List, [], ◌∷◌, ◌++◌, length, Some, refl, ap, ◌∙◌, arith}
-use Rattle.std.specs.List.{slice_get}
+use Rattle.std.specs.List.{slice_get, AllByRecursion}
 use Rattle.std.proofs.lemmas.Option.{slice_get_within}
 
 -- a longer list has at its front what the list has
@@ -18,3 +18,8 @@ pub behind : {A : Type 0} (xs : List A) (x : A) (k : ℕ) → k ≡ length xs �
 behind [] x k e = ap (slice_get (x ∷ [])) e
 behind (y ∷ xs) x zero e = absurd (omega (arith, e))
 behind (y ∷ xs) x (suc k) e = behind xs x k (omega (arith, e))
+
+-- what holds of all of a list, and of the one behind it
+pub one_behind : {A : Type 0} (P : A → Type 0) (xs : List A) (x : A) → AllByRecursion P xs → P x → AllByRecursion P (xs ++ x ∷ [])
+one_behind P [] x h p = (p, tt)
+one_behind P (y ∷ xs) x (q, h) p = (q, one_behind P xs x h p)

@@ -7,7 +7,7 @@ use Rattle.vg_types_tables.specs.declared.locals.InScope.{InScope}
 use Rattle.vg_types_tables.specs.declared.locals.Locals.{Locals}
 use Rattle.vg_types_tables.specs.Declares.{IsKnown}
 use Rattle.vg_types_tables.specs.Promises.{IsDeclared, AreDeclared}
-use Rattle.vg_types_tables.proofs.Lists.{still_there, behind}
+use Rattle.vg_types_tables.proofs.Lists.{still_there, behind, one_behind}
 
 -- names in scope keep their types where more is declared
 pub still_declared : (p : Tables) (old new : Locals) (more : List CoreType) → new.declared ≡ old.declared ++ more → (ls : List InScope)
@@ -15,10 +15,6 @@ pub still_declared : (p : Tables) (old new : Locals) (more : List CoreType) → 
 still_declared p old new more e [] h = h
 still_declared p old new more e (l ∷ ls) ((a, k), h) =
     ((ap (λ ts. slice_get ts l.number) e ∙ still_there old.declared more l.number l.type_ a, k), still_declared p old new more e ls h)
-
-one_behind : {A : Type 0} (P : A → Type 0) (xs : List A) (x : A) → AllByRecursion P xs → P x → AllByRecursion P (xs ++ x ∷ [])
-one_behind P [] x h p = (p, tt)
-one_behind P (y ∷ xs) x (q, h) p = (q, one_behind P xs x h p)
 
 -- one more parameter or local
 pub one_more : (p : Tables) (old new : Locals) (l : InScope) → AreDeclared p old → IsKnown p l.type_ → l.number ≡ length old.declared

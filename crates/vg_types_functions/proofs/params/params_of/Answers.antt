@@ -1,21 +1,37 @@
-use Rattle.std.proofs.Common.{Some, sym, ap, ◌∙◌}
-use Rattle.vg_core.specs.declared.types.CoreType.TheVariants.{MoreTypes}
-use Rattle.vg_types_functions.proofs.Walking.{goes_on, ends}
+use Rattle.std.proofs.Common.{sym, ◌∙◌}
+use Rattle.std.proofs.lemmas.Option.{none-some}
+use Rattle.vg_types_functions.proofs.Walking.{goes_on, smaller, ends, not_at_end, no_first, no_number}
 use Rattle.vg_types_functions.proofs.params.params_of.Goals as goal
 
-pub loop-first-smaller : goal.loop-first-smaller
-loop-first-smaller c =
-    (c.requires.formed.made_below c.loop-first.number (MoreTypes c.in-Some-MoreTypes.first c.in-Some-MoreTypes.rest)
-    (sym c.type_of_number.ensures ∙ c.in-Some-MoreTypes.is ∙ ap Some c.in-Some-MoreTypes.field-0-is)).1
+pub loop-type_-smaller : goal.loop-type_-smaller
+loop-type_-smaller c =
+    smaller c.args.declared.now.tables c.requires.formed c.loop-type_.types c.loop-type_.number c.args.params c.loop-type_.invariant c.in-Some.type_
+    (sym c.type_of_number.ensures ∙ c.in-Some.is) c.in-Some-parts_of.first c.in-Some-parts_of.rest (sym c.parts_of.ensures ∙ c.in-Some-parts_of.is)
 
-pub loop-first-preserved : goal.loop-first-preserved
-loop-first-preserved c =
-    goes_on c.args.declared.now.tables c.requires.formed c.loop-first.types c.loop-first.number c.args.params c.loop-first.invariant
-    c.in-Some-MoreTypes.first c.in-Some-MoreTypes.rest c.in-Some.type_ c.push.new.self
-    (sym c.type_of_number.ensures ∙ c.in-Some-MoreTypes.is ∙ ap Some c.in-Some-MoreTypes.field-0-is)
-    (sym c.type_of_number-in-Some-MoreTypes.ensures ∙ c.in-Some.is) c.in_ok-push-in-Some.ensures.ok
+pub loop-type_-preserved : goal.loop-type_-preserved
+loop-type_-preserved c =
+    goes_on c.args.declared.now.tables c.requires.formed c.loop-type_.types c.loop-type_.number c.args.params c.loop-type_.invariant c.in-Some.type_
+    (sym c.type_of_number.ensures ∙ c.in-Some.is) c.in-Some-parts_of.first c.in-Some-parts_of.rest (sym c.parts_of.ensures ∙ c.in-Some-parts_of.is)
+    c.in-Some-type_of_number.each c.push.new.self (sym c.type_of_number-in-Some-parts_of.ensures ∙ c.in-Some-type_of_number.is)
+    c.in_ok-push-in-Some-type_of_number.ensures.ok
 
-pub returns-in-Some-NoType : goal.returns-in-Some-NoType
-returns-in-Some-NoType c =
-    ends c.args.declared.now.tables c.requires.formed c.loop-first.types c.loop-first.number c.args.params c.loop-first.invariant
-    (sym c.type_of_number-2.ensures ∙ c.in-Some-NoType.is ∙ ap Some c.in-Some-NoType.field-0-is)
+pub returns-in-None-type_of_number-clause-found : goal.returns-in-None-type_of_number-clause-found
+returns-in-None-type_of_number-clause-found c = λ ts h. absurd
+    (no_first c.args.declared.now.tables c.requires.formed c.loop-type_.types c.loop-type_.number c.args.params c.loop-type_.invariant c.in-Some.type_
+    (sym c.type_of_number.ensures ∙ c.in-Some.is) c.in-Some-parts_of.first c.in-Some-parts_of.rest (sym c.parts_of.ensures ∙ c.in-Some-parts_of.is)
+    (sym c.type_of_number-in-Some-parts_of.ensures ∙ c.in-None-type_of_number.is) ts h)
+
+pub returns-then-is_end-clause-row : goal.returns-then-is_end-clause-row
+returns-then-is_end-clause-row c =
+    ends c.args.declared.now.tables c.requires.formed c.loop-type_.types c.loop-type_.number c.args.params c.loop-type_.invariant c.in-Some.type_
+    (sym c.type_of_number.ensures ∙ c.in-Some.is) (sym c.parts_of.ensures ∙ c.in-None.is) (sym c.is_end.ensures ∙ c.if-is_end.true)
+
+pub returns-in-None-clause-found : goal.returns-in-None-clause-found
+returns-in-None-clause-found c = λ ts h. absurd
+    (not_at_end c.args.declared.now.tables c.requires.formed c.loop-type_.types c.loop-type_.number c.args.params c.loop-type_.invariant c.in-Some.type_
+    (sym c.type_of_number.ensures ∙ c.in-Some.is) (sym c.parts_of.ensures ∙ c.in-None.is) (sym c.is_end.ensures ∙ c.if-is_end.false) ts h)
+
+pub returns-clause-found : goal.returns-clause-found
+returns-clause-found c = λ ts h. absurd
+    (no_number c.args.declared.now.tables c.requires.formed c.loop-type_.types c.loop-type_.number c.args.params c.loop-type_.invariant
+    (λ t e. none-some t (c.in_default.ensures ∙ e)) ts h)
