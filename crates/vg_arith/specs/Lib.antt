@@ -1,3 +1,4 @@
 pub mod Routines
 pub mod Shifts
 pub mod Product
+pub mod Division

@@ -4,3 +4,4 @@ pub mod Linear
 pub mod Steps
 pub mod Standing
 pub mod Smallest
+pub mod Edges

@@ -1,3 +1,4 @@
 pub mod Views
 pub mod Declares
 pub mod Promises
+pub mod Fitting

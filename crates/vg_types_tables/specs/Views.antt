@@ -94,7 +94,8 @@ module _ (texts : List (List ℕ)) (d : Declared) where
   head_view (OwnMethod at c m) =
       resolved.OwnMethod at (naming.class c) (naming.method m).name (params_view (slice_get d.tables.methods m)) (result_view (slice_get d.tables.methods m))
   head_view (ItsMethod m) =
-      resolved.ItsMethod (naming.method m).owner (naming.method m).name (params_view (slice_get d.tables.methods m)) (result_view (slice_get d.tables.methods m))
+      resolved.ItsMethod (naming.method m).owner (naming.method m).name (params_view (slice_get d.tables.methods m))
+      (result_view (slice_get d.tables.methods m))
 
   -- ---- code
 

@@ -2,11 +2,23 @@
 #![tactic(auto)]
 
 pub mod body;
+pub mod build;
 pub mod declared;
 pub mod judged;
+pub mod laws;
 pub mod locals;
+pub mod lookups;
+pub mod scope;
+pub mod types;
 
 pub use body::BodyKind;
+pub use build::{chain, row, three, two};
 pub use declared::{Declared, MemberNumber};
 pub use judged::{Aimed, Done, Head, Judged, Standing, Storing};
 pub use locals::{InScope, Locals};
+pub use lookups::{
+    class_member, class_of, component_member, component_of, is_below, is_device, literal_of,
+    number_of, register_of, type_of_number,
+};
+pub use scope::find_local;
+pub use types::fits;

@@ -1,4 +1,5 @@
 // Parameters and locals.
+use std::alloc::Global;
 use vg_base::{Name, Row};
 use vg_core::CoreType;
 
@@ -14,6 +15,8 @@ pub struct InScope {
 /// What is in scope, the newest last, and the types of all parameters and locals of the body so far, by their numbers.
 #[derive(Drop)]
 pub struct Locals {
+    /// What makes room for them.
+    pub alloc: Global,
     pub in_scope: Row<InScope>,
     pub declared: Row<CoreType>,
 }

@@ -1,0 +1,38 @@
+-- What is in scope, as lists.
+use Rattle.std.proofs.Common.{◌≡◌, ℕ, zero, suc, List, [], ◌∷◌, ◌++◌, length, Some, refl, sym, ap, ◌∙◌, subst, arith}
+use Rattle.std.specs.List.{slice_get, AllByRecursion}
+use Rattle.vg_core.specs.declared.types.CoreType.{CoreType}
+use Rattle.vg_core.specs.declared.program.Tables.{Tables}
+use Rattle.vg_types_tables.specs.declared.locals.InScope.{InScope}
+use Rattle.vg_types_tables.specs.declared.locals.Locals.{Locals}
+use Rattle.vg_types_tables.specs.Declares.{IsKnown}
+use Rattle.vg_types_tables.specs.Promises.{IsDeclared, AreDeclared}
+
+-- what stands at a number stands there in a longer list
+pub still_there : {A : Type 0} (xs ys : List A) (n : ℕ) (x : A) → slice_get xs n ≡ Some x → slice_get (xs ++ ys) n ≡ Some x
+still_there [] ys n x e = grind arith
+still_there (y ∷ xs) ys zero x e = e
+still_there (y ∷ xs) ys (suc n) x e = still_there xs ys n x e
+
+-- the one behind a list stands at its length
+behind : {A : Type 0} (xs : List A) (x : A) → slice_get (xs ++ x ∷ []) (length xs) ≡ Some x
+behind [] x = refl
+behind (y ∷ xs) x = behind xs x
+
+-- names in scope keep their types where more is declared
+pub still_declared : (p : Tables) (old new : Locals) (more : List CoreType) → new.declared ≡ old.declared ++ more → (ls : List InScope)
+    → AllByRecursion (IsDeclared p old) ls → AllByRecursion (IsDeclared p new) ls
+still_declared p old new more e [] h = h
+still_declared p old new more e (l ∷ ls) ((a, k), h) =
+    ((ap (λ ts. slice_get ts l.number) e ∙ still_there old.declared more l.number l.type_ a, k), still_declared p old new more e ls h)
+
+one_behind : {A : Type 0} (P : A → Type 0) (xs : List A) (x : A) → AllByRecursion P xs → P x → AllByRecursion P (xs ++ x ∷ [])
+one_behind P [] x h p = (p, tt)
+one_behind P (y ∷ xs) x (q, h) p = (q, one_behind P xs x h p)
+
+-- one more parameter or local
+pub one_more : (p : Tables) (old new : Locals) (l : InScope) → AreDeclared p old → IsKnown p l.type_ → l.number ≡ length old.declared
+    → new.in_scope ≡ old.in_scope ++ l ∷ [] → new.declared ≡ old.declared ++ l.type_ ∷ [] → AreDeclared p new
+one_more p old new l h k n e d = subst (AllByRecursion (IsDeclared p new)) (sym e)
+    (one_behind (IsDeclared p new) old.in_scope l (still_declared p old new (l.type_ ∷ []) d old.in_scope h)
+    (ap (slice_get new.declared) n ∙ ap (λ ts. slice_get ts (length old.declared)) d ∙ behind old.declared l.type_, k))
