@@ -1,3 +1,4 @@
+pub mod Entries
 pub mod Fitting
 pub mod Found
 pub mod OneClass
@@ -6,3 +7,4 @@ pub mod Rows
 pub mod SameType
 pub mod Scopes
 pub mod TypeViews
+pub mod WrittenTypes

@@ -2,3 +2,4 @@ pub mod Views
 pub mod Declares
 pub mod Promises
 pub mod Fitting
+pub mod Sizes

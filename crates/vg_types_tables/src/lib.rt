@@ -10,6 +10,7 @@ pub mod locals;
 pub mod lookups;
 pub mod scope;
 pub mod types;
+pub mod written_type;
 
 pub use body::BodyKind;
 pub use build::{chain, row, three, two};
@@ -22,3 +23,4 @@ pub use lookups::{
 };
 pub use scope::find_local;
 pub use types::fits;
+pub use written_type::{type_keeps, written};
