@@ -1,0 +1,13 @@
+//! The rules on what a class declares beside what it inherits, and on the entries of the program.
+#![tactic(auto)]
+
+mod broken;
+mod defaults;
+mod entered;
+mod overriding;
+mod pass;
+mod program;
+mod same;
+
+pub use pass::inherited;
+pub use program::{ProgramEntries, entries};
