@@ -5,3 +5,5 @@ mod Rules
 mod Inheriting
 mod Finding
 mod Keys
+mod Kept
+mod Dispatching

@@ -4,10 +4,12 @@
 mod broken;
 mod defaults;
 mod entered;
+mod laws;
 mod overriding;
 mod pass;
 mod program;
 mod same;
 
+pub use laws::overrides_kept;
 pub use pass::inherited;
 pub use program::{ProgramEntries, entries};
