@@ -285,3 +285,22 @@ leaves a b x y v hx hy ha hb e = (subst (λ z. 0 < z) (low_same y hy) is.0, sym 
         ap (λ z. low 4 (cast_unsigned w32 (int_rem z (signed 4 y)))) (signed_is a x hx ha)
         ∙ ap (λ z. low 4 (cast_unsigned w32 (int_rem (by_sign a x) z))) (signed_is b y hy hb)
         ∙ ap (λ z. low 4 (cast_unsigned w32 z)) (remainder_is a b x y hx hy) ∙ bits_of a n small
+
+-- ---- both see four bytes of their operands
+
+twice : (x : ℕ) → low 4 (low 4 x) ≡ low 4 x
+twice x = omega arith
+
+-- the signed number of these four bytes
+abbrev signed_low : ℕ → ℤ
+signed_low z = if nat_lt (2 * z) (2 ^ 32) then pos z else negsuc (2 ^ 32 - 1 - z)
+
+pub divide_low : (x y : ℕ) → computed Divide 4 (low 4 x) (low 4 y) ≡ computed Divide 4 x y
+divide_low x y =
+    ap (λ z. divided 4 (low 4 (low 4 y)) (int_wrapping_div w32 (signed_low z) (signed_low (low 4 (low 4 y))))) (twice x)
+    ∙ ap (λ z. divided 4 z (int_wrapping_div w32 (signed 4 x) (signed_low z))) (twice y)
+
+pub leave_low : (x y : ℕ) → computed Remainder 4 (low 4 x) (low 4 y) ≡ computed Remainder 4 x y
+leave_low x y =
+    ap (λ z. divided 4 (low 4 (low 4 y)) (int_rem (signed_low z) (signed_low (low 4 (low 4 y))))) (twice x)
+    ∙ ap (λ z. divided 4 z (int_rem (signed 4 x) (signed_low z))) (twice y)

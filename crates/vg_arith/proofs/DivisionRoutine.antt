@@ -19,9 +19,9 @@ use Rattle.vg_lin.specs.Follows.{Leads, conf}
 use Rattle.vg_lin.proofs.Followed.{leads_then, free}
 use Rattle.vg_arith.specs.Routines.{with_locals, Gives, IsRoutineOf}
 use Rattle.vg_arith.specs.Division.{divide, divide_step, of_dividend, of_divisor, of_result}
-use Rattle.vg_arith.proofs.ShiftRoutines.{some_is, fetch_of, low_same, low_low}
+use Rattle.vg_arith.proofs.ShiftRoutines.{some_is, fetch_of, low_same, low_low, gives_low}
 use Rattle.vg_arith.proofs.DivisionLaws.{Divides, divides_on, divides_fits, divides_first, divides_last, is_positive, magnitude, turned, with_sign, same}
-use Rattle.vg_arith.proofs.DivisionLaws.{turned_is, magnitude_small, magnitude_below, magnitude_some, negative_some, sign_test, divides, leaves}
+use Rattle.vg_arith.proofs.DivisionLaws.{turned_is, magnitude_small, magnitude_below, magnitude_some, negative_some, sign_test, divides, leaves, divide_low, leave_low}
 
 -- ---- the code
 
@@ -220,6 +220,9 @@ gives_leave x y v hx hy e p q has f fs ram w =
     subst (λ z. Back p q has f fs ram w z (begins p q has f fs ram w x y 1)) (h.1)
     (gives_remainder p q has f fs ram w (is_positive x) (is_positive y) x y hx hy (h.0) refl refl)
 
+small : (x : ℕ) → low 4 x < 2 ^ 32
+small x = omega arith
+
 -- a division at a width is the low bytes of that at four
 at_width : (w d v : ℕ) (z : ℤ) → IsWidth w → divided_by w d z ≡ Some v
     → (v4 : ℕ) × (low w v4 ≡ v) × (divided_by 4 d z ≡ Some v4)
@@ -227,13 +230,23 @@ at_width w zero v z hw e = absurd (grind arith)
 at_width w (suc d) v z hw e = (low 4 (cast_unsigned w32 z), low_low w (cast_unsigned w32 z) hw ∙ some_is _ v e, refl)
 
 pub divides_is : IsRoutineOf Divide divide
-divides_is w x y v hw hx hy e = given (at_width w (low 4 y) v (int_wrapping_div w32 (signed 4 x) (signed 4 y)) hw e)
+divides_is w x y v hw ha e = given (at_width w (low 4 y) v (int_wrapping_div w32 (signed 4 x) (signed 4 y)) hw e)
   where
     given : (v4 : ℕ) × (low w v4 ≡ v) × (computed Divide 4 x y ≡ Some v4) → (z : ℕ) × (low w z ≡ v) × Gives divide (x ∷ y ∷ 0 ∷ []) z
-    given (v4, l, g) = (v4, l, gives_divide x y v4 hx hy g)
+    given (v4, l, g) = (
+      v4,
+      l,
+      gives_low divide (1 ∷ 4 ∷ 1 ∷ []) (0 ∷ []) x y v4 refl (gives_divide (low 4 x) (low 4 y) v4 (small x) (small y)
+          (divide_low x y ∙ g)),
+    )
 
 pub leaves_is : IsRoutineOf Remainder divide
-leaves_is w x y v hw hx hy e = given (at_width w (low 4 y) v (int_rem (signed 4 x) (signed 4 y)) hw e)
+leaves_is w x y v hw ha e = given (at_width w (low 4 y) v (int_rem (signed 4 x) (signed 4 y)) hw e)
   where
     given : (v4 : ℕ) × (low w v4 ≡ v) × (computed Remainder 4 x y ≡ Some v4) → (z : ℕ) × (low w z ≡ v) × Gives divide (x ∷ y ∷ 1 ∷ []) z
-    given (v4, l, g) = (v4, l, gives_leave x y v4 hx hy g)
+    given (v4, l, g) = (
+      v4,
+      l,
+      gives_low divide (1 ∷ 4 ∷ 1 ∷ []) (1 ∷ []) x y v4 refl (gives_leave (low 4 x) (low 4 y) v4 (small x) (small y)
+          (leave_low x y ∙ g)),
+    )

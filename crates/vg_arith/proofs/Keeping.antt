@@ -1,4 +1,5 @@
--- That routines keep what every procedure of linear code keeps, by a test over their instructions.
+-- That routines keep what every procedure of linear code keeps. A test over their instructions says so, which computes; what it says of
+-- each instruction is proved once, by cases.
 use Rattle.std.specs.Prelude.{ℕ, zero, suc, ◌+◌, ◌<◌, ◌≤◌, Bool, true, false, not, ◌==◌, ◌&&◌, nat_lt, nat_le, List, [], ◌∷◌, length, Some, None, slice_get}
 use Rattle.std.specs.List.{AllByRecursion}
 use Rattle.std.proofs.Common.{◌≡◌, refl, sym, subst, arith}

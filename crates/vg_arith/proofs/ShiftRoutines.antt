@@ -1,4 +1,5 @@
--- That the routines of the shifts compute the shifts.
+-- That the routines of the shifts compute the shifts. Each stage takes one binary digit from the amount, by cases of a test; five stages
+-- leave nothing of an amount below 32. The laws of both shifts at all widths follow.
 use Rattle.std.specs.Prelude.{ℕ, zero, suc, ◌+◌, ◌-◌, ◌*◌, ◌/◌, ◌^◌, ◌<◌, ◌≤◌, Bool, true, false, nat_lt, List, [], ◌∷◌, Option, Some, None}
 use Rattle.std.specs.Prelude.{slice_get, if◌then◌else◌, bit_and}
 use Rattle.std.proofs.Common.{◌≡◌, refl, sym, ap, ◌∙◌, subst, arith}
@@ -18,7 +19,7 @@ use Rattle.vg_lin.specs.Values.{low, computed}
 use Rattle.vg_lin.specs.Sound.{IsWidth}
 use Rattle.vg_lin.specs.Program.{Procedure, Program}
 use Rattle.vg_lin.specs.State.{LocalState, State, using, sets}
-use Rattle.vg_lin.specs.Meaning.{resume, language, codes_in}
+use Rattle.vg_lin.specs.Meaning.{begun, resume, language, codes_in}
 use Rattle.vg_lin.specs.Steps.{Frame, Config, Goes, fetch, branched, went}
 use Rattle.vg_lin.specs.Follows.{Leads, conf}
 use Rattle.vg_lin.proofs.Followed.{leads_then, free}
@@ -259,8 +260,24 @@ low_of_if : (w a : ℕ) (t : Bool) → IsWidth w → low w (if t then a else 0) 
 low_of_if w a true h = refl
 low_of_if w a false h = by_width (λ w. low w 0 ≡ 0) w h refl refl refl refl
 
+-- a routine sees four bytes of its operands
+pub gives_low : (m : Procedure) (ws more : List ℕ) (x y z : ℕ) → m.widths ≡ 4 ∷ 4 ∷ ws → Gives m (low 4 x ∷ low 4 y ∷ more) z → Gives m (x ∷ y ∷ more) z
+gives_low m ws more x y z e g p q has f fs ram w =
+    subst (λ ls. (left : List LocalState) × Leads (language p) (codes_in p.procedures) 0 (conf q 0 (f ∷ fs) (with_locals ram ls) w)
+    (conf f.proc (suc f.pc) fs (resume f.awaits f.kept (with_locals ram left) z) w)) same (g p q has f fs ram w)
+  where
+    twice : (x : ℕ) → low 4 (low 4 x) ≡ low 4 x
+    twice x = omega arith
+
+    same : begun m.widths (low 4 x ∷ low 4 y ∷ more) ≡ begun m.widths (x ∷ y ∷ more)
+    same =
+        ap (λ v. begun v (low 4 x ∷ low 4 y ∷ more)) e
+        ∙ ap (λ v. record { width = 4; value = Some v } ∷ record { width = 4; value = Some (low 4 (low 4 y)) } ∷ begun ws more) (twice x)
+        ∙ ap (λ v. record { width = 4; value = Some (low 4 x) } ∷ record { width = 4; value = Some v } ∷ begun ws more) (twice y)
+        ∙ ap (λ v. begun v (x ∷ y ∷ more)) (sym e)
+
 pub shl_is : IsRoutineOf ShiftLeft shl
-shl_is w x y v hw hx hy e = (_, low_is, routine_of ShiftLeft w x y (λ m. low 4 (low w x * 2 ^ m)) hw hy start (λ m. small (low w x * 2 ^ m)) law)
+shl_is w x y v hw hy e = (_, low_is, routine_of ShiftLeft w x y (λ m. low 4 (low w x * 2 ^ m)) hw hy start (λ m. small (low w x * 2 ^ m)) law)
   where
     start : low w x ≡ low 4 (low w x * 2 ^ 0)
     start = sym (low_in_four w x hw) ∙ ap (low 4) (omega arith)
@@ -287,7 +304,7 @@ shl_is w x y v hw hx hy e = (_, low_is, routine_of ShiftLeft w x y (λ m. low 4 
         ∙ both_tests w y (low w (low 4 (low w x * 2 ^ y))) (low w (x * 2 ^ y)) hw (λ h. same) (λ h g. same ∙ none h) ∙ some_is _ v e
 
 pub shr_is : IsRoutineOf ShiftRight shr
-shr_is w x y v hw hx hy e = (_, low_is, routine_of ShiftRight w x y (λ m. low w x / 2 ^ m) hw hy start small law)
+shr_is w x y v hw hy e = (_, low_is, routine_of ShiftRight w x y (λ m. low w x / 2 ^ m) hw hy start small law)
   where
     start : low w x ≡ low w x / 2 ^ 0
     start = omega arith

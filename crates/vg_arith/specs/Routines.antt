@@ -36,12 +36,17 @@ others ShiftLeft w = (256 ^ w - 1) ∷ []
 others ShiftRight w = (256 ^ w - 1) ∷ []
 others op w = []
 
--- The procedure is the routine of the operator: for all numbers of four bytes, the low bytes of what it gives, so many as the width
--- says, are what the operator computes.
+-- An amount of a shift has four bytes.
+abbrev pub IsAmount : Operator → ℕ → Type 0
+IsAmount ShiftLeft y = y < 2 ^ 32
+IsAmount ShiftRight y = y < 2 ^ 32
+IsAmount op y = Unit {0}
+
+-- The procedure is the routine of the operator: for all numbers, the low bytes of what it gives, so many as the width says, are what
+-- the operator computes.
 abbrev pub IsRoutineOf : Operator → Procedure → Type 0
 IsRoutineOf op m =
-    (w x y v : ℕ) → IsWidth w → x < 2 ^ 32 → y < 2 ^ 32 → computed op w x y ≡ Some v
-    → (z : ℕ) × (low w z ≡ v) × Gives m (x ∷ y ∷ others op w) z
+    (w x y v : ℕ) → IsWidth w → IsAmount op y → computed op w x y ≡ Some v → (z : ℕ) × (low w z ≡ v) × Gives m (x ∷ y ∷ others op w) z
 
 -- No instruction leads back, where the first of these stands at a place.
 abbrev pub leads_on : (at : ℕ) → Instr → Bool

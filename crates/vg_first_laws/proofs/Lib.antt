@@ -1,6 +1,10 @@
 mod Runs
 mod Names
-pub mod Depth
-pub mod Parts
 pub mod Spelled
-pub mod Texts
+mod Nodes
+mod Parts
+mod Depth
+mod Texts
+mod Placed
+mod Legal
+pub mod Means

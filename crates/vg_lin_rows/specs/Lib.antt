@@ -5,3 +5,4 @@ pub mod Steps
 pub mod Standing
 pub mod Smallest
 pub mod Edges
+pub mod Arithmetic

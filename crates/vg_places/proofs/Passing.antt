@@ -6,8 +6,8 @@ use Rattle.vg_syntax.specs.Tree.{Spot, Node, Nothing}
 use Rattle.vg_syntax.specs.Outline.{outline}
 use Rattle.vg_tree.specs.declared.node.Node as held
 use Rattle.vg_tree.specs.Held.{node_at, arm_at, row_at, arm_row}
-use Rattle.vg_tree.specs.Walks.{bulk}
-use Rattle.vg_tree.proofs.Passing.{left_of, arm_joins}
+use Rattle.vg_tree_walks.specs.Walks.{bulk}
+use Rattle.vg_tree_walks.proofs.Passing.{left_of, arm_joins}
 use Rattle.vg_places.specs.declared.places.Search.{Search}
 use Rattle.vg_places.specs.Places.{all, spots}
 use Rattle.vg_places.specs.Search.{after_one, after}

@@ -3,7 +3,9 @@ use Rattle.std.specs.Prelude.{ℕ, Bool, true, false, ◌-◌, ◌==◌, List, [
 use Rattle.vg_base.specs.declared.place.Place.{Place}
 use Rattle.vg_syntax.specs.Tree.{Spot, Node}
 use Rattle.vg_tree.specs.declared.node.Node as held
+use Rattle.vg_syntax.specs.Outline.{outline}
 use Rattle.vg_tree.specs.Held.{node_at}
+use Rattle.vg_tree_walks.specs.Walks.{bulk}
 use Rattle.vg_places.specs.declared.places.Search.{Search}
 use Rattle.vg_places.specs.Places.{spots}
 
@@ -20,6 +22,11 @@ after s (at ∷ rest) = after (after_one s s.found at.place) rest
 abbrev pub kid_spots : List (List ℕ) → Option held.Node → List Spot
 kid_spots texts None = []
 kid_spots texts (Some n) = spots (node_at texts n)
+
+-- how much there is to walk below a child, where there is one
+abbrev pub kid_bulk : Option held.Node → ℕ
+kid_bulk None = 0
+kid_bulk (Some n) = bulk (outline (node_at [] n))
 
 -- a row of nodes or of pairs
 abbrev pub is_row_node : held.Node → Bool

@@ -4,10 +4,9 @@ ghost use Rattle.std.specs.Option.{option_map};
 ghost use Rattle.vg_syntax.specs.Reads.{spot};
 ghost use Rattle.vg_tree.specs.Held.{node_at};
 ghost use Rattle.vg_places.specs.Places.{all, spots};
-ghost use Rattle.vg_places.specs.Search.{kid_spots, is_row_node};
+ghost use Rattle.vg_places.specs.Search.{kid_spots, kid_bulk, is_row_node};
 ghost use Rattle.vg_syntax.specs.Outline.{outline};
-ghost use Rattle.vg_tree.specs.Children.{kid_outline};
-ghost use Rattle.vg_tree.specs.Walks.{bulk};
+ghost use Rattle.vg_tree_walks.specs.Walks.{bulk};
 
 use vg_base::Place;
 use vg_tree::Node;
@@ -27,8 +26,8 @@ pub(crate) fn parts_of(node: &Node) -> Option<Parts<'_>>
     ensures spots { IfSome result (λ p. (texts : List (List ℕ)) → spots (node_at texts node.now)
         ≡ spot p.place ∷ all (kid_spots texts (option_map (λ kid. kid.now) p.first) ∷ kid_spots texts (option_map (λ kid. kid.now) p.second)
         ∷ kid_spots texts (option_map (λ kid. kid.now) p.third) ∷ kid_spots texts (option_map (λ kid. kid.now) p.fourth) ∷ [])) }
-    ensures less { IfSome result (λ p. bulk (kid_outline (option_map (λ kid. kid.now) p.first)) + bulk (kid_outline (option_map (λ kid. kid.now) p.second))
-        + bulk (kid_outline (option_map (λ kid. kid.now) p.third)) + bulk (kid_outline (option_map (λ kid. kid.now) p.fourth))
+    ensures less { IfSome result (λ p. kid_bulk (option_map (λ kid. kid.now) p.first) + kid_bulk (option_map (λ kid. kid.now) p.second)
+        + kid_bulk (option_map (λ kid. kid.now) p.third) + kid_bulk (option_map (λ kid. kid.now) p.fourth)
         < bulk (outline (node_at [] node.now))) }
     ensures none { IfNone result (is_row_node node.now ≡ false → (texts : List (List ℕ)) → spots (node_at texts node.now) ≡ []) }
 {

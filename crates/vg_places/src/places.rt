@@ -2,13 +2,15 @@
 ghost use Rattle.std.specs.Prelude.{◌≡◌, false, ◌-◌, ℕ, List};
 ghost use Rattle.std.specs.Option.{option_map};
 ghost use Rattle.vg_syntax.specs.Tree.{Nothing};
-ghost use Rattle.vg_tree.specs.Held.{node_at, arm_at, tree_at};
+ghost use Rattle.vg_tree.specs.Held.{node_at, arm_at};
+ghost use Rattle.vg_tree_walks.specs.Whole.{tree_at};
 ghost use Rattle.vg_places.specs.Places.{place_at, spots};
 ghost use Rattle.vg_places.specs.Search.{after, after_one, kid_spots, is_row_node};
 
 use crate::parts::parts_of;
 use vg_base::{NodeId, Place};
-use vg_tree::{Node, Tree};
+use vg_tree::Node;
+use vg_tree_walks::Tree;
 
 /// How far a search has come.
 #[derive(Clone, Copy, Debug, PartialEq, Eq)]

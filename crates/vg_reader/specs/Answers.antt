@@ -4,8 +4,8 @@ use Rattle.vg_base.specs.declared.refusal.Refusal.{Refusal}
 use Rattle.vg_base.specs.declared.refusal.Refusal.TheVariants.{Fault, NoMemory}
 use Rattle.vg_syntax.specs.Faults.{IsText, NoTreeIn, TooDeepIn}
 use Rattle.vg_syntax.specs.Reads.{Reads}
-use Rattle.vg_tree.specs.declared.tree.Tree.{Tree}
-use Rattle.vg_tree.specs.Held.{tree_at}
+use Rattle.vg_tree_walks.specs.declared.tree.Tree.{Tree}
+use Rattle.vg_tree_walks.specs.Whole.{tree_at}
 use Rattle.vg_reader.specs.declared.fault.ReadFault.{ReadFault}
 use Rattle.vg_reader.specs.declared.fault.ReadFault.TheVariants as fault
 

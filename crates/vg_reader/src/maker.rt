@@ -21,12 +21,12 @@ use vg_read_expressions::primary::primary;
 use vg_read_expressions::suffixes::{postfix, suffixes};
 use vg_read_new::fresh::{new_level, new_levels, new_of_name, new_part};
 use vg_read_statements::statements::{block, else_arm, else_part, header, simple, statement};
+use vg_read_types::types::{
+    atom, dimensions, more_types, other_atom, plain, result_type, type_of, types,
+};
 use vg_syntax::{Kind, Part};
 use vg_tree::made::{Made, Value};
 use vg_tree::rows::{behind_sign, enclosed, more_rowed, optional, rowed};
-use vg_tree::types::{
-    atom, dimensions, more_types, other_atom, plain, result_type, type_of, types,
-};
 
 /// The value of a token: its place, its kind, and the name of its text.
 pub fn leaf(kind: Kind, place: Place, text: Name) -> Value

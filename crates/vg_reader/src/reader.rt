@@ -2,8 +2,7 @@
 ghost use Rattle.std.specs.Prelude.{◌≡◌, ◌≤◌, ◌<◌, ◌^◌, ◌+◌, ℕ, List, [], ◌∷◌, IfOk, length, map};
 ghost use Rattle.vg_base.specs.Limits.{text_limit};
 ghost use Rattle.vg_syntax.specs.Reads.{tree_in};
-ghost use Rattle.vg_tree.specs.Held.{tree_at};
-ghost use Rattle.vg_tree.specs.Lookups.{node_count};
+ghost use Rattle.vg_tree_walks.specs.Whole.{tree_at, node_count};
 ghost use Rattle.vg_tree.specs.HeldMade.{value_at};
 ghost use Rattle.vg_reader.specs.Answers.{ReadsAs};
 ghost use Rattle.vg_reader.specs.Grown.{Grown};
@@ -14,7 +13,8 @@ use crate::fault::ReadFault;
 use std::alloc::Global;
 use vg_base::{Names, Refusal};
 use vg_tree::contents::node_in;
-use vg_tree::{Node, Tree, Value};
+use vg_tree::{Node, Value};
+use vg_tree_walks::Tree;
 
 /// The tree of a text of at most 262,144 bytes, or where the bytes cease to be a text of the language with at most 64 open brackets at each place.
 ///

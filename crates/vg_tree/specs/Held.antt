@@ -9,8 +9,6 @@ use Rattle.vg_syntax.specs.Tree.{Block, Local, If, While, For, Return, Break, Co
 use Rattle.vg_syntax.specs.Tree.{Name, NewObject, NewArray, Unary, Chain, Part, TypePart, Postfix, Member, Index, Call}
 use Rattle.vg_syntax.specs.Made.{arrays}
 use Rattle.vg_syntax.specs.Reads.{spot}
-use Rattle.vg_syntax.specs.Numbering.{numbered}
-use Rattle.vg_tree.specs.declared.tree.Tree.{Tree}
 
 -- the text of a name, where it has one
 abbrev pub text_or_none : Option (List ℕ) → List ℕ
@@ -116,7 +114,3 @@ row_at texts (n ∷ ns) = Then (node_at texts n) (row_at texts ns)
 abbrev pub arm_row : List (List ℕ) → List held.Node → Node
 arm_row texts [] = Nothing
 arm_row texts (n ∷ ns) = arm_at texts n (arm_row texts ns)
-
--- the whole tree, its nodes numbered
-abbrev pub tree_at : List (List ℕ) → Tree → Node
-tree_at texts tree = numbered 0 (node_at texts tree.root)

@@ -1,10 +1,4 @@
 // Nodes.
-ghost use Rattle.std.specs.Prelude.{◌≡◌, true, [], length, map};
-ghost use Rattle.std.specs.Option.{option_map};
-ghost use Rattle.vg_syntax.specs.Outline.{Inner, outline};
-ghost use Rattle.vg_tree.specs.Held.{node_at};
-ghost use Rattle.vg_tree.specs.Children.{has_number, weight_of, kids_outline};
-
 use crate::type_tree::{Param, TypeTree};
 use vg_base::{Name, Place};
 use vg_syntax::Kind;
@@ -119,59 +113,6 @@ impl Drop for Node {
             Node::Member(_, _) => {}
             Node::Index(_, _) => {}
             Node::Call(_, _) => {}
-        }
-    }
-}
-
-impl Node {
-    /// The children of a node, in order of the text. A row, a pair and a leaf have none.
-    pub fn children(&self) -> [Option<&Node>; 4]
-        ensures four { length result ≡ 4 }
-        ensures outline { has_number self.now ≡ true → outline (node_at [] self.now)
-            ≡ Inner 0 (weight_of self.now) (kids_outline (map (option_map (λ kid. kid.now)) result)) }
-    {
-        match self {
-            Node::Text(_, a) => [Some(a), None, None, None],
-            Node::ClassDecl(_, _, _, a) => [Some(a), None, None, None],
-            Node::ComponentDecl(_, _, a) => [Some(a), None, None, None],
-            Node::DeviceDecl(_, _, a) => [Some(a), None, None, None],
-            Node::ProgramDecl(_, _, a) => [Some(a), None, None, None],
-            Node::FieldDecl(_, _, _, a) => [Some(a), None, None, None],
-            Node::MethodDecl(_, _, _, _, a) => [Some(a), None, None, None],
-            Node::ConstructorDecl(_, _, _, a, b) => [Some(a), Some(b), None, None],
-            Node::Block(_, a) => [Some(a), None, None, None],
-            Node::Local(_, _, _, a) => [Some(a), None, None, None],
-            Node::If(_, a, b) => [Some(a), Some(b), None, None],
-            Node::While(_, a, b) => [Some(a), Some(b), None, None],
-            Node::For(_, a, b, c, d) => [Some(a), Some(b), Some(c), Some(d)],
-            Node::Return(_, a) => [Some(a), None, None, None],
-            Node::Assign(_, a, b) => [Some(a), Some(b), None, None],
-            Node::Eval(_, a) => [Some(a), None, None, None],
-            Node::NewObject(_, _, a) => [Some(a), None, None, None],
-            Node::NewArray(_, _, a) => [Some(a), None, None, None],
-            Node::Unary(_, _, a) => [Some(a), None, None, None],
-            Node::Chain(_, a, b) => [Some(a), Some(b), None, None],
-            Node::Part(_, _, a) => [Some(a), None, None, None],
-            Node::Postfix(_, a, b) => [Some(a), Some(b), None, None],
-            Node::Index(_, a) => [Some(a), None, None, None],
-            Node::Call(_, a) => [Some(a), None, None, None],
-            Node::Nothing | Node::Row(_) | Node::Arms(_) | Node::Pair(_, _) => {
-                [None, None, None, None]
-            }
-            Node::RegisterDecl(_, _, _)
-            | Node::EntryDecl(_, _, _, _)
-            | Node::Break(_)
-            | Node::Continue(_)
-            | Node::Number(_, _)
-            | Node::CharLiteral(_, _)
-            | Node::StringLiteral(_, _)
-            | Node::True(_)
-            | Node::False(_)
-            | Node::Null(_)
-            | Node::This(_)
-            | Node::Name(_, _)
-            | Node::TypePart(_, _, _)
-            | Node::Member(_, _) => [None, None, None, None],
         }
     }
 }

@@ -2,11 +2,12 @@
 ghost use Rattle.std.specs.Prelude.{◌≡◌, ◌+◌, ℕ, List, [], IfSome};
 ghost use Rattle.vg_syntax.specs.Numbering.{count_nodes};
 ghost use Rattle.vg_syntax.specs.Tree.{Text};
-ghost use Rattle.vg_tree.specs.Held.{node_at, row_at, tree_at};
-ghost use Rattle.vg_tree.specs.Lookups.{node_count};
+ghost use Rattle.vg_tree.specs.Held.{node_at, row_at};
+ghost use Rattle.vg_tree_walks.specs.Whole.{tree_at, node_count};
 ghost use Rattle.vg_types_classes.specs.Classes.{declarations_in, text_spot};
 
-use vg_tree::{Node, Tree};
+use vg_tree::Node;
+use vg_tree_walks::Tree;
 
 /// The declarations of a text. A tree that no text has may have none.
 pub fn declared_nodes(tree: &Tree) -> Option<&[Node]>

@@ -1,5 +1,6 @@
 -- How far the parts of a node are measured.
-use Rattle.std.proofs.Common.{◌≡◌, ℕ, zero, suc, ◌+◌, ◌≤◌, ◌<◌, max, List, [], ◌∷◌, Option, Some, None, length, map, drop, get_or, option_map, refl}
+-- `Measuring` is the invariant of each loop over nodes: with what is left, as much is measured as of all; `Joins` splits what is left at its first.
+use Rattle.std.proofs.Common.{◌≡◌, ℕ, zero, suc, ◌+◌, ◌≤◌, ◌<◌, max, List, [], ◌∷◌, Option, Some, None, length, map, drop, get_or, option_map, refl, true}
 use Rattle.std.proofs.Common.{sym, ap, ◌∙◌, subst, arith}
 use Rattle.std.proofs.Math.Nat.{max-zero, zero-max}
 use Rattle.vg_syntax.specs.Tree.{Node, Nothing}
@@ -8,10 +9,11 @@ use Rattle.vg_syntax.specs.Numbering.{count_nodes}
 use Rattle.vg_rules.specs.Counts.{levels}
 use Rattle.vg_tree.specs.declared.node.Node as held
 use Rattle.vg_tree.specs.Held.{node_at, arm_at, arm_row, row_at}
-use Rattle.vg_tree.specs.Walks.{bulk}
-use Rattle.vg_tree.proofs.Passing.{left_at}
+use Rattle.vg_tree_walks.specs.Walks.{bulk}
+use Rattle.vg_tree_walks.proofs.Passing.{left_at}
 use Rattle.vg_types_counts.specs.declared.extent.Extent.{Extent}
-use Rattle.vg_types_counts.specs.Extents.{locals_in, measured, empty, beside, around, kid_at, kids_at, IsExtent}
+use Rattle.vg_tree_walks.specs.Children.{children_of, kid_at, kids_at, has_number}
+use Rattle.vg_types_counts.specs.Extents.{locals_in, own_local, measured, empty, beside, around, IsExtent}
 
 -- with the rest, as much is measured as of all
 pub record Measuring (all rest : List (List ℕ) → Node) (here : Extent) : Type 0 where
@@ -123,3 +125,11 @@ kids_done now items i here h m texts =
 pub node_measured : (a kids : Node) (own w : ℕ)
     → outline a ≡ Inner 0 w (outline kids) → locals_in a ≡ own + locals_in kids → around own (measured kids) ≡ measured a
 node_measured a kids own w o l = same _ _ _ _ _ _ (sym (ap size o)) (sym l) (sym (ap levels o))
+
+pub locals_of : (texts : List (List ℕ)) (n : held.Node) → has_number n ≡ true
+    → locals_in (node_at texts n) ≡ own_local n + locals_in (kids_at texts (children_of n))
+locals_of texts held.Nothing e = absurd cc
+locals_of texts (held.Row' shape all) e = absurd cc
+locals_of texts (held.Arms' shape all) e = absurd cc
+locals_of texts (held.Pair' p c q b) e = absurd cc
+locals_of texts _ e = omega arith

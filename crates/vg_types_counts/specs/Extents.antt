@@ -1,11 +1,10 @@
 -- Mirrors: what the code measures of a part of a tree. No clause of a public function cites them.
-use Rattle.std.specs.Prelude.{ℕ, suc, ◌+◌, ◌≤◌, max, List, [], ◌∷◌, Option, Some, None}
-use Rattle.vg_syntax.specs.Tree.{Node, Nothing, Then, Arm, Text, ClassDecl, ComponentDecl, DeviceDecl, ProgramDecl, FieldDecl, MethodDecl, ConstructorDecl}
+use Rattle.std.specs.Prelude.{ℕ, suc, ◌+◌, ◌≤◌, max}
+use Rattle.vg_syntax.specs.Tree.{Node, Then, Arm, Text, ClassDecl, ComponentDecl, DeviceDecl, ProgramDecl, FieldDecl, MethodDecl, ConstructorDecl}
 use Rattle.vg_syntax.specs.Tree.{Block, Local, If, While, For, Return, Assign, Eval, NewObject, NewArray, Unary, Chain, Part, Postfix, Index, Call}
 use Rattle.vg_syntax.specs.Numbering.{count_nodes}
 use Rattle.vg_rules.specs.Counts.{height}
 use Rattle.vg_tree.specs.declared.node.Node as held
-use Rattle.vg_tree.specs.Held.{node_at}
 use Rattle.vg_types_counts.specs.declared.extent.Extent.{Extent}
 
 -- the locals that are declared at and below a node, or in a row
@@ -42,17 +41,6 @@ locals_in _ = 0
 abbrev pub own_local : held.Node → ℕ
 own_local (held.Local' place name type p e) = 1
 own_local _ = 0
-
--- a child, where there is one
-abbrev pub kid_at : List (List ℕ) → Option held.Node → Node
-kid_at texts None = Nothing
-kid_at texts (Some n) = node_at texts n
-
--- children as a row
-abbrev pub kids_at : List (List ℕ) → List (Option held.Node) → Node
-kids_at texts [] = Nothing
-kids_at texts (None ∷ kids) = kids_at texts kids
-kids_at texts (Some n ∷ kids) = Then (node_at texts n) (kids_at texts kids)
 
 -- what is measured of a node or a row
 abbrev pub measured : Node → Extent

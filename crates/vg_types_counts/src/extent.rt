@@ -4,11 +4,11 @@ ghost use Rattle.std.specs.Option.{option_map};
 ghost use Rattle.vg_syntax.specs.Numbering.{count_nodes};
 ghost use Rattle.vg_syntax.specs.Tree.{Nothing};
 ghost use Rattle.vg_tree.specs.Held.{node_at, arm_at};
-ghost use Rattle.vg_tree.specs.Children.{has_number};
-ghost use Rattle.vg_types_counts.specs.Extents.{measured, empty, beside, around, own_local, kid_at, IsExtent};
+ghost use Rattle.vg_tree_walks.specs.Children.{has_number, kid_at};
+ghost use Rattle.vg_types_counts.specs.Extents.{measured, empty, beside, around, own_local, IsExtent};
 
-use crate::children::children;
 use vg_tree::Node;
+use vg_tree_walks::children::children;
 
 /// What is measured of a node and all below it.
 #[derive(Clone, Copy, Debug, PartialEq, Eq)]

@@ -1,7 +1,6 @@
 //! What the tree of a text has too many of, before any rule is asked.
 #![tactic(auto)]
 
-mod children;
 mod extent;
 mod refused;
 mod tally;

@@ -2,8 +2,8 @@
 ghost use Rattle.std.specs.Prelude.{◌≡◌, ◌<◌, ◌+◌, ◌^◌, ℕ, List, [], IfSome, is_some};
 ghost use Rattle.std.specs.Option.{option_map};
 ghost use Rattle.vg_syntax.specs.Numbering.{count_nodes, numbered};
-ghost use Rattle.vg_tree.specs.Held.{node_at, tree_at};
-ghost use Rattle.vg_tree.specs.Lookups.{node_count};
+ghost use Rattle.vg_tree.specs.Held.{node_at};
+ghost use Rattle.vg_tree_walks.specs.Whole.{tree_at, node_count};
 ghost use Rattle.vg_rules.specs.Limits.{limit_of};
 ghost use Rattle.vg_rules.specs.Refusal.{too_many, too_many_at};
 ghost use Rattle.vg_source.specs.Declared.{or_else};
@@ -14,7 +14,8 @@ ghost use Rattle.vg_types_counts.specs.Tallies.{is_text};
 use crate::tally::{Tally, first_tally, tally_declarations};
 use vg_base::NodeId;
 use vg_rules::what::What;
-use vg_tree::{Node, Tree};
+use vg_tree::Node;
+use vg_tree_walks::Tree;
 
 /// The classes and components that a text may have.
 pub const CLASS_LIMIT: u32 = 200;

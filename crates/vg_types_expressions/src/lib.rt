@@ -3,6 +3,7 @@
 
 mod aimed;
 mod argued;
+mod settled;
 mod whole;
 
 pub use aimed::target;

@@ -1,5 +1,5 @@
 -- Where the rules on what is inherited are kept, a class has under the name of a method of a class above it a method of the same types.
--- The rules are read off for one class (`class_kept`) and for one member of it (`field_kept`, `method_kept`); `types_kept` goes down the chain from the
+-- The rules are read off for one class (`class_kept`) and for one member of it (`member_keeps`); `types_kept` goes down the chain from the
 -- class that declares the method: each class between has none of this name, or one of the same types.
 use Rattle.std.proofs.Common.{◌≡◌, ℕ, zero, suc, ◌≤◌, ◌&&◌, ◌||◌, Bool, true, false, [], Option, Some, None, bytes_eq, if◌then◌else◌, refl, sym, ap}
 use Rattle.std.proofs.Common.{◌∙◌, subst, arith}

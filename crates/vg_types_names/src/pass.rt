@@ -1,8 +1,8 @@
 // The pass over the names of declarations.
 ghost use Rattle.std.specs.Prelude.{◌≡◌, ◌<◌, ◌+◌, ◌^◌, []};
 ghost use Rattle.vg_syntax.specs.Numbering.{count_nodes, numbered};
-ghost use Rattle.vg_tree.specs.Held.{row_at, tree_at};
-ghost use Rattle.vg_tree.specs.Lookups.{node_count};
+ghost use Rattle.vg_tree.specs.Held.{row_at};
+ghost use Rattle.vg_tree_walks.specs.Whole.{tree_at, node_count};
 ghost use Rattle.vg_base.specs.declared.refusal.Refusal.TheVariants.{Fault};
 ghost use Rattle.vg_types_views.specs.Judges.{Judges};
 ghost use Rattle.vg_types_names.specs.Declarations.{IsMapOf, names_part};
@@ -13,7 +13,8 @@ use crate::declaration::{
 };
 use std::alloc::Global;
 use vg_base::{Names, NodeId, Refusal};
-use vg_tree::{Node, Tree};
+use vg_tree::Node;
+use vg_tree_walks::Tree;
 use vg_types_counts::count_nodes;
 use vg_types_views::{Broken, ByText, text_of};
 

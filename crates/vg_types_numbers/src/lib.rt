@@ -3,4 +3,4 @@
 
 mod number;
 
-pub use number::{are_digits, is_hexadecimal, number_of};
+pub use number::{are_digits, digit_value, is_hexadecimal, number_of};

@@ -55,8 +55,8 @@ fn decimal(digits: &[u8]) -> u32
     value
 }
 
-// The value of a digit.
-fn digit_value(digit: u8) -> u32
+/// The value of a decimal or hexadecimal digit.
+pub fn digit_value(digit: u8) -> u32
     ensures { result ≡ digit_value digit }
 {
     let value = if digit.is_ascii_digit() {

@@ -1,5 +1,5 @@
 -- What the types of the tables stand for, by their parts.
-use Rattle.std.proofs.Common.{◌≡◌, ◌<◌, ◌≤◌, ℕ, List, [], ◌∷◌, length, get_or, Some, refl, sym, ap, ◌∙◌, arith}
+use Rattle.std.proofs.Common.{◌≡◌, ◌<◌, ◌≤◌, ℕ, List, [], ◌∷◌, length, get_or, Some, sym, ap, ◌∙◌, arith}
 use Rattle.std.specs.List.{slice_get}
 use Rattle.std.proofs.lemmas.Option.{slice_get_within, slice_get-get_or}
 use Rattle.vg_source.specs.Types as source
@@ -55,11 +55,13 @@ module _ (texts : List (List ℕ)) (d : Declared) (f : IsFormed d.tables) where
 
   pub function_view : (i j : ℕ) (t u : CoreType) → slice_get d.tables.types i ≡ Some t → slice_get d.tables.types j ≡ Some u
       → type_view texts d (FunctionType i j) ≡ source.FunctionType (type_view texts d t) (type_view texts d u)
-  function_view i j t u e g = ap (λ x. source.FunctionType x (number j)) (number_view i t e) ∙ ap (source.FunctionType (type_view texts d t)) (number_view j u g)
+  function_view i j t u e g =
+      ap (λ x. source.FunctionType x (number j)) (number_view i t e) ∙ ap (source.FunctionType (type_view texts d t)) (number_view j u g)
 
   pub more_view : (i j : ℕ) (t u : CoreType) → slice_get d.tables.types i ≡ Some t → slice_get d.tables.types j ≡ Some u
       → type_view texts d (MoreTypes i j) ≡ source.MoreTypes (type_view texts d t) (type_view texts d u)
-  more_view i j t u e g = ap (λ x. source.MoreTypes x (number j)) (number_view i t e) ∙ ap (source.MoreTypes (type_view texts d t)) (number_view j u g)
+  more_view i j t u e g =
+      ap (λ x. source.MoreTypes x (number j)) (number_view i t e) ∙ ap (source.MoreTypes (type_view texts d t)) (number_view j u g)
 
   -- the number of a row stands for the row
   pub row_number : (ts : List CoreType) (i : ℕ) → IsRow d.tables ts i → number i ≡ row_view texts d ts

@@ -1,5 +1,5 @@
 -- What fits among the types of the tables fits among those that they stand for.
-use Rattle.std.proofs.Common.{◌≡◌, Bool, true, false, List, ℕ, Decides, refl, sym, ap, ◌∙◌, subst}
+use Rattle.std.proofs.Common.{◌≡◌, Bool, true, false, List, ℕ, Decides, refl, sym, subst}
 use Rattle.vg_tree.specs.declared.node.Node as held_node
 use Rattle.vg_core.specs.declared.types.CoreType.{CoreType}
 use Rattle.vg_core.specs.declared.types.CoreType.TheVariants.{NullType, ClassType, ArrayType, FunctionType, NoType}

@@ -1,5 +1,5 @@
 -- Places of things in lists.
-use Rattle.std.proofs.Common.{◌≡◌, ◌<◌, ℕ, suc, ◌==◌, Bool, true, List, [], ◌∷◌, ◌++◌, length, Option, Some, Decides}
+use Rattle.std.proofs.Common.{◌≡◌, ◌<◌, ℕ, suc, ◌==◌, Bool, true, List, [], ◌∷◌, ◌++◌, length, Some, Decides}
 use Rattle.std.proofs.Common.{refl, sym, ap, ◌∙◌, subst, arith, get_or, flat_map, rules}
 use Rattle.std.specs.List.{slice_get, position, position_or_len}
 use Rattle.std.proofs.lemmas.Option.{slice_get-get_or}

@@ -1,9 +1,9 @@
 -- Rows and chains of code as lists.
-use Rattle.std.proofs.Common.{◌≡◌, List, [], ◌∷◌, Vec, Global, refl, ap, ◌∙◌}
+use Rattle.std.proofs.Common.{◌≡◌, Vec, Global, refl, ap, ◌∙◌}
 use Rattle.vg_meaning.specs.Code.{Then}
 use Rattle.vg_core.specs.declared.code.Code as held
 use Rattle.vg_core.specs.declared.code.Code.TheViews as views
-use Rattle.vg_core.specs.HeldProgram.{code_of, row_of, chain_of, before, code_row, code_chain, and_chain}
+use Rattle.vg_core.specs.HeldProgram.{code_of, row_of, chain_of, code_row, code_chain}
 
 row_in_order : (n : _) (k : held.Row_of-Code n) → row_of k ≡ code_row (held.items-the_row-Code n k)
 row_in_order _ held.end_of-Code = refl

@@ -1,11 +1,12 @@
 -- The test of types for sameness says whether they are one.
 use Rattle.std.proofs.Common.{◌≡◌, Bool, true, false, ◌&&◌, refl, ap, ◌∙◌, arith}
+use Rattle.std.proofs.lemmas.Bool.{false≢true}
 use Rattle.std.proofs.lemmas.Slice.Eq.{bytes_eq-Decides}
 use Rattle.vg_source.specs.Types.{StaticType, IntType, BoolType, CharType, RawType, NullType, ClassType, ArrayType, FunctionType, NoType, MoreTypes}
 use Rattle.vg_rules.specs.Fits.{same_type}
 
 pub false_true : {X : Type 0} → false ≡ true → X
-false_true e = absurd (let clash : false ≡ true = e in cc)
+false_true e = absurd (false≢true e)
 
 both : (a b : Bool) → (a && b) ≡ true → (a ≡ true) × (b ≡ true)
 both true b e = (refl, e)

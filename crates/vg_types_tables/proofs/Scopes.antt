@@ -1,5 +1,5 @@
 -- What is in scope, as lists.
-use Rattle.std.proofs.Common.{◌≡◌, ℕ, zero, suc, List, [], ◌∷◌, ◌++◌, length, Some, refl, sym, ap, ◌∙◌, subst, arith}
+use Rattle.std.proofs.Common.{◌≡◌, List, [], ◌∷◌, ◌++◌, length, sym, ap, ◌∙◌, subst}
 use Rattle.std.specs.List.{slice_get, AllByRecursion}
 use Rattle.vg_core.specs.declared.types.CoreType.{CoreType}
 use Rattle.vg_core.specs.declared.program.Tables.{Tables}
@@ -7,17 +7,7 @@ use Rattle.vg_types_tables.specs.declared.locals.InScope.{InScope}
 use Rattle.vg_types_tables.specs.declared.locals.Locals.{Locals}
 use Rattle.vg_types_tables.specs.Declares.{IsKnown}
 use Rattle.vg_types_tables.specs.Promises.{IsDeclared, AreDeclared}
-
--- what stands at a number stands there in a longer list
-pub still_there : {A : Type 0} (xs ys : List A) (n : ℕ) (x : A) → slice_get xs n ≡ Some x → slice_get (xs ++ ys) n ≡ Some x
-still_there [] ys n x e = grind arith
-still_there (y ∷ xs) ys zero x e = e
-still_there (y ∷ xs) ys (suc n) x e = still_there xs ys n x e
-
--- the one behind a list stands at its length
-behind : {A : Type 0} (xs : List A) (x : A) → slice_get (xs ++ x ∷ []) (length xs) ≡ Some x
-behind [] x = refl
-behind (y ∷ xs) x = behind xs x
+use Rattle.vg_types_tables.proofs.Lists.{still_there, behind}
 
 -- names in scope keep their types where more is declared
 pub still_declared : (p : Tables) (old new : Locals) (more : List CoreType) → new.declared ≡ old.declared ++ more → (ls : List InScope)
@@ -35,4 +25,4 @@ pub one_more : (p : Tables) (old new : Locals) (l : InScope) → AreDeclared p o
     → new.in_scope ≡ old.in_scope ++ l ∷ [] → new.declared ≡ old.declared ++ l.type_ ∷ [] → AreDeclared p new
 one_more p old new l h k n e d = subst (AllByRecursion (IsDeclared p new)) (sym e)
     (one_behind (IsDeclared p new) old.in_scope l (still_declared p old new (l.type_ ∷ []) d old.in_scope h)
-    (ap (slice_get new.declared) n ∙ ap (λ ts. slice_get ts (length old.declared)) d ∙ behind old.declared l.type_, k))
+    (ap (λ ts. slice_get ts l.number) d ∙ behind old.declared l.type_ l.number n, k))

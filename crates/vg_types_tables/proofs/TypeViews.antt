@@ -1,9 +1,9 @@
 -- What a type of the tables stands for is made of what its parts stand for. The types are named from the front, each by those before
 -- it: what is named stays, and a type names the same by all types as by those before it, since its parts have lower numbers.
-use Rattle.std.proofs.Common.{◌≡◌, ◌<◌, ◌≤◌, ℕ, zero, suc, ◌+◌, List, [], ◌∷◌, ◌++◌, length, Option, Some, None}
-use Rattle.std.proofs.Common.{refl, sym, ap, ◌∙◌, subst, arith, length-append}
+use Rattle.std.proofs.Common.{◌≡◌, ◌<◌, ℕ, zero, suc, ◌+◌, List, [], ◌∷◌, ◌++◌, length, Some}
+use Rattle.std.proofs.Common.{refl, sym, ap, ◌∙◌, arith, length-append}
 use Rattle.std.specs.List.{slice_get}
-use Rattle.std.proofs.lemmas.Option.{slice_get_within}
+use Rattle.std.proofs.lemmas.Option.{same_Some, none-some}
 use Rattle.vg_source.specs.Types as source
 use Rattle.vg_source.specs.Types.{StaticType}
 use Rattle.vg_core.specs.declared.types.CoreType.{CoreType}
@@ -12,23 +12,7 @@ use Rattle.vg_core.specs.declared.types.CoreType.TheVariants.{ArrayType, Functio
 use Rattle.vg_core.specs.declared.program.Tables.{Tables}
 use Rattle.vg_core.specs.Naming.{Naming, found_type, named_number, named_type_in, named_types, named_type}
 use Rattle.vg_types_tables.specs.Declares.{IsMadeBelow, IsFormed}
-
--- what stands at a number stands there in a longer list
-front : {A : Type 0} (xs ys : List A) (k : ℕ) → k < length xs → slice_get (xs ++ ys) k ≡ slice_get xs k
-front [] ys k h = absurd (omega (arith, h))
-front (x ∷ xs) ys zero h = refl
-front (x ∷ xs) ys (suc k) h = front xs ys k (omega (arith, h))
-
-behind : {A : Type 0} (xs : List A) (x : A) (k : ℕ) → k ≡ length xs → slice_get (xs ++ x ∷ []) k ≡ Some x
-behind [] x k e = ap (slice_get (x ∷ [])) e
-behind (y ∷ xs) x zero e = absurd (omega (arith, e))
-behind (y ∷ xs) x (suc k) e = behind xs x k (omega (arith, e))
-
-the_same : {A : Type 0} (a b : A) → Some a ≡ Some b → a ≡ b
-the_same a b e = cc
-
-none_some : {A : Type 0} {X : Type 0} (a : A) → None ≡ Some a → X
-none_some a e = absurd (let clash : None ≡ Some a = e in cc)
+use Rattle.vg_types_tables.proofs.Lists.{front, behind}
 
 -- two lists of named types are the same below a number
 abbrev Agree : (a b : List StaticType) → ℕ → Type 0
@@ -66,12 +50,12 @@ module _ (p : Tables) (n : Naming) where
   -- the type of a number, by all types
   pub entry : (ts : List CoreType) (done : List StaticType) (i k : ℕ) (t : CoreType) → k ≡ length done + i → slice_get ts i ≡ Some t → IsMadeBelow p k t
       → slice_get (named_types n done ts) k ≡ Some (named_type_in n (named_types n done ts) t)
-  entry [] done i k t at e l = none_some t e
+  entry [] done i k t at e l = absurd (none-some t e)
   entry (u ∷ ts) done zero k t at e l =
       let all = named_types n done (u ∷ ts) in
       let here : k ≡ length done = omega (arith, at) in
       stays ts (next done u) k (omega (arith, longer done u, at)) ∙ behind done (named_type_in n done u) k here
-      ∙ ap (λ x. Some (named_type_in n done x)) (the_same u t e)
+      ∙ ap (λ x. Some (named_type_in n done x)) (same_Some u t e)
       ∙ ap Some (alike p n done all k (λ j h. sym (stays (u ∷ ts) done j (omega (arith, h, here)))) t l)
   entry (u ∷ ts) done (suc i) k t at e l = entry ts (next done u) i k t (omega (arith, longer done u, at)) e l
 

@@ -1,9 +1,10 @@
--- Types as they are written: their sizes, their array levels, and rows of them.
-use Rattle.std.proofs.Common.{◌≡◌, ◌<◌, ◌≤◌, ◌+◌, ◌-◌, ◌&&◌, nat_le, ℕ, zero, suc, Bool, true, false, List, [], ◌∷◌, length, get_or, drop, Vec, Box, Global}
+-- Types as they are written: their sizes, their array levels, and rows of them. A row in memory is a list, by induction along it. So
+-- many array levels add to those of the type below them; where there are at most four in all, each level by itself keeps rule 8.
+use Rattle.std.proofs.Common.{◌≡◌, ◌<◌, ◌≤◌, ◌+◌, ◌-◌, ◌&&◌, nat_le, ℕ, zero, suc, Bool, true, false, List, [], ◌∷◌, length, get_or, Vec, Box, Global}
 use Rattle.std.proofs.Common.{refl, sym, ap, ◌∙◌, arith}
 use Rattle.vg_tree.specs.declared.type_tree.TypeTree as held
 use Rattle.vg_tree.specs.declared.type_tree.TypeTree.TheViews as views
-use Rattle.vg_syntax.specs.Tree.{Node, TypeTree, RawType, ClassType, ArrayType, FunctionType, MoreTypes}
+use Rattle.vg_syntax.specs.Tree.{Node, TypeTree, ArrayType}
 use Rattle.vg_syntax.specs.Made.{arrays}
 use Rattle.vg_tree.specs.Held.{type_at, type_row}
 use Rattle.vg_tree.proofs.TypeLists.{type_of_row}

@@ -1,8 +1,7 @@
 -- When the tables are those of a text.
-use Rattle.std.specs.Prelude.{◌≡◌, ◌↔◌, ◌<◌, true, ℕ, List, [], ◌∷◌, length, slice_get, Option, Some, None, is_some}
+use Rattle.std.specs.Prelude.{◌≡◌, ◌↔◌, ◌<◌, true, ℕ, List, [], ◌∷◌, slice_get, Option, Some, None, is_some}
 use Rattle.std.specs.List.{AllByRecursion}
 use Rattle.std.specs.Option.{option_and_then}
-use Rattle.vg_syntax.specs.Tree.{Node}
 use Rattle.vg_syntax.specs.Classes.{class_named}
 use Rattle.vg_tree.specs.declared.node.Node as held_node
 use Rattle.vg_source.specs.Names.{Name}

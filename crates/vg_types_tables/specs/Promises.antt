@@ -1,5 +1,5 @@
 -- What the functions over bodies promise, beside the first breach.
-use Rattle.std.specs.Prelude.{◌≡◌, ℕ, Bool, List, [], ◌∷◌, slice_get, Option, Some, None}
+use Rattle.std.specs.Prelude.{◌≡◌, ℕ, List, [], ◌∷◌, slice_get, Option, Some, None}
 use Rattle.std.specs.List.{AllByRecursion}
 use Rattle.vg_meaning.specs.Code.{Code}
 use Rattle.vg_meaning.specs.Shapes.{Fits}
@@ -21,7 +21,7 @@ use Rattle.vg_types_tables.specs.declared.locals.InScope.{InScope}
 use Rattle.vg_types_tables.specs.declared.locals.Locals.{Locals}
 use Rattle.vg_types_tables.specs.declared.body.BodyKind.{BodyKind}
 use Rattle.vg_types_tables.specs.declared.judged.Head.{Head}
-use Rattle.vg_types_tables.specs.declared.judged.Head.TheVariants.{Nothing, Value, Component, Device, OwnMethod, ItsMethod}
+use Rattle.vg_types_tables.specs.declared.judged.Head.TheVariants.{Nothing, Value, Component, OwnMethod, ItsMethod}
 use Rattle.vg_types_tables.specs.declared.judged.Judged.{Judged}
 use Rattle.vg_types_tables.specs.declared.judged.Standing.{Standing}
 use Rattle.vg_types_tables.specs.declared.judged.Storing.{Storing}

@@ -3,6 +3,7 @@
 
 pub mod body;
 pub mod build;
+pub mod code_laws;
 pub mod declared;
 pub mod judged;
 pub mod laws;

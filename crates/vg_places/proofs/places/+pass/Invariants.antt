@@ -3,8 +3,8 @@ use Rattle.std.specs.Option.{option_map}
 use Rattle.vg_syntax.specs.Tree.{Nothing}
 use Rattle.vg_syntax.specs.Outline.{outline}
 use Rattle.vg_tree.specs.Held.{node_at, row_at, arm_at, arm_row}
-use Rattle.vg_tree.specs.Children.{kid_outline}
-use Rattle.vg_tree.specs.Walks.{bulk}
+use Rattle.vg_tree_walks.specs.Walks.{bulk}
+use Rattle.vg_places.specs.Search.{kid_bulk}
 use Rattle.vg_places.proofs.Passing.{Passing}
 use Rattle.vg_places.proofs.places.+pass.Given as goal
 
@@ -21,7 +21,7 @@ abbrev pub decreases-pass_inner : goal.decreases-pass_inner
 decreases-pass_inner l = 3 * bulk (outline (node_at [] l.node.now)) + 1
 
 abbrev pub decreases-pass_child : goal.decreases-pass_child
-decreases-pass_child l = 3 * bulk (kid_outline (option_map (λ kid. kid.now) l.child)) + 3
+decreases-pass_child l = 3 * kid_bulk (option_map (λ kid. kid.now) l.child) + 3
 
 abbrev pub decreases-pass_arm : goal.decreases-pass_arm
 decreases-pass_arm l = 3 * bulk (outline (arm_at [] l.node.now Nothing))

@@ -2,8 +2,9 @@ use Rattle.std.proofs.Common.{◌≡◌, [], sym, ap, ◌∙◌, subst, arith}
 use Rattle.vg_syntax.specs.Outline.{size}
 use Rattle.vg_syntax.specs.Reads.{Reads, tree_in}
 use Rattle.vg_syntax.proofs.Numbering.{count_numbered}
-use Rattle.vg_tree.specs.Held.{node_at, tree_at}
-use Rattle.vg_tree.proofs.Alike.{alike}
+use Rattle.vg_tree.specs.Held.{node_at}
+use Rattle.vg_tree_walks.specs.Whole.{tree_at}
+use Rattle.vg_tree_walks.proofs.Alike.{alike}
 use Rattle.vg_reader.specs.Derivation.{tree_of}
 use Rattle.vg_texts.proofs.Counts.{few_nodes}
 use Rattle.vg_reader.proofs.Named.{grown_none, grown_twice, held_one, text_found}

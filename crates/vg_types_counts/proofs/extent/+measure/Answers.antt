@@ -2,13 +2,14 @@ use Rattle.std.proofs.Common.{[], ◌+◌, ◌<◌, ◌≤◌, drop, map, get_or
 use Rattle.std.specs.Option.{option_map}
 use Rattle.vg_syntax.specs.Outline.{size}
 use Rattle.vg_tree.specs.Held.{node_at, arm_row}
-use Rattle.vg_tree.specs.Walks.{bulk}
-use Rattle.vg_tree.proofs.Passing.{left_of}
+use Rattle.vg_tree_walks.specs.Walks.{bulk}
+use Rattle.vg_tree_walks.proofs.Passing.{left_of}
 use Rattle.vg_tree.proofs.RowLists.{row_same}
 use Rattle.vg_tree.proofs.ArmLists.{arms_same}
-use Rattle.vg_types_counts.specs.Extents.{around}
+use Rattle.vg_tree_walks.specs.Children.{kids_at}
+use Rattle.vg_types_counts.specs.Extents.{own_local, locals_in, around}
 use Rattle.vg_types_counts.proofs.Measuring.{Measuring, measuring_starts, measuring_on, front_nodes, arm_joins, kid_joins, kids_left, kid_fits}
-use Rattle.vg_types_counts.proofs.Measuring.{kids_done, node_measured}
+use Rattle.vg_types_counts.proofs.Measuring.{kids_done, node_measured, locals_of}
 use Rattle.vg_types_counts.proofs.extent.+measure.Goals as goal
 
 pub inner_extent-kid_extent-requires : goal.inner_extent-kid_extent-requires
@@ -54,7 +55,9 @@ inner_extent-returns-clause-measured t c texts =
     c.around.ensures.measured ∙ ap (λ own. around own c.children.all) c.own_local.ensures
     ∙ ap (around _) (kids_done (λ kid. kid.now) c.children-child-items.result c.children.child-index c.children.all
     (subst (λ n. n ≤ c.children.child-index) (sym c.children-child-items.ensures.four) c.children-test.false) c.children.invariant texts)
-    ∙ node_measured _ _ _ _ (c.children-child-items.ensures.outline c.requires.numbered texts) (c.children-child-items.ensures.locals c.requires.numbered texts)
+    ∙ node_measured _ _ _ _ (c.children-child-items.ensures.outline c.requires.numbered texts)
+    (locals_of texts c.args.node.now c.requires.numbered
+    ∙ ap (λ kids. own_local c.args.node.now + locals_in (kids_at texts kids)) (sym c.children-child-items.ensures.all))
 
 pub measure-row-init : goal.measure-row-init
 measure-row-init t c =

@@ -3,8 +3,8 @@ use Rattle.std.specs.Option.{option_map}
 use Rattle.vg_syntax.specs.Tree.{Nothing}
 use Rattle.vg_syntax.specs.Outline.{outline}
 use Rattle.vg_tree.specs.Held.{node_at, row_at, arm_at, arm_row}
-use Rattle.vg_tree.specs.Walks.{bulk}
-use Rattle.vg_types_counts.specs.Extents.{kid_at, kids_at}
+use Rattle.vg_tree_walks.specs.Walks.{bulk}
+use Rattle.vg_tree_walks.specs.Children.{kid_at, kids_at}
 use Rattle.vg_types_counts.proofs.Measuring.{Measuring}
 use Rattle.vg_types_counts.proofs.extent.+measure.Given as goal
 

@@ -1,6 +1,7 @@
 use Rattle.std.proofs.Common.{sym, ap, ◌∙◌}
 use Rattle.vg_syntax.specs.Tree.{Nothing}
-use Rattle.vg_tree.specs.Held.{node_at, tree_at}
+use Rattle.vg_tree.specs.Held.{node_at}
+use Rattle.vg_tree_walks.specs.Whole.{tree_at}
 use Rattle.vg_types_counts.specs.Answer.{answer}
 use Rattle.vg_types_counts.specs.Tallies.{tally_declarations}
 use Rattle.vg_types_counts.proofs.Counting.{text_counted, no_text}

@@ -1,6 +1,6 @@
 use Rattle.std.proofs.Common.{true, drop, ◌+◌, if◌then◌else◌, sym, ap, ◌∙◌}
 use Rattle.std.proofs.lemmas.List.{at_drop_all}
-use Rattle.vg_tree.proofs.Passing.{left_of}
+use Rattle.vg_tree_walks.proofs.Passing.{left_of}
 use Rattle.vg_types_inherited.proofs.Made.{any_made, made_among}
 use Rattle.vg_types_inherited.proofs.defaults.has_constructor.Goals as goal
 

@@ -1,7 +1,7 @@
 use Rattle.std.proofs.Common.{◌+◌, [], sym, ap, subst}
 use Rattle.vg_syntax.specs.Numbering.{count_nodes, numbered}
 use Rattle.vg_tree.specs.Held.{row_at}
-use Rattle.vg_tree.proofs.Passing.{left_of}
+use Rattle.vg_tree_walks.proofs.Passing.{left_of}
 use Rattle.vg_types_tables.specs.Views.{declarations_at}
 use Rattle.vg_types_inherited.proofs.Keys.{Entering, entry_done}
 use Rattle.vg_types_inherited.proofs.program.entries_in.Goals as goal

@@ -1,5 +1,5 @@
 use Rattle.std.proofs.Common.{◌+◌, sym, ap, subst}
-use Rattle.vg_tree.proofs.Passing.{left_of}
+use Rattle.vg_tree_walks.proofs.Passing.{left_of}
 use Rattle.vg_types_inherited.proofs.Finding.{Finding, finding_on, program_found, program_within}
 use Rattle.vg_types_inherited.proofs.program.program_in.Goals as goal
 

@@ -1,6 +1,6 @@
 use Rattle.std.proofs.Common.{sym, subst, ap, ◌∙◌, ◌+◌, not, is_some}
 use Rattle.vg_tree.specs.Held.{text_at}
-use Rattle.vg_tree.proofs.Passing.{left_of}
+use Rattle.vg_tree_walks.proofs.Passing.{left_of}
 use Rattle.vg_types_views.specs.ByText.{found, added}
 use Rattle.vg_types_names.proofs.Passing.{Passing, named_once}
 use Rattle.vg_types_names.proofs.pass.named_in.Goals as goal

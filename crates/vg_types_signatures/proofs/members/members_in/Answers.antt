@@ -1,5 +1,5 @@
 use Rattle.std.proofs.Common.{sym, subst, ap, ◌+◌}
-use Rattle.vg_tree.proofs.Passing.{left_of}
+use Rattle.vg_tree_walks.proofs.Passing.{left_of}
 use Rattle.vg_types_classes.specs.Classes.{declarations_in}
 use Rattle.vg_types_signatures.specs.Asked.{home_view}
 use Rattle.vg_types_signatures.proofs.Membering.{Membering, member_kept, member_broken}

@@ -1,6 +1,6 @@
 use Rattle.std.proofs.Common.{sym, subst, ap, ◌∙◌, ◌+◌}
 use Rattle.vg_types_views.specs.ByText.{added}
-use Rattle.vg_tree.proofs.Passing.{left_of}
+use Rattle.vg_tree_walks.proofs.Passing.{left_of}
 use Rattle.vg_types_signatures.proofs.Registering.{Registering, kept_is, register_kept, register_broken}
 use Rattle.vg_types_signatures.proofs.registers.registers_in.Goals as goal
 

@@ -1,4 +1,4 @@
-use Rattle.std.proofs.Common.{ap, ◌∙◌, nat_le, ◌-◌, sym}
+use Rattle.std.proofs.Common.{ap, ◌∙◌, nat_le, ◌-◌}
 use Rattle.vg_tree.specs.Held.{type_at}
 use Rattle.vg_rules.specs.Written.{levels}
 use Rattle.vg_types_tables.proofs.WrittenTypes.{levels_within, levels_beyond, no_levels_within}

@@ -1,4 +1,4 @@
-use Rattle.std.proofs.Common.{ap, sym, ◌∙◌}
+use Rattle.std.proofs.Common.{ap, sym}
 use Rattle.vg_source.specs.Types as source
 use Rattle.vg_types_tables.proofs.written_type.class_type.Goals as goal
 

@@ -1,0 +1,3 @@
+pub mod Expansion
+pub mod Runs
+pub mod Code

@@ -1,6 +1,0 @@
-use Rattle.std.proofs.Common.{drop}
-use Rattle.vg_tree.proofs.Classes.{Seeking}
-use Rattle.vg_tree.proofs.class.class_in.Given as goal
-
-abbrev pub invariant-loop-declaration : goal.invariant-loop-declaration
-invariant-loop-declaration l = Seeking l.name l.fn.declarations (drop l.declaration-index l.row) l.next

@@ -1,0 +1,5 @@
+pub mod Whole
+pub mod Lookups
+pub mod Children
+pub mod Walks
+pub mod Classes
