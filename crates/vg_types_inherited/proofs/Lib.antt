@@ -1,0 +1,9 @@
+mod Tests
+mod Finds
+mod Made
+mod Rules
+mod Inheriting
+mod Finding
+mod Keys
+mod Kept
+mod Dispatching
