@@ -1,0 +1,6 @@
+//! That the tables of a text find by name what the text declares.
+#![tactic(auto)]
+
+mod laws;
+
+pub use laws::heads_agree;
