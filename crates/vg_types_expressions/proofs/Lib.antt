@@ -1,3 +1,5 @@
-pub mod Rows
+pub mod RowRests
 pub mod Linking
 pub mod Settling
+pub mod Sorts
+pub mod Wholes

@@ -1,3 +1,5 @@
+pub mod Nodes
 pub mod Arguments
 pub mod Settled
 pub mod Links
+pub mod Judged

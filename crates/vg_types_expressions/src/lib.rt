@@ -3,6 +3,8 @@
 
 mod aimed;
 mod argued;
+mod indexed;
+mod rows;
 mod settled;
 mod whole;
 
