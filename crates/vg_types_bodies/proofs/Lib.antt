@@ -1,0 +1,3 @@
+pub mod InScope
+pub mod Others
+pub mod Signatures

@@ -1,0 +1,10 @@
+//! The rules on the bodies of members: the typed bodies of the program, or the first breach in them.
+#![tactic(auto)]
+
+mod method;
+mod parameters;
+mod running;
+
+pub use method::method_body;
+pub use parameters::with_parameters;
+pub use running::run_body;
