@@ -30,7 +30,8 @@ module _ (at : ℕ) (b : Block) (t : Truth) (before : List Open) (e : before ≡
   loop_laid (Refused why) mn body next code s ba na c d e1 e2 hb ec nc hn ed nd hc hs = absurd hb
   loop_laid (Gives x s1) (Refused why) body next code s ba na c d e1 e2 hb ec nc hn ed nd hc hs = absurd hn
   loop_laid (Gives x s1) (Gives y s2) body next code s ba na c d e1 e2 hb ec nc hn ed nd hc hs =
-      subst (λ z. IsPiece (record { code = code; homes = s }) at (if z then (if is_empty s2 then Gives (Repeat b t x y) empty else Refused NotTaken) else Refused NotTaken))
+      subst (λ z. IsPiece (record { code = code; homes = s }) at (if z then (if is_empty s2 then Gives
+      (Repeat b t x y) empty else Refused NotTaken) else Refused NotTaken))
       (sym (sym (ap is_empty hb.1) ∙ sym ec ∙ nc))
       (subst (λ z. IsPiece (record { code = code; homes = s }) at (if z then Gives (Repeat b t x y) empty else Refused NotTaken))
       (sym (sym (ap is_empty hn.1) ∙ sym ed ∙ nd)) (placed x y body.code next.code code ba na e1 e2 hb.0 hn.0 hc, hs))

@@ -81,3 +81,9 @@ open_code (Choice t a b) at =
 open_code (Repeat before t body next) at =
     loop_code t at (open_code before at) (open_code body (at + length (open_code before at) + 1))
     (open_code next (at + length (open_code before at) + 1 + length (open_code body (at + length (open_code before at) + 1))))
+
+-- An instruction whose jumps out of a loop go to these places.
+abbrev pub set_in : (behind again : ℕ) → Open → Instr
+set_in x y (Set i) = i
+set_in x y Break = Jump x
+set_in x y Continue = Jump y

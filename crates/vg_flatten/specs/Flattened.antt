@@ -16,7 +16,7 @@ use Rattle.vg_flatten.specs.Shapes.{Shape, empty, is_empty}
 use Rattle.vg_flatten.specs.Blocks.{Block, Skip, One, GiveBack, Both, open_code}
 use Rattle.vg_flatten.specs.Flat.{Gives, flat}
 use Rattle.vg_flatten.specs.Fitting.{CallsFit}
-use Rattle.vg_flatten.specs.Standing.{set_in}
+use Rattle.vg_flatten.specs.Blocks.{set_in}
 
 -- So many locals from one on get the value 0.
 abbrev pub zeroes : (count from : ℕ) → Block
@@ -57,7 +57,8 @@ pub record IsFit (m : FirmProcedure) : Type 0 where
 
 -- The program of linear code is the packed one, flattened, with a start behind its procedures.
 pub record AreFlat (k : Codes) (f : FirmProgram) (params : List ℕ) (p : Program) : Type 0 where
-  pub flats : (q : ℕ) (m : FirmProcedure) → slice_get f.procedures q ≡ Some m → (lp : Procedure) × (slice_get p.procedures q ≡ Some lp) × IsFit m × IsFlat params m lp
+  pub flats : (q : ℕ) (m : FirmProcedure) → slice_get f.procedures q ≡ Some m
+      → (lp : Procedure) × (slice_get p.procedures q ≡ Some lp) × IsFit m × IsFlat params m lp
   pub known : (q n : ℕ) → slice_get params q ≡ Some n → (m : FirmProcedure) × (slice_get f.procedures q ≡ Some m) × (m.params ≡ n)
   pub handler : (vector : ℕ) → p.handler vector ≡ f.handler vector
   pub start : slice_get p.procedures p.start ≡ Some (start_of f.main)

@@ -10,7 +10,7 @@ use Rattle.vg_flatten.specs.Blocks.{Block, open_code, choice_code}
 use Rattle.vg_flatten.specs.declared.open.Truth.{Truth}
 use Rattle.vg_flatten.specs.Shapes.{Shape, same_homes, is_empty}
 use Rattle.vg_flatten.specs.Fitting.{AllSet}
-use Rattle.vg_flatten.specs.Standing.{set_in}
+use Rattle.vg_flatten.specs.Blocks.{set_in}
 use Rattle.vg_flatten.specs.Flattened.{whole}
 use Rattle.vg_firm.specs.Program.{Procedure as FirmProcedure}
 use Rattle.vg_lin.specs.declared.instr.Instr.{Instr}

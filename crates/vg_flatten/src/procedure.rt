@@ -5,7 +5,7 @@ ghost use Rattle.vg_firm.specs.Held.{procedure_of, code_of};
 ghost use Rattle.vg_lin.specs.Sound.{IsWidth};
 ghost use Rattle.vg_flatten.specs.Blocks.{Block, open_code};
 ghost use Rattle.vg_flatten.specs.Flattened.{IsFlat, zero_list, whole, start_of};
-ghost use Rattle.vg_flatten.specs.Standing.{set_in};
+ghost use Rattle.vg_flatten.specs.Blocks.{set_in};
 ghost use Rattle.vg_flatten.specs.Laying.{Seals, Wholes};
 ghost use Rattle.vg_flatten.specs.Fitting.{OpenFits, AllFit};
 ghost use Rattle.vg_flatten.specs.Flat.{flat};

@@ -38,7 +38,10 @@ repeated_parts-returns t c =
     let n2 = c.len-2.ensures in
     loop_laid c.args.at b c.args.truth c.args.before e (flat c.args.room (code_of c.args.body.now) empty) (flat c.args.room (code_of c.args.next.now) empty)
     c.in_ok-body.body c.in_ok-next.next c.in_ok-code.code c.new-3.result c.in_ok-body_at.body_at c.in_ok-next_at.next_at
-    c.is_empty.result c.is_empty-2.result (omega (arith, e1, e2, n)) (omega (arith, e3, n2)) (subst (λ z. IsPiece c.in_ok-body.body c.in_ok-body_at.body_at (flat c.args.room (code_of c.args.body.now) z)) c.new.ensures c.in_ok-body.ensures) c.is_empty.ensures
-    c.if-not-is_empty.false (subst (λ z. IsPiece c.in_ok-next.next c.in_ok-next_at.next_at (flat c.args.room (code_of c.args.next.now) z)) c.new-2.ensures c.in_ok-next.ensures) c.is_empty-2.ensures c.if-not-is_empty-2.false
+    c.is_empty.result c.is_empty-2.result (omega (arith, e1, e2, n)) (omega (arith, e3, n2)) (subst
+    (λ z. IsPiece c.in_ok-body.body c.in_ok-body_at.body_at (flat c.args.room
+    (code_of c.args.body.now) z)) c.new.ensures c.in_ok-body.ensures) c.is_empty.ensures
+    c.if-not-is_empty.false (subst (λ z. IsPiece c.in_ok-next.next c.in_ok-next_at.next_at (flat c.args.room
+    (code_of c.args.next.now) z)) c.new-2.ensures c.in_ok-next.ensures) c.is_empty-2.ensures c.if-not-is_empty-2.false
     (c.in_ok-code.ensures ∙ ap (λ z. loop_code c.args.truth c.args.at c.args.before z c.as_slice-2.result.now) c.as_slice.ensures
     ∙ ap (λ z. loop_code c.args.truth c.args.at c.args.before c.in_ok-body.body.code z) c.as_slice-2.ensures) c.new-3.ensures

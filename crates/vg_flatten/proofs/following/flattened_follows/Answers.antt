@@ -1,4 +1,4 @@
-use Rattle.vg_flatten.specs.RunRight.{follows}
+use Rattle.vg_flatten.proofs.RunRight.{follows}
 use Rattle.vg_flatten.proofs.following.flattened_follows.Goals as goal
 
 pub returns : goal.returns

@@ -1,5 +1,5 @@
 use Rattle.std.proofs.Common.{◌+◌, ◌-◌, ◌++◌, [], ◌∷◌, replicate, ◌≡◌, subst, sym}
-use Rattle.vg_flatten.specs.Finished.{wide_on}
+use Rattle.vg_flatten.proofs.Finished.{wide_on}
 use Rattle.vg_flatten.proofs.procedure.all_widths.Goals as goal
 
 pub loop-temp-preserved : goal.loop-temp-preserved

@@ -2,9 +2,9 @@ use Rattle.std.proofs.Common.{arith, length, map, ◌++◌, ◌≡◌, replicate
 use Rattle.vg_firm.specs.Held.{procedure_of}
 use Rattle.vg_flatten.specs.declared.shape.Room.{Room}
 use Rattle.vg_flatten.specs.Fitting.{AllFit, AllSet}
-use Rattle.vg_flatten.specs.Standing.{set_in}
+use Rattle.vg_flatten.specs.Blocks.{set_in}
 use Rattle.vg_flatten.specs.Flattened.{IsFlat}
-use Rattle.vg_flatten.specs.Finished.{procedure_sound, procedure_flat}
+use Rattle.vg_flatten.proofs.Finished.{procedure_sound, procedure_flat}
 use Rattle.vg_flatten.proofs.procedure.flatten.Goals as goal
 
 pub new-requires : goal.new-requires
@@ -23,7 +23,8 @@ returns c =
     record {
       flat =
           subst (IsFlat c.args.params.now (procedure_of c.args.procedure.now)) (sym c.new.ensures)
-          (procedure_flat (procedure_of c.args.procedure.now) (record { locals = c.len-count.result; temps = c.temps_beside-temps.result }) c.args.params.now n few
+          (procedure_flat (procedure_of c.args.procedure.now) (record { locals = c.len-count.result; temps = c.temps_beside-temps.result })
+          c.args.params.now n few
           c.requires.params c.requires.widths c.in_ok-code.code c.in_ok-instrs.instrs c.in_ok-widths.widths c.in_ok-code.ensures
           (c.in_ok-instrs.ensures.0 ∙ ap (map (set_in 0 0)) c.as_slice-2.ensures) (subst AllSet c.as_slice-2.ensures c.in_ok-instrs.ensures.1)
           (c.in_ok-widths.ensures ∙ ap (λ z. z ++ replicate c.temps_beside-temps.result 4) c.as_slice-3.ensures)

@@ -1,5 +1,5 @@
 use Rattle.std.proofs.Common.{arith}
-use Rattle.vg_flatten.specs.Starting.{start_as}
+use Rattle.vg_flatten.proofs.Starting.{start_as}
 use Rattle.vg_flatten.proofs.procedure.start.Goals as goal
 
 pub new-requires-2 : goal.new-requires-2

@@ -4,7 +4,7 @@ use Rattle.vg_flatten.specs.Shapes.{empty}
 use Rattle.vg_flatten.specs.Flat.{flat}
 use Rattle.vg_flatten.specs.Flattened.{zero_list}
 use Rattle.vg_flatten.specs.Laying.{IsPiece}
-use Rattle.vg_flatten.specs.Finished.{whole_laid}
+use Rattle.vg_flatten.proofs.Finished.{whole_laid}
 use Rattle.vg_flatten.proofs.procedure.whole_code.Goals as goal
 
 pub returns : goal.returns

@@ -1,6 +1,6 @@
 use Rattle.std.proofs.Common.{◌++◌, ◌+◌, ◌-◌, ◌≡◌, subst, sym}
 use Rattle.vg_flatten.specs.Flattened.{zero_list}
-use Rattle.vg_flatten.specs.Finished.{zero_on}
+use Rattle.vg_flatten.proofs.Finished.{zero_on}
 use Rattle.vg_flatten.proofs.procedure.zeroes.Goals as goal
 
 pub loop-local-preserved : goal.loop-local-preserved

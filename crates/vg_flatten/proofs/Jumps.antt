@@ -84,7 +84,8 @@ module _ (high : ℕ) where
         within_branch t (at + length xs) e (let ne : e ≢ at + length xs = omega arith in ne, omega (arith, h, n1, n2, n3, n4)),
         within_both (map (closed e n) ys) (zs ++ (Set (Jump at) ∷ [])) (suc (at + length xs))
             (within_at (map (closed e n) ys) u (suc (at + length xs)) (omega arith)
-            (within_closed e n ys u (omega arith) (omega arith) (omega (arith, h, n1, n2, n3, n4)) (omega (arith, h, n1, n2, n3, n4)) (within body u (omega (arith, h, n1, n2, n3, n4)))))
+            (within_closed e n ys u (omega arith) (omega arith) (omega (arith, h, n1, n2, n3, n4)) (omega (arith, h, n1, n2, n3, n4)) (within body u
+            (omega (arith, h, n1, n2, n3, n4)))))
             (within_at (zs ++ (Set (Jump at) ∷ [])) n (suc (at + length xs) + length (map (closed e n) ys)) (omega (arith, n4))
             (within_both zs (Set (Jump at) ∷ []) n (within next n (omega (arith, h, n1, n2, n3, n4)))
             ((let ne : at ≢ n + length zs = omega arith in ne, omega (arith, h, n1, n2, n3, n4)), tt))),

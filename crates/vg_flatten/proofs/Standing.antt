@@ -10,13 +10,7 @@ use Rattle.vg_flatten.specs.declared.open.Truth.{Truth}
 use Rattle.vg_flatten.specs.declared.open.Truth.TheVariants.{Holds, Fails}
 use Rattle.vg_flatten.specs.declared.open.Open.{Open}
 use Rattle.vg_flatten.specs.declared.open.Open.TheVariants.{Set, Break, Continue}
-use Rattle.vg_flatten.specs.Blocks.{Block, Skip, One, CallTo, TakeInterrupt, GiveBack, BreakOut, GoOn, Both, Choice, Repeat, structured, picked, branch, closed, choice_code, loop_code, open_code}
-
--- An instruction whose jumps out of a loop go to these places.
-abbrev pub set_in : (behind' again : ℕ) → Open → Instr
-set_in x y (Set i) = i
-set_in x y Break = Jump x
-set_in x y Continue = Jump y
+use Rattle.vg_flatten.specs.Blocks.{Block, Skip, One, CallTo, TakeInterrupt, GiveBack, BreakOut, GoOn, Both, Choice, Repeat, structured, picked, branch, closed, set_in, choice_code, loop_code, open_code}
 
 -- The instructions stand from a place on.
 abbrev pub Lies : (fetch : ℕ → Option Instr) → (behind' again : ℕ) → List Open → (at : ℕ) → Type 0
@@ -70,7 +64,8 @@ module _ (fetch : ℕ → Option Instr) where
       choice {u = suc at} {v = v}
       (stands_picked x y t at v false l.0)
       (goal_at x y (structured a) (suc at) end whole (omega (arith, n))
-      (behind {mid = suc at + length as'} (place_a (stands a x y (at + 1) (lies_at x y as' (suc at) (at + 1) (omega arith) (lies_front x y as' (Set (Jump end) ∷ bs) (suc at) l.1))))
+      (behind {mid = suc at + length as'} (place_a (stands a x y (at + 1) (lies_at x y as' (suc at) (at + 1) (omega arith) (lies_front x y as' (Set
+      (Jump end) ∷ bs) (suc at) l.1))))
       (jump.0)))
       (goal_at x y (structured b) v (v + length bs) whole (omega (arith, n))
       (stands b x y v (lies_at x y bs (suc (suc at + length as')) v (omega arith) jump.1)))
@@ -97,7 +92,8 @@ module _ (fetch : ℕ → Option Instr) where
       jump = lies_back x y as' (Set (Jump end) ∷ bs) (suc at) l.1
 
       place_a : Stands fetch x y (structured a) (at + 1) (Next (at + 1 + length as')) → Stands fetch x y (structured a) (suc at) (Next (suc at + length as'))
-      place_a s = goal_at x y (structured a) (suc at) (at + 1 + length as') (suc at + length as') (omega arith) (place_at x y (structured a) (at + 1) (suc at) (at + 1 + length as') (omega arith) s)
+      place_a s = goal_at x y (structured a) (suc at) (at + 1 + length as') (suc at + length as') (omega arith) (place_at x y (structured a) (at + 1)
+          (suc at) (at + 1 + length as') (omega arith) s)
   stands (Repeat p t body next) x y at l =
       goal_at x y (structured (Repeat p t body next)) at e (at + length (open_code (Repeat p t body next) at)) (omega (arith, n1, n2, n3, n4))
       (loop {u = u} {v = n}

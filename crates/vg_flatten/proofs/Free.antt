@@ -9,8 +9,8 @@ use Rattle.vg_lin.specs.Values.{low}
 use Rattle.vg_lin.specs.State.{LocalState, value_in, with_local}
 use Rattle.vg_flatten.specs.declared.shape.Room.{Room}
 use Rattle.vg_flatten.specs.Shapes.{same_operand, same_homes, is_free}
-use Rattle.vg_flatten.specs.Related.{IsAt, AreAt, AreKept}
-use Rattle.vg_flatten.specs.Locals.{some_is, none_is_not, written_is, others_stay, kept_there}
+use Rattle.vg_flatten.proofs.Related.{IsAt, AreAt, AreKept}
+use Rattle.vg_flatten.proofs.Locals.{some_is, none_is_not, written_is, others_stay, kept_there}
 
 -- ---- what a list of numbers has behind a write
 
@@ -32,7 +32,8 @@ beside_all : (i : ℕ) (xs ys : List Operand) → is_free i (xs ++ ys) ≡ true 
 beside_all i [] ys e = (refl, e)
 beside_all i (x ∷ xs) ys e = by_first (beside_all i xs ys) (same_operand (Local i) x) refl e
   where
-    by_first : (is_free i (xs ++ ys) ≡ true → (is_free i xs ≡ true) × (is_free i ys ≡ true)) → (b : Bool) → same_operand (Local i) x ≡ b → (not b && is_free i (xs ++ ys)) ≡ true
+    by_first : (is_free i (xs ++ ys) ≡ true → (is_free i xs ≡ true) × (is_free i ys ≡ true)) → (b : Bool) → same_operand (Local i) x ≡ b
+        → (not b && is_free i (xs ++ ys)) ≡ true
         → ((not b && is_free i xs) ≡ true) × (is_free i ys ≡ true)
     by_first more true s e1 = absurd (grind arith)
     by_first more false s e1 = more e1
@@ -53,9 +54,11 @@ pub homes_beside : (i x : ℕ) (hs : List Operand) (vs : List ℕ) (ls : List Lo
 homes_beside i x [] [] ls free at = tt
 homes_beside i x [] (v ∷ vs) ls free at = absurd at
 homes_beside i x (h ∷ hs) [] ls free at = absurd at
-homes_beside i x (h ∷ hs) (v ∷ vs) ls free at = both (λ f. homes_beside i x hs vs ls f at.1) (beside_all i (reverse hs) (h ∷ []) (subst (λ z. is_free i z ≡ true) (reverse-append (h ∷ []) hs) free))
+homes_beside i x (h ∷ hs) (v ∷ vs) ls free at = both (λ f. homes_beside i x hs vs ls f at.1) (beside_all i (reverse hs) (h ∷ []) (subst
+    (λ z. is_free i z ≡ true) (reverse-append (h ∷ []) hs) free))
   where
-    both : (is_free i (reverse hs) ≡ true → AreAt hs vs (with_local ls i x)) → (is_free i (reverse hs) ≡ true) × (is_free i (h ∷ []) ≡ true) → AreAt (h ∷ hs) (v ∷ vs) (with_local ls i x)
+    both : (is_free i (reverse hs) ≡ true → AreAt hs vs (with_local ls i x)) → (is_free i (reverse hs) ≡ true) × (is_free i (h ∷ []) ≡ true)
+        → AreAt (h ∷ hs) (v ∷ vs) (with_local ls i x)
     both more (f, g) = ((home_beside i x v h ls g at.0.0, at.0.1), more f)
 
 -- ---- the same homes

@@ -9,8 +9,8 @@ use Rattle.vg_lin.specs.Values.{low}
 use Rattle.vg_lin.specs.State.{LocalState, State, value_in, value, with_local, sets}
 use Rattle.vg_flatten.specs.declared.shape.Room.{Room}
 use Rattle.vg_flatten.specs.Shapes.{temp}
-use Rattle.vg_flatten.specs.Related.{IsPlaced, ArePlaced, IsAt, AreAt, AreWidths, AreKept, AreSame}
-use Rattle.vg_flatten.specs.Numbers.{low_same}
+use Rattle.vg_flatten.proofs.Related.{IsPlaced, ArePlaced, IsAt, AreAt, AreWidths, AreKept, AreSame}
+use Rattle.vg_flatten.proofs.Numbers.{low_same}
 
 pub some_is : {A : Type 0} (a b : A) → Some a ≡ Some b → a ≡ b
 some_is {A} a b e = ap (λ o. or_else o) e
@@ -82,7 +82,11 @@ pub kept_behind_temp : (r : Room) (ws vs : List ℕ) (ls : List LocalState) (k x
 kept_behind_temp r ws vs ls k x kept =
     record {
       there = kept_there r ws vs ls (r.locals + k) x kept;
-      locals = λ i v lt e. let ne : i ≢ r.locals + k = omega arith in (ap value_in (others_stay ls (r.locals + k) i x ne) ∙ (kept.locals i v lt e).0, (kept.locals i v lt e).1);
+      locals = λ i v lt e. let ne : i ≢ r.locals + k = omega arith in (
+        ap value_in (others_stay ls (r.locals + k) i x ne)
+            ∙ (kept.locals i v lt e).0,
+        (kept.locals i v lt e).1,
+      );
     }
 
 -- ---- temporaries

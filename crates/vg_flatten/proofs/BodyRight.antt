@@ -22,15 +22,15 @@ use Rattle.vg_flatten.specs.Shapes.{Shape, only, empty, is_empty}
 use Rattle.vg_flatten.specs.Blocks.{Block, Skip, GiveBack, Both, structured}
 use Rattle.vg_flatten.specs.Flat.{Made, Gives as Makes, flat}
 use Rattle.vg_flatten.specs.Fitting.{CallsFit}
-use Rattle.vg_flatten.specs.Alike.{IsFair, Alike, gives, leaves, overs, wrong, AlikePiece}
-use Rattle.vg_flatten.specs.AlikeLaws.{alike_opened}
-use Rattle.vg_flatten.specs.Related.{ArePlaced, AreAt, AreWidths, AreKept, AreSame, Held, Leaves}
-use Rattle.vg_flatten.specs.Right.{Right, Does, linear, packed}
-use Rattle.vg_flatten.specs.CallRight.{Never, Returned, begins, alike_behind_both, AlikeCalls, AlikeHandling, AreParams, alike_behind_call}
-use Rattle.vg_flatten.specs.CodeRight.{right_code, empty_is}
-use Rattle.vg_flatten.specs.Locals.{some_is}
+use Rattle.vg_flatten.proofs.Alike.{IsFair, Alike, gives, leaves, overs, wrong, AlikePiece}
+use Rattle.vg_flatten.proofs.AlikeLaws.{alike_opened}
+use Rattle.vg_flatten.proofs.Related.{ArePlaced, AreAt, AreWidths, AreKept, AreSame, Held, Leaves}
+use Rattle.vg_flatten.proofs.Right.{Right, Does, linear, packed}
+use Rattle.vg_flatten.proofs.CallRight.{Never, Returned, begins, alike_behind_both, AlikeCalls, AlikeHandling, AreParams, alike_behind_call}
+use Rattle.vg_flatten.proofs.CodeRight.{right_code, empty_is}
+use Rattle.vg_flatten.proofs.Locals.{some_is}
 use Rattle.vg_flatten.specs.Flattened.{zeroes, whole, IsFlat, IsFit, AreFlat}
-use Rattle.vg_flatten.specs.Begun.{widths_are, zeroed, kept_at_entry}
+use Rattle.vg_flatten.proofs.Begun.{widths_are, zeroed, kept_at_entry}
 
 -- ---- interrupts
 
@@ -38,7 +38,8 @@ pub alike_handling : (p : LinProgram) (f : FirmProgram) (call : FirmCaller Histo
     → ((vector : ℕ) → p.handler vector ≡ f.handler vector) → (r : Room) (ws : List ℕ)
     → AlikeHandling r ws (λ vector. firm_handled call (f.handler vector)) (λ vector. lin_handle (language p) go ((language p).handler vector))
 alike_handling p f call go calls handler r ws hs vector s d w i q =
-    subst (λ z. Alike (Held r ws (only hs)) (Leaves r ws) (firm_handled call (f.handler vector) s w) (lin_handle (language p) go z d w)) (sym (handler vector))
+    subst (λ z. Alike (Held r ws (only hs)) (Leaves r ws) (firm_handled call (f.handler vector) s w) (lin_handle (language p) go z d w)) (sym
+    (handler vector))
     (by_handler (f.handler vector))
   where
     behind : (s1 : Firm) (d1 : Deciding State) (w1 : World History) → IsFair w1 → Returned 0 s s1 d1
@@ -90,10 +91,12 @@ module _ (k : Codes) (f : FirmProgram) (p : LinProgram) (params : List ℕ) (kno
       (returned (and_then b (linear' (GiveBack (Known 0)))) (over Wrong))
   finished count s _ _ (gives {s = s1} {t = d1} {w = w1} i q) =
       subst (λ z. Alike (Returned count s) Never (take_from (0 ∷ s1.values) (of_width m.result (back_in count s)) s1 w1)
-      (returned (and_then (with_found (result_of (Known 0) d1.state z) (λ x s2 w2. Gives (record s2 { result = x }) w2) d1 w1) (λ s2 w2. Ends Returns s2 w2)) (over Wrong)))
+      (returned (and_then (with_found (result_of (Known 0) d1.state z) (λ x s2 w2. Gives (record s2 { result = x }) w2) d1 w1)
+      (λ s2 w2. Ends Returns s2 w2)) (over Wrong)))
       (sym q.none) (by_width (nat_lt 0 (256 ^ m.result)))
     where
-      by_width : (b : Bool) → Alike (Returned count s) Never (checked b (back_in count s 0) (record s1 { values = s1.values }) w1) (Gives (record d1 { result = 0 }) w1)
+      by_width : (b : Bool) → Alike (Returned count s) Never (checked b (back_in count s 0) (record s1 { values = s1.values }) w1) (Gives
+          (record d1 { result = 0 }) w1)
       by_width true = gives i (0, refl, refl, refl, omega arith)
       by_width false = wrong
   finished count s _ _ (leaves {why = Breaks} i q) = wrong
@@ -142,7 +145,8 @@ module _ (k : Codes) (f : FirmProgram) (p : LinProgram) (params : List ℕ) (kno
       kept : AreKept r ws (arguments count s ++ replicate (length m.widths - count) 0) begun_d.state.locals
       kept =
           subst (λ z. AreKept r ws (arguments count s ++ replicate (length m.widths - z) 0) begun_d.state.locals) (sym facts.0)
-          (subst (λ z. AreKept r ws (arguments count s ++ replicate (length m.widths - m.params) 0) (zeroed (length m.widths - m.params) m.params z.state.locals)) (sym ed)
+          (subst (λ z. AreKept r ws (arguments count s ++ replicate (length m.widths - m.params) 0) (zeroed
+          (length m.widths - m.params) m.params z.state.locals)) (sym ed)
           (kept_at_entry r m.widths (arguments count s) m.params is.locals fit.params (facts.1 ∙ facts.0) fit.widths facts.2))
 
       begin : Held r ws empty (firm_entered m count 0 s) begun_d

@@ -27,14 +27,15 @@ use Rattle.vg_flatten.specs.declared.open.Open.{Open}
 use Rattle.vg_flatten.specs.declared.shape.Room.{Room}
 use Rattle.vg_flatten.specs.Shapes.{only}
 use Rattle.vg_flatten.specs.Blocks.{Block, Skip, structured, open_code}
-use Rattle.vg_flatten.specs.Alike.{IsFair, Alike, gives, leaves, overs, wrong, AlikePiece}
-use Rattle.vg_flatten.specs.AlikeLaws.{alike_then, alike_opened, alike_idles}
-use Rattle.vg_flatten.specs.Related.{AreSame, Held, Leaves}
-use Rattle.vg_flatten.specs.Locals.{some_is, none_is_not}
-use Rattle.vg_flatten.specs.CallRight.{Never, Returned, begins, alike_behind_both, AlikeCalls, AreParams}
-use Rattle.vg_flatten.specs.Standing.{Lies, set_in, stands}
+use Rattle.vg_flatten.proofs.Alike.{IsFair, Alike, gives, leaves, overs, wrong, AlikePiece}
+use Rattle.vg_flatten.proofs.AlikeLaws.{alike_then, alike_opened, alike_idles}
+use Rattle.vg_flatten.proofs.Related.{AreSame, Held, Leaves}
+use Rattle.vg_flatten.proofs.Locals.{some_is, none_is_not}
+use Rattle.vg_flatten.proofs.CallRight.{Never, Returned, begins, alike_behind_both, AlikeCalls, AreParams}
+use Rattle.vg_flatten.specs.Blocks.{set_in}
+use Rattle.vg_flatten.proofs.Standing.{Lies, stands}
 use Rattle.vg_flatten.specs.Flattened.{whole, calls_main, start_of, IsFlat, IsFit, AreFlat}
-use Rattle.vg_flatten.specs.BodyRight.{alike_handling, alike_body}
+use Rattle.vg_flatten.proofs.BodyRight.{alike_handling, alike_body}
 use Rattle.vg_flatten.specs.Runs.{FollowsPacked}
 
 -- ---- where instructions stand
@@ -44,7 +45,8 @@ fetch_of [] q m e at = none_is_not m e
 fetch_of (a ∷ ps) zero m e at = ap (λ x. slice_get x.code at) (some_is a m e)
 fetch_of (a ∷ ps) (suc q) m e at = fetch_of ps q m e at
 
-lies_from : (g : ℕ → Option Instr) (x y : ℕ) (os : List Open) (at : ℕ) → ((i : ℕ) (z : Instr) → slice_get (map (set_in x y) os) i ≡ Some z → g (at + i) ≡ Some z)
+lies_from : (g : ℕ → Option Instr) (x y : ℕ) (os : List Open) (at : ℕ) → ((i : ℕ) (z : Instr) → slice_get (map (set_in x y) os) i ≡ Some z
+    → g (at + i) ≡ Some z)
     → Lies g x y os at
 lies_from g x y [] at h = tt
 lies_from g x y (o ∷ os) at h = (
@@ -132,15 +134,19 @@ module _ (k : Codes) (f : FirmProgram) (params : List ℕ) (p : LinProgram) (fla
       Start : Firm → Deciding State → Type 0
       Start s1 d1 = (s1 ≡ s) × (d1 ≡ start)
 
-      by_enter : AlikeCalls p (firm_called full k f n) (lin_called (language p) bodies n) → (m : FirmProcedure) (e : slice_get f.procedures q ≡ Some m) (b : Bool)
+      by_enter : AlikeCalls p (firm_called full k f n) (lin_called (language p) bodies n)
+          → (m : FirmProcedure) (e : slice_get f.procedures q ≡ Some m) (b : Bool)
           → may_enter m count s ≡ b
           → Alike (Returned count s) Never
-          (checked b (opened full (Calling m.method) (run_procedure full k f (firm_called full k f n) (λ vector. firm_handled (firm_called full k f n) (f.handler vector)) m count 0)) s w)
-          (with_found ((language p).named q) (λ a. opened full a (lin_body (language p) (lin_called (language p) bodies n) (structured (block_at q (Some m) e)))) start w)
+          (checked b (opened full (Calling m.method) (run_procedure full k f (firm_called full k f n) (λ vector. firm_handled (firm_called full k f n)
+          (f.handler vector)) m count 0)) s w)
+          (with_found ((language p).named q) (λ a. opened full a (lin_body (language p) (lin_called (language p) bodies n) (structured (block_at q
+          (Some m) e)))) start w)
       by_enter hn m e false enters = wrong
       by_enter hn m e true enters =
           subst (λ z. Alike (Returned count s) Never
-          (opened full (Calling m.method) (run_procedure full k f (firm_called full k f n) (λ vector. firm_handled (firm_called full k f n) (f.handler vector)) m count 0) s w)
+          (opened full (Calling m.method) (run_procedure full k f (firm_called full k f n) (λ vector. firm_handled (firm_called full k f n)
+          (f.handler vector)) m count 0) s w)
           (with_found z (λ a. opened full a (lin_body (language p) (lin_called (language p) bodies n) (structured (block_at q (Some m) e)))) start w))
           (sym (ap name_of (flat.flats q m e).1 ∙ ap call_of (flat.flats q m e).3.method))
           (alike_opened {G = Start} {J = Returned count s} {L = Never} (Calling m.method)
@@ -149,7 +155,8 @@ module _ (k : Codes) (f : FirmProgram) (params : List ℕ) (p : LinProgram) (fla
           (λ s1 d1 w1 i1 st. subst (λ z. Alike (Returned count s) Never
           (run_procedure full k f (firm_called full k f n) (λ vector. firm_handled (firm_called full k f n) (f.handler vector)) m count 0 z w1)
           (lin_body (language p) (lin_called (language p) bodies n) (structured (block_at q (Some m) e)) d1 w1)) (sym st.0)
-          (alike_body k f p params known (firm_called full k f n) (lin_called (language p) bodies n) hn flat.handler m (flat.flats q m e).0 (flat.flats q m e).2
+          (alike_body k f p params known (firm_called full k f n) (lin_called (language p) bodies n) hn flat.handler m (flat.flats q m e).0
+          (flat.flats q m e).2
           (flat.flats q m e).3 count s ram w1 i1 enters d1
           (st.1 ∙ ap (λ z. fresh (record { locals = begun (widths_of z) (arguments count s); waiting = []; ram = ram })) (flat.flats q m e).1
           ∙ ap (λ z. fresh (record { locals = begun z (arguments count s); waiting = []; ram = ram })) (flat.flats q m e).3.widths)))
@@ -159,7 +166,8 @@ module _ (k : Codes) (f : FirmProgram) (params : List ℕ) (p : LinProgram) (fla
           → Alike (Returned count s) Never
           (firm_found o (λ m. checked (may_enter m count s) (opened full (Calling m.method)
           (run_procedure full k f (firm_called full k f n) (λ vector. firm_handled (firm_called full k f n) (f.handler vector)) m count 0))) s w)
-          (with_found ((language p).named q) (λ a. opened full a (lin_body (language p) (lin_called (language p) bodies n) (structured (block_at q o e)))) start w)
+          (with_found ((language p).named q) (λ a. opened full a (lin_body (language p) (lin_called (language p) bodies n) (structured
+          (block_at q o e)))) start w)
       by_found hn None e = wrong
       by_found hn (Some m) e = by_enter hn m e (may_enter m count s) refl
 
@@ -194,8 +202,17 @@ module _ (k : Codes) (f : FirmProgram) (params : List ℕ) (p : LinProgram) (fla
       behind : (s1 : Firm) (d1 : Deciding State) (w1 : World History) → IsFair w1 → Returned 0 s s1 d1
           → Alike Top (Leaves bare []) (taking (λ v. go_on) s1 w1) (resumed (language p) (Result (calls_main f.main)) d.state d d1 w1)
       behind s1 d1 w1 i1 (v, e1, e2, e3, small) =
-          subst (λ z. Alike Top (Leaves bare []) (take_from z (λ v. go_on) s1 w1) (resumed (language p) (Result (calls_main f.main)) d.state d d1 w1)) (sym e1)
-          (gives i1 (record { waits = q.waits; kept = record { there = λ j u h. none_is_not u h; locals = λ j u lt h. absurd (omega (arith, lt)) }; none = q.none }))
+          subst (λ z. Alike Top (Leaves bare []) (take_from z (λ v. go_on) s1 w1) (resumed (language p) (Result (calls_main f.main)) d.state d d1 w1))
+          (sym e1)
+          (gives i1 (record {
+            waits = q.waits;
+            kept = record {
+              there = λ j u h. none_is_not u h;
+              locals = λ j u lt h. absurd (omega
+                  (arith, lt));
+            };
+            none = q.none;
+          }))
 
   alike_run : (n : ℕ) (s : Firm) (d : Deciding State) (w : World History) → IsFair w → Top s d
       → Alike Top (Leaves bare []) (firm_running full k f n s w) (lin_running (language p) bodies (calls_main f.main) n d w)
@@ -205,7 +222,8 @@ module _ (k : Codes) (f : FirmProgram) (params : List ℕ) (p : LinProgram) (fla
       (alike_main w.clock s d w i q)
       (λ s1 d1 w1 i1 q1. alike_idles {G = Top} {L = Leaves bare []} n (λ vector s2 w2. firm_handled (firm_called full k f w2.clock) (f.handler vector) s2 w2)
       (λ v d2 w2. lin_handle (language p) (lin_called (language p) bodies w2.clock) ((language p).handler v) d2 w2)
-      (λ vector s2 d2 w2 i2 q2. alike_handling p f (firm_called full k f w2.clock) (lin_called (language p) bodies w2.clock) (calls w2.clock) flat.handler bare [] [] vector
+      (λ vector s2 d2 w2 i2 q2. alike_handling p f (firm_called full k f w2.clock) (lin_called (language p) bodies w2.clock)
+      (calls w2.clock) flat.handler bare [] [] vector
       s2 d2 w2 i2 q2) s1 d1 w1 i1 q1)
 
   pub follows : FollowsPacked k f p

@@ -29,14 +29,14 @@ use Rattle.vg_flatten.specs.Blocks.{Block, Skip, One, TakeInterrupt, GiveBack, B
 use Rattle.vg_flatten.specs.Flat.{Made, Gives as Makes, Refused, behind, after, by_temp, settled, settled_as, Tested, tested, stepped, landed_as, landed}
 use Rattle.vg_flatten.specs.Flat.{joined, chosen, where_empty, repeated, repeated_test, repeated_body, repeated_next, given_back, flat}
 use Rattle.vg_flatten.specs.Fitting.{CallsFit}
-use Rattle.vg_flatten.specs.Alike.{IsFair, Alike, gives, leaves, overs, wrong, AlikePiece, Inside}
-use Rattle.vg_flatten.specs.AlikeLaws.{alike_then, alike_turns, alike_interrupt}
-use Rattle.vg_flatten.specs.Related.{ArePlaced, AreAt, AreWidths, AreSame, Held, Leaves}
-use Rattle.vg_flatten.specs.Locals.{some_is, none_is_not, value_of_home, put_temp, placed_temp}
-use Rattle.vg_flatten.specs.Free.{homes_same}
-use Rattle.vg_flatten.specs.Right.{Right, Does, linear, packed, right_after, right_last, right_settled, IsTested, is_tested, picks, chooses, way}
-use Rattle.vg_flatten.specs.StepRight.{right_number, right_local, right_set, right_forget, right_operated, right_applied, right_read, right_written}
-use Rattle.vg_flatten.specs.CallRight.{AreParams, AlikeCalls, AlikeHandling, right_called}
+use Rattle.vg_flatten.proofs.Alike.{IsFair, Alike, gives, leaves, overs, wrong, AlikePiece, Inside}
+use Rattle.vg_flatten.proofs.AlikeLaws.{alike_then, alike_turns, alike_interrupt}
+use Rattle.vg_flatten.proofs.Related.{ArePlaced, AreAt, AreWidths, AreSame, Held, Leaves}
+use Rattle.vg_flatten.proofs.Locals.{some_is, none_is_not, value_of_home, put_temp, placed_temp}
+use Rattle.vg_flatten.proofs.Free.{homes_same}
+use Rattle.vg_flatten.proofs.Right.{Right, Does, linear, packed, right_after, right_last, right_settled, IsTested, is_tested, picks, chooses, way}
+use Rattle.vg_flatten.proofs.StepRight.{right_number, right_local, right_set, right_forget, right_operated, right_applied, right_read, right_written}
+use Rattle.vg_flatten.proofs.CallRight.{AreParams, AlikeCalls, AlikeHandling, right_called}
 
 and_then-and_then : {S : Type 0} (a : Answer S History) (g h : Piece S History) → and_then (and_then a g) h ≡ and_then a (λ s w. and_then (g s w) h)
 and_then-and_then (Gives s w) g h = refl
@@ -192,12 +192,14 @@ module _ (k : Codes) (f : FirmProgram) (m : FirmProcedure) (call : FirmCaller Hi
       by_homes : (c : Bool) → same_homes (reverse s.homes) (reverse s1.homes) ≡ c
           → Right' shape (if c then Makes (Choice t.truth a b) s else Refused NotTaken) (λ s2 w. choose (firm_truth s2) g h s2 w)
       by_homes true es =
-          let is : s1 ≡ s = ap (λ z. record { truth = z; homes = s1.homes }) (hy ∙ sym hx) ∙ ap (λ z. record { truth = s.truth; homes = z }) (sym (homes_same s.homes s1.homes es)) in
+          let is : s1 ≡ s = ap (λ z. record { truth = z; homes = s1.homes }) (hy ∙ sym hx)
+          ∙ ap (λ z. record { truth = s.truth; homes = z }) (sym (homes_same s.homes s1.homes es)) in
           (placed, λ fit s2 d w i q. does is fit.0 fit.1 s2 d w i (is_tested k f m call handle p go params r ws wide shape t s2 d e q))
       by_homes false es = tt
 
   right_chosen : (shape : Shape) (x y : Shape → Made) (g h : Piece Firm History)
-      → ((hs : List Operand) → ArePlaced r.locals hs → Right' (only hs) (x (only hs)) g) → ((hs : List Operand) → ArePlaced r.locals hs → Right' (only hs) (y (only hs)) h)
+      → ((hs : List Operand) → ArePlaced r.locals hs → Right' (only hs) (x (only hs)) g) → ((hs : List Operand) → ArePlaced r.locals hs
+      → Right' (only hs) (y (only hs)) h)
       → ArePlaced r.locals shape.homes
       → Right' shape (chosen r (tested shape) x y) (λ s w. choose (firm_truth s) g h s w)
   right_chosen shape x y g h hx hy placed = by_test (tested shape) refl
@@ -205,7 +207,8 @@ module _ (k : Codes) (f : FirmProgram) (m : FirmProcedure) (call : FirmCaller Hi
       below : (t : Tested) → tested shape ≡ Some t → ArePlaced r.locals t.homes
       below t e = by_shape shape.truth shape.homes e placed
         where
-          by_shape : (o : Option Truth) (hs : List Operand) → tested (record { truth = o; homes = hs }) ≡ Some t → ArePlaced r.locals hs → ArePlaced r.locals t.homes
+          by_shape : (o : Option Truth) (hs : List Operand) → tested (record { truth = o; homes = hs }) ≡ Some t → ArePlaced r.locals hs
+              → ArePlaced r.locals t.homes
           by_shape (Some u) hs e1 pl = subst (λ z. ArePlaced r.locals z.homes) (some_is _ t e1) pl
           by_shape None (a ∷ hs) e1 pl = subst (λ z. ArePlaced r.locals z.homes) (some_is _ t e1) pl.1
           by_shape None [] e1 pl = none_is_not t e1
@@ -255,7 +258,8 @@ module _ (k : Codes) (f : FirmProgram) (m : FirmProcedure) (call : FirmCaller Hi
           (and_then (performed full (lin_step (language p) go) lin_truth (picked t.truth) d1 w1) (λ d1 w1. choose (lin_truth d1) h go_on d1 w1))
       by_test s1 d1 w1 i1 x =
           subst (λ z. Alike (Held r ws empty) (Leaves r ws) (choose z g go_on s1 w1)
-          (and_then (performed full (lin_step (language p) go) lin_truth (picked t.truth) d1 w1) (λ d1 w1. choose (lin_truth d1) h go_on d1 w1))) (sym x.takes)
+          (and_then (performed full (lin_step (language p) go) lin_truth (picked t.truth) d1 w1) (λ d1 w1. choose (lin_truth d1) h go_on d1 w1)))
+          (sym x.takes)
           (subst (λ z. Alike (Held r ws empty) (Leaves r ws) (choose (Was x.b (record s1 { values = x.vs })) g go_on s1 w1)
           (and_then z (λ d1 w1. choose (lin_truth d1) h go_on d1 w1)))
           (sym (picks k f m call handle p go params r ws wide t.truth x.b d1 w1 x.says))
@@ -268,7 +272,8 @@ module _ (k : Codes) (f : FirmProgram) (m : FirmProcedure) (call : FirmCaller Hi
   right_loop before body next s0 s1 s2 t gc gb gn e none e1 e2 hc hb hn = (
     tt,
     λ fit s d w i q. alike_turns {I = Held r ws empty} {L = Leaves r ws} (where_holds gc firm_truth)
-        (where_holds (performed full (lin_step (language p) go) lin_truth (Then (structured before) (picked t.truth))) lin_truth) gb gn (linear' body) (linear' next)
+        (where_holds (performed full (lin_step (language p) go) lin_truth (Then (structured before) (picked t.truth))) lin_truth) gb gn (linear' body)
+        (linear' next)
         (right_condition before s0 t gc e none (hc fit.0))
         (λ s3 d3 w3 i3 q3. into_inside (subst (λ z. Alike (Held r ws z) (Leaves r ws) (gb s3 w3) (linear' body d3 w3)) e1 (hb fit.1 s3 d3 w3 i3 q3)))
         (λ s3 d3 w3 i3 q3. subst (λ z. Alike (Held r ws z) (Leaves r ws) (gn s3 w3) (linear' next d3 w3)) e2 (hn fit.2 s3 d3 w3 i3 q3))
@@ -336,8 +341,10 @@ module _ (k : Codes) (f : FirmProgram) (m : FirmProcedure) (call : FirmCaller Hi
       by_values s d w i q [] e at = absurd at
       by_values s d w i q (v ∷ vs) e at =
           subst (λ z. Alike (Held r ws empty) (Leaves r ws) (Ends Returns s w) z)
-          (sym (ap (λ z. and_then (with_found (result_of h d.state z) (λ x s1 w1. Gives (record s1 { result = x }) w1) d w) (λ s1 w1. Ends Returns s1 w1)) q.none
-          ∙ ap (λ z. and_then (with_found z (λ x s1 w1. Gives (record s1 { result = x }) w1) d w) (λ s1 w1. Ends Returns s1 w1)) (value_of_home h v d.state at.0.0)))
+          (sym (ap (λ z. and_then (with_found (result_of h d.state z) (λ x s1 w1. Gives (record s1 { result = x }) w1) d w)
+          (λ s1 w1. Ends Returns s1 w1)) q.none
+          ∙ ap (λ z. and_then (with_found z (λ x s1 w1. Gives (record s1 { result = x }) w1) d w) (λ s1 w1. Ends Returns s1 w1))
+          (value_of_home h v d.state at.0.0)))
           (leaves i (v, vs, e, refl, at.0.1))
 
   -- ---- all code

@@ -22,11 +22,11 @@ use Rattle.vg_flatten.specs.declared.open.Open.{Open}
 use Rattle.vg_flatten.specs.declared.open.Open.TheVariants.{Set, Break, Continue}
 use Rattle.vg_flatten.specs.Blocks.{Block, Skip, One, CallTo, TakeInterrupt, GiveBack, BreakOut, GoOn, Both, Choice, Repeat, branch, closed, open_code}
 use Rattle.vg_flatten.specs.Fitting.{CallsFit, CallFits, OpenFits, AllFit, IsSet, AllSet}
-use Rattle.vg_flatten.specs.Standing.{set_in}
+use Rattle.vg_flatten.specs.Blocks.{set_in}
 use Rattle.vg_flatten.specs.Flattened.{zeroes, whole}
-use Rattle.vg_flatten.specs.Sound.{IsIn, AreIn, IsTestIn, IsTruthIn, IsPlainIn, IsToIn, IsCalleeIn, BlockIn}
-use Rattle.vg_flatten.specs.Jumps.{GoesWithin, JumpsWithin, AllWithin, within, within_both}
-use Rattle.vg_flatten.specs.Locals.{some_is, none_is_not}
+use Rattle.vg_flatten.proofs.Sound.{IsIn, AreIn, IsTestIn, IsTruthIn, IsPlainIn, IsToIn, IsCalleeIn, BlockIn}
+use Rattle.vg_flatten.proofs.Jumps.{GoesWithin, JumpsWithin, AllWithin, within, within_both}
+use Rattle.vg_flatten.proofs.Locals.{some_is, none_is_not}
 
 -- ---- operands of a list of instructions
 
@@ -270,7 +270,8 @@ whole_sound m b temps method code hp hw few hb set is =
 
     instr_at : (at : ℕ) (i : Instr) → slice_get code at ≡ Some i → InstrIn (length p.widths) (Set i)
     instr_at at i e =
-        in_at (length p.widths) (front ++ last ∷ []) at (Set i) (subst (AllIn (length p.widths)) shape (in_code (length p.widths) (whole m b) 0 block_in)) (place at i e)
+        in_at (length p.widths) (front ++ last ∷ []) at (Set i) (subst (AllIn (length p.widths)) shape (in_code (length p.widths) (whole m b) 0 block_in))
+        (place at i e)
 
     jumps : AllWithin (length front) (front ++ last ∷ []) 0
     jumps =
@@ -278,7 +279,8 @@ whole_sound m b temps method code hp hw few hb set is =
         (within (length front) (Both (zeroes (length m.widths - m.params) m.params) b) 0 (omega arith)) (tt, tt)
 
     jumps_at : (at : ℕ) (i : Instr) → slice_get code at ≡ Some i → JumpsWithin (length front) at (Set i)
-    jumps_at at i e = subst (λ z. JumpsWithin (length front) z (Set i)) (omega arith) (within_at (length front) (front ++ last ∷ []) 0 at (Set i) jumps (place at i e))
+    jumps_at at i e = subst (λ z. JumpsWithin (length front) z (Set i)) (omega arith) (within_at (length front) (front ++ last ∷ []) 0 at (Set i) jumps
+        (place at i e))
 
     behind_it : (at : ℕ) (i : Instr) → (at < length front) ⊎ (last ≡ Set i) → (suc at < length code) ⊎ (Return (Known 0) ≡ i)
     behind_it at i (inl lt) = inl (omega (arith, lt, code_is))

@@ -19,9 +19,9 @@ use Rattle.vg_lin.specs.State.{State, value, holds, both}
 use Rattle.vg_flatten.specs.declared.open.Truth.{Truth}
 use Rattle.vg_flatten.specs.declared.open.Truth.TheVariants.{Holds, Fails}
 use Rattle.vg_flatten.specs.Flat.{computing, comparing, by_order, test_of}
-use Rattle.vg_flatten.specs.Related.{said}
-use Rattle.vg_flatten.specs.Numbers.{low_same, low_small, sum_same, difference_same, product_same, less_same, below_same, same_same, at_most_signed, at_most_unsigned}
-use Rattle.vg_flatten.specs.Locals.{some_is, none_is_not}
+use Rattle.vg_flatten.proofs.Related.{said}
+use Rattle.vg_flatten.proofs.Numbers.{low_same, low_small, sum_same, difference_same, product_same, less_same, below_same, same_same, at_most_signed, at_most_unsigned}
+use Rattle.vg_flatten.proofs.Locals.{some_is, none_is_not}
 
 -- Both compute the same number of four bytes.
 pub record Computes (op : Operator) (lop : LinOperator) (x y : ℕ) : Type 0 where
@@ -70,7 +70,8 @@ pub record Compares (op : Operator) (t : Truth) (x y : ℕ) (s : State) : Type 0
   pub packed : firm_computed op x y ≡ Some (as_number b)
   pub linear : said t s ≡ Some b
 
-pub holds_of : (c : Comparison) (a b : Operand) (x y : ℕ) (s : State) → value a s ≡ Some x → value b s ≡ Some y → holds (test_of c a b) s ≡ Some (compared c 4 x y)
+pub holds_of : (c : Comparison) (a b : Operand) (x y : ℕ) (s : State) → value a s ≡ Some x → value b s ≡ Some y
+    → holds (test_of c a b) s ≡ Some (compared c 4 x y)
 holds_of c a b x y s h g = ap (λ z. both z (value b s) (compared c 4)) h ∙ ap (λ z. both (Some x) z (compared c 4)) g
 
 module _ (a b : Operand) (x y : ℕ) (s : State) (at : value a s ≡ Some x) (bt : value b s ≡ Some y) (h : x < 2 ^ 32) (g : y < 2 ^ 32) where

@@ -27,11 +27,11 @@ use Rattle.vg_flatten.specs.Shapes.{Shape, only, temp}
 use Rattle.vg_flatten.specs.Blocks.{Block, CallTo, TakeInterrupt}
 use Rattle.vg_flatten.specs.Flat.{Made, Gives as Makes, Refused, by_temp, called, called_with, with_one, with_two, with_three, with_four}
 use Rattle.vg_flatten.specs.Fitting.{CallsFit}
-use Rattle.vg_flatten.specs.Alike.{IsFair, Alike, gives, leaves, overs, wrong, AlikePiece}
-use Rattle.vg_flatten.specs.AlikeLaws.{alike_interrupt}
-use Rattle.vg_flatten.specs.Related.{ArePlaced, AreAt, AreWidths, AreKept, AreSame, Held, Leaves}
-use Rattle.vg_flatten.specs.Locals.{value_of_home, put_temp, placed_temp}
-use Rattle.vg_flatten.specs.Right.{Right, linear}
+use Rattle.vg_flatten.proofs.Alike.{IsFair, Alike, gives, leaves, overs, wrong, AlikePiece}
+use Rattle.vg_flatten.proofs.AlikeLaws.{alike_interrupt}
+use Rattle.vg_flatten.proofs.Related.{ArePlaced, AreAt, AreWidths, AreKept, AreSame, Held, Leaves}
+use Rattle.vg_flatten.proofs.Locals.{value_of_home, put_temp, placed_temp}
+use Rattle.vg_flatten.proofs.Right.{Right, linear}
 
 -- A call leaves in no other way than by the end of the whole run.
 abbrev pub Never : {S T : Type 0} → Signal → S → T → Type 0
@@ -52,7 +52,8 @@ AlikeCalls p call go =
 
 -- What is done for an interrupt keeps the values that wait.
 abbrev pub AlikeHandling : Room → (ws : List ℕ) → (handle : ℕ → Piece Firm History) → (handle' : ℕ → Piece (Deciding State) History) → Type 0
-AlikeHandling r ws handle handle' = (hs : List Operand) (vector : ℕ) → AlikePiece (Held r ws (only hs)) (Held r ws (only hs)) (Leaves r ws) (handle vector) (handle' vector)
+AlikeHandling r ws handle handle' = (hs : List Operand) (vector : ℕ)
+    → AlikePiece (Held r ws (only hs)) (Held r ws (only hs)) (Leaves r ws) (handle vector) (handle' vector)
 
 -- Each number of a procedure has its parameters in the list.
 abbrev pub AreParams : (params : List ℕ) → LinProgram → Type 0
@@ -124,7 +125,8 @@ module _ (k : Codes) (f : FirmProgram) (m : FirmProcedure) (call : FirmCaller Hi
       by_procedure : (mq : LinProcedure) × (slice_get p.procedures q ≡ Some mq) × (mq.params ≡ length (operands args))
           → Alike (Held r ws (only (Local to ∷ hs))) (Leaves r ws) (call q count 0 s w) (linear' (CallTo (calling q args to)) d w)
       by_procedure (mq, has1, many) =
-          subst (λ z. Alike (Held r ws (only (Local to ∷ hs))) (Leaves r ws) (call q count 0 s w) (with_found z (entered (language p) go (calling q args to)) d w))
+          subst (λ z. Alike (Held r ws (only (Local to ∷ hs))) (Leaves r ws) (call q count 0 s w) (with_found z (entered (language p) go
+          (calling q args to)) d w))
           (sym (enters q to args d.state xs mq has1 (many ∙ sym long) vals))
           (alike_behind_call (resumed (language p) (Result (calling q args to)) d.state d)
           (subst (λ z. Alike (Returned count s) Never (call q count 0 s w) (go q (fresh (begins p q z d.state.ram)) w)) are (calls q count s w d.state.ram i))
@@ -145,13 +147,16 @@ module _ (k : Codes) (f : FirmProgram) (m : FirmProcedure) (call : FirmCaller Hi
 
   right_none : (q : ℕ) (hs : List Operand) → ArePlaced r.locals hs → Right' (only hs) (called_with r q Empty hs) (call q 0 0)
   right_none q hs placed =
-      right_called_with q 0 Empty hs hs placed (λ to has fit s d w i same. right_call q 0 to Empty hs placed has fit s d w i [] refl refl refl same.waits same.kept same.none)
+      right_called_with q 0 Empty hs hs placed (λ to has fit s d w i same. right_call q 0 to Empty hs placed has fit s d w i [] refl refl refl same.waits
+      same.kept same.none)
 
   right_one : (q : ℕ) (hs : List Operand) → ArePlaced r.locals hs → Right' (only hs) (with_one r q hs) (call q 1 0)
   right_one q [] placed = tt
-  right_one q (a ∷ hs) placed = right_called_with q 1 (One' a) (a ∷ hs) hs placed.1 (λ to has fit s d w i same. by_values to has fit s d w i same s.values refl same.waits)
+  right_one q (a ∷ hs) placed = right_called_with q 1 (One' a) (a ∷ hs) hs placed.1
+      (λ to has fit s d w i same. by_values to has fit s d w i same s.values refl same.waits)
     where
-      by_values : (to : ℕ) → temp r hs ≡ Some to → CallsFit params (CallTo (calling q (One' a) to)) → (s : Firm) (d : Deciding State) (w : World History) → IsFair w
+      by_values : (to : ℕ) → temp r hs ≡ Some to → CallsFit params (CallTo (calling q (One' a) to)) → (s : Firm) (d : Deciding State) (w : World History)
+          → IsFair w
           → AreSame r ws (a ∷ hs) s d.state → (vs : List ℕ) → s.values ≡ vs → AreAt (a ∷ hs) vs d.state.locals
           → Alike (Held r ws (only (Local to ∷ hs))) (Leaves r ws) (call q 1 0 s w) (linear' (CallTo (calling q (One' a) to)) d w)
       by_values to has fit s d w i same [] e at = absurd at
@@ -166,14 +171,16 @@ module _ (k : Codes) (f : FirmProgram) (m : FirmProcedure) (call : FirmCaller Hi
   right_two q (b ∷ a ∷ hs) placed =
       right_called_with q 2 (Two a b) (b ∷ a ∷ hs) hs placed.1.1 (λ to has fit s d w i same. by_values to has fit s d w i same s.values refl same.waits)
     where
-      by_values : (to : ℕ) → temp r hs ≡ Some to → CallsFit params (CallTo (calling q (Two a b) to)) → (s : Firm) (d : Deciding State) (w : World History) → IsFair w
+      by_values : (to : ℕ) → temp r hs ≡ Some to → CallsFit params (CallTo (calling q (Two a b) to))
+          → (s : Firm) (d : Deciding State) (w : World History) → IsFair w
           → AreSame r ws (b ∷ a ∷ hs) s d.state → (vs : List ℕ) → s.values ≡ vs → AreAt (b ∷ a ∷ hs) vs d.state.locals
           → Alike (Held r ws (only (Local to ∷ hs))) (Leaves r ws) (call q 2 0 s w) (linear' (CallTo (calling q (Two a b) to)) d w)
       by_values to has fit s d w i same [] e at = absurd at
       by_values to has fit s d w i same (y ∷ []) e at = absurd at.1
       by_values to has fit s d w i same (y ∷ x ∷ vs) e at =
           right_call q 2 to (Two a b) hs placed.1.1 has fit s d w i (x ∷ y ∷ []) (ap (λ z. reverse (take 2 z)) e) refl
-          (value_first a (b ∷ []) x (y ∷ []) d.state (value_of_home a x d.state at.1.0.0) (value_first b [] y [] d.state (value_of_home b y d.state at.0.0) refl))
+          (value_first a (b ∷ []) x (y ∷ []) d.state (value_of_home a x d.state at.1.0.0) (value_first b [] y [] d.state
+          (value_of_home b y d.state at.0.0) refl))
           (subst (λ z. AreAt hs (drop 2 z) d.state.locals) (sym e) at.1.1) same.kept same.none
 
   right_three : (q : ℕ) (hs : List Operand) → ArePlaced r.locals hs → Right' (only hs) (with_three r q hs) (call q 3 0)
@@ -181,7 +188,8 @@ module _ (k : Codes) (f : FirmProgram) (m : FirmProcedure) (call : FirmCaller Hi
   right_three q (c ∷ []) placed = tt
   right_three q (c ∷ b ∷ []) placed = tt
   right_three q (c ∷ b ∷ a ∷ hs) placed =
-      right_called_with q 3 (Three a b c) (c ∷ b ∷ a ∷ hs) hs placed.1.1.1 (λ to has fit s d w i same. by_values to has fit s d w i same s.values refl same.waits)
+      right_called_with q 3 (Three a b c) (c ∷ b ∷ a ∷ hs) hs placed.1.1.1
+      (λ to has fit s d w i same. by_values to has fit s d w i same s.values refl same.waits)
     where
       by_values : (to : ℕ) → temp r hs ≡ Some to → CallsFit params (CallTo (calling q (Three a b c) to)) → (s : Firm) (d : Deciding State) (w : World History)
           → IsFair w → AreSame r ws (c ∷ b ∷ a ∷ hs) s d.state → (vs : List ℕ) → s.values ≡ vs → AreAt (c ∷ b ∷ a ∷ hs) vs d.state.locals
@@ -192,7 +200,8 @@ module _ (k : Codes) (f : FirmProgram) (m : FirmProcedure) (call : FirmCaller Hi
       by_values to has fit s d w i same (z ∷ y ∷ x ∷ vs) e at =
           right_call q 3 to (Three a b c) hs placed.1.1.1 has fit s d w i (x ∷ y ∷ z ∷ []) (ap (λ o. reverse (take 3 o)) e) refl
           (value_first a (b ∷ c ∷ []) x (y ∷ z ∷ []) d.state (value_of_home a x d.state at.1.1.0.0)
-          (value_first b (c ∷ []) y (z ∷ []) d.state (value_of_home b y d.state at.1.0.0) (value_first c [] z [] d.state (value_of_home c z d.state at.0.0) refl)))
+          (value_first b (c ∷ []) y (z ∷ []) d.state (value_of_home b y d.state at.1.0.0) (value_first c [] z [] d.state
+          (value_of_home c z d.state at.0.0) refl)))
           (subst (λ o. AreAt hs (drop 3 o) d.state.locals) (sym e) at.1.1.1) same.kept same.none
 
   right_four : (q : ℕ) (hs : List Operand) → ArePlaced r.locals hs → Right' (only hs) (with_four r q hs) (call q 4 0)
@@ -201,9 +210,11 @@ module _ (k : Codes) (f : FirmProgram) (m : FirmProcedure) (call : FirmCaller Hi
   right_four q (e1 ∷ c ∷ []) placed = tt
   right_four q (e1 ∷ c ∷ b ∷ []) placed = tt
   right_four q (g ∷ c ∷ b ∷ a ∷ hs) placed =
-      right_called_with q 4 (Four a b c g) (g ∷ c ∷ b ∷ a ∷ hs) hs placed.1.1.1.1 (λ to has fit s d w i same. by_values to has fit s d w i same s.values refl same.waits)
+      right_called_with q 4 (Four a b c g) (g ∷ c ∷ b ∷ a ∷ hs) hs placed.1.1.1.1
+      (λ to has fit s d w i same. by_values to has fit s d w i same s.values refl same.waits)
     where
-      by_values : (to : ℕ) → temp r hs ≡ Some to → CallsFit params (CallTo (calling q (Four a b c g) to)) → (s : Firm) (d : Deciding State) (w : World History)
+      by_values : (to : ℕ) → temp r hs ≡ Some to → CallsFit params (CallTo (calling q (Four a b c g) to))
+          → (s : Firm) (d : Deciding State) (w : World History)
           → IsFair w → AreSame r ws (g ∷ c ∷ b ∷ a ∷ hs) s d.state → (vs : List ℕ) → s.values ≡ vs → AreAt (g ∷ c ∷ b ∷ a ∷ hs) vs d.state.locals
           → Alike (Held r ws (only (Local to ∷ hs))) (Leaves r ws) (call q 4 0 s w) (linear' (CallTo (calling q (Four a b c g) to)) d w)
       by_values to has fit s d w i same [] e at = absurd at
@@ -214,10 +225,12 @@ module _ (k : Codes) (f : FirmProgram) (m : FirmProcedure) (call : FirmCaller Hi
           right_call q 4 to (Four a b c g) hs placed.1.1.1.1 has fit s d w i (x ∷ y ∷ z ∷ u ∷ []) (ap (λ o. reverse (take 4 o)) e) refl
           (value_first a (b ∷ c ∷ g ∷ []) x (y ∷ z ∷ u ∷ []) d.state (value_of_home a x d.state at.1.1.1.0.0)
           (value_first b (c ∷ g ∷ []) y (z ∷ u ∷ []) d.state (value_of_home b y d.state at.1.1.0.0)
-          (value_first c (g ∷ []) z (u ∷ []) d.state (value_of_home c z d.state at.1.0.0) (value_first g [] u [] d.state (value_of_home g u d.state at.0.0) refl))))
+          (value_first c (g ∷ []) z (u ∷ []) d.state (value_of_home c z d.state at.1.0.0) (value_first g [] u [] d.state
+          (value_of_home g u d.state at.0.0) refl))))
           (subst (λ o. AreAt hs (drop 4 o) d.state.locals) (sym e) at.1.1.1.1) same.kept same.none
 
-  pub right_called : (q count : ℕ) (hs : List Operand) → ArePlaced r.locals hs → Right' (only hs) (called r q count hs) (firm_step k f m call handle (Call q count))
+  pub right_called : (q count : ℕ) (hs : List Operand) → ArePlaced r.locals hs
+      → Right' (only hs) (called r q count hs) (firm_step k f m call handle (Call q count))
   right_called q count hs placed = by_0 (count == 0) refl
     where
       with_count : (n : ℕ) (made : Made) → count ≡ n → Right' (only hs) made (call q n 0) → Right' (only hs) made (call q count 0)
@@ -233,7 +246,8 @@ module _ (k : Codes) (f : FirmProgram) (m : FirmProcedure) (call : FirmCaller Hi
       by_3 false e = by_4 (count == 4) refl
 
       by_2 : (b : Bool) → (count == 2) ≡ b
-          → Right' (only hs) (if b then with_two r q hs else if count == 3 then with_three r q hs else if count == 4 then with_four r q hs else Refused NotTaken)
+          → Right' (only hs) (if b then with_two r q hs else if count == 3 then with_three r q hs else if count == 4 then with_four r q hs else Refused
+          NotTaken)
           (call q count 0)
       by_2 true e = with_count 2 (with_two r q hs) (grind arith) (right_two q hs placed)
       by_2 false e = by_3 (count == 3) refl

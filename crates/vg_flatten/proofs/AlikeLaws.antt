@@ -8,16 +8,18 @@ use Rattle.vg_meaning.specs.Clock.{tick_at, ticked}
 use Rattle.vg_meaning.specs.Calls.{closed, closing, unless_deep, note_call, opened, returned}
 use Rattle.vg_meaning.specs.Loops.{turned, turns}
 use Rattle.vg_meaning.specs.Interrupts.{interrupt_from, take_interrupt, idles}
-use Rattle.vg_flatten.specs.Alike.{IsFair, Alike, gives, leaves, overs, wrong, AlikePiece, Inside}
+use Rattle.vg_flatten.proofs.Alike.{IsFair, Alike, gives, leaves, overs, wrong, AlikePiece, Inside}
 
-pub alike_then : {S T : Type 0} {G J : S → T → Type 0} {L : Signal → S → T → Type 0} {a : Answer S History} {b : Answer T History} (f : Piece S History) (g : Piece T History)
+pub alike_then : {S T : Type 0} {G J : S → T → Type 0} {L : Signal → S → T
+    → Type 0} {a : Answer S History} {b : Answer T History} (f : Piece S History) (g : Piece T History)
     → Alike G L a b → AlikePiece G J L f g → Alike J L (and_then a f) (and_then b g)
 alike_then f g (gives i p) k = k _ _ _ i p
 alike_then f g (leaves i p) k = leaves i p
 alike_then f g overs k = overs
 alike_then f g wrong k = wrong
 
-pub alike_tick_at : {S T : Type 0} {G J : S → T → Type 0} {L : Signal → S → T → Type 0} (note : History → History) (n : ℕ) (f : Piece S History) (g : Piece T History)
+pub alike_tick_at : {S T : Type 0} {G J : S → T → Type 0} {L : Signal → S → T → Type 0} (note : History
+    → History) (n : ℕ) (f : Piece S History) (g : Piece T History)
     → AlikePiece G J L f g → AlikePiece G J L (tick_at note n f) (tick_at note n g)
 alike_tick_at note zero f g k s t w i p = overs
 alike_tick_at note (suc n) f g k s t w i p = k s t _ (record { running = i.running; reads = i.reads }) p
@@ -38,7 +40,8 @@ alike_opened {S} {T} {G} {J} {L} call f g k s t w i p =
     (λ s3 t3 w3 i3 q3. gives (record { running = i3.running; reads = i3.reads }) q3)) s1 t1 w1 i1 q) s t w i p
 
 -- a body's end and its caller: J relates the states with the call's value
-pub alike_returned : {S T : Type 0} {G J : S → T → Type 0} {L M : Signal → S → T → Type 0} {a : Answer S History} {b : Answer T History} (f : Piece S History) (g : Piece T History)
+pub alike_returned : {S T : Type 0} {G J : S → T → Type 0} {L M : Signal → S → T
+    → Type 0} {a : Answer S History} {b : Answer T History} (f : Piece S History) (g : Piece T History)
     → Alike G L a b → AlikePiece G J M f g → ((s : S) (t : T) → L Returns s t → J s t) → Alike J M (returned a f) (returned b g)
 alike_returned f g (gives i p) k r = k _ _ _ i p
 alike_returned f g (leaves {why = Breaks} i p) k r = overs
@@ -50,7 +53,8 @@ alike_returned f g wrong k r = wrong
 
 -- ---- loops
 
-pub alike_turned : {S T : Type 0} {I : S → T → Type 0} {L : Signal → S → T → Type 0} {a : Answer S History} {b : Answer T History} (f : Piece S History) (g : Piece T History)
+pub alike_turned : {S T : Type 0} {I : S → T → Type 0} {L : Signal → S → T
+    → Type 0} {a : Answer S History} {b : Answer T History} (f : Piece S History) (g : Piece T History)
     → Alike I (Inside I L) a b → AlikePiece I I L f g → Alike I L (turned a f) (turned b g)
 alike_turned f g (gives i p) k = k _ _ _ i p
 alike_turned f g (leaves {why = Breaks} i p) k = gives i p
@@ -76,7 +80,8 @@ alike_turns {I = I} {L = L} c d body next body' next' hc hb hn (suc n) s t w i p
 
 -- ---- interrupts
 
-pub alike_interrupt_from : {S T : Type 0} {G J : S → T → Type 0} {L : Signal → S → T → Type 0} (vectors : List ℕ) (f : ℕ → Piece S History) (g : ℕ → Piece T History)
+pub alike_interrupt_from : {S T : Type 0} {G J : S → T → Type 0} {L : Signal → S → T → Type 0} (vectors : List ℕ) (f : ℕ → Piece S History) (g : ℕ
+    → Piece T History)
     → ((k : ℕ) → AlikePiece G J L (f k) (g k)) → AlikePiece G J L (interrupt_from vectors f) (interrupt_from vectors g)
 alike_interrupt_from [] f g h s t w i p = overs
 alike_interrupt_from (k ∷ ks) f g h s t w i p = h k s t _ (record { running = i.running; reads = i.reads }) p

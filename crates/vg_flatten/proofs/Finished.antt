@@ -18,11 +18,11 @@ use Rattle.vg_flatten.specs.Shapes.{Shape, empty, is_empty}
 use Rattle.vg_flatten.specs.Blocks.{Block, open_code}
 use Rattle.vg_flatten.specs.Flat.{Made, Gives, Refused, flat}
 use Rattle.vg_flatten.specs.Fitting.{CallsFit, AllFit, AllSet}
-use Rattle.vg_flatten.specs.Standing.{set_in}
+use Rattle.vg_flatten.specs.Blocks.{set_in}
 use Rattle.vg_flatten.specs.Flattened.{zeroes, zero_list, whole, IsFlat}
 use Rattle.vg_flatten.specs.Laying.{IsPiece, IsWhole}
-use Rattle.vg_flatten.specs.Sound.{MadeIn, BlockIn, in_flat}
-use Rattle.vg_flatten.specs.Whole.{whole_sound, fit_block}
+use Rattle.vg_flatten.proofs.Sound.{MadeIn, BlockIn, in_flat}
+use Rattle.vg_flatten.proofs.Whole.{whole_sound, fit_block}
 
 pub zero_code : (c i at : ℕ) → open_code (zeroes c i) at ≡ zero_list c i
 zero_code zero i at = refl
@@ -50,13 +50,15 @@ zero_on code all f n i lt h =
     one_less a b l = omega (arith, l)
 
 -- the instructions of a whole procedure, of its parts
-pub whole_laid : (m : FirmProcedure) (made : Made) (body : Piece) (first rest code : List Open) (at : ℕ) → first ≡ zero_list (length m.widths - m.params) m.params
+pub whole_laid : (m : FirmProcedure) (made : Made) (body : Piece) (first rest code : List Open) (at : ℕ)
+    → first ≡ zero_list (length m.widths - m.params) m.params
     → at ≡ 0 + length first → IsPiece body at made → is_empty body.homes ≡ true → rest ≡ body.code ++ Set (Return (Known 0)) ∷ [] → code ≡ first ++ rest
     → IsWhole code made m
 whole_laid m (Refused why) body first rest code at hf ha hp he hr hc = absurd hp
 whole_laid m (Gives b s) body first rest code at hf ha hp he hr hc = (
   ap is_empty (sym hp.1) ∙ he,
-  hc ∙ ap (λ z. z ++ rest) zs ∙ ap (λ z. open_code (zeroes (length m.widths - m.params) m.params) 0 ++ z) (hr ∙ ap (λ z. z ++ Set (Return (Known 0)) ∷ []) (hp.0 ∙ ap (open_code b) place)),
+  hc ∙ ap (λ z. z ++ rest) zs ∙ ap (λ z. open_code (zeroes (length m.widths - m.params) m.params) 0 ++ z) (hr
+      ∙ ap (λ z. z ++ Set (Return (Known 0)) ∷ []) (hp.0 ∙ ap (open_code b) place)),
 )
   where
     zs : first ≡ open_code (zeroes (length m.widths - m.params) m.params) 0
@@ -65,7 +67,8 @@ whole_laid m (Gives b s) body first rest code at hf ha hp he hr hc = (
     place : at ≡ 0 + length (open_code (zeroes (length m.widths - m.params) m.params) 0)
     place = ha ∙ ap (λ z. 0 + length z) zs
 
-module _ (m : FirmProcedure) (r : Room) (params : List ℕ) (locals : r.locals ≡ length m.widths) (few : r.locals + r.temps ≤ 252) (hp : m.params ≤ length m.widths)
+module _ (m : FirmProcedure) (r : Room) (params : List ℕ) (locals : r.locals ≡ length m.widths) (few : r.locals + r.temps ≤ 252)
+    (hp : m.params ≤ length m.widths)
     (hw : AllByRecursion IsWidth m.widths) (open' : List Open) (code : List Instr) (widths : List ℕ) (is : IsWhole open' (flat r m.body empty) m)
     (sealed : code ≡ map (set_in 0 0) open') (set : AllSet open') (ws : widths ≡ m.widths ++ replicate r.temps 4) where
   abbrev pub procedure : Procedure

@@ -40,13 +40,13 @@ use Rattle.vg_flatten.specs.Blocks.{Block, Skip, One}
 use Rattle.vg_flatten.specs.Flat.{Made, Gives as Makes, Refused, by_temp, computing, comparing, computed, compared, operated, operated_as, bytes_of, applied, is_zero}
 use Rattle.vg_flatten.specs.Flat.{put_number, get_local, set_local as sets_local, forgotten, read, written, cut}
 use Rattle.vg_flatten.specs.Fitting.{CallsFit}
-use Rattle.vg_flatten.specs.Alike.{IsFair, Alike, gives, leaves, overs, wrong, AlikePiece}
-use Rattle.vg_flatten.specs.Related.{IsAt, ArePlaced, AreAt, AreWidths, AreSame, IsSaid, said, Held, Leaves}
-use Rattle.vg_flatten.specs.Numbers.{low_same, low_small, opposite_same, same_same}
-use Rattle.vg_flatten.specs.Locals.{some_is, none_is_not, value_of_home, put_temp, placed_temp}
-use Rattle.vg_flatten.specs.Free.{homes_beside, kept_behind_set}
-use Rattle.vg_flatten.specs.Operating.{Computes, computes, Compares, compares, holds_of}
-use Rattle.vg_flatten.specs.Right.{Right, Does, linear}
+use Rattle.vg_flatten.proofs.Alike.{IsFair, Alike, gives, leaves, overs, wrong, AlikePiece}
+use Rattle.vg_flatten.proofs.Related.{IsAt, ArePlaced, AreAt, AreWidths, AreSame, IsSaid, said, Held, Leaves}
+use Rattle.vg_flatten.proofs.Numbers.{low_same, low_small, opposite_same, same_same}
+use Rattle.vg_flatten.proofs.Locals.{some_is, none_is_not, value_of_home, put_temp, placed_temp}
+use Rattle.vg_flatten.proofs.Free.{homes_beside, kept_behind_set}
+use Rattle.vg_flatten.proofs.Operating.{Computes, computes, Compares, compares, holds_of}
+use Rattle.vg_flatten.proofs.Right.{Right, Does, linear}
 
 module _ (k : Codes) (f : FirmProgram) (m : FirmProcedure) (call : FirmCaller History) (handle : ℕ → Piece Firm History)
     (p : LinProgram) (go : LinCaller State) (params : List ℕ) (r : Room) (ws : List ℕ) (wide : AreWidths r m.widths ws) where
@@ -169,7 +169,8 @@ module _ (k : Codes) (f : FirmProgram) (m : FirmProcedure) (call : FirmCaller Hi
       by_result to has s d w i q b a vs at c =
           subst (λ z. Alike (Held r ws (only (Local to ∷ hs))) (Leaves r ws) (put_computed z (record s { values = vs }) w)
           (linear' (One (Compute (record { operator = lop; width = 4; to = to; left = x; right = y }))) d w)) (sym c.packed)
-          (into_temp hs to c.z (Compute (record { operator = lop; width = 4; to = to; left = x; right = y })) (record s { values = vs }) d w i placed has c.small (record { waits = at.1.1; kept = q.kept; none = q.none })
+          (into_temp hs to c.z (Compute (record { operator = lop; width = 4; to = to; left = x; right = y }))
+          (record s { values = vs }) d w i placed has c.small (record { waits = at.1.1; kept = q.kept; none = q.none })
           (computes_to lop 4 to x y a b c.z d.state w.outside (value_of_home x a d.state at.1.0.0) (value_of_home y b d.state at.0.0) c.linear))
 
       by_values : (to : ℕ) → temp r hs ≡ Some to → (s : Firm) (d : Deciding State) (w : World History) → IsFair w → AreSame r ws (y ∷ x ∷ hs) s d.state
@@ -182,7 +183,8 @@ module _ (k : Codes) (f : FirmProgram) (m : FirmProcedure) (call : FirmCaller Hi
 
       by_room : (o : Option ℕ) → temp r hs ≡ o
           → Right' (only (y ∷ x ∷ hs))
-          (by_temp o (λ to. Makes (One (Compute (record { operator = lop; width = 4; to = to; left = x; right = y }))) (only (Local to ∷ hs)))) (step' (Operate op))
+          (by_temp o (λ to. Makes (One (Compute (record { operator = lop; width = 4; to = to; left = x; right = y }))) (only (Local to ∷ hs)))) (step'
+          (Operate op))
       by_room (Some to) has = (placed_temp r hs to has placed, λ fit s d w i q. by_values to has s d w i q s.values q.waits)
       by_room None has = tt
 
@@ -191,16 +193,20 @@ module _ (k : Codes) (f : FirmProgram) (m : FirmProcedure) (call : FirmCaller Hi
   right_compared op x y hs placed None e = tt
   right_compared op x y hs placed (Some t) e = (placed, λ fit s d w i q. by_values s d w i q s.values q.waits)
     where
-      by_result : (s : Firm) (d : Deciding State) (w : World History) → IsFair w → (b a : ℕ) (vs : List ℕ) → AreSame r ws hs (record s { values = vs }) d.state
+      by_result : (s : Firm) (d : Deciding State) (w : World History) → IsFair w → (b a : ℕ) (vs : List ℕ)
+          → AreSame r ws hs (record s { values = vs }) d.state
           → Compares op t a b d.state
-          → Alike (Held r ws (record { truth = Some t; homes = hs })) (Leaves r ws) (put_computed (firm_computed op a b) (record s { values = vs }) w) (Gives d w)
+          → Alike (Held r ws (record { truth = Some t; homes = hs })) (Leaves r ws) (put_computed (firm_computed op a b) (record s { values = vs }) w)
+          (Gives d w)
       by_result s d w i b a vs q c =
-          subst (λ z. Alike (Held r ws (record { truth = Some t; homes = hs })) (Leaves r ws) (put_computed z (record s { values = vs }) w) (Gives d w)) (sym c.packed)
+          subst (λ z. Alike (Held r ws (record { truth = Some t; homes = hs })) (Leaves r ws) (put_computed z (record s { values = vs }) w) (Gives d w))
+          (sym c.packed)
           (gives i (record { b = c.b; vs = vs; newest = refl; says = c.linear; rest = q }))
 
       by_values : (s : Firm) (d : Deciding State) (w : World History) → IsFair w → AreSame r ws (y ∷ x ∷ hs) s d.state
           → (vs : List ℕ) → AreAt (y ∷ x ∷ hs) vs d.state.locals
-          → Alike (Held r ws (record { truth = Some t; homes = hs })) (Leaves r ws) (take_from vs (λ b. taking (λ a. put_computed (firm_computed op a b))) s w) (Gives d w)
+          → Alike (Held r ws (record { truth = Some t; homes = hs })) (Leaves r ws) (take_from vs (λ b. taking (λ a. put_computed
+          (firm_computed op a b))) s w) (Gives d w)
       by_values s d w i q [] at = absurd at
       by_values s d w i q (b ∷ []) at = absurd at.1
       by_values s d w i q (b ∷ a ∷ vs) at =
@@ -219,7 +225,8 @@ module _ (k : Codes) (f : FirmProgram) (m : FirmProcedure) (call : FirmCaller Hi
   -- one number becomes another
   right_unary : (op : LinOperator) (width : ℕ) (a b h : Operand) (g : ℕ → ℕ) (q' : Step) (hs : List Operand) → ArePlaced r.locals hs
       → ((s : Firm) (w : World History) → step' q' s w ≡ taking (λ x. put (g x)) s w)
-      → ((x : ℕ) (t : State) → x < 2 ^ 32 → value h t ≡ Some x → (y z : ℕ) × (value a t ≡ Some y) × (value b t ≡ Some z) × (lin_computed op width y z ≡ Some (g x)) × (g x < 2 ^ 32))
+      → ((x : ℕ) (t : State) → x < 2 ^ 32 → value h t ≡ Some x → (y z : ℕ) × (value a t ≡ Some y) × (value b t ≡ Some z) ×
+      (lin_computed op width y z ≡ Some (g x)) × (g x < 2 ^ 32))
       → Right' (only (h ∷ hs)) (computed r op width a b hs) (step' q')
   right_unary op width a b h g q' hs placed is law = by_room (temp r hs) refl
     where
@@ -229,7 +236,8 @@ module _ (k : Codes) (f : FirmProgram) (m : FirmProcedure) (call : FirmCaller Hi
           → Alike (Held r ws (only (Local to ∷ hs))) (Leaves r ws) (put (g x) (record s { values = vs }) w)
           (linear' (One (Compute (record { operator = op; width = width; to = to; left = a; right = b }))) d w)
       by_law to has s d w i x vs same (y, z, ea, eb, e, small) =
-          into_temp hs to (g x) (Compute (record { operator = op; width = width; to = to; left = a; right = b })) (record s { values = vs }) d w i placed has small same
+          into_temp hs to (g x) (Compute (record { operator = op; width = width; to = to; left = a; right = b }))
+          (record s { values = vs }) d w i placed has small same
           (computes_to op width to a b y z (g x) d.state w.outside ea eb e)
 
       by_values : (to : ℕ) → temp r hs ≡ Some to → (s : Firm) (d : Deciding State) (w : World History) → IsFair w → AreSame r ws (h ∷ hs) s d.state
@@ -303,7 +311,8 @@ module _ (k : Codes) (f : FirmProgram) (m : FirmProcedure) (call : FirmCaller Hi
     where
       by_values : (s : Firm) (d : Deciding State) (w : World History) → IsFair w → AreSame r ws (h ∷ hs) s d.state → (vs : List ℕ)
           → AreAt (h ∷ hs) vs d.state.locals
-          → Alike (Held r ws (record { truth = Some (Holds (is_zero h)); homes = hs })) (Leaves r ws) (take_from vs (λ x. put (firm_applied Not x)) s w) (Gives d w)
+          → Alike (Held r ws (record { truth = Some (Holds (is_zero h)); homes = hs })) (Leaves r ws) (take_from vs (λ x. put (firm_applied Not x)) s w)
+          (Gives d w)
       by_values s d w i q [] at = absurd at
       by_values s d w i q (x ∷ vs) at =
           gives i (record {
@@ -322,7 +331,15 @@ module _ (k : Codes) (f : FirmProgram) (m : FirmProcedure) (call : FirmCaller Hi
   right_applied Not (h ∷ hs) placed = right_not h hs placed.1
   right_applied Negative (h ∷ hs) placed =
       right_unary Difference 4 (Known 0) h h (firm_applied Negative) (Apply Negative) hs placed.1 (λ s w. refl)
-      (λ x t small at. (0, x, refl, at, ap Some (sym (opposite_same x small)), subst (λ z. z < 2 ^ 32) (sym (opposite_same x small)) (low_small (0 + (256 ^ 4 - low 4 x)))))
+      (λ x t small at. (
+        0,
+        x,
+        refl,
+        at,
+        ap Some (sym (opposite_same x small)),
+        subst (λ z. z < 2 ^ 32) (sym (opposite_same x small)) (low_small (0 +
+            (256 ^ 4 - low 4 x))),
+      ))
   right_applied (Cut bits) (h ∷ hs) placed = right_cut bits h hs placed.1 (bytes_of bits) refl
   right_applied (Complement bits) (h ∷ hs) placed = tt
 
@@ -358,9 +375,11 @@ module _ (k : Codes) (f : FirmProgram) (m : FirmProcedure) (call : FirmCaller Hi
     where
       by_fit : (s : Firm) (d : Deciding State) (w : World History) → IsFair w → (v : ℕ) (vs : List ℕ) → AreAt (h ∷ hs) (v ∷ vs) d.state.locals
           → AreSame r ws (h ∷ hs) s d.state → (b : Bool) → nat_lt v (256 ^ 1) ≡ b
-          → Alike (Held r ws (only hs)) (Leaves r ws) (checked b (write_device address v) (record s { values = vs }) w) (linear' (One (WritesDevice address h)) d w)
+          → Alike (Held r ws (only hs)) (Leaves r ws) (checked b (write_device address v) (record s { values = vs }) w) (linear' (One
+          (WritesDevice address h)) d w)
       by_fit s d w i v vs at q true e =
-          subst (λ z. Alike (Held r ws (only hs)) (Leaves r ws) (write_in z address v (record s { values = vs }) w) (linear' (One (WritesDevice address h)) d w)) (sym i.running)
+          subst (λ z. Alike (Held r ws (only hs)) (Leaves r ws) (write_in z address v (record s { values = vs }) w) (linear' (One
+          (WritesDevice address h)) d w)) (sym i.running)
           (subst (λ z. Alike (Held r ws (only hs)) (Leaves r ws) (write_in Running address v (record s { values = vs }) w) z) (sym goes)
           (gives (record { running = i.running; reads = i.reads }) (record { waits = at.1; kept = q.kept; none = q.none })))
         where

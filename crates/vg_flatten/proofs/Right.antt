@@ -30,11 +30,11 @@ use Rattle.vg_flatten.specs.Shapes.{Shape, only, empty, is_empty, is_none, temp}
 use Rattle.vg_flatten.specs.Blocks.{Block, Skip, One, Both, Choice, structured, picked}
 use Rattle.vg_flatten.specs.Flat.{Made, Gives as Makes, Refused, behind, after, by_temp, settled, settled_as, Tested, tested, tested_as, is_zero}
 use Rattle.vg_flatten.specs.Fitting.{CallsFit}
-use Rattle.vg_flatten.specs.Alike.{IsFair, Alike, gives, leaves, overs, wrong, AlikePiece}
-use Rattle.vg_flatten.specs.AlikeLaws.{alike_then}
-use Rattle.vg_flatten.specs.Related.{ArePlaced, AreAt, AreWidths, AreSame, IsSaid, said, Held, Leaves}
-use Rattle.vg_flatten.specs.Numbers.{low_same, same_same}
-use Rattle.vg_flatten.specs.Locals.{some_is, none_is_not, value_of_home, put_temp, placed_temp}
+use Rattle.vg_flatten.proofs.Alike.{IsFair, Alike, gives, leaves, overs, wrong, AlikePiece}
+use Rattle.vg_flatten.proofs.AlikeLaws.{alike_then}
+use Rattle.vg_flatten.proofs.Related.{ArePlaced, AreAt, AreWidths, AreSame, IsSaid, said, Held, Leaves}
+use Rattle.vg_flatten.proofs.Numbers.{low_same, same_same}
+use Rattle.vg_flatten.proofs.Locals.{some_is, none_is_not, value_of_home, put_temp, placed_temp}
 
 pub unit_behind : {S : Type 0} (a : Answer S History) → and_then a go_on ≡ a
 unit_behind (Gives s w) = refl
@@ -105,8 +105,10 @@ module _ (k : Codes) (f : FirmProgram) (m : FirmProcedure) (call : FirmCaller Hi
 
   pub chooses : (x : Truth) (b : Bool) (a c : Block) (d : Deciding State) (w : World History) → said x d.state ≡ Some b
       → linear (Choice x a c) d w ≡ way b (linear a) (linear c) d w
-  chooses x true a c d w e = ap (λ z. and_then z (performed full (lin_step (language p) go) lin_truth (If (structured a) (structured c)))) (picks x true d w e)
-  chooses x false a c d w e = ap (λ z. and_then z (performed full (lin_step (language p) go) lin_truth (If (structured a) (structured c)))) (picks x false d w e)
+  chooses x true a c d w e = ap (λ z. and_then z (performed full (lin_step (language p) go) lin_truth (If (structured a) (structured c))))
+      (picks x true d w e)
+  chooses x false a c d w e = ap (λ z. and_then z (performed full (lin_step (language p) go) lin_truth (If (structured a) (structured c))))
+      (picks x false d w e)
 
   -- a test becomes a number
   number_made : (x : Truth) (hs : List Operand) (to : ℕ) → temp r hs ≡ Some to → ArePlaced r.locals hs
@@ -132,10 +134,12 @@ module _ (k : Codes) (f : FirmProgram) (m : FirmProcedure) (call : FirmCaller Hi
   right_settled s more h placed hm = by_shape s.truth refl
     where
       by_room : (x : Truth) → s.truth ≡ Some x → (o : Option ℕ) → temp r s.homes ≡ o
-          → Right s (after (by_temp o (λ to. Makes (Choice x (One (Copy to (Known 1))) (One (Copy to (Known 0)))) (only (Local to ∷ s.homes)))) (λ s1. more s1.homes)) h
+          → Right s (after (by_temp o (λ to. Makes (Choice x (One (Copy to (Known 1))) (One (Copy to (Known 0)))) (only (Local to ∷ s.homes))))
+          (λ s1. more s1.homes)) h
       by_room x is (Some to) e =
           right_first s (only (Local to ∷ s.homes)) (Choice x (One (Copy to (Known 1))) (One (Copy to (Known 0)))) (more (Local to ∷ s.homes)) h
-          (λ fit. subst (λ z. Does (record { truth = z; homes = s.homes }) (only (Local to ∷ s.homes)) go_on (Choice x (One (Copy to (Known 1))) (One (Copy to (Known 0)))))
+          (λ fit. subst (λ z. Does (record { truth = z; homes = s.homes }) (only (Local to ∷ s.homes)) go_on (Choice x (One (Copy to (Known 1))) (One
+          (Copy to (Known 0)))))
           (sym is) (number_made x s.homes to e placed))
           (hm (Local to ∷ s.homes) (placed_temp r s.homes to e placed))
       by_room x is None e = tt

@@ -37,7 +37,7 @@ use Rattle.vg_flatten.specs.Flat.{Made, Gives, Refused, behind, after, by_temp, 
 use Rattle.vg_flatten.specs.Flat.{computed, compared, operated, operated_as, bytes_of, cut, applied, put_number, get_local, set_local, forgotten, read, written}
 use Rattle.vg_flatten.specs.Flat.{called_with, with_one, with_two, with_three, with_four, called, stepped, landed_as, landed, joined, chosen, where_empty, repeated, repeated_test}
 use Rattle.vg_flatten.specs.Flat.{repeated_body, repeated_next, given_back, flat}
-use Rattle.vg_flatten.specs.Locals.{some_is, none_is_not, temp_is}
+use Rattle.vg_flatten.proofs.Locals.{some_is, none_is_not, temp_is}
 
 -- ---- operands in range
 
@@ -277,7 +277,8 @@ module _ (r : Room) where
 
   in_landed_as : (hs : List Operand) → AreIn size hs → MadeIn size (landed_as r hs)
   in_landed_as [] h = (tt, (tt, tt))
-  in_landed_as (a ∷ hs) h = in_by_temp hs _ (λ to lt. in_if (same_operand (Local to) a) (Gives Skip (only (a ∷ hs))) (Gives (One (Copy to a)) (only (Local to ∷ hs))) (tt, (h, tt)) ((lt, h.0), ((lt, h.1), tt)))
+  in_landed_as (a ∷ hs) h = in_by_temp hs _ (λ to lt. in_if (same_operand (Local to) a) (Gives Skip (only (a ∷ hs))) (Gives (One (Copy to a)) (only
+      (Local to ∷ hs))) (tt, (h, tt)) ((lt, h.0), ((lt, h.1), tt)))
 
   in_landed : (made : Made) → MadeIn size made → MadeIn size (landed r made)
   in_landed made h = in_after made _ h (λ s hs. in_after (settled r s) _ (in_settled s hs) (λ s1 h1. in_landed_as s1.homes h1.0))
@@ -285,18 +286,21 @@ module _ (r : Room) where
   in_joined : (t : Truth) (x y : Made) → IsTruthIn size t → MadeIn size x → MadeIn size y → MadeIn size (joined t x y)
   in_joined t (Refused why) y ht hx hy = tt
   in_joined t (Gives a s) (Refused why) ht hx hy = tt
-  in_joined t (Gives a s) (Gives b s1) ht hx hy = in_if (same_homes (reverse s.homes) (reverse s1.homes)) (Gives (Choice t a b) s) (Refused NotTaken) ((ht, hx.0, hy.0), hx.1) tt
+  in_joined t (Gives a s) (Gives b s1) ht hx hy = in_if (same_homes (reverse s.homes) (reverse s1.homes)) (Gives (Choice t a b) s) (Refused NotTaken)
+      ((ht, hx.0, hy.0), hx.1) tt
 
   -- the test that waits
   in_tested : (s : Shape) (t : Tested) → ShapeIn size s → tested s ≡ Some t → IsTruthIn size t.truth × AreIn size t.homes
   in_tested s t h e = by_shape s.truth s.homes h e
     where
-      by_shape : (o : Option Truth) (hs : List Operand) → AreIn size hs × MayBeIn size o → tested_as o hs ≡ Some t → IsTruthIn size t.truth × AreIn size t.homes
+      by_shape : (o : Option Truth) (hs : List Operand) → AreIn size hs × MayBeIn size o → tested_as o hs ≡ Some t
+          → IsTruthIn size t.truth × AreIn size t.homes
       by_shape (Some x) hs h1 e1 = subst (λ z. IsTruthIn size z.truth × AreIn size z.homes) (some_is _ t e1) (h1.1, h1.0)
       by_shape None (a ∷ hs) h1 e1 = subst (λ z. IsTruthIn size z.truth × AreIn size z.homes) (some_is _ t e1) (in_test a (Known 0) h1.0.0 tt Same, h1.0.1)
       by_shape None [] h1 e1 = none_is_not t e1
 
-  in_chosen : (s : Shape) (x y : Shape → Made) → ShapeIn size s → ((z : Shape) → ShapeIn size z → MadeIn size (x z)) → ((z : Shape) → ShapeIn size z → MadeIn size (y z))
+  in_chosen : (s : Shape) (x y : Shape → Made) → ShapeIn size s → ((z : Shape) → ShapeIn size z → MadeIn size (x z)) → ((z : Shape) → ShapeIn size z
+      → MadeIn size (y z))
       → MadeIn size (chosen r (tested s) x y)
   in_chosen s x y h hx hy = by_test (tested s) refl
     where
@@ -307,7 +311,8 @@ module _ (r : Room) where
           in_joined t.truth (landed r (x (only t.homes))) (landed r (y (only t.homes))) ht.0 (in_landed _ (hx (only t.homes) (ht.1, tt)))
           (in_landed _ (hy (only t.homes) (ht.1, tt)))
 
-  in_next : (p : Block) (t : Truth) (b : Block) (z : Made) → BlockIn size p → IsTruthIn size t → BlockIn size b → MadeIn size z → MadeIn size (repeated_next p t b z)
+  in_next : (p : Block) (t : Truth) (b : Block) (z : Made) → BlockIn size p → IsTruthIn size t → BlockIn size b → MadeIn size z
+      → MadeIn size (repeated_next p t b z)
   in_next p t b (Refused why) hp ht hb hz = tt
   in_next p t b (Gives n s) hp ht hb hz = in_if (is_empty s) (Gives (Repeat p t b n) empty) (Refused NotTaken) ((ht, hp, hb, hz.0), (tt, tt)) tt
 
@@ -321,7 +326,8 @@ module _ (r : Room) where
     where
       by_test : (o : Option Tested) → tested s ≡ o → MadeIn size (repeated_test p o y z)
       by_test None e = tt
-      by_test (Some t) e = in_if (is_empty (only t.homes)) (repeated_body p t.truth y z) (Refused NotTaken) (in_body p t.truth y z hx.0 (in_tested s t hx.1 e).0 hy hz) tt
+      by_test (Some t) e = in_if (is_empty (only t.homes)) (repeated_body p t.truth y z) (Refused NotTaken) (in_body p t.truth y z hx.0
+          (in_tested s t hx.1 e).0 hy hz) tt
 
   in_given_back : (hs : List Operand) → AreIn size hs → MadeIn size (given_back hs)
   in_given_back [] h = tt

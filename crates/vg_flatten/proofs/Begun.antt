@@ -7,8 +7,8 @@ use Rattle.vg_lin.specs.Values.{low}
 use Rattle.vg_lin.specs.State.{LocalState, value_in, with_local}
 use Rattle.vg_lin.specs.Meaning.{begun}
 use Rattle.vg_flatten.specs.declared.shape.Room.{Room}
-use Rattle.vg_flatten.specs.Related.{AreWidths, AreKept}
-use Rattle.vg_flatten.specs.Locals.{some_is, none_is_not, written_is, others_stay}
+use Rattle.vg_flatten.proofs.Related.{AreWidths, AreKept}
+use Rattle.vg_flatten.proofs.Locals.{some_is, none_is_not, written_is, others_stay}
 
 -- ---- lists
 
@@ -53,7 +53,8 @@ pub widths_are : (r : Room) (widths : List ℕ) → r.locals ≡ length widths �
 widths_are r widths e =
     record {
       locals = λ i w h. get_front widths (replicate r.temps 4) i w h;
-      temps = λ k lt. ap (λ z. slice_get (widths ++ replicate r.temps 4) (z + k)) e ∙ get_behind widths (replicate r.temps 4) k ∙ get_replicate r.temps 4 k lt;
+      temps = λ k lt. ap (λ z. slice_get (widths ++ replicate r.temps 4) (z + k)) e ∙ get_behind widths (replicate r.temps 4) k
+          ∙ get_replicate r.temps 4 k lt;
     }
 
 -- ---- the locals at the entry
@@ -108,7 +109,8 @@ zeroed_there (suc c) i ls j w h = zeroed_there c (suc i) (with_local ls i 0) j w
 
 pub zeroed_before : (c i : ℕ) (ls : List LocalState) (j : ℕ) → j < i → slice_get (zeroed c i ls) j ≡ slice_get ls j
 zeroed_before zero i ls j lt = refl
-zeroed_before (suc c) i ls j lt = let ne : j ≢ i = omega (arith, lt) in zeroed_before c (suc i) (with_local ls i 0) j (omega (arith, lt)) ∙ others_stay ls i j 0 ne
+zeroed_before (suc c) i ls j lt = let ne : j ≢ i = omega (arith, lt) in zeroed_before c (suc i) (with_local ls i 0) j (omega (arith, lt))
+    ∙ others_stay ls i j 0 ne
 
 low_zero : (w : ℕ) → low w 0 ≡ 0
 low_zero w = grind arith
