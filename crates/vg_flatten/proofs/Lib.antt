@@ -20,3 +20,4 @@ pub mod Jumps
 pub mod Whole
 pub mod Starting
 pub mod Finished
+pub mod Along

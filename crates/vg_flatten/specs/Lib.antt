@@ -7,3 +7,4 @@ pub mod Weights
 pub mod Fitting
 pub mod Flattened
 pub mod Runs
+pub mod Refusals

@@ -395,6 +395,7 @@ fn repeated_parts(
     })
 }
 
+// One code behind another.
 #[cycle(flat)]
 fn row(
     alloc: Global,
@@ -406,15 +407,15 @@ fn row(
     requires { room.locals + room.temps ≤ 252 }
     ensures { Lays result at (flat room (list_of codes.now) homes) }
 {
-    match codes {
-        [] => Ok(nothing(alloc, homes)),
-        [code, more @ ..] => {
-            let first = flat(alloc, room, at, code, homes)?;
-            let rest_at = place_behind(at, first.code.len())?;
-            let rest = row(alloc, room, rest_at, more, first.homes)?;
-            Ok(behind(first.code, rest)?)
-        }
+    let mut code = Row::new(alloc);
+    let mut homes = homes;
+    'parts: for part in codes {
+        let part_at = place_behind(at, code.len())?;
+        let piece = flat(alloc, room, part_at, part, homes)?;
+        code = append(code, piece.code.as_slice())?;
+        homes = piece.homes;
     }
+    Ok(Piece { code, homes })
 }
 
 // The arms of an `if`, and what is done where no condition holds.

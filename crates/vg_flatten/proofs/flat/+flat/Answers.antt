@@ -1,6 +1,7 @@
-use Rattle.std.proofs.Common.{sym, ap, ◌∙◌, subst, arith}
+use Rattle.std.proofs.Common.{◌+◌, ◌++◌, drop, sym, ap, ◌∙◌, subst, arith}
 use Rattle.vg_flatten.specs.Blocks.{loop_code}
-use Rattle.vg_firm.specs.Held.{code_of}
+use Rattle.vg_firm.specs.Held.{code_of, list_of}
+use Rattle.vg_flatten.proofs.Along.{Along, along_on, left_of, part_weighs}
 use Rattle.vg_flatten.specs.Shapes.{empty}
 use Rattle.vg_flatten.specs.Flat.{flat}
 use Rattle.vg_flatten.proofs.LoopPieces.{loop_laid}
@@ -45,3 +46,17 @@ repeated_parts-returns t c =
     (code_of c.args.next.now) z)) c.new-2.ensures c.in_ok-next.ensures) c.is_empty-2.ensures c.if-not-is_empty-2.false
     (c.in_ok-code.ensures ∙ ap (λ z. loop_code c.args.truth c.args.at c.args.before z c.as_slice-2.result.now) c.as_slice.ensures
     ∙ ap (λ z. loop_code c.args.truth c.args.at c.args.before c.in_ok-body.body.code z) c.as_slice-2.ensures) c.new-3.ensures
+
+pub row-flat-requires : goal.row-flat-requires
+row-flat-requires t c =
+    let e = part_weighs c.args.codes.now c.parts.part-index c.part-item.result c.parts-test.true (sym c.part-item.is) in (omega (arith, e), c.requires)
+
+pub row-parts-preserved : goal.row-parts-preserved
+row-parts-preserved t c =
+    along_on c.args.at c.in_ok-part_at.part_at (flat c.args.room (list_of c.args.codes.now) c.args.homes)
+    (flat c.args.room (code_of c.part-item.result) c.parts.homes) (flat c.args.room (list_of (drop (c.parts.part-index + 1) c.args.codes.now)))
+    c.parts.code c.in_ok-code.code c.in_ok-piece.piece
+    (subst (λ z. Along c.args.at (flat c.args.room (list_of c.args.codes.now) c.args.homes) (flat c.args.room (list_of z) c.parts.homes) c.parts.code)
+    (left_of c.args.codes.now c.parts.part-index c.part-item.result c.parts-test.true (sym c.part-item.is)) c.parts.invariant)
+    (c.in_ok-part_at.ensures ∙ ap (λ z. c.args.at + z) c.len.ensures) c.in_ok-piece.ensures
+    (c.in_ok-code.ensures ∙ ap (λ z. c.parts.code ++ z) c.as_slice.ensures)

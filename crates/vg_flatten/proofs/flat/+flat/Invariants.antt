@@ -1,4 +1,7 @@
-use Rattle.std.proofs.Common.{ℕ, ◌+◌, ◌*◌}
+use Rattle.std.proofs.Common.{ℕ, ◌+◌, ◌*◌, drop}
+use Rattle.vg_firm.specs.Held.{list_of}
+use Rattle.vg_flatten.specs.Flat.{flat}
+use Rattle.vg_flatten.proofs.Along.{Along}
 use Rattle.vg_flatten.specs.Weights.{weight, weights}
 use Rattle.vg_flatten.proofs.flat.+flat.Given as goal
 
@@ -40,3 +43,7 @@ decreases-code_and_arms l = 4 * (weight l.code.now + weights l.more.now + weight
 
 abbrev pub decreases-repeated_parts : goal.decreases-repeated_parts
 decreases-repeated_parts l = 4 * (weight l.body.now + weight l.next.now) + 1
+
+abbrev pub invariant-row-parts : goal.invariant-row-parts
+invariant-row-parts l =
+    Along l.at (flat l.room (list_of l.fn.codes) l.fn.homes) (flat l.room (list_of (drop l.part-index l.codes)) l.homes) l.code
