@@ -8,13 +8,13 @@ ghost use Rattle.vg_source.specs.Declared.{chain_from, above_of};
 ghost use Rattle.vg_syntax.specs.Classes.{class_named};
 ghost use Rattle.vg_syntax.specs.Tree.{Node as Tree};
 ghost use Rattle.vg_rules.specs.Names.{extends_keeps, classes_breach};
-ghost use Rattle.vg_base.specs.declared.refusal.Refusal.TheVariants.{Fault};
 ghost use Rattle.vg_types_views.specs.Judges.{Judges};
 ghost use Rattle.vg_types_classes.specs.Classes.{declarations_in, IsMapAt};
 ghost use Rattle.vg_types_classes.specs.Walk.{class_keeps, is_class};
 
 use crate::class::class_of;
-use vg_base::{Name, Names, NodeId, Refusal};
+use crate::fault::broken;
+use vg_base::{Name, Names, Refusal};
 use vg_tree::Node;
 use vg_types_counts::count_nodes;
 use vg_types_names::Declaration;
@@ -134,14 +134,4 @@ fn above_of(nodes: &[Node], declarations: &ByText<Declaration>, text: &str) -> O
         Some(class) => class.above,
         None => None,
     }
-}
-
-// The breach of a rule at a node.
-fn broken(rule: u8, node: u32) -> Refusal<Broken>
-    ensures { result ≡ Fault (record { rule = rule; node = record { 0 = node } }) }
-{
-    Refusal::Fault(Broken {
-        rule,
-        node: NodeId(node),
-    })
 }

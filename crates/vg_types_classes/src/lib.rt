@@ -3,8 +3,10 @@
 
 mod class;
 mod extends;
+mod fault;
 mod rows;
 
 pub use class::{FoundClass, class_of};
 pub use extends::classes;
+pub use fault::broken;
 pub use rows::{declared_nodes, row_of};

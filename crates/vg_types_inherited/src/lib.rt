@@ -1,7 +1,6 @@
 //! The rules on what a class declares beside what it inherits, and on the entries of the program.
 #![tactic(auto)]
 
-mod broken;
 mod defaults;
 mod entered;
 mod laws;
@@ -10,6 +9,6 @@ mod pass;
 mod program;
 mod same;
 
-pub use laws::overrides_kept;
+pub use laws::{formed_well, overrides_kept};
 pub use pass::inherited;
 pub use program::{ProgramEntries, entries};

@@ -9,12 +9,11 @@ ghost use Rattle.vg_types_tables.specs.Views.{declarations_at};
 ghost use Rattle.vg_types_tables.specs.Declares.{Declares};
 ghost use Rattle.vg_types_inherited.specs.Asked.{one_breach, default_breach};
 
-use crate::broken::broken;
 use crate::defaults::{has_constructor, takes_nothing};
 use crate::overriding::member_rule;
 use vg_base::{Names, Refusal};
 use vg_tree::Node;
-use vg_types_classes::row_of;
+use vg_types_classes::{broken, row_of};
 use vg_types_counts::count_nodes;
 use vg_types_tables::Declared;
 use vg_types_views::{Broken, text_of};

@@ -13,13 +13,12 @@ ghost use Rattle.vg_types_inherited.specs.Entries.{AreEntriesOf, NamesEntries};
 ghost use Rattle.vg_types_inherited.specs.Entering.{IsProgramAt, program_at, program_breach, entry_of, entry_view, no_entries, again, with_entry};
 ghost use Rattle.vg_types_inherited.specs.Entering.{vectors, only_main};
 
-use crate::broken::broken;
 use crate::entered::entered;
 use std::alloc::Global;
 use vg_base::{Name, Names, NoMemory, Refusal, Row};
 use vg_core::Handler;
 use vg_tree::Node;
-use vg_types_classes::row_of;
+use vg_types_classes::{broken, row_of};
 use vg_types_counts::count_nodes;
 use vg_types_numbers::{are_digits, number_of};
 use vg_types_tables::Declared;

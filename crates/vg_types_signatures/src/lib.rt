@@ -1,7 +1,6 @@
 //! The rules on what each class, component and device declares for itself.
 #![tactic(auto)]
 
-mod broken;
 mod members;
 mod params;
 mod pass;

@@ -8,13 +8,12 @@ ghost use Rattle.vg_types_views.specs.Judges.{Judges};
 ghost use Rattle.vg_types_classes.specs.Classes.{declarations_in, IsMapAt};
 ghost use Rattle.vg_types_signatures.specs.Asked.{home_view, no_members, asked_view, asked_of, broken_rule, with_member};
 
-use crate::broken::broken;
 use crate::params::{param_types_keep, params_differ};
 use crate::types::type_keeps;
 use std::alloc::Global;
 use vg_base::{Name, Names, NoMemory, Refusal};
 use vg_tree::{Node, Param};
-use vg_types_classes::row_of;
+use vg_types_classes::{broken, row_of};
 use vg_types_counts::count_nodes;
 use vg_types_names::Declaration;
 use vg_types_views::{Broken, ByText, text_of};

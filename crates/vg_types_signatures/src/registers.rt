@@ -6,11 +6,10 @@ ghost use Rattle.vg_rules.specs.Signatures.{address_keeps, registers_breach};
 ghost use Rattle.vg_types_views.specs.Judges.{Judges};
 ghost use Rattle.vg_types_signatures.specs.Asked.{register_of, register_view};
 
-use crate::broken::broken;
 use std::alloc::Global;
 use vg_base::{Name, Names, Refusal};
 use vg_tree::Node;
-use vg_types_classes::row_of;
+use vg_types_classes::{broken, row_of};
 use vg_types_counts::count_nodes;
 use vg_types_numbers::{is_hexadecimal, number_of};
 use vg_types_views::{Broken, ByText, text_of};
