@@ -1,3 +1,5 @@
 pub mod Maps
 pub mod Devices
 pub mod Picking
+pub mod Listing
+mod Chaining

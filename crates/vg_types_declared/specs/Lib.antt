@@ -1,2 +1,4 @@
 pub mod Heads
+pub mod Lists
+pub mod Chains
 pub mod Picks

@@ -1,12 +1,20 @@
 // What is found by name.
 ghost use Rattle.std.specs.Prelude.{◌≡◌, true, [], None};
 ghost use Rattle.vg_syntax.specs.Tree.{Node};
-ghost use Rattle.vg_rules.specs.Names.{names_breach};
+ghost use Rattle.vg_rules.specs.Names.{names_breach, classes_breach};
 ghost use Rattle.vg_types_names.specs.Declarations.{are_declarations};
 ghost use Rattle.vg_types_heads.specs.Heads.{no_heads, with_heads};
 ghost use Rattle.vg_types_declared.specs.Heads.{Agree};
+ghost use Rattle.vg_types_declared.specs.Lists.{Lists};
+ghost use Rattle.vg_types_declared.specs.Chains.{Chained};
 
 /// Where the names of declarations differ, each class, component and device is found by its name, and each register of a device.
 pub fn heads_agree()
-    ensures { (ds : Node) → names_breach [] ds ≡ None → are_declarations ds ≡ true → Agree ds (with_heads ds no_heads) }
+    ensures found { (ds : Node) → names_breach [] ds ≡ None → are_declarations ds ≡ true → Agree ds (with_heads ds no_heads) }
+    ensures places { (ds : Node) → names_breach [] ds ≡ None → are_declarations ds ≡ true → Lists ds (with_heads ds no_heads) }
+{}
+
+/// Where rule 5 is kept too, the chains of classes are those of their names, and no chain goes on without end.
+pub fn chains_agree()
+    ensures { (ds : Node) → names_breach [] ds ≡ None → are_declarations ds ≡ true → classes_breach ds ds ≡ None → Chained ds (with_heads ds no_heads) }
 {}
