@@ -3,3 +3,5 @@ pub mod Devices
 pub mod Picking
 pub mod Listing
 mod Chaining
+mod Members
+mod Homes

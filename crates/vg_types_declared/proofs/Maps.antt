@@ -87,7 +87,7 @@ head seen _ rest h e = cc
 -- ---- numbers
 
 -- what stands at a place of a list with one thing more
-data At {A : Type 0} (xs : List A) (y : A) (i : ℕ) (x : A) : Type 0 where
+pub data At {A : Type 0} (xs : List A) (y : A) (i : ℕ) (x : A) : Type 0 where
   earlier : slice_get xs i ≡ Some x → At xs y i x
   last : i ≡ length xs → y ≡ x → At xs y i x
 
@@ -95,7 +95,7 @@ later : {A : Type 0} (z : A) (xs : List A) (y : A) (i : ℕ) (x : A) → At xs y
 later z xs y i x (earlier e) = earlier e
 later z xs y i x (last e f) = last (ap suc e) f
 
-at_last : {A : Type 0} (xs : List A) (y : A) (i : ℕ) (x : A) → slice_get (xs ++ y ∷ []) i ≡ Some x → At xs y i x
+pub at_last : {A : Type 0} (xs : List A) (y : A) (i : ℕ) (x : A) → slice_get (xs ++ y ∷ []) i ≡ Some x → At xs y i x
 at_last [] y zero x e = last refl cc
 at_last [] y (suc i) x e = cc
 at_last (z ∷ xs) y zero x e = earlier e

@@ -1,4 +1,5 @@
 pub mod Heads
 pub mod Lists
 pub mod Chains
+pub mod Members
 pub mod Picks

@@ -4,9 +4,11 @@ ghost use Rattle.vg_syntax.specs.Tree.{Node};
 ghost use Rattle.vg_rules.specs.Names.{names_breach, classes_breach};
 ghost use Rattle.vg_types_names.specs.Declarations.{are_declarations};
 ghost use Rattle.vg_types_heads.specs.Heads.{no_heads, with_heads};
+ghost use Rattle.vg_types_homes.specs.Homes.{no_view, with_declarations};
 ghost use Rattle.vg_types_declared.specs.Heads.{Agree};
 ghost use Rattle.vg_types_declared.specs.Lists.{Lists};
 ghost use Rattle.vg_types_declared.specs.Chains.{Chained};
+ghost use Rattle.vg_types_declared.specs.Members.{Found};
 
 /// Where the names of declarations differ, each class, component and device is found by its name, and each register of a device.
 pub fn heads_agree()
@@ -17,4 +19,9 @@ pub fn heads_agree()
 /// Where rule 5 is kept too, the chains of classes are those of their names, and no chain goes on without end.
 pub fn chains_agree()
     ensures { (ds : Node) → names_breach [] ds ≡ None → are_declarations ds ≡ true → classes_breach ds ds ≡ None → Chained ds (with_heads ds no_heads) }
+{}
+
+/// The members that each class and each component declares itself are found by their names.
+pub fn members_agree()
+    ensures { (ds : Node) → Found ds (with_declarations ds no_view) }
 {}
