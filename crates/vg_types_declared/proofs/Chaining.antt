@@ -83,7 +83,7 @@ module _ (ds : Node) (v : HeadsView) (a : Agree ds v) (l : Lists ds v) (rule : c
       ∙ ap (option_map (number_of v.classes))
       (ap (λ z. slice_get z c) l.above ∙ slice_get-map (λ e. e.1.above) (class_list ds) c ∙ ap (option_map (λ (e : Name × ClassParts). e.1.above)) h))
 
-  name_is : (c : ℕ) (x : Name) (p : ClassParts) → slice_get (class_list ds) c ≡ Some (x, p) → name_of v c ≡ x
+  pub name_is : (c : ℕ) (x : Name) (p : ClassParts) → slice_get (class_list ds) c ≡ Some (x, p) → name_of v c ≡ x
   name_is c x p h =
       ap name_or
       (ap (λ z. slice_get z c) l.class_names ∙ slice_get-map (λ e. e.0) (class_list ds) c ∙ ap (option_map (λ (e : Name × ClassParts). e.0)) h)
@@ -115,13 +115,13 @@ module _ (ds : Node) (v : HeadsView) (a : Agree ds v) (l : Lists ds v) (rule : c
 
   -- ---- chains end by themselves
 
-  count : length (numbers v) ≡ length (class_list ds)
+  pub count : length (numbers v) ≡ length (class_list ds)
   count = length-map v.above (number_of v.classes) ∙ ap length l.above ∙ length-map (class_list ds) (λ e. e.1.above)
 
   places : length v.classes ≡ length (class_list ds)
   places = sym (length-map v.classes (λ e. e.0)) ∙ ap length (a.class_places.listed ∙ l.class_names) ∙ length-map (class_list ds) (λ e. e.0)
 
-  number_within : (y : Name) (d : ℕ) → found y v.classes ≡ Some d → d < length (numbers v)
+  pub number_within : (y : Name) (d : ℕ) → found y v.classes ≡ Some d → d < length (numbers v)
   number_within y d f =
       let h = slice_get_within v.classes d (y, d) (a.class_places.numbers y d f) in
       let p = places in
@@ -172,10 +172,10 @@ module _ (ds : Node) (v : HeadsView) (a : Agree ds v) (l : Lists ds v) (rule : c
           (sym (ap (λ z. is_among z x) (ap (λ o. map (name_of v) (chain_up (length_of ds) (numbers v) o)) g ∙ chain_named (length_of ds) y d g))
           ∙ named_in (chain_up (length_of ds) (numbers v) (found y v.classes)) c x (name_is c x p h) e)
 
-  data Entry (c : ℕ) : Type 0 where
+  pub data Entry (c : ℕ) : Type 0 where
     entry : (x : Name) (p : ClassParts) → slice_get (class_list ds) c ≡ Some (x, p) → Entry c
 
-  entry_at : (c : ℕ) → c < length (class_list ds) → Entry c
+  pub entry_at : (c : ℕ) → c < length (class_list ds) → Entry c
   entry_at c h = by (slice_get (class_list ds) c) refl
     where
       past : {A : Type 0} (xs : List A) (i : ℕ) → slice_get xs i ≡ None → i < length xs → true ≡ false

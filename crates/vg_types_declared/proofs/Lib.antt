@@ -5,3 +5,4 @@ pub mod Listing
 mod Chaining
 mod Members
 mod Homes
+mod Inheriting

@@ -2,4 +2,5 @@ pub mod Heads
 pub mod Lists
 pub mod Chains
 pub mod Members
+pub mod Inherits
 pub mod Picks

@@ -9,6 +9,7 @@ ghost use Rattle.vg_types_declared.specs.Heads.{Agree};
 ghost use Rattle.vg_types_declared.specs.Lists.{Lists};
 ghost use Rattle.vg_types_declared.specs.Chains.{Chained};
 ghost use Rattle.vg_types_declared.specs.Members.{Found};
+ghost use Rattle.vg_types_declared.specs.Inherits.{Inherits};
 
 /// Where the names of declarations differ, each class, component and device is found by its name, and each register of a device.
 pub fn heads_agree()
@@ -24,4 +25,10 @@ pub fn chains_agree()
 /// The members that each class and each component declares itself are found by their names.
 pub fn members_agree()
     ensures { (ds : Node) → Found ds (with_declarations ds no_view) }
+{}
+
+/// The members of a class and of those above it are found along its chain.
+pub fn inherited_agree()
+    ensures { (ds : Node) → names_breach [] ds ≡ None → are_declarations ds ≡ true → classes_breach ds ds ≡ None
+        → Inherits ds (with_heads ds no_heads) (with_declarations ds no_view) }
 {}
