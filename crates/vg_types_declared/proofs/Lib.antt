@@ -6,3 +6,4 @@ mod Chaining
 mod Members
 mod Homes
 mod Inheriting
+mod Dispatching

@@ -3,4 +3,5 @@ pub mod Lists
 pub mod Chains
 pub mod Members
 pub mod Inherits
+pub mod Dispatch
 pub mod Picks

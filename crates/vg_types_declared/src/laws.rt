@@ -9,6 +9,7 @@ ghost use Rattle.vg_types_declared.specs.Heads.{Agree};
 ghost use Rattle.vg_types_declared.specs.Lists.{Lists};
 ghost use Rattle.vg_types_declared.specs.Chains.{Chained};
 ghost use Rattle.vg_types_declared.specs.Members.{Found};
+ghost use Rattle.vg_types_declared.specs.Dispatch.{Dispatches};
 ghost use Rattle.vg_types_declared.specs.Inherits.{Inherits};
 
 /// Where the names of declarations differ, each class, component and device is found by its name, and each register of a device.
@@ -31,4 +32,9 @@ pub fn members_agree()
 pub fn inherited_agree()
     ensures { (ds : Node) → names_breach [] ds ≡ None → are_declarations ds ≡ true → classes_breach ds ds ≡ None
         → Inherits ds (with_heads ds no_heads) (with_declarations ds no_view) }
+{}
+
+/// The method that a class declares itself under a name is the first of its own methods that has the name.
+pub fn dispatch_agrees()
+    ensures { (ds : Node) → Dispatches (with_declarations ds no_view) }
 {}
