@@ -11,11 +11,12 @@ use Rattle.vg_types_views.specs.ByText.{found, added}
 use Rattle.vg_types_tables.specs.declared.declared.MemberNumber.{MemberNumber}
 use Rattle.vg_types_tables.specs.declared.declared.MemberNumber.TheVariants.{Field, Method}
 use Rattle.vg_types_tables.specs.Declares.{found_in}
+use Rattle.vg_types_hierarchy.specs.Inherited.{own_at}
 use Rattle.vg_types_members.specs.declared.member.Home.{Home}
 use Rattle.vg_types_members.specs.Members.{MethodView, HomeView, with_field, with_method, with_member, with_members, written_params}
 use Rattle.vg_types_members.proofs.Growing.{found_added}
 use Rattle.vg_types_homes.specs.Homes.{HomesView, no_view, home_starts, with_class, with_component, with_declaration, with_declarations}
-use Rattle.vg_types_declared.specs.Dispatch.{has_name, named_first, methods_at, Leads, Dispatches}
+use Rattle.vg_types_declared.specs.Dispatch.{has_name, named_first, Leads, Dispatches}
 
 -- ---- lists with one thing more
 
@@ -164,8 +165,8 @@ members_keep h _ v = kept_itself v.methods
 -- ---- all classes
 
 record AllLead (v : HomesView) : Type 0 where
-  pub leads : (c : ℕ) (y : Name) → Leads (found_in y (slice_get v.class_members c)) (named_first v.methods (methods_at (slice_get v.class_methods c)) y)
-  pub within : (c : ℕ) → Inside v.methods (methods_at (slice_get v.class_methods c))
+  pub leads : (c : ℕ) (y : Name) → Leads (found_in y (slice_get v.class_members c)) (named_first v.methods (own_at (slice_get v.class_methods c)) y)
+  pub within : (c : ℕ) → Inside v.methods (own_at (slice_get v.class_methods c))
   pub counts : length v.class_members ≡ length v.class_methods
 
 class_leads : (v : HomesView) (ms : Node) → AllLead v → AllLead (with_class ms v)
@@ -190,14 +191,14 @@ class_leads v ms l = record {
 
     by_leads : (c : ℕ) (y : Name) → Pushed v.class_members h.own.members c → Pushed v.class_methods h.own.methods c
         → Leads (found_in y (slice_get (with_class ms v).class_members c))
-        (named_first (with_class ms v).methods (methods_at (slice_get (with_class ms v).class_methods c)) y)
+        (named_first (with_class ms v).methods (own_at (slice_get (with_class ms v).class_methods c)) y)
     by_leads c y (inside e) (inside f) =
-        subst (λ o. Leads (found_in y o) (named_first (with_class ms v).methods (methods_at (slice_get (with_class ms v).class_methods c)) y)) (sym e)
-        (subst (λ o. Leads (found_in y (slice_get v.class_members c)) (named_first (with_class ms v).methods (methods_at o) y)) (sym f)
-        (subst (Leads (found_in y (slice_get v.class_members c))) (sym (k.first (methods_at (slice_get v.class_methods c)) y (l.within c))) (l.leads c y)))
+        subst (λ o. Leads (found_in y o) (named_first (with_class ms v).methods (own_at (slice_get (with_class ms v).class_methods c)) y)) (sym e)
+        (subst (λ o. Leads (found_in y (slice_get v.class_members c)) (named_first (with_class ms v).methods (own_at o) y)) (sym f)
+        (subst (Leads (found_in y (slice_get v.class_members c))) (sym (k.first (own_at (slice_get v.class_methods c)) y (l.within c))) (l.leads c y)))
     by_leads c y (at_end e p) (at_end f q) =
-        subst (λ o. Leads (found_in y o) (named_first (with_class ms v).methods (methods_at (slice_get (with_class ms v).class_methods c)) y)) (sym e)
-        (subst (λ o. Leads (found y h.own.members) (named_first (with_class ms v).methods (methods_at o) y)) (sym f) (new.leads y))
+        subst (λ o. Leads (found_in y o) (named_first (with_class ms v).methods (own_at (slice_get (with_class ms v).class_methods c)) y)) (sym e)
+        (subst (λ o. Leads (found y h.own.members) (named_first (with_class ms v).methods (own_at o) y)) (sym f) (new.leads y))
     by_leads c y (inside e) (at_end f q) =
         let z : slice_get (v.class_members ++ h.own.members ∷ []) (length v.class_members) ≡ None =
         ap (slice_get (v.class_members ++ h.own.members ∷ [])) (l.counts ∙ sym q) ∙ e ∙ past v.class_members c (q ∙ sym l.counts) in
@@ -209,18 +210,18 @@ class_leads v ms l = record {
         let s : Some h.own.methods ≡ None = sym (last_is v.class_methods h.own.methods) ∙ z in
         absurd (let t : true ≡ false = cc in cc)
 
-    by_within : (c : ℕ) → Pushed v.class_methods h.own.methods c → Inside (with_class ms v).methods (methods_at (slice_get (with_class ms v).class_methods c))
+    by_within : (c : ℕ) → Pushed v.class_methods h.own.methods c → Inside (with_class ms v).methods (own_at (slice_get (with_class ms v).class_methods c))
     by_within c (inside f) =
-        subst (λ o. Inside (with_class ms v).methods (methods_at o)) (sym f) (k.within (methods_at (slice_get v.class_methods c)) (l.within c))
-    by_within c (at_end f q) = subst (λ o. Inside (with_class ms v).methods (methods_at o)) (sym f) new.within
+        subst (λ o. Inside (with_class ms v).methods (own_at o)) (sym f) (k.within (own_at (slice_get v.class_methods c)) (l.within c))
+    by_within c (at_end f q) = subst (λ o. Inside (with_class ms v).methods (own_at o)) (sym f) new.within
 
 component_leads : (v : HomesView) (ms : Node) → AllLead v → AllLead (with_component ms v)
 component_leads v ms l =
     let k = members_keep (record { owner = InComponent (length v.component_members); slot = length v.globals }) ms (home_starts v) in
     record {
       leads = λ c y.
-          subst (Leads (found_in y (slice_get v.class_members c))) (sym (k.first (methods_at (slice_get v.class_methods c)) y (l.within c))) (l.leads c y);
-      within = λ c. k.within (methods_at (slice_get v.class_methods c)) (l.within c);
+          subst (Leads (found_in y (slice_get v.class_members c))) (sym (k.first (own_at (slice_get v.class_methods c)) y (l.within c))) (l.leads c y);
+      within = λ c. k.within (own_at (slice_get v.class_methods c)) (l.within c);
       counts = l.counts;
     }
 

@@ -7,3 +7,4 @@ mod Members
 mod Homes
 mod Inheriting
 mod Dispatching
+mod Slotting

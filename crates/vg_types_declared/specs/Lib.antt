@@ -4,4 +4,5 @@ pub mod Chains
 pub mod Members
 pub mod Inherits
 pub mod Dispatch
+pub mod Slots
 pub mod Picks

@@ -9,6 +9,7 @@ ghost use Rattle.vg_types_declared.specs.Heads.{Agree};
 ghost use Rattle.vg_types_declared.specs.Lists.{Lists};
 ghost use Rattle.vg_types_declared.specs.Chains.{Chained};
 ghost use Rattle.vg_types_declared.specs.Members.{Found};
+ghost use Rattle.vg_types_declared.specs.Slots.{Slotted};
 ghost use Rattle.vg_types_declared.specs.Dispatch.{Dispatches};
 ghost use Rattle.vg_types_declared.specs.Inherits.{Inherits};
 
@@ -37,4 +38,9 @@ pub fn inherited_agree()
 /// The method that a class declares itself under a name is the first of its own methods that has the name.
 pub fn dispatch_agrees()
     ensures { (ds : Node) → Dispatches (with_declarations ds no_view) }
+{}
+
+/// Each field stands at its slot, among the own fields of its class or among those of all components, and nothing else stands there.
+pub fn slots_agree()
+    ensures { (ds : Node) → Slotted (with_declarations ds no_view) }
 {}
