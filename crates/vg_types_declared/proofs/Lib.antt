@@ -1,3 +1,10 @@
 pub mod Maps
 pub mod Devices
 pub mod Picking
+pub mod Listing
+mod Chaining
+mod Members
+mod Homes
+mod Inheriting
+mod Dispatching
+mod Slotting
