@@ -1,3 +1,4 @@
 pub mod InScope
 pub mod Others
 pub mod Signatures
+pub mod Initials

@@ -1,2 +1,3 @@
 pub mod Parameters
 pub mod Bodies
+pub mod Initial
