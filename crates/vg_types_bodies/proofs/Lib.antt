@@ -2,3 +2,4 @@ pub mod InScope
 pub mod Others
 pub mod Signatures
 pub mod Initials
+pub mod Makings

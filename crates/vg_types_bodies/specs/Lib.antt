@@ -1,3 +1,5 @@
 pub mod Parameters
 pub mod Bodies
 pub mod Initial
+pub mod Fields
+pub mod Makings

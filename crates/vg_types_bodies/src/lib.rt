@@ -1,13 +1,18 @@
 //! The rules on the bodies of members: the typed bodies of the program, or the first breach in them.
 #![tactic(auto)]
 
+mod above;
+mod field;
 mod initial;
+mod making;
 mod method;
 mod parameters;
 mod running;
-mod super_call;
 
+pub use above::super_call;
+pub use field::field_initialiser;
 pub use initial::initial_value;
+pub use making::{Constructed, constructor, made};
 pub use method::method_body;
 pub use parameters::with_parameters;
 pub use running::run_body;

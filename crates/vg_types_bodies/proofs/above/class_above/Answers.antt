@@ -1,7 +1,7 @@
 use Rattle.vg_core.specs.HeldProgram.{code_of}
 use Rattle.vg_types_statements.proofs.Judging.{not_false}
 use Rattle.vg_types_bodies.proofs.Initials.{super_runs}
-use Rattle.vg_types_bodies.proofs.super_call.class_above.Goals as goal
+use Rattle.vg_types_bodies.proofs.above.class_above.Goals as goal
 
 pub returns-clause-typed : goal.returns-clause-typed
 returns-clause-typed c =
