@@ -3,3 +3,4 @@ pub mod Others
 pub mod Signatures
 pub mod Initials
 pub mod Makings
+pub mod Routines

@@ -3,3 +3,4 @@ pub mod Bodies
 pub mod Initial
 pub mod Fields
 pub mod Makings
+pub mod Routines

@@ -20,7 +20,7 @@ use std::alloc::Global;
 use vg_base::{Names, NoMemory, Refusal};
 use vg_core::{Body, Code, CoreType, Owner};
 use vg_tree::{Node, Param};
-use vg_types_tables::{BodyKind, Declared, row, three};
+use vg_types_tables::{BodyKind, Declared, row, three, two};
 use vg_types_views::Broken;
 
 /// A constructor: the call of the construction of the class above, and its block.
@@ -99,5 +99,22 @@ pub fn made(
     Ok(Body {
         others,
         code: three(alloc, before, row(initialisers), code)?,
+    })
+}
+
+/// What starts a component: the initialisers, and then the block of its constructor.
+pub fn started(
+    alloc: Global,
+    constructed: Constructed,
+    initialisers: Vec<Code>,
+) -> Result<Body, NoMemory>
+    ensures others { IfOk result (λ b. b.others ≡ constructed.body.others) }
+    ensures code { IfOk result (λ b. code_of b.code ≡ Then (code_row initialisers.items) (code_of constructed.body.code)) }
+{
+    let Constructed { before: _, body } = constructed;
+    let Body { others, code } = body;
+    Ok(Body {
+        others,
+        code: two(alloc, row(initialisers), code)?,
     })
 }
