@@ -21,7 +21,7 @@ map_back f (x ∷ xs) =
     ∙ sym (reverse-append (f x ∷ []) (map f xs))
 
 module _ (texts : List (List ℕ)) (d : Declared) where
-  default_named : (t : CoreType) → named_value (naming texts d) d.tables (default t) ≡ source.default (type_view texts d t)
+  pub default_named : (t : CoreType) → named_value (naming texts d) d.tables (default t) ≡ source.default (type_view texts d t)
   default_named IntType = refl
   default_named BoolType = refl
   default_named CharType = refl
