@@ -21,3 +21,4 @@ pub mod Whole
 pub mod Starting
 pub mod Finished
 pub mod Along
+pub mod Causes
