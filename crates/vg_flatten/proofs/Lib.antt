@@ -22,3 +22,4 @@ pub mod Starting
 pub mod Finished
 pub mod Along
 pub mod Causes
+pub mod Onward

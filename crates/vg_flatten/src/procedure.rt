@@ -1,5 +1,5 @@
 // Procedures, flattened.
-ghost use Rattle.std.specs.Prelude.{◌↔◌, ◌≡◌, ◌+◌, ◌-◌, ◌≤◌, ◌++◌, ◌∷◌, [], true, min, map, length, replicate, IfOk, OnOk, IsTrue, Some, None};
+ghost use Rattle.std.specs.Prelude.{◌↔◌, ◌≡◌, ◌+◌, ◌-◌, ◌≤◌, ◌++◌, ◌∷◌, [], true, false, min, map, length, replicate, IfOk, OnOk, IsTrue, Some, None};
 ghost use Rattle.std.specs.List.{AllByRecursion};
 ghost use Rattle.vg_firm.specs.Held.{procedure_of, code_of};
 ghost use Rattle.vg_lin.specs.Sound.{IsWidth};
@@ -7,6 +7,8 @@ ghost use Rattle.vg_flatten.specs.Blocks.{Block, open_code};
 ghost use Rattle.vg_flatten.specs.Flattened.{IsFlat, zero_list, whole, start_of};
 ghost use Rattle.vg_flatten.specs.Blocks.{set_in};
 ghost use Rattle.vg_flatten.specs.Laying.{Seals, Wholes};
+ghost use Rattle.vg_lin.specs.Onward.{all_lead_on};
+ghost use Rattle.vg_flatten.specs.Loops.{has_loop};
 ghost use Rattle.vg_flatten.specs.Refusals.{temps_for, IsRefusedFor};
 ghost use Rattle.vg_flatten.specs.Fitting.{OpenFits, AllFit};
 ghost use Rattle.vg_flatten.specs.Flat.{flat};
@@ -156,6 +158,7 @@ pub fn flatten(
     requires params { procedure.now.params ≤ length procedure.now.widths }
     requires widths { AllByRecursion IsWidth procedure.now.widths }
     ensures flat { IfOk result (λ p. IsFlat params.now (procedure_of procedure.now) p) }
+    ensures onward { IfOk result (λ p. has_loop (code_of procedure.now.body) ≡ false → all_lead_on 0 p.code ≡ true) }
     ensures refusal { IsRefusedFor result params.now (procedure_of procedure.now) }
 {
     let count = procedure.widths.len();
