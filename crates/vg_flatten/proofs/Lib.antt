@@ -21,3 +21,5 @@ pub mod Whole
 pub mod Starting
 pub mod Finished
 pub mod Along
+pub mod Causes
+pub mod Onward
