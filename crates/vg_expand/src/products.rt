@@ -7,8 +7,10 @@ use crate::calls::{push_call, push_cut};
 use vg_base::{NoMemory, Row};
 use vg_lin::{Computation, Instr, Operand, Operator, Plain, Registers};
 
-/// Puts what stands for a product behind the code. Of two known numbers it is worked out. By a known number it is a shift, or a shift and a sum or a difference, where that
-/// number is a power of 2 or next to one; of two bytes it is one instruction; any other is a call.
+/// Puts what stands for a product behind the code.
+///
+/// Of two known numbers it is worked out. By one known number it is a shift, or a shift and a sum or a difference, where that number is
+/// a power of 2 or next to one; of two bytes it is one instruction; any other is a call.
 pub fn push_product(
     code: &mut Row<Instr>,
     c: Computation,
