@@ -23,11 +23,11 @@ use Rattle.vg_lin.specs.Sound.{IsSound}
 use Rattle.vg_lin.specs.Program.{Procedure, Program}
 use Rattle.vg_lin.specs.State.{LocalState, Waiting, State, value, using, sets, computes, plain, holds}
 use Rattle.vg_lin.specs.Meaning.{with_code}
-use Rattle.vg_lin.specs.Meaning.{begun, called, entry_with, entry_of, entry_at, enter, values, values_of, operands, same_widths, result, result_of}
-use Rattle.vg_lin.specs.Meaning.{resume, wake, widths_of, call_of, name_of, language, codes_in, at_start, run}
+use Rattle.vg_lin.specs.Meaning.{begun, called, entry_with, entry_of, entry_at, values, values_of, operands, same_widths, result}
+use Rattle.vg_lin.specs.Meaning.{resume, wake, widths_of, call_of, name_of, language, codes_in, at_start}
 use Rattle.vg_lin.specs.Steps.{stepped}
-use Rattle.vg_lin.specs.Steps.{Awaits, Result, Interrupt, Frame, Went, Goes, Raises, Lacks, Fails, Entry, Config, with_named, open_below, noted, ends}
-use Rattle.vg_lin.specs.Steps.{begins, went, branched, calls, goes_back, returns, takes, handles, performed, fetch, step, steps}
+use Rattle.vg_lin.specs.Steps.{Awaits, Result, Interrupt, Frame, Went, Goes, Raises, Lacks, Fails, Entry, Config, with_named, open_below, noted}
+use Rattle.vg_lin.specs.Steps.{begins, went, branched, calls, goes_back, returns, takes, handles, performed, step, steps}
 use Rattle.vg_lin.specs.Follows.{Leads}
 use Rattle.vg_lin.proofs.Followed.{leads_step}
 use Rattle.vg_arith.proofs.ShiftRoutines.{fetch_of}
