@@ -3,7 +3,5 @@ mod Finds
 mod Made
 mod Rules
 mod Inheriting
-mod Finding
-mod Keys
 mod Kept
 mod Dispatching

@@ -1,4 +1,2 @@
 pub mod Asked
-pub mod Entries
-pub mod Entering
 pub mod Dispatches

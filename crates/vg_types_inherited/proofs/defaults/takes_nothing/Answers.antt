@@ -1,5 +1,5 @@
 use Rattle.std.proofs.Common.{Some, None, slice_get}
-use Rattle.vg_types_inherited.proofs.Tests.{empty_is, entry_at, some_at, none_at, not_none}
+use Rattle.vg_types_inherited.proofs.Tests.{entry_at, some_at, none_at, not_none}
 use Rattle.vg_types_inherited.proofs.Finds.{params_taken, class_there}
 use Rattle.vg_types_inherited.proofs.defaults.takes_nothing.Goals as goal
 
@@ -10,7 +10,7 @@ returns-in-Some-get c =
     (entry_at c.as_slice.result.now c.args.declared.now.tables.classes c.from.result c.in-Some.number (Some c.in-Some-get.found.now)
     (some_at c.as_slice.result.now c.from.result c.in-Some-get.found.now c.in-Some-get.ensures.lookup.3.0 c.in-Some-get.ensures.lookup.1)
     c.as_slice.ensures c.from.ensures)
-    (empty_is c.is_empty.result c.in-Some-get.found.now.params c.is_empty.ensures)
+    c.is_empty.ensures
 
 pub returns-in-None-get : goal.returns-in-None-get
 returns-in-None-get c =

@@ -15,14 +15,19 @@ use Rattle.vg_core.specs.declared.types.CoreType.TheVariants.{NoType}
 use Rattle.vg_core.specs.declared.program.Owner.TheVariants.{InComponent}
 use Rattle.vg_core.specs.declared.program.Handler.{Handler}
 use Rattle.vg_core.specs.declared.program.Method.{Method}
+use Rattle.vg_core.specs.declared.program.Tables.{Tables}
 use Rattle.vg_types_tables.specs.declared.declared.Declared.{Declared}
 use Rattle.vg_types_tables.specs.Views.{naming}
-use Rattle.vg_types_inherited.specs.declared.program.Entry.{Entry as HeldEntry}
-use Rattle.vg_types_inherited.specs.declared.program.Main.{Main}
-use Rattle.vg_types_inherited.specs.declared.program.Main.TheVariants.{Missing, Once, Twice}
-use Rattle.vg_types_inherited.specs.declared.program.Passed.{Passed}
+use Rattle.vg_types_entries.specs.declared.program.Entry.{Entry as HeldEntry}
+use Rattle.vg_types_entries.specs.declared.program.Main.{Main}
+use Rattle.vg_types_entries.specs.declared.program.Main.TheVariants.{Missing, Once, Twice}
+use Rattle.vg_types_entries.specs.declared.program.Passed.{Passed}
 
 -- ---- methods
+
+-- a method is in the tables
+abbrev pub IsMethodNumber : Tables → ℕ → Type 0
+IsMethodNumber p m = (y : Method) × (slice_get p.methods m ≡ Some y)
 
 -- what is entered: a method of a component without parameters, by its names
 pub record IsEntered (texts : List (List ℕ)) (d : Declared) (c x : Name) (m : ℕ) : Type 0 where

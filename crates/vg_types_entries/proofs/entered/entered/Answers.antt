@@ -1,6 +1,6 @@
 use Rattle.std.proofs.Common.{Some, is_some, sym, ap, ◌∙◌}
-use Rattle.vg_types_inherited.proofs.Finds.{nothing_found, field_found, method_there, method_found, method_entered, entered_if}
-use Rattle.vg_types_inherited.proofs.entered.entered.Goals as goal
+use Rattle.vg_types_entries.proofs.Finds.{nothing_found, field_found, method_there, method_found, method_entered, entered_if}
+use Rattle.vg_types_entries.proofs.entered.entered.Goals as goal
 
 pub plain-requires : goal.plain-requires
 plain-requires c =

@@ -3,8 +3,8 @@ use Rattle.vg_syntax.specs.Numbering.{count_nodes, numbered}
 use Rattle.vg_tree.specs.Held.{row_at}
 use Rattle.vg_tree_walks.proofs.Passing.{left_of}
 use Rattle.vg_types_tables.specs.Views.{declarations_at}
-use Rattle.vg_types_inherited.proofs.Keys.{Entering, entry_done}
-use Rattle.vg_types_inherited.proofs.program.entries_in.Goals as goal
+use Rattle.vg_types_entries.proofs.Keys.{Entering, entry_done}
+use Rattle.vg_types_entries.proofs.program.entries_in.Goals as goal
 
 pub each-preserved : goal.each-preserved
 each-preserved c =

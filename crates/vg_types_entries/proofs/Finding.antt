@@ -11,7 +11,7 @@ use Rattle.vg_source.specs.Program.{entries_in}
 use Rattle.vg_rules.specs.Breach.{Breach, asks, ◌or◌}
 use Rattle.vg_rules.specs.Names.{programs}
 use Rattle.vg_rules.specs.Entries.{mains, keys_keep, methods_breach, entries_breach}
-use Rattle.vg_types_inherited.specs.Entering.{program_at, program_breach, IsProgramAt}
+use Rattle.vg_types_entries.specs.Entering.{program_at, program_breach, IsProgramAt}
 
 -- ---- one declaration
 

@@ -1,7 +1,7 @@
 use Rattle.std.proofs.Common.{◌+◌, sym, ap, subst}
 use Rattle.vg_tree_walks.proofs.Passing.{left_of}
-use Rattle.vg_types_inherited.proofs.Finding.{Finding, finding_on, program_found, program_within}
-use Rattle.vg_types_inherited.proofs.program.program_in.Goals as goal
+use Rattle.vg_types_entries.proofs.Finding.{Finding, finding_on, program_found, program_within}
+use Rattle.vg_types_entries.proofs.program.program_in.Goals as goal
 
 pub returns-in-Some-clause-found : goal.returns-in-Some-clause-found
 returns-in-Some-clause-found c =

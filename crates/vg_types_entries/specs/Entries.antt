@@ -9,7 +9,7 @@ use Rattle.vg_core.specs.Program.{Program}
 use Rattle.vg_core.specs.Typing.{IsEntry, AreEntries}
 use Rattle.vg_types_tables.specs.declared.declared.Declared.{Declared}
 use Rattle.vg_types_tables.specs.Views.{declarations_at, naming}
-use Rattle.vg_types_inherited.specs.declared.program.ProgramEntries.{ProgramEntries}
+use Rattle.vg_types_entries.specs.declared.program.ProgramEntries.{ProgramEntries}
 
 -- The entries are those that this row of entries names, and are entries in each program of these tables.
 pub record NamesEntries (texts : List (List ℕ)) (d : Declared) (row : Node) (e : ProgramEntries) : Type 0 where

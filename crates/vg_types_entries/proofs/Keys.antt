@@ -24,13 +24,13 @@ use Rattle.vg_core.specs.Program.{Program}
 use Rattle.vg_core.specs.Typing.{IsEntry, AreEntries}
 use Rattle.vg_types_tables.specs.declared.declared.Declared.{Declared}
 use Rattle.vg_types_tables.specs.Views.{naming}
-use Rattle.vg_types_inherited.specs.declared.program.Main.{Main}
-use Rattle.vg_types_inherited.specs.declared.program.Main.TheVariants.{Missing, Once, Twice}
-use Rattle.vg_types_inherited.specs.declared.program.Passed.{Passed}
-use Rattle.vg_types_inherited.specs.declared.program.Entry.{Entry as HeldEntry}
-use Rattle.vg_types_inherited.specs.Entries.{NamesEntries}
-use Rattle.vg_types_inherited.specs.Entering.{IsEntered, program_breach, Entry, entry_of, entry_view, no_entries, again, vectors, with_key}
-use Rattle.vg_types_inherited.specs.Entering.{with_entry, only_main}
+use Rattle.vg_types_entries.specs.declared.program.Main.{Main}
+use Rattle.vg_types_entries.specs.declared.program.Main.TheVariants.{Missing, Once, Twice}
+use Rattle.vg_types_entries.specs.declared.program.Passed.{Passed}
+use Rattle.vg_types_entries.specs.declared.program.Entry.{Entry as HeldEntry}
+use Rattle.vg_types_entries.specs.Entries.{NamesEntries}
+use Rattle.vg_types_entries.specs.Entering.{IsEntered, program_breach, Entry, entry_of, entry_view, no_entries, again, vectors, with_key}
+use Rattle.vg_types_entries.specs.Entering.{with_entry, only_main}
 
 -- ---- one entry
 

@@ -2,8 +2,8 @@ use Rattle.std.proofs.Common.{drop, ◌+◌, []}
 use Rattle.vg_syntax.specs.Numbering.{count_nodes, numbered}
 use Rattle.vg_tree.specs.Held.{row_at}
 use Rattle.vg_types_tables.specs.Views.{declarations_at}
-use Rattle.vg_types_inherited.proofs.Keys.{Entering}
-use Rattle.vg_types_inherited.proofs.program.entries_in.Given as goal
+use Rattle.vg_types_entries.proofs.Keys.{Entering}
+use Rattle.vg_types_entries.proofs.program.entries_in.Given as goal
 
 abbrev pub invariant-each : goal.invariant-each
 invariant-each l =

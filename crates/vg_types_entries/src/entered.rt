@@ -4,8 +4,7 @@ ghost use Rattle.vg_source.specs.Declared.{component_member};
 ghost use Rattle.vg_rules.specs.Entries.{can_enter};
 ghost use Rattle.vg_types_tables.specs.Views.{declarations_at};
 ghost use Rattle.vg_types_tables.specs.Declares.{Declares};
-ghost use Rattle.vg_types_inherited.specs.Asked.{IsMethodNumber};
-ghost use Rattle.vg_types_inherited.specs.Entering.{IsEntered, is_plain, is_nothing};
+ghost use Rattle.vg_types_entries.specs.Entering.{IsEntered, IsMethodNumber, is_plain, is_nothing};
 
 use vg_base::Names;
 use vg_core::CoreType;

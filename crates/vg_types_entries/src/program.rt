@@ -9,9 +9,9 @@ ghost use Rattle.vg_rules.specs.Entries.{is_taken, is_vector, entries_breach};
 ghost use Rattle.vg_types_views.specs.Judges.{Judges};
 ghost use Rattle.vg_types_tables.specs.Views.{declarations_at};
 ghost use Rattle.vg_types_tables.specs.Declares.{Declares};
-ghost use Rattle.vg_types_inherited.specs.Entries.{AreEntriesOf, NamesEntries};
-ghost use Rattle.vg_types_inherited.specs.Entering.{IsProgramAt, program_at, program_breach, entry_of, entry_view, no_entries, again, with_entry};
-ghost use Rattle.vg_types_inherited.specs.Entering.{vectors, only_main};
+ghost use Rattle.vg_types_entries.specs.Entries.{AreEntriesOf, NamesEntries};
+ghost use Rattle.vg_types_entries.specs.Entering.{IsProgramAt, program_at, program_breach, entry_of, entry_view, no_entries, again, with_entry};
+ghost use Rattle.vg_types_entries.specs.Entering.{vectors, only_main};
 
 use crate::entered::entered;
 use std::alloc::Global;
