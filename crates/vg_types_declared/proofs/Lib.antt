@@ -8,3 +8,4 @@ mod Homes
 mod Inheriting
 mod Dispatching
 mod Slotting
+mod Standing

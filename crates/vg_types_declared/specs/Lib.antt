@@ -5,4 +5,5 @@ pub mod Members
 pub mod Inherits
 pub mod Dispatch
 pub mod Slots
+pub mod Placing
 pub mod Picks

@@ -4,12 +4,13 @@ ghost use Rattle.vg_syntax.specs.Tree.{Node};
 ghost use Rattle.vg_rules.specs.Names.{names_breach, classes_breach};
 ghost use Rattle.vg_types_names.specs.Declarations.{are_declarations};
 ghost use Rattle.vg_types_heads.specs.Heads.{no_heads, with_heads};
-ghost use Rattle.vg_types_homes.specs.Homes.{no_view, with_declarations};
+ghost use Rattle.vg_types_homes.specs.Homes.{HomesView, no_view, with_declarations};
 ghost use Rattle.vg_types_declared.specs.Heads.{Agree};
 ghost use Rattle.vg_types_declared.specs.Lists.{Lists};
 ghost use Rattle.vg_types_declared.specs.Chains.{Chained};
 ghost use Rattle.vg_types_declared.specs.Members.{Found};
 ghost use Rattle.vg_types_declared.specs.Slots.{Slotted};
+ghost use Rattle.vg_types_declared.specs.Placing.{Stands};
 ghost use Rattle.vg_types_declared.specs.Dispatch.{Dispatches};
 ghost use Rattle.vg_types_declared.specs.Inherits.{Inherits};
 
@@ -43,4 +44,9 @@ pub fn dispatch_agrees()
 /// Each field stands at its slot, among the own fields of its class or among those of all components, and nothing else stands there.
 pub fn slots_agree()
     ensures { (ds : Node) → Slotted (with_declarations ds no_view) }
+{}
+
+/// Where chains end by themselves, each field stands at one place in all objects that have it: behind what its class inherits, at its slot.
+pub fn places_agree()
+    ensures { (w : HomesView) → Stands w }
 {}
