@@ -9,3 +9,4 @@ mod Inheriting
 mod Dispatching
 mod Slotting
 mod Standing
+mod Forming

@@ -6,4 +6,5 @@ pub mod Inherits
 pub mod Dispatch
 pub mod Slots
 pub mod Placing
+pub mod Built
 pub mod Picks

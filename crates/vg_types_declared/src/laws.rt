@@ -1,9 +1,12 @@
 // What is found by name.
-ghost use Rattle.std.specs.Prelude.{◌≡◌, true, [], None};
+ghost use Rattle.std.specs.Prelude.{◌≡◌, true, ℕ, List, [], None};
 ghost use Rattle.vg_syntax.specs.Tree.{Node};
 ghost use Rattle.vg_rules.specs.Names.{names_breach, classes_breach};
 ghost use Rattle.vg_types_names.specs.Declarations.{are_declarations};
 ghost use Rattle.vg_types_heads.specs.Heads.{no_heads, with_heads};
+ghost use Rattle.vg_core.specs.declared.program.Tables.{Tables};
+ghost use Rattle.vg_types_interned.specs.declared.table.Types.{Types};
+ghost use Rattle.vg_types_homes.specs.declared.homes.Homes.{Homes};
 ghost use Rattle.vg_types_homes.specs.Homes.{HomesView, no_view, with_declarations};
 ghost use Rattle.vg_types_declared.specs.Heads.{Agree};
 ghost use Rattle.vg_types_declared.specs.Lists.{Lists};
@@ -11,6 +14,7 @@ ghost use Rattle.vg_types_declared.specs.Chains.{Chained};
 ghost use Rattle.vg_types_declared.specs.Members.{Found};
 ghost use Rattle.vg_types_declared.specs.Slots.{Slotted};
 ghost use Rattle.vg_types_declared.specs.Placing.{Stands};
+ghost use Rattle.vg_types_declared.specs.Built.{BuiltFormed};
 ghost use Rattle.vg_types_declared.specs.Dispatch.{Dispatches};
 ghost use Rattle.vg_types_declared.specs.Inherits.{Inherits};
 
@@ -49,4 +53,9 @@ pub fn slots_agree()
 /// Where chains end by themselves, each field stands at one place in all objects that have it: behind what its class inherits, at its slot.
 pub fn places_agree()
     ensures { (w : HomesView) → Stands w }
+{}
+
+/// The tables that are built of the names, the members and the types of a text keep what tables keep.
+pub fn tables_formed()
+    ensures { (texts : List (List ℕ)) (types : Types) (homes : Homes) (p : Tables) → BuiltFormed texts types homes p }
 {}
