@@ -90,10 +90,10 @@ both true b e = (refl, e)
 both false b e = cc
 
 -- what a list of views shows is the view of what stands there
-data Viewed {A B : Type 0} (f : A → B) (xs : List A) (i : ℕ) (b : B) : Type 0 where
+pub data Viewed {A B : Type 0} (f : A → B) (xs : List A) (i : ℕ) (b : B) : Type 0 where
   viewed : (a : A) → slice_get xs i ≡ Some a → f a ≡ b → Viewed f xs i b
 
-view_at : {A B : Type 0} (f : A → B) (xs : List A) (i : ℕ) (b : B) → slice_get (map f xs) i ≡ Some b → Viewed f xs i b
+pub view_at : {A B : Type 0} (f : A → B) (xs : List A) (i : ℕ) (b : B) → slice_get (map f xs) i ≡ Some b → Viewed f xs i b
 view_at f [] i b e = cc
 view_at f (x ∷ xs) zero b e = viewed x refl (one_some (f x) b e)
 view_at f (x ∷ xs) (suc i) b e = again (view_at f xs i b e)
@@ -110,18 +110,18 @@ module _ (texts : List (List ℕ)) (types : Types) (homes : Homes) (most : ℕ) 
   abbrev kind : ℕ → Class
   kind = the_class most names above homes.class_fields homes.class_methods homes.class_params
 
-  class_at : (c : ℕ) → c < length names → slice_get p.classes c ≡ Some (the_class most names above homes.class_fields homes.class_methods homes.class_params c)
+  pub class_at : (c : ℕ) → c < length names → slice_get p.classes c ≡ Some (the_class most names above homes.class_fields homes.class_methods homes.class_params c)
   class_at c h =
       ap (λ z. slice_get z c) b.class_table
       ∙ at_first (the_class most names above homes.class_fields homes.class_methods homes.class_params) (length names) c h
 
-  class_within : (c : ℕ) (z : Class) → slice_get p.classes c ≡ Some z → c < length names
+  pub class_within : (c : ℕ) (z : Class) → slice_get p.classes c ≡ Some z → c < length names
   class_within c z e =
       let h = slice_get_within p.classes c z e in
       let n = ap length b.class_table ∙ count_first (the_class most names above homes.class_fields homes.class_methods homes.class_params) (length names) in
       omega (arith, h, n)
 
-  class_is : (c : ℕ) (z : Class) → slice_get p.classes c ≡ Some z
+  pub class_is : (c : ℕ) (z : Class) → slice_get p.classes c ≡ Some z
       → z ≡ the_class most names above homes.class_fields homes.class_methods homes.class_params c
   class_is c z e = one_some _ _ (sym e ∙ class_at c (class_within c z e))
 
@@ -155,7 +155,7 @@ module _ (texts : List (List ℕ)) (types : Types) (homes : Homes) (most : ℕ) 
 
   -- ---- fields
 
-  field_there : (f : ℕ) (y : Field) → slice_get homes.making.fields f ≡ Some y → slice_get p.fields f ≡ Some (with_slot p.classes homes.class_fields y)
+  pub field_there : (f : ℕ) (y : Field) → slice_get homes.making.fields f ≡ Some y → slice_get p.fields f ≡ Some (with_slot p.classes homes.class_fields y)
   field_there f y e =
       ap (λ z. slice_get z f) b.field_table ∙ slice_get-map (with_slot p.classes homes.class_fields) homes.making.fields f
       ∙ ap (option_map (with_slot p.classes homes.class_fields)) e

@@ -10,3 +10,4 @@ mod Dispatching
 mod Slotting
 mod Standing
 mod Forming
+mod Naming

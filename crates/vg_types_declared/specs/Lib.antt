@@ -7,4 +7,5 @@ pub mod Dispatch
 pub mod Slots
 pub mod Placing
 pub mod Built
+pub mod Named
 pub mod Picks
