@@ -8,3 +8,6 @@ mod Homes
 mod Inheriting
 mod Dispatching
 mod Slotting
+mod Standing
+mod Forming
+mod Naming

@@ -30,17 +30,17 @@ the_end : {A : Type 0} (xs : List A) (y : A) (i : ℕ) → i ≡ length xs → s
 the_end [] y i e = ap (slice_get (y ∷ [])) e
 the_end (x ∷ xs) y i e = ap (slice_get (x ∷ (xs ++ y ∷ []))) e ∙ the_end xs y (length xs) refl
 
-front : {A : Type 0} (xs ys : List A) (i : ℕ) (z : A) → slice_get xs i ≡ Some z → slice_get (xs ++ ys) i ≡ Some z
+pub front : {A : Type 0} (xs ys : List A) (i : ℕ) (z : A) → slice_get xs i ≡ Some z → slice_get (xs ++ ys) i ≡ Some z
 front [] ys i z h = cc
 front (x ∷ xs) ys zero z h = h
 front (x ∷ xs) ys (suc i) z h = front xs ys i z h
 
-behind : {A : Type 0} (xs ys : List A) (j : ℕ) → slice_get (xs ++ ys) (length xs + j) ≡ slice_get ys j
+pub behind : {A : Type 0} (xs ys : List A) (j : ℕ) → slice_get (xs ++ ys) (length xs + j) ≡ slice_get ys j
 behind [] ys j = let e : 0 + j ≡ j = omega arith in ap (slice_get ys) e
 behind (x ∷ xs) ys j = let e : suc (length xs) + j ≡ suc (length xs + j) = omega arith in ap (slice_get (x ∷ (xs ++ ys))) e ∙ behind xs ys j
 
 -- what stands in two lists, one behind the other
-data Of {A : Type 0} (xs ys : List A) (i : ℕ) (z : A) : Type 0 where
+pub data Of {A : Type 0} (xs ys : List A) (i : ℕ) (z : A) : Type 0 where
   first : slice_get xs i ≡ Some z → Of xs ys i z
   second : (j : ℕ) → i ≡ length xs + j → slice_get ys j ≡ Some z → Of xs ys i z
 
@@ -48,7 +48,7 @@ of_later : {A : Type 0} (x : A) (xs ys : List A) (i : ℕ) (z : A) → Of xs ys 
 of_later x xs ys i z (first e) = first e
 of_later x xs ys i z (second j e f) = second j (omega (arith, e)) f
 
-of_two : {A : Type 0} (xs ys : List A) (i : ℕ) (z : A) → slice_get (xs ++ ys) i ≡ Some z → Of xs ys i z
+pub of_two : {A : Type 0} (xs ys : List A) (i : ℕ) (z : A) → slice_get (xs ++ ys) i ≡ Some z → Of xs ys i z
 of_two [] ys i z h = second i (omega arith) h
 of_two (x ∷ xs) ys zero z h = first h
 of_two (x ∷ xs) ys (suc i) z h = of_later x xs ys i z (of_two xs ys i z h)

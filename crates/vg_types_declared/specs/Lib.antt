@@ -5,4 +5,7 @@ pub mod Members
 pub mod Inherits
 pub mod Dispatch
 pub mod Slots
+pub mod Placing
+pub mod Built
+pub mod Named
 pub mod Picks
