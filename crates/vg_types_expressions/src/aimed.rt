@@ -10,8 +10,9 @@ ghost use Rattle.vg_types_tables.specs.declared.judged.Head.TheVariants.{Nothing
 ghost use Rattle.vg_types_tables.specs.Views.{declarations_at, body_view, scope_view, head_view};
 ghost use Rattle.vg_types_tables.specs.Declares.{Declares};
 ghost use Rattle.vg_types_tables.specs.Promises.{AreDeclared, IsBody, IsHead, Aims, Stores};
-ghost use Rattle.vg_types_expressions.specs.Nodes.{postfix_node, chain_node};
+ghost use Rattle.vg_types_expressions.specs.Nodes.{postfix_node, chain_node, index_node};
 
+use crate::indexed::element_target;
 use crate::rows::row_of;
 use crate::whole::{expression, front_links, operand, plain};
 use std::alloc::Global;
@@ -38,8 +39,10 @@ pub fn target(
     requires body { IsBody declared.now.tables body }
     requires scope { AreDeclared declared.now.tables locals.now }
     requires room { id + count_nodes (node_at names.now node.now) < 2 ^ 32 }
-    ensures judged { Judges (Aims names.now root.now declared.now body locals.now (numbered id (node_at names.now node.now)) Fresh) result
-        (breach (declarations_at names.now root.now) (body_view names.now declared.now body) (numbered id (node_at names.now node.now)) Fresh
+    ensures judged { Judges (Aims names.now root.now declared.now body locals.now
+        (numbered id (node_at names.now node.now)) Fresh) result
+        (breach (declarations_at names.now root.now) (body_view names.now declared.now body)
+        (numbered id (node_at names.now node.now)) Fresh
         (scope_view names.now declared.now locals.now)) }
     ensures typed { IfOk result (λ j. IfSome j.place (Stores declared.now.tables body locals.now Nothing)) }
     ensures next { IfOk result (λ j. j.next ≡ id + count_nodes (node_at names.now node.now)) }
@@ -81,8 +84,12 @@ fn postfix_target(
     requires body { IsBody declared.now.tables body }
     requires scope { AreDeclared declared.now.tables locals.now }
     requires room { id + 1 + count_nodes (node_at names.now first.now) + count_nodes (node_at names.now suffixes.now) < 2 ^ 32 }
-    ensures judged { Judges (Aims names.now root.now declared.now body locals.now (postfix_node id (spot place) (numbered (id + 1) (node_at names.now first.now)) (numbered (id + 1 + count_nodes (node_at names.now first.now)) (node_at names.now suffixes.now))) Fresh) result
-        (breach (declarations_at names.now root.now) (body_view names.now declared.now body) (postfix_node id (spot place) (numbered (id + 1) (node_at names.now first.now)) (numbered (id + 1 + count_nodes (node_at names.now first.now)) (node_at names.now suffixes.now))) Fresh
+    ensures judged { Judges (Aims names.now root.now declared.now body locals.now
+        (postfix_node id (spot place) (numbered (id + 1) (node_at names.now first.now))
+        (numbered (id + 1 + count_nodes (node_at names.now first.now)) (node_at names.now suffixes.now))) Fresh) result
+        (breach (declarations_at names.now root.now) (body_view names.now declared.now body)
+        (postfix_node id (spot place) (numbered (id + 1) (node_at names.now first.now))
+        (numbered (id + 1 + count_nodes (node_at names.now first.now)) (node_at names.now suffixes.now))) Fresh
         (scope_view names.now declared.now locals.now)) }
     ensures typed { IfOk result (λ j. IfSome j.place (Stores declared.now.tables body locals.now Nothing)) }
     ensures next { IfOk result (λ j. j.next ≡ id + 1 + count_nodes (node_at names.now first.now) + count_nodes (node_at names.now suffixes.now)) }
@@ -138,8 +145,12 @@ fn chain_target(
     requires body { IsBody declared.now.tables body }
     requires scope { AreDeclared declared.now.tables locals.now }
     requires room { id + 1 + count_nodes (node_at names.now first.now) + count_nodes (node_at names.now parts.now) < 2 ^ 32 }
-    ensures judged { Judges (Aims names.now root.now declared.now body locals.now (chain_node id (spot place) (numbered (id + 1) (node_at names.now first.now)) (numbered (id + 1 + count_nodes (node_at names.now first.now)) (node_at names.now parts.now))) Fresh) result
-        (breach (declarations_at names.now root.now) (body_view names.now declared.now body) (chain_node id (spot place) (numbered (id + 1) (node_at names.now first.now)) (numbered (id + 1 + count_nodes (node_at names.now first.now)) (node_at names.now parts.now))) Fresh
+    ensures judged { Judges (Aims names.now root.now declared.now body locals.now
+        (chain_node id (spot place) (numbered (id + 1) (node_at names.now first.now))
+        (numbered (id + 1 + count_nodes (node_at names.now first.now)) (node_at names.now parts.now))) Fresh) result
+        (breach (declarations_at names.now root.now) (body_view names.now declared.now body)
+        (chain_node id (spot place) (numbered (id + 1) (node_at names.now first.now))
+        (numbered (id + 1 + count_nodes (node_at names.now first.now)) (node_at names.now parts.now))) Fresh
         (scope_view names.now declared.now locals.now)) }
     ensures typed { IfOk result (λ j. IfSome j.place (Stores declared.now.tables body locals.now Nothing)) }
     ensures next { IfOk result (λ j. j.next ≡ id + 1 + count_nodes (node_at names.now first.now) + count_nodes (node_at names.now parts.now)) }
@@ -193,8 +204,10 @@ fn target_links(
     requires scope { AreDeclared declared.now.tables locals.now }
     requires head { IsHead names.now declared.now head }
     requires room { id + count_nodes (node_at names.now row.now) < 2 ^ 32 }
-    ensures judged { Judges (Aims names.now root.now declared.now body locals.now (numbered id (node_at names.now row.now)) (Onto (head_view names.now declared.now head))) result
-        (breach (declarations_at names.now root.now) (body_view names.now declared.now body) (numbered id (node_at names.now row.now)) (Onto (head_view names.now declared.now head))
+    ensures judged { Judges (Aims names.now root.now declared.now body locals.now
+        (numbered id (node_at names.now row.now)) (Onto (head_view names.now declared.now head))) result
+        (breach (declarations_at names.now root.now) (body_view names.now declared.now body)
+        (numbered id (node_at names.now row.now)) (Onto (head_view names.now declared.now head))
         (scope_view names.now declared.now locals.now)) }
     ensures typed { IfOk result (λ j. IfSome j.place (Stores declared.now.tables body locals.now head)) }
     ensures next { IfOk result (λ j. j.next ≡ id + count_nodes (node_at names.now row.now)) }
@@ -223,8 +236,10 @@ fn target_row(
     requires scope { AreDeclared declared.now.tables locals.now }
     requires head { IsHead names.now declared.now head }
     requires room { id + count_nodes (row_at names.now nodes.now) < 2 ^ 32 }
-    ensures judged { Judges (Aims names.now root.now declared.now body locals.now (numbered id (row_at names.now nodes.now)) (Onto (head_view names.now declared.now head))) result
-        (breach (declarations_at names.now root.now) (body_view names.now declared.now body) (numbered id (row_at names.now nodes.now)) (Onto (head_view names.now declared.now head))
+    ensures judged { Judges (Aims names.now root.now declared.now body locals.now
+        (numbered id (row_at names.now nodes.now)) (Onto (head_view names.now declared.now head))) result
+        (breach (declarations_at names.now root.now) (body_view names.now declared.now body)
+        (numbered id (row_at names.now nodes.now)) (Onto (head_view names.now declared.now head))
         (scope_view names.now declared.now locals.now)) }
     ensures typed { IfOk result (λ j. IfSome j.place (Stores declared.now.tables body locals.now head)) }
     ensures next { IfOk result (λ j. j.next ≡ id + count_nodes (row_at names.now nodes.now)) }
@@ -283,8 +298,10 @@ fn link_target(
     requires scope { AreDeclared declared.now.tables locals.now }
     requires head { IsHead names.now declared.now head }
     requires room { id + count_nodes (node_at names.now node.now) < 2 ^ 32 }
-    ensures judged { Judges (Aims names.now root.now declared.now body locals.now (numbered id (node_at names.now node.now)) (Onto (head_view names.now declared.now head))) result
-        (breach (declarations_at names.now root.now) (body_view names.now declared.now body) (numbered id (node_at names.now node.now)) (Onto (head_view names.now declared.now head))
+    ensures judged { Judges (Aims names.now root.now declared.now body locals.now
+        (numbered id (node_at names.now node.now)) (Onto (head_view names.now declared.now head))) result
+        (breach (declarations_at names.now root.now) (body_view names.now declared.now body)
+        (numbered id (node_at names.now node.now)) (Onto (head_view names.now declared.now head))
         (scope_view names.now declared.now locals.now)) }
     ensures typed { IfOk result (λ j. IfSome j.place (Stores declared.now.tables body locals.now head)) }
     ensures next { IfOk result (λ j. j.next ≡ id + count_nodes (node_at names.now node.now)) }
@@ -293,7 +310,40 @@ fn link_target(
         Node::Member(place, name) => member_target(
             alloc, names, root, declared, body, locals, head, *place, *name, id,
         ),
+        Node::Index(place, index) => index_target(
+            alloc, names, root, declared, body, locals, head, *place, index, id,
+        ),
         // No tree of a text has another node in the place of a suffix or a part.
         _ => Err(Refusal::NoMemory),
     }
+}
+
+// A last Index suffix: rule 20.
+fn index_target(
+    alloc: Global,
+    names: &Names,
+    root: &Node,
+    declared: &Declared,
+    body: BodyKind,
+    locals: &Locals,
+    head: Head,
+    place: Place,
+    index: &Node,
+    id: u32,
+) -> Result<Aimed, Refusal<Broken>>
+    requires declares { Declares names.now root.now declared.now }
+    requires body { IsBody declared.now.tables body }
+    requires scope { AreDeclared declared.now.tables locals.now }
+    requires head { IsHead names.now declared.now head }
+    requires room { id + 1 + count_nodes (node_at names.now index.now) < 2 ^ 32 }
+    ensures judged { Judges (Aims names.now root.now declared.now body locals.now
+        (index_node id (spot place) (numbered (id + 1) (node_at names.now index.now))) (Onto (head_view names.now declared.now head))) result
+        (breach (declarations_at names.now root.now) (body_view names.now declared.now body)
+        (index_node id (spot place) (numbered (id + 1) (node_at names.now index.now))) (Onto (head_view names.now declared.now head))
+        (scope_view names.now declared.now locals.now)) }
+    ensures typed { IfOk result (λ j. IfSome j.place (Stores declared.now.tables body locals.now head)) }
+    ensures next { IfOk result (λ j. j.next ≡ id + 1 + count_nodes (node_at names.now index.now)) }
+{
+    let judged = expression(alloc, names, root, declared, body, locals, index, id + 1)?;
+    element_target(names, root, declared, body, locals, head, place, judged, id)
 }

@@ -16,13 +16,14 @@ returns-in_ok-aims-in-Some-clause-judged c =
     let s = c.in-Some.last in
     let t : Storing = record { aims = c.in_ok-aims-in-Some.aims; store = s.store; type_ = s.type_ } in
     let p = subst (λ o. Aims c.args.names.now c.args.root.now c.args.declared.now c.args.body c.args.locals.now (numbered c.in_ok-front.front.next (node_at c.args.names.now c.args.parts.now)) (Onto (IsValue (type_view c.args.names.now c.args.declared.now c.in_ok-front.front.type_))) (record { place = o; next = c.in_ok-aimed.aimed.next })) c.in-Some.is
-        c.in_ok-aimed.ensures.judged.1 in
-    (chain_kept c.args.names.now c.args.root.now c.args.declared.now c.args.body c.args.locals.now c.args.id c.in_ok-front.front.next (c.args.id + 1 + count_nodes (node_at c.args.names.now c.args.first.now)) (spot c.args.place)
-    (numbered (c.args.id + 1) (node_at c.args.names.now c.args.first.now)) (node_at c.args.names.now c.args.parts.now) c.in_ok-front.front c.in_ok-front.ensures.next c.in_ok-front.ensures.judged.1
-    c.in_ok-front.ensures.judged.0 c.in_ok-aimed.ensures.judged.0,
-    chain_place c.args.names.now c.args.root.now c.args.declared.now c.args.body c.args.locals.now c.args.id c.in_ok-front.front.next (c.args.id + 1 + count_nodes (node_at c.args.names.now c.args.first.now)) (spot c.args.place)
-    (numbered (c.args.id + 1) (node_at c.args.names.now c.args.first.now)) (node_at c.args.names.now c.args.parts.now) c.in_ok-front.front s t
-    c.in_ok-front.ensures.next c.in_ok-front.ensures.judged.1 p c.in_ok-aims-in-Some.ensures refl refl)
+    c.in_ok-aimed.ensures.judged.1 in (
+      chain_kept c.args.names.now c.args.root.now c.args.declared.now c.args.body c.args.locals.now c.args.id c.in_ok-front.front.next (c.args.id + 1 + count_nodes (node_at c.args.names.now c.args.first.now)) (spot c.args.place)
+          (numbered (c.args.id + 1) (node_at c.args.names.now c.args.first.now)) (node_at c.args.names.now c.args.parts.now) c.in_ok-front.front c.in_ok-front.ensures.next c.in_ok-front.ensures.judged.1
+          c.in_ok-front.ensures.judged.0 c.in_ok-aimed.ensures.judged.0,
+      chain_place c.args.names.now c.args.root.now c.args.declared.now c.args.body c.args.locals.now c.args.id c.in_ok-front.front.next (c.args.id + 1 + count_nodes (node_at c.args.names.now c.args.first.now)) (spot c.args.place)
+          (numbered (c.args.id + 1) (node_at c.args.names.now c.args.first.now)) (node_at c.args.names.now c.args.parts.now) c.in_ok-front.front s t
+          c.in_ok-front.ensures.next c.in_ok-front.ensures.judged.1 p c.in_ok-aims-in-Some.ensures refl refl,
+    )
 
 pub returns-in_ok-aims-in-Some-clause-typed : goal.returns-in_ok-aims-in-Some-clause-typed
 returns-in_ok-aims-in-Some-clause-typed c =
@@ -35,10 +36,11 @@ returns-in_ok-aims-in-Some-clause-typed c =
 pub returns-in-None-clause-judged : goal.returns-in-None-clause-judged
 returns-in-None-clause-judged c =
     let p = subst (λ o. Aims c.args.names.now c.args.root.now c.args.declared.now c.args.body c.args.locals.now (numbered c.in_ok-front.front.next (node_at c.args.names.now c.args.parts.now)) (Onto (IsValue (type_view c.args.names.now c.args.declared.now c.in_ok-front.front.type_))) (record { place = o; next = c.in_ok-aimed.aimed.next })) c.in-None.is
-        c.in_ok-aimed.ensures.judged.1 in
-    (chain_kept c.args.names.now c.args.root.now c.args.declared.now c.args.body c.args.locals.now c.args.id c.in_ok-front.front.next (c.args.id + 1 + count_nodes (node_at c.args.names.now c.args.first.now)) (spot c.args.place)
-    (numbered (c.args.id + 1) (node_at c.args.names.now c.args.first.now)) (node_at c.args.names.now c.args.parts.now) c.in_ok-front.front c.in_ok-front.ensures.next c.in_ok-front.ensures.judged.1
-    c.in_ok-front.ensures.judged.0 c.in_ok-aimed.ensures.judged.0,
-    chain_no_place c.args.names.now c.args.root.now c.args.declared.now c.args.body c.args.locals.now c.args.id c.in_ok-front.front.next (c.args.id + 1 + count_nodes (node_at c.args.names.now c.args.first.now)) (spot c.args.place)
-    (numbered (c.args.id + 1) (node_at c.args.names.now c.args.first.now)) (node_at c.args.names.now c.args.parts.now) c.in_ok-front.front
-    c.in_ok-front.ensures.next c.in_ok-front.ensures.judged.1 p)
+    c.in_ok-aimed.ensures.judged.1 in (
+      chain_kept c.args.names.now c.args.root.now c.args.declared.now c.args.body c.args.locals.now c.args.id c.in_ok-front.front.next (c.args.id + 1 + count_nodes (node_at c.args.names.now c.args.first.now)) (spot c.args.place)
+          (numbered (c.args.id + 1) (node_at c.args.names.now c.args.first.now)) (node_at c.args.names.now c.args.parts.now) c.in_ok-front.front c.in_ok-front.ensures.next c.in_ok-front.ensures.judged.1
+          c.in_ok-front.ensures.judged.0 c.in_ok-aimed.ensures.judged.0,
+      chain_no_place c.args.names.now c.args.root.now c.args.declared.now c.args.body c.args.locals.now c.args.id c.in_ok-front.front.next (c.args.id + 1 + count_nodes (node_at c.args.names.now c.args.first.now)) (spot c.args.place)
+          (numbered (c.args.id + 1) (node_at c.args.names.now c.args.first.now)) (node_at c.args.names.now c.args.parts.now) c.in_ok-front.front
+          c.in_ok-front.ensures.next c.in_ok-front.ensures.judged.1 p,
+    )
