@@ -4,3 +4,4 @@ pub mod Settling
 pub mod Sorts
 pub mod Wholes
 pub mod Arguing
+pub mod Aiming

@@ -33,8 +33,8 @@ returns-clause-judged c =
     let end = c.each.auto.index-end in
     let at_end : c.each.index ≡ length nodes = omega (arith, test, end) in
     let r = subst (Arguing c.args.names.now c.args.root.now c.args.declared.now c.args.body c.args.locals.now c.args.params.now c.args.id
-        (row_at c.args.names.now nodes) c.each.codes.items c.each.fitting c.each.next c.each.index)
-        (none_left c.args.names.now nodes c.each.index (omega (arith, at_end))) c.each.invariant in
+    (row_at c.args.names.now nodes) c.each.codes.items c.each.fitting c.each.next c.each.index)
+    (none_left c.args.names.now nodes c.each.index (omega (arith, at_end))) c.each.invariant in
     arguing_ends c.args.names.now c.args.root.now c.args.declared.now c.args.body c.args.locals.now c.args.params.now c.args.id (row_at c.args.names.now nodes)
     c.each.codes.items c.each.fitting c.each.next c.each.index
     (record { code = c.row.result; fits = c.all_fit-fits.result; count = length c.args.params.now; next = c.each.next }) r c.row.ensures
@@ -47,8 +47,8 @@ returns-clause-typed c =
     let end = c.each.auto.index-end in
     let at_end : c.each.index ≡ length nodes = omega (arith, test, end) in
     let r = subst (Arguing c.args.names.now c.args.root.now c.args.declared.now c.args.body c.args.locals.now c.args.params.now c.args.id
-        (row_at c.args.names.now nodes) c.each.codes.items c.each.fitting c.each.next c.each.index)
-        (none_left c.args.names.now nodes c.each.index (omega (arith, at_end))) c.each.invariant in
+    (row_at c.args.names.now nodes) c.each.codes.items c.each.fitting c.each.next c.each.index)
+    (none_left c.args.names.now nodes c.each.index (omega (arith, at_end))) c.each.invariant in
     arguing_puts c.args.names.now c.args.root.now c.args.declared.now c.args.body c.args.locals.now c.args.params.now c.args.id (row_at c.args.names.now nodes)
     c.each.codes.items c.each.fitting c.each.next c.each.index
     (record { code = c.row.result; fits = c.all_fit-fits.result; count = length c.args.params.now; next = c.each.next }) r c.row.ensures
