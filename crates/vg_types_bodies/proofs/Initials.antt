@@ -1,5 +1,6 @@
--- Values that see no members: initialisers of fields, and arguments of `super`.
-use Rattle.std.proofs.Common.{◌≡◌, ℕ, Bool, true, false, List, [], ◌∷◌, ◌++◌, length, map, reverse, slice_get, Option, Some, None, IsTrue, refl, sym, ap, ◌∙◌, subst}
+-- Values that see no members: initialisers of fields, and arguments of `super`. What is known of an expression in a body and a scope is
+-- carried over to the body and the scope that the rules name, which are the same.
+use Rattle.std.proofs.Common.{◌≡◌, ℕ, Bool, true, false, List, [], ◌∷◌, ◌++◌, map, reverse, slice_get, Some, None, refl, sym, ap, ◌∙◌, subst}
 use Rattle.vg_meaning.specs.Code.{Code, Then, Do}
 use Rattle.vg_meaning.specs.Shapes.{Fits}
 use Rattle.vg_syntax.specs.Tree.{Node}
@@ -8,7 +9,6 @@ use Rattle.vg_tree.specs.Nothing.{is_nothing}
 use Rattle.vg_source.specs.Types.{StaticType}
 use Rattle.vg_source.specs.Steps.{Step as SourceStep}
 use Rattle.vg_source.specs.Resolved.{Scope, IsValue, Fresh, no_names, settled, resolved}
-use Rattle.vg_source.specs.Program.{initial}
 use Rattle.vg_rules.specs.Breach.{◌or◌}
 use Rattle.vg_rules.specs.Fits.{fits}
 use Rattle.vg_rules.specs.Bodies.{Body, breach, head_fits, initialiser_keeps}
@@ -20,7 +20,6 @@ use Rattle.vg_core.specs.declared.step.Step.TheVariants.{Super}
 use Rattle.vg_core.specs.declared.program.Class.{Class}
 use Rattle.vg_core.specs.declared.program.Owner.TheVariants.{InClass}
 use Rattle.vg_core.specs.declared.program.Tables.{Tables}
-use Rattle.vg_core.specs.declared.code.Code as held
 use Rattle.vg_core.specs.HeldProgram.{code_of}
 use Rattle.vg_core.specs.Tables as tables
 use Rattle.vg_core.specs.State.{onto}

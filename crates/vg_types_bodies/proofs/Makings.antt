@@ -1,11 +1,11 @@
 -- What is made of fields and constructors.
-use Rattle.std.proofs.Common.{◌≡◌, ℕ, suc, false, List, [], ◌∷◌, ◌++◌, length, slice_get, Option, Some, None, IfSome, refl, sym, ap, ◌∙◌, subst}
-use Rattle.vg_meaning.specs.Code.{Code, Then, Do}
+use Rattle.std.proofs.Common.{◌≡◌, ℕ, suc, List, [], ◌∷◌, ◌++◌, length, slice_get, Option, Some, None, IfSome, refl, sym, ap, ◌∙◌, subst}
+use Rattle.vg_meaning.specs.Code.{Code}
 use Rattle.vg_syntax.specs.Tree.{Param, Node}
 use Rattle.vg_syntax.specs.Numbering.{numbered}
 use Rattle.vg_tree.specs.declared.node.Node as held_node
 use Rattle.vg_source.specs.Types.{StaticType, NoType, MoreTypes}
-use Rattle.vg_source.specs.Declared.{written_type, row_of}
+use Rattle.vg_source.specs.Declared.{row_of}
 use Rattle.vg_source.specs.Resolved.{Scope, Fresh, resolved}
 use Rattle.vg_source.specs.Program.{scope_of}
 use Rattle.vg_rules.specs.Breach.{◌or◌}
@@ -67,7 +67,8 @@ row_length texts d [] (p ∷ ps) e = more_clash _ _ e
 row_length texts d (t ∷ ts) [] e = more_clash _ _ (sym e)
 row_length texts d (t ∷ ts) (p ∷ ps) e = ap suc (row_length texts d ts ps (rest_of _ _ _ _ e))
 
-module _ (texts : List (List ℕ)) (root : held_node.Node) (d : Declared) (o : Owner) (above : Option ℕ) (ps : List Param) (args b : Node) (id : ℕ) (c : Constructed) where
+module _ (texts : List (List ℕ)) (root : held_node.Node) (d : Declared) (o : Owner) (above : Option ℕ) (ps : List Param) (args b : Node) (id : ℕ) (c
+    : Constructed) where
   abbrev Made : Scope → (count i : ℕ) → Type 0
   Made s count i = (super_breach (declarations_at texts root) (above_name texts d above) args s id
       or breach (declarations_at texts root) (body_of (owner_view texts d (Some o)) NoType) (numbered i b) Fresh s ≡ None)
@@ -82,7 +83,12 @@ module _ (texts : List (List ℕ)) (root : held_node.Node) (d : Declared) (o : O
       → (constructor_breach texts root d o above ps args (numbered m b) id ≡ None) × IsConstructed texts root d o above ps args (numbered m b) c
   constructor_done ls n m q s l (f, g) (h, k) =
       let start : Made (scope_view texts d ls) (length ls.declared) n
-      = (ap (λ z. z or breach (declarations_at texts root) (body_of (owner_view texts d (Some o)) NoType) (numbered n b) Fresh (scope_view texts d ls)) f ∙ h, g, k) in
+      = (
+        ap (λ z. z or breach (declarations_at texts root) (body_of (owner_view texts d (Some o)) NoType) (numbered n b) Fresh (scope_view texts d
+            ls)) f ∙ h,
+        g,
+        k,
+      ) in
       let w = subst (Made (scope_of ps) (length ps)) q (subst (λ z. Made (scope_of ps) z n) l (subst (λ z. Made z (length ls.declared) n) s start)) in
       (w.0, record { before = w.1; body = w.2 })
 

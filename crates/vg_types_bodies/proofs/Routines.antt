@@ -1,36 +1,31 @@
--- Bodies as the routines of the source program: each part of a routine is an equation on the parts of the body; and their typing.
-use Rattle.std.proofs.Common.{◌≡◌, ℕ, false, List, [], ◌∷◌, ◌++◌, length, drop, map, Option, Some, None, refl, sym, ap, ◌∙◌, subst}
-use Rattle.vg_meaning.specs.Code.{Code, Nothing, Then}
+-- Bodies as the routines of the source program, and their typing. A routine is made of its parts, and each part is an equation on the parts
+-- of the body.
+use Rattle.std.proofs.Common.{◌≡◌, ℕ, false, List, [], ◌++◌, length, drop, map, Option, Some, None, refl, sym, ap, ◌∙◌, subst}
+use Rattle.vg_meaning.specs.Code.{Code, Then}
 use Rattle.vg_meaning.specs.Shapes.{Fits}
-use Rattle.vg_syntax.specs.Tree.{Param, Node}
+use Rattle.vg_syntax.specs.Tree.{Node}
 use Rattle.vg_tree.specs.declared.node.Node as held_node
 use Rattle.vg_source.specs.Names.{Name}
-use Rattle.vg_source.specs.Declared.{written_type}
 use Rattle.vg_source.specs.Values as source_value
 use Rattle.vg_source.specs.Steps as source
-use Rattle.vg_source.specs.Resolved.{Resolved, Fresh, resolved, in_front}
+use Rattle.vg_source.specs.Resolved.{Fresh, resolved}
 use Rattle.vg_source.specs.Program.{Constructor, scope_of, defaults_of, super_of, initialisers, own_initialiser, its_initialiser}
 use Rattle.vg_core.specs.declared.types.CoreType.{CoreType}
 use Rattle.vg_core.specs.declared.types.CoreType.TheVariants.{NoType}
-use Rattle.vg_core.specs.declared.step.Step.{Step}
-use Rattle.vg_core.specs.declared.program.Body.{Body}
-use Rattle.vg_core.specs.declared.program.Owner.{Owner}
 use Rattle.vg_core.specs.declared.program.Owner.TheVariants.{InClass, InComponent}
 use Rattle.vg_core.specs.declared.program.Tables.{Tables}
 use Rattle.vg_core.specs.declared.code.Code as held
-use Rattle.vg_core.specs.HeldProgram.{code_of, code_row, body_at}
+use Rattle.vg_core.specs.HeldProgram.{code_of, code_row}
 use Rattle.vg_core.specs.Heap.{default}
 use Rattle.vg_core.specs.Naming.{named_value, named_code}
-use Rattle.vg_core.specs.Typing.{known, TypedBody}
+use Rattle.vg_core.specs.Typing.{known}
 use Rattle.vg_types_tables.specs.declared.declared.Declared.{Declared}
-use Rattle.vg_types_tables.specs.Views.{declarations_at, naming, type_view, owner_view}
+use Rattle.vg_types_tables.specs.Views.{declarations_at, naming, owner_view}
 use Rattle.vg_types_statements.specs.Arms.{RunsIn}
 use Rattle.vg_types_statements.proofs.MoreLocals.{more_locals}
-use Rattle.vg_types_bodies.specs.declared.making.Constructed.{Constructed}
 use Rattle.vg_types_bodies.specs.Initial.{super_code, above_name, SuperRuns}
 use Rattle.vg_types_bodies.specs.Fields.{making_kind}
-use Rattle.vg_types_bodies.specs.Makings.{ConstructedRuns}
-use Rattle.vg_types_bodies.specs.Routines.{MethodIs, MakingIs, StartIs, MakingTyped, StartTyped, IsBelow, IsMade, IsStarted, making_signature}
+use Rattle.vg_types_bodies.specs.Routines.{MethodIs, MakingIs, StartIs, MakingTyped, StartTyped, IsBelow, making_signature}
 use Rattle.vg_types_bodies.proofs.Others.{default_named}
 use Rattle.vg_types_bodies.proofs.Signatures.{typed_body}
 
@@ -59,7 +54,8 @@ making_is texts root d c above members k ts made inits b i l n m =
     (ap (named_code (naming texts d) d.tables) m.code
     ∙ ap (λ z. Then z (Then (named_code (naming texts d) d.tables (code_row inits)) (named_code (naming texts d) d.tables (code_of made.body.code))))
     (i.before ∙ super_same (declarations_at texts root) (above_name texts d above) k)
-    ∙ ap (λ z. Then (super_of (declarations_at texts root) (above_name texts d above) k) (Then z (named_code (naming texts d) d.tables (code_of made.body.code)))) n
+    ∙ ap (λ z. Then (super_of (declarations_at texts root) (above_name texts d above) k) (Then z (named_code (naming texts d) d.tables (code_of
+    made.body.code)))) n
     ∙ ap (λ z. Then (super_of (declarations_at texts root) (above_name texts d above) k)
     (Then (initialisers (own_initialiser (declarations_at texts root) ((naming texts d).class c)) members) z)) i.body.does)
 
@@ -67,7 +63,8 @@ pub start_is : (texts : List (List ℕ)) (root : held_node.Node) (d : Declared) 
 start_is texts root d c above members k made inits b e i n m =
     routine_same _ 0 _ _ _ _ _ _ _ _ refl
     (ap (λ z. map (named_value (naming texts d) d.tables) (map default z)) m.others ∙ i.body.others
-    ∙ ap (λ z. drop (length z) (defaults_of (resolved (declarations_at texts root) (owner_view texts d (Some (InComponent c))) k.body Fresh (scope_of z)).scope)) e)
+    ∙ ap (λ z. drop (length z) (defaults_of (resolved (declarations_at texts root) (owner_view texts d (Some (InComponent c))) k.body Fresh (scope_of
+    z)).scope)) e)
     refl
     (ap (named_code (naming texts d) d.tables) m.code
     ∙ ap (λ z. Then z (named_code (naming texts d) d.tables (code_of made.body.code))) n

@@ -1,10 +1,9 @@
 -- The initialisers of fields as code of their home.
-use Rattle.std.specs.Prelude.{◌≡◌, ℕ, List, [], ◌∷◌, true, false, Option, Some}
+use Rattle.std.specs.Prelude.{◌≡◌, ℕ, true, false, Some}
 use Rattle.vg_meaning.specs.Code.{Code, Then, Do}
 use Rattle.vg_syntax.specs.Tree.{Node}
 use Rattle.vg_source.specs.Steps.{Step as SourceStep, This, SetField, SetComponentField}
 use Rattle.vg_source.specs.Program.{initial, unless_missing}
-use Rattle.vg_core.specs.declared.types.CoreType.{CoreType}
 use Rattle.vg_core.specs.declared.types.CoreType.TheVariants.{NoType}
 use Rattle.vg_core.specs.declared.step.Step.{Step}
 use Rattle.vg_core.specs.declared.step.Step.TheVariants as step

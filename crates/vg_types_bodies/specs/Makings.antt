@@ -1,5 +1,5 @@
 -- Constructors, and what is made with them.
-use Rattle.std.specs.Prelude.{◌≡◌, ℕ, List, ◌++◌, length, Option, Some, None}
+use Rattle.std.specs.Prelude.{◌≡◌, ℕ, List, ◌++◌, length, Option, Some}
 use Rattle.vg_syntax.specs.Tree.{Param, Node}
 use Rattle.vg_tree.specs.declared.node.Node as held_node
 use Rattle.vg_source.specs.Types.{NoType}

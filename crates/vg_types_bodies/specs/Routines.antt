@@ -3,7 +3,6 @@ use Rattle.std.specs.Prelude.{◌≡◌, ℕ, List, [], true, length, Option, So
 use Rattle.vg_meaning.specs.Code.{Then}
 use Rattle.vg_syntax.specs.Tree.{TypeTree, Param, Node}
 use Rattle.vg_tree.specs.declared.node.Node as held_node
-use Rattle.vg_source.specs.Names.{Name}
 use Rattle.vg_source.specs.Declared.{written_type}
 use Rattle.vg_source.specs.Values as source_value
 use Rattle.vg_source.specs.Steps as source
@@ -58,7 +57,8 @@ module _ (texts : List (List ℕ)) (root : held_node.Node) (d : Declared) where
       → type_view texts d y.result ≡ written_type t
       → IsBodyOf texts d (length y.params) (resolved (declarations_at texts root) (owner_view texts d (Some y.owner)) body Fresh (scope_of ps)) b
       → named_routine (naming texts d) d.tables (Run m) (signature_at y) (body_at b)
-      ≡ record (routine_of (source.Method ((naming texts d).method m).owner ((naming texts d).method m).name) (length ps) (source_value.default (written_type t))
+      ≡ record (routine_of (source.Method ((naming texts d).method m).owner ((naming texts d).method m).name) (length ps) (source_value.default
+      (written_type t))
       (resolved (declarations_at texts root) (owner_view texts d (Some y.owner)) body Fresh (scope_of ps))) { number = m }
 
   -- What is made is the construction of its class.

@@ -70,7 +70,8 @@ fn no_class_above(
     requires scope { AreDeclared declared.now.tables locals.now }
     requires room { id + 1 + count_nodes (node_at names.now node.now) < 2 ^ 32 }
     ensures judged { Judges (λ j. code_of j.code ≡ Nothing) result
-        (breach (declarations_at names.now root.now) outside (numbered (id + 1) (node_at names.now node.now)) Fresh (scope_view names.now declared.now locals.now)) }
+        (breach (declarations_at names.now root.now) outside (numbered (id + 1) (node_at names.now node.now)) Fresh (scope_view names.now
+        declared.now locals.now)) }
     ensures next { IfOk result (λ j. j.next ≡ id + 1 + count_nodes (node_at names.now node.now)) }
 {
     let argued = arguments(
@@ -106,9 +107,11 @@ fn class_above(
     requires scope { AreDeclared declared.now.tables locals.now }
     requires room { id + 1 + count_nodes (node_at names.now node.now) < 2 ^ 32 }
     ensures judged { Judges (λ j. code_view names.now declared.now j.code
-        ≡ super_code (declarations_at names.now root.now) (Some ((naming names.now declared.now).class class)) (numbered (id + 1) (node_at names.now node.now))
+        ≡ super_code (declarations_at names.now root.now) (Some ((naming names.now declared.now).class class)) (numbered (id + 1) (node_at names.now
+        node.now))
         (scope_view names.now declared.now locals.now)) result
-        (super_breach (declarations_at names.now root.now) (Some ((naming names.now declared.now).class class)) (numbered (id + 1) (node_at names.now node.now))
+        (super_breach (declarations_at names.now root.now) (Some ((naming names.now declared.now).class class)) (numbered (id + 1) (node_at names.now
+        node.now))
         (scope_view names.now declared.now locals.now) id) }
     ensures typed { IfOk result (λ j. SuperRuns declared.now.tables (Some class) locals.now.declared j.code) }
     ensures next { IfOk result (λ j. j.next ≡ id + 1 + count_nodes (node_at names.now node.now)) }

@@ -1,4 +1,4 @@
-use Rattle.std.proofs.Common.{◌+◌, length, sym, ◌∙◌}
+use Rattle.std.proofs.Common.{◌+◌, sym, ◌∙◌}
 use Rattle.vg_syntax.specs.Numbering.{count_nodes, numbered}
 use Rattle.vg_tree.specs.Held.{node_at}
 use Rattle.vg_types_bodies.specs.Parameters.{params_at}
@@ -12,7 +12,8 @@ returns-in-Ok-run_body-clause-judged c =
     (numbered (c.args.id + 1) (node_at c.args.names.now c.args.args.now)) (node_at c.args.names.now c.args.block.now) c.args.id
     (record { before = c.in-Ok.called.code; body = c.in-Ok-run_body.body }) c.in_ok-locals.locals c.in-Ok.called.next
     (c.args.id + 1 + count_nodes (node_at c.args.names.now c.args.args.now)) c.in-Ok.ensures.next c.in_ok-locals.ensures.scope
-    (row_length c.args.names.now c.args.declared.now c.in_ok-locals.locals.declared (params_at c.args.names.now c.args.params.now) c.in_ok-locals.ensures.types)
+    (row_length c.args.names.now c.args.declared.now c.in_ok-locals.locals.declared (params_at c.args.names.now c.args.params.now)
+    c.in_ok-locals.ensures.types)
     c.in-Ok.ensures.judged c.in-Ok-run_body.ensures.judged
 
 pub returns-in-Ok-run_body-clause-typed : goal.returns-in-Ok-run_body-clause-typed
