@@ -23,3 +23,4 @@ pub mod Finished
 pub mod Along
 pub mod Causes
 pub mod Onward
+pub mod Choices

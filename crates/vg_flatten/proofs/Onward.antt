@@ -9,6 +9,7 @@ use Rattle.vg_flatten.specs.declared.open.Truth.{Truth}
 use Rattle.vg_flatten.specs.declared.open.Truth.TheVariants.{Holds, Fails}
 use Rattle.vg_flatten.specs.declared.open.Open.{Open}
 use Rattle.vg_flatten.specs.declared.open.Open.TheVariants.{Set, Break, Continue}
+use Rattle.vg_flatten.proofs.Choices.{alone, with_jump, choice_cases}
 use Rattle.vg_flatten.specs.Blocks.{Block, Skip, One, CallTo, TakeInterrupt, GiveBack, BreakOut, GoOn, Both, Choice, Repeat, branch, set_in, open_code}
 use Rattle.vg_flatten.specs.Fitting.{AllSet}
 use Rattle.vg_flatten.proofs.Sound.{BlockIn}
@@ -36,6 +37,22 @@ on_branch : (t : Truth) (at to : ℕ) → at < to → leads_on at (branch t to) 
 on_branch (Holds t) at to h = lt_is at to h
 on_branch (Fails t) at to h = lt_is at to h
 
+both_ways : (t : Truth) (at : ℕ) (as' bs : List Open) → AllOn as' (at + 1) → AllOn bs (at + 1 + length as' + 1) → AllOn (with_jump t at as' bs) at
+both_ways t at as' bs ha hb = (
+  on_branch t at v (omega arith),
+  on_both as' (Set (Jump end) ∷ bs) (suc at) (on_at as' (at + 1) (suc at) (omega arith) ha)
+      (lt_is (suc at + length as') end (omega arith), on_at bs v (suc (suc at + length as')) (omega arith) hb),
+)
+  where
+    v : ℕ
+    v = at + 1 + length as' + 1
+
+    end : ℕ
+    end = at + 1 + length as' + 1 + length bs
+
+one_way : (t : Truth) (at : ℕ) (as' : List Open) → AllOn as' (at + 1) → AllOn (alone t at as') at
+one_way t at as' ha = (on_branch t at (at + 1 + length as') (omega arith), on_at as' (at + 1) (suc at) (omega arith) ha)
+
 on_block : (size : ℕ) (b : Block) (at : ℕ) → BlockIn ⊥ size b → AllOn (open_code b at) at
 on_block size Skip at h = tt
 on_block size (One p) at h = (refl, tt)
@@ -46,23 +63,11 @@ on_block size BreakOut at h = (tt, tt)
 on_block size GoOn at h = (tt, tt)
 on_block size (Both a b) at h =
     on_both (open_code a at) (open_code b (at + length (open_code a at))) at (on_block size a at h.0) (on_block size b (at + length (open_code a at)) h.1)
-on_block size (Choice t a b) at h = (
-  on_branch t at v (omega arith),
-  on_both as' (Set (Jump end) ∷ bs) (suc at) (on_at as' (at + 1) (suc at) (omega arith) (on_block size a (at + 1) h.1))
-      (lt_is (suc at + length as') end (omega arith), on_at bs v (suc (suc at + length as')) (omega arith) (on_block size b v h.2)),
-)
-  where
-    as' : List Open
-    as' = open_code a (at + 1)
-
-    v : ℕ
-    v = at + 1 + length as' + 1
-
-    bs : List Open
-    bs = open_code b v
-
-    end : ℕ
-    end = at + 1 + length as' + 1 + length bs
+on_block size (Choice t a b) at h =
+    choice_cases (λ z. AllOn z at) t at (open_code a (at + 1)) (open_code b (at + 1 + length (open_code a (at + 1)) + 1))
+    (λ e. one_way t at (open_code a (at + 1)) (on_block size a (at + 1) h.1))
+    (both_ways t at (open_code a (at + 1)) (open_code b (at + 1 + length (open_code a (at + 1)) + 1)) (on_block size a (at + 1) h.1)
+    (on_block size b (at + 1 + length (open_code a (at + 1)) + 1) h.2))
 on_block size (Repeat p t body next) at h = absurd h.4
 
 on_list : (x y : ℕ) (os : List Open) (at : ℕ) → AllSet os → AllOn os at → all_lead_on at (map (set_in x y) os) ≡ true

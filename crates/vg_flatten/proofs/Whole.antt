@@ -20,6 +20,7 @@ use Rattle.vg_flatten.specs.declared.open.Truth.{Truth}
 use Rattle.vg_flatten.specs.declared.open.Truth.TheVariants.{Holds, Fails}
 use Rattle.vg_flatten.specs.declared.open.Open.{Open}
 use Rattle.vg_flatten.specs.declared.open.Open.TheVariants.{Set, Break, Continue}
+use Rattle.vg_flatten.proofs.Choices.{choice_cases}
 use Rattle.vg_flatten.specs.Blocks.{Block, Skip, One, CallTo, TakeInterrupt, GiveBack, BreakOut, GoOn, Both, Choice, Repeat, branch, closed, open_code}
 use Rattle.vg_flatten.specs.Fitting.{CallsFit, CallFits, OpenFits, AllFit, IsSet, AllSet}
 use Rattle.vg_flatten.specs.Blocks.{set_in}
@@ -66,7 +67,10 @@ module _ (L : Type 0) (size : ℕ) where
   in_code BreakOut at h = (tt, tt)
   in_code GoOn at h = (tt, tt)
   in_code (Both a b) at h = in_both (open_code a at) _ (in_code a at h.0) (in_code b _ h.1)
-  in_code (Choice t a b) at h = (in_branch t _ h.0, in_both (open_code a (at + 1)) _ (in_code a (at + 1) h.1) (tt, in_code b _ h.2))
+  in_code (Choice t a b) at h =
+      choice_cases (AllIn size) t at (open_code a (at + 1)) (open_code b (at + 1 + length (open_code a (at + 1)) + 1))
+      (λ e. (in_branch t _ h.0, in_code a (at + 1) h.1))
+      (in_branch t _ h.0, in_both (open_code a (at + 1)) _ (in_code a (at + 1) h.1) (tt, in_code b _ h.2))
   in_code (Repeat p t body next) at h =
       in_both (open_code p at) _ (in_code p at h.1) (
         in_branch t _ h.0,
@@ -104,7 +108,14 @@ module _ (params : List ℕ) where
   fit_block BreakOut at h = tt
   fit_block GoOn at h = tt
   fit_block (Both a b) at h = (fit_block a at (fit_front (open_code a at) _ h), fit_block b _ (fit_back (open_code a at) _ h))
-  fit_block (Choice t a b) at h = (fit_block a (at + 1) (fit_front (open_code a (at + 1)) _ h.1), fit_block b _ (fit_back (open_code a (at + 1)) _ h.1).1)
+  fit_block (Choice t a b) at h =
+      choice_cases (λ z. AllFit params z → CallsFit params a × CallsFit params b) t at (open_code a (at + 1))
+      (open_code b (at + 1 + length (open_code a (at + 1)) + 1))
+      (λ e g. (fit_block a (at + 1) g.1, fit_block b (at + 1 + length (open_code a (at + 1)) + 1) (subst (AllFit params) (sym e) tt)))
+      (λ g. (
+        fit_block a (at + 1) (fit_front (open_code a (at + 1)) _ g.1),
+        fit_block b (at + 1 + length (open_code a (at + 1)) + 1) (fit_back (open_code a (at + 1)) _ g.1).1,
+      )) h
   fit_block (Repeat p t body next) at h =
       let test = fit_back (open_code p at) _ h in (
         fit_block p at (fit_front (open_code p at) _ h),
