@@ -79,7 +79,7 @@ an_operand : (m : Procedure) (a : Operand) → is_operand m a ≡ true → IsOpe
 an_operand m (Local i) e = a_local m i e
 an_operand m (Known v) e = tt {0}
 
-a_width : (w : ℕ) → is_width w ≡ true → IsWidth w
+pub a_width : (w : ℕ) → is_width w ≡ true → IsWidth w
 a_width w e = (at_least w (first_of _ _ e), at_most w (second_of _ _ e))
   where
     at_least : (w : ℕ) → nat_le 1 w ≡ true → 1 ≤ w
@@ -170,7 +170,7 @@ waits_kept m at (Return a) e = refl
 waits_kept m at Idle e = absurd (grind arith)
 
 -- a procedure that passes the test keeps it all
-sound : (m : Procedure) → length m.widths ≤ 252 → m.params ≤ length m.widths → AllByRecursion IsWidth m.widths → 0 < length m.code
+pub sound : (m : Procedure) → length m.widths ≤ 252 → m.params ≤ length m.widths → AllByRecursion IsWidth m.widths → 0 < length m.code
     → are_kept m 0 m.code ≡ true → IsSound m
 sound m few params widths some e =
     record {

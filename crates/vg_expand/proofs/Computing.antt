@@ -21,6 +21,7 @@ use Rattle.vg_lin.specs.declared.instr.Instr.TheVariants.{Plain, Call}
 use Rattle.vg_lin.specs.Values.{low, computed}
 use Rattle.vg_lin.specs.Sound.{IsWidth}
 use Rattle.vg_lin.specs.Program.{Procedure, Program}
+use Rattle.vg_lin.specs.State.{Waiting}
 use Rattle.vg_lin.specs.State.{LocalState, State, value, value_in, using, with_local, sets, computes}
 use Rattle.vg_lin.specs.Meaning.{begun, both_values, same_widths, entry_with, entry_of, enter, operands, values, call_of, name_of, language, codes_in}
 use Rattle.vg_lin.specs.Steps.{Result, Frame, Goes, Entry, Config, open_below, noted, went, calls, performed}
@@ -127,7 +128,7 @@ module _ (first : ℕ) (m : Procedure) (c : Computation) (p : Program) (q : ℕ)
       some_if : (a b : Bool) → Option (Entry State)
       some_if a b = if a && b then Some (record { proc = r; state = begins_in; kept = s }) else None
 
-      as_many : (length {A = Rattle.vg_lin.specs.State.Waiting} [] + length xs == k.params) ≡ true
+      as_many : (length {A = Waiting} [] + length xs == k.params) ≡ true
       as_many = ap (λ n. n == k.params) (omega arith) ∙ ap (λ n. length xs == n) params ∙ same_number (length xs)
 
       no_widths : (ws : List ℕ) → same_widths ws [] ≡ true

@@ -17,6 +17,7 @@ use Rattle.vg_lin.specs.Program.{Procedure}
 use Rattle.vg_lin.specs.Sound.{AreOperands, Waits, IsSound}
 use Rattle.vg_arith.specs.Simple.{needs_no_routine, is_simple, are_simple}
 use Rattle.vg_expand.specs.Expansion.{Does, PlainStands, StandsFor, Expands}
+use Rattle.vg_expand.specs.Code.{worked_out}
 use Rattle.vg_expand.specs.Code.{Base, cut_to, calling, shifting, is_narrow, narrow_or, product_of, power_of, shifted_by, joined_by, by_difference}
 use Rattle.vg_expand.specs.Code.{by_sum, is_in, in_two, by_power, by_factor, multiplying, computing, expanded_at, expanded_code, size, place_in}
 use Rattle.vg_expand.specs.Code.{base_of, expanded}
@@ -120,10 +121,10 @@ shifting_simple r width to left (Local i) op e h = cut_simple width to
 
 -- what is said of every form of a product
 pub each_product : (P : List Instr → Type 0) (base : Base) (c : Computation) → ((a b : Operand) → P (calling base.first (Two a b) c))
-    → ((a b : Operand) → P (Plain (Product c.to a b) ∷ cut_to c.width c.to)) → P (Plain (Copy c.to (Known 0)) ∷ [])
+    → ((a b : Operand) → P (Plain (Product c.to a b) ∷ cut_to c.width c.to)) → ((v : ℕ) → P (Plain (Copy c.to (Known v)) ∷ []))
     → ((a : Operand) (n : ℕ) → P (shifted_by c a n ∷ [])) → ((a : Operand) (n : ℕ) → P (shifted_by c a n ∷ joined_by Plus c a ∷ []))
     → ((a : Operand) (n : ℕ) → P (shifted_by c a n ∷ joined_by Minus c a ∷ [])) → (left right : Operand) → P (multiplying base c left right)
-each_product P base c call bytes none shift sum difference left right = of left right
+each_product P base c call bytes copy shift sum difference left right = of left right
   where
     product : (a b : Operand) → P (product_of base c a b)
     product a b = by_test (is_narrow base.widths a && is_narrow base.widths b)
@@ -149,11 +150,12 @@ each_product P base c call bytes none shift sum difference left right = of left 
     powers a k None = pairs a k (is_in a c.to)
 
     factors : (a : Operand) (k : ℕ) (t : Bool) → P (by_factor base c a k t)
-    factors a k true = none
+    factors a k true = copy 0
     factors a k false = powers a k (power_of k)
 
     of : (left right : Operand) → P (multiplying base c left right)
-    of a (Known k) = factors a k (k == 0)
+    of (Known j) (Known k) = copy (worked_out c.width (j * k))
+    of (Local i) (Known k) = factors (Local i) k (k == 0)
     of (Known k) (Local i) = factors (Local i) k (k == 0)
     of (Local i) (Local j) = product (Local i) (Local j)
 
@@ -162,7 +164,7 @@ computing_simple : (base : Base) (width to : ℕ) (left right : Operand) (op : O
 computing_simple base width to left right Plus = refl
 computing_simple base width to left right Minus = refl
 computing_simple base width to left right Times =
-    each_product (λ xs. are_simple xs ≡ true) base _ (λ a b. cut_simple width to) (λ a b. cut_simple width to) refl (λ a n. refl) (λ a n. refl)
+    each_product (λ xs. are_simple xs ≡ true) base _ (λ a b. cut_simple width to) (λ a b. cut_simple width to) (λ v. refl) (λ a n. refl) (λ a n. refl)
     (λ a n. refl) left right
 computing_simple base width to left right Divide = cut_simple width to
 computing_simple base width to left right Remainder = cut_simple width to
@@ -215,7 +217,7 @@ computing_small base c Plus = omega arith
 computing_small base c Minus = omega arith
 computing_small base c Times =
     let h = cut_size c.width c.to in
-    each_product (λ xs. length xs ≤ 2) base c (λ a b. omega (arith, h)) (λ a b. omega (arith, h)) (omega arith) (λ a n. omega arith) (λ a n. omega arith)
+    each_product (λ xs. length xs ≤ 2) base c (λ a b. omega (arith, h)) (λ a b. omega (arith, h)) (λ v. omega arith) (λ a n. omega arith) (λ a n. omega arith)
     (λ a n. omega arith) c.left c.right
 computing_small base c Divide = let h = cut_size c.width c.to in omega (arith, h)
 computing_small base c Remainder = let h = cut_size c.width c.to in omega (arith, h)

@@ -68,7 +68,7 @@ computing_calls base c Plus = refl
 computing_calls base c Minus = refl
 computing_calls base c Times =
     each_product (λ xs. calls_of base.first xs ≡ []) base c (λ a b. subst (λ r. calls_of base.first (calling r (Two a b) c) ≡ []) (none base.first)
-    (calling_calls base.first 0 (Two a b) c (omega arith))) (λ a b. cut_calls base.first c.width c.to) refl (λ a n. refl) (λ a n. refl) (λ a n. refl)
+    (calling_calls base.first 0 (Two a b) c (omega arith))) (λ a b. cut_calls base.first c.width c.to) (λ v. refl) (λ a n. refl) (λ a n. refl) (λ a n. refl)
     c.left c.right
   where
     none : (n : ℕ) → n + 0 ≡ n

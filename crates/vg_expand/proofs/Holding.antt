@@ -12,6 +12,7 @@ use Rattle.vg_lin.specs.Steps.{Awaits, Result, Interrupt, Went, Goes, Raises, La
 use Rattle.vg_lin.specs.Program.{Program}
 use Rattle.vg_lin.specs.State.{LocalState, State, using, value, with_local, number_at, index_of, loaded, stores, reads_from, plain}
 use Rattle.vg_codes.specs.Dispatch.{dispatched}
+use Rattle.vg_lin.specs.Meaning.{with_result}
 use Rattle.vg_lin.specs.Meaning.{begun, resume}
 use Rattle.vg_expand.specs.Expansion.{Holds}
 
@@ -77,7 +78,7 @@ plain_keeps p (Stop code) ws s o h = tt {0}
 pub resume_holds : (ws : List ℕ) (a : Awaits) (kept returned : State) (v : ℕ) → Holds ws kept.locals → Holds ws (resume a kept returned v).locals
 resume_holds ws (Result c) kept returned v h = to_some c.to
   where
-    to_some : (to : Option ℕ) → Holds ws (Rattle.vg_lin.specs.Meaning.with_result to v (record kept { ram = returned.ram })).locals
+    to_some : (to : Option ℕ) → Holds ws (with_result to v (record kept { ram = returned.ram })).locals
     to_some (Some to) = sets_holds ws kept.locals to v h
     to_some None = h
 resume_holds ws Interrupt kept returned v h = h

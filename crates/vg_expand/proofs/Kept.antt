@@ -87,7 +87,7 @@ computing_some : (base : Base) (c : Computation) (op : Operator) → 0 < length 
 computing_some base c Plus = omega arith
 computing_some base c Minus = omega arith
 computing_some base c Times =
-    each_product (λ xs. 0 < length xs) base c (λ a b. omega arith) (λ a b. omega arith) (omega arith) (λ a n. omega arith) (λ a n. omega arith)
+    each_product (λ xs. 0 < length xs) base c (λ a b. omega arith) (λ a b. omega arith) (λ v. omega arith) (λ a n. omega arith) (λ a n. omega arith)
     (λ a n. omega arith) c.left c.right
 computing_some base c Divide = omega arith
 computing_some base c Remainder = omega arith
@@ -275,7 +275,8 @@ module _ (first : ℕ) (m : Procedure) (width to : ℕ) (left right : Operand) (
       powers None = pairs (is_in a to)
 
   multiplying_is : (a b : Operand) → IsOperand n a → IsOperand n b → AllByRecursion (IsOfComputation n) (multiplying its_base (of Times) a b)
-  multiplying_is a (Known k) ha hb = factor_is a k ha (k == 0)
+  multiplying_is (Known j) (Known k) ha hb = ((ht, tt {0}), tt {0})
+  multiplying_is (Local i) (Known k) ha hb = factor_is (Local i) k ha (k == 0)
   multiplying_is (Known k) (Local i) ha hb = factor_is (Local i) k hb (k == 0)
   multiplying_is (Local i) (Local j) ha hb = product_is (Local i) (Local j) ha hb
 

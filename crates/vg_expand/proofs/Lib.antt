@@ -8,3 +8,4 @@ pub mod Kept
 pub mod Powers
 pub mod Walked
 pub mod Flowing
+pub mod Sessions

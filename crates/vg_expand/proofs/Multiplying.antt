@@ -24,6 +24,7 @@ use Rattle.vg_lin.specs.Follows.{Leads, conf}
 use Rattle.vg_lin.proofs.Followed.{leads_then, leads_step}
 use Rattle.vg_arith.proofs.ShiftRoutines.{some_is, fetch_of, by_width}
 use Rattle.vg_expand.specs.Expansion.{IsHeld, Holds, Does}
+use Rattle.vg_expand.specs.Code.{worked_out}
 use Rattle.vg_expand.specs.Code.{Base, cut_to, is_narrow, narrow_or, product_of, power_from, power_of, shifted_by, joined_by}
 use Rattle.vg_expand.specs.Code.{by_difference, by_sum, is_in, in_two, by_power, by_factor, multiplying, computing, base_of}
 use Rattle.vg_expand.proofs.Holding.{sets_holds}
@@ -310,13 +311,30 @@ module _ (first : ℕ) (m : Procedure) (from width to : ℕ) (left right : Opera
   factor_does a k true e st = none_does a k e st
   factor_does a k false e st = power_does a k (some_of k e) (power_of k) refl st
 
+  -- both operands are known
+  known_does : (j k : ℕ) → StandAt m.code from (Plain (Copy to (Known (worked_out width (j * k)))) ∷ [])
+      → DoesProduct (Plain (Copy to (Known (worked_out width (j * k)))) ∷ []) (Known j) (Known k)
+  known_does j k (f, g) p q has routines fs s w x y z held e h r =
+      subst (λ i. Leads (language p) (codes_in p.procedures) 1 (conf q from fs s w) (conf q i fs (sets to z s) w)) (next from)
+      (leads_step (language p) (codes_in p.procedures) (conf q from fs s w) (conf q (suc from) fs (sets to z s) w)
+      (ap (performed (language p) (conf q from fs s w)) (fetch_of p.procedures q m has from ∙ f)
+      ∙ ap (λ v. conf q (suc from) fs (sets to v s) w) (worked (j * k) ∙ ap (λ v. low width (v * k)) (some_is j x e)
+      ∙ ap (λ v. low width (x * v)) (some_is k y h) ∙ some_is _ z r)))
+    where
+      next : (from : ℕ) → suc from ≡ from + 1
+      next from = omega arith
+
+      worked : (n : ℕ) → worked_out width n ≡ low width n
+      worked n = by_width (λ w. worked_out w n ≡ low w n) width hw refl refl refl refl
+
   -- the operands may change places
   turned_does : (xs : List Instr) (a b : Operand) → DoesProduct xs a b → DoesProduct xs b a
   turned_does xs a b does p q has routines fs s w x y z held e h r =
       does p q has routines fs s w y x z held h e (ap (λ v. Some (low width v)) (mul_comm y x) ∙ r)
 
   multiplying_does : (a b : Operand) → StandAt m.code from (multiplying base c a b) → DoesProduct (multiplying base c a b) a b
-  multiplying_does a (Known k) st = factor_does a k (k == 0) refl st
+  multiplying_does (Known j) (Known k) st = known_does j k st
+  multiplying_does (Local i) (Known k) st = factor_does (Local i) k (k == 0) refl st
   multiplying_does (Known k) (Local i) st =
       turned_does (by_factor base c (Local i) k (k == 0)) (Local i) (Known k) (factor_does (Local i) k (k == 0) refl st)
   multiplying_does (Local i) (Local j) st = product_does (Local i) (Local j) st

@@ -22,10 +22,12 @@ use Rattle.vg_lin.specs.Values.{computed}
 use Rattle.vg_lin.specs.Sound.{IsSound}
 use Rattle.vg_lin.specs.Program.{Procedure, Program}
 use Rattle.vg_lin.specs.State.{LocalState, Waiting, State, value, using, sets, computes, plain, holds}
-use Rattle.vg_lin.specs.Meaning.{begun, called, entry_with, entry_of, entry_at, enter, values, values_of, operands, same_widths, result, result_of}
-use Rattle.vg_lin.specs.Meaning.{resume, wake, widths_of, call_of, name_of, language, codes_in, at_start, run}
-use Rattle.vg_lin.specs.Steps.{Awaits, Result, Interrupt, Frame, Went, Goes, Raises, Lacks, Fails, Entry, Config, with_named, open_below, noted, ends}
-use Rattle.vg_lin.specs.Steps.{begins, went, branched, calls, goes_back, returns, takes, handles, performed, fetch, step, steps}
+use Rattle.vg_lin.specs.Meaning.{with_code}
+use Rattle.vg_lin.specs.Meaning.{begun, called, entry_with, entry_of, entry_at, values, values_of, operands, same_widths, result}
+use Rattle.vg_lin.specs.Meaning.{resume, wake, widths_of, call_of, name_of, language, codes_in, at_start}
+use Rattle.vg_lin.specs.Steps.{stepped}
+use Rattle.vg_lin.specs.Steps.{Awaits, Result, Interrupt, Frame, Went, Goes, Raises, Lacks, Fails, Entry, Config, with_named, open_below, noted}
+use Rattle.vg_lin.specs.Steps.{begins, went, branched, calls, goes_back, returns, takes, handles, performed, step, steps}
 use Rattle.vg_lin.specs.Follows.{Leads}
 use Rattle.vg_lin.proofs.Followed.{leads_step}
 use Rattle.vg_arith.proofs.ShiftRoutines.{fetch_of}
@@ -108,7 +110,7 @@ module _ (first : ℕ) (p : Program) (ms : List Procedure) (all : AllExpand firs
   called_same (ByNumber q) s = refl
   called_same (ByCode a) s = by_value (value a s)
     where
-      by_value : (v : Option ℕ) → Rattle.vg_lin.specs.Meaning.with_code new v ≡ Rattle.vg_lin.specs.Meaning.with_code p v
+      by_value : (v : Option ℕ) → with_code new v ≡ with_code p v
       by_value (Some x) = refl
       by_value None = refl
 
@@ -442,13 +444,13 @@ module _ (first : ℕ) (p : Program) (ms : List Procedure) (all : AllExpand firs
   stays_old : (n : ℕ) (c : Config State) (why : End) → c.ending ≡ Some why → steps (language p) (codes_in p.procedures) n c ≡ c
   stays_old zero c why e = refl
   stays_old (suc n) c why e =
-      ap (λ k. steps (language p) (codes_in p.procedures) n (Rattle.vg_lin.specs.Steps.stepped (language p) (codes_in p.procedures) c k c.woken)) e
+      ap (λ k. steps (language p) (codes_in p.procedures) n (stepped (language p) (codes_in p.procedures) c k c.woken)) e
       ∙ stays_old n c why e
 
   stays_new : (n : ℕ) (c : Config State) (why : End) → c.ending ≡ Some why → steps (language new) (codes_in ms) n c ≡ c
   stays_new zero c why e = refl
   stays_new (suc n) c why e =
-      ap (λ k. steps (language new) (codes_in ms) n (Rattle.vg_lin.specs.Steps.stepped (language new) (codes_in ms) c k c.woken)) e ∙ stays_new n c why e
+      ap (λ k. steps (language new) (codes_in ms) n (stepped (language new) (codes_in ms) c k c.woken)) e ∙ stays_new n c why e
 
   runs_on : (n : ℕ) (c d : Config State) → Related c d → Shows n d (steps (language p) (codes_in p.procedures) n c)
   runs_on zero x e r = λ legal. (0, omega arith, shows_here x e r)

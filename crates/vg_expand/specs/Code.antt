@@ -1,5 +1,6 @@
 -- The expanded code as lists: what the functions of this crate make, in their own shape. No clause of a public function cites these.
-use Rattle.std.specs.Prelude.{ℕ, zero, suc, ◌+◌, ◌-◌, ◌^◌, Bool, true, false, ◌==◌, ◌&&◌, nat_lt, List, [], ◌∷◌, ◌++◌, length, Option, Some, None, get_or}
+use Rattle.std.specs.Prelude.{ℕ, zero, suc, ◌+◌, ◌-◌, ◌*◌, ◌%◌, ◌^◌, Bool, true, false, ◌==◌, ◌&&◌, nat_lt}
+use Rattle.std.specs.Prelude.{List, [], ◌∷◌, ◌++◌, length, Option, Some, None, get_or}
 use Rattle.std.specs.Prelude.{if◌then◌else◌}
 use Rattle.vg_lin.specs.declared.instr.Operand.{Operand}
 use Rattle.vg_lin.specs.declared.instr.Operand.TheVariants.{Local, Known}
@@ -94,8 +95,13 @@ abbrev pub by_factor : Base → Computation → Operand → (k : ℕ) → (none 
 by_factor base c a k true = Plain (Copy c.to (Known 0)) ∷ []
 by_factor base c a k false = by_power base c a k (power_of k)
 
+-- The low bytes of a result that is known.
+abbrev pub worked_out : (width n : ℕ) → ℕ
+worked_out w n = if nat_lt w 4 then n % 256 ^ w else n % 2 ^ 32
+
 abbrev pub multiplying : Base → Computation → (left right : Operand) → List Instr
-multiplying base c a (Known k) = by_factor base c a k (k == 0)
+multiplying base c (Known j) (Known k) = Plain (Copy c.to (Known (worked_out c.width (j * k)))) ∷ []
+multiplying base c (Local i) (Known k) = by_factor base c (Local i) k (k == 0)
 multiplying base c (Known k) (Local i) = by_factor base c (Local i) k (k == 0)
 multiplying base c (Local i) (Local j) = product_of base c (Local i) (Local j)
 

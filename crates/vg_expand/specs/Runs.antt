@@ -1,11 +1,18 @@
 -- That programs with expanded procedures do what they did.
-use Rattle.std.specs.Prelude.{◌≡◌, ◌≢◌, ℕ, ◌<◌, ◌≤◌, List, length, Some, slice_get}
-use Rattle.vg_meaning.specs.Answer.{Wrong}
+use Rattle.std.specs.Prelude.{◌≡◌, ◌≢◌, ℕ, ◌+◌, ◌<◌, ◌≤◌, List, length, Option, Some, slice_get}
+use Rattle.vg_meaning.specs.History.{History}
+use Rattle.vg_meaning.specs.World.{World}
+use Rattle.vg_meaning.specs.Answer.{End, Wrong, Over, Ends}
+use Rattle.vg_meaning.specs.Code.{Code}
+use Rattle.vg_lin.specs.declared.instr.Call.{Call}
 use Rattle.vg_lin.specs.Sound.{IsSound}
 use Rattle.vg_lin.specs.Program.{Procedure, Program}
 use Rattle.vg_lin.specs.State.{State}
 use Rattle.vg_lin.specs.Meaning.{run}
 use Rattle.vg_lin.specs.Steps.{Config}
+use Rattle.vg_lin.specs.Structured.{Step, Deciding}
+use Rattle.vg_lin.specs.Follows.{IsLegal}
+use Rattle.vg_lin.specs.Sessions.{session, ShowsEnd}
 use Rattle.vg_expand.specs.Expansion.{Expands}
 
 -- The program with these procedures in place of its own.
@@ -33,3 +40,11 @@ abbrev pub RunsAs : (old new : Program) → Type 0
 RunsAs p n =
     (steps : ℕ) (reads interrupts : List ℕ) → (run p steps reads interrupts).ending ≢ Some Wrong
     → (j : ℕ) × (steps ≤ j) × ShowsSame (run p steps reads interrupts) (run n j reads interrupts)
+
+-- The runs of the second program follow the sessions of structured bodies over the first one: where a session is over for a legal
+-- reason, a run shows it, after at least as many steps as ticks were spent.
+abbrev pub FollowsSessionsOf : (old new : Program) → (ℕ → Code Step) → Call → Type 0
+FollowsSessionsOf p n bodies c =
+    (clock : ℕ) (deepest : Option ℕ) (reads interrupts : List ℕ) (t : Deciding State) (v : World History) (why : End) → IsLegal why
+    → session p bodies c clock deepest reads interrupts ≡ Ends (Over why) t v
+    → (j : ℕ) × (clock ≤ v.clock + j) × ShowsEnd why v (run n j reads interrupts)

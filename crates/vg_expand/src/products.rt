@@ -1,14 +1,16 @@
 // The code in place of a product.
-ghost use Rattle.std.specs.Prelude.{◌≡◌, ◌<◌, ◌+◌, ◌++◌, [], ◌∷◌, ◌==◌, false, OnOk};
-ghost use Rattle.vg_expand.specs.Code.{is_narrow as narrow, product_of, power_of as power_in, shifted_by, joined_by, is_in as stands_in};
+ghost use Rattle.std.specs.Prelude.{◌≡◌, ◌<◌, ◌+◌, ◌*◌, ◌++◌, [], ◌∷◌, ◌==◌, false, OnOk};
+ghost use Rattle.vg_expand.specs.Code.{is_narrow as narrow, worked_out, product_of, power_of as power_in, shifted_by, joined_by, is_in as stands_in};
 ghost use Rattle.vg_expand.specs.Code.{by_difference, in_two, by_power, by_factor, multiplying};
 
 use crate::calls::{push_call, push_cut};
 use vg_base::{NoMemory, Row};
 use vg_lin::{Computation, Instr, Operand, Operator, Plain, Registers};
 
-/// Puts what stands for a product behind the code. By a known number it is a shift, or a shift and a sum or a difference, where that
-/// number is a power of 2 or next to one; of two bytes it is one instruction; any other is a call.
+/// Puts what stands for a product behind the code.
+///
+/// Of two known numbers it is worked out. By one known number it is a shift, or a shift and a sum or a difference, where that number is
+/// a power of 2 or next to one; of two bytes it is one instruction; any other is a call.
 pub fn push_product(
     code: &mut Row<Instr>,
     c: Computation,
@@ -17,12 +19,36 @@ pub fn push_product(
 ) -> Result<(), NoMemory>
     ensures { OnOk result (code.new ≡ code.old ++ multiplying (record { first = first; widths = widths.now }) c c.left c.right) }
 {
-    match c.right {
-        Operand::Known(k) => push_factor(code, c, c.left, k, first, widths),
-        Operand::Local(_) => match c.left {
-            Operand::Known(k) => push_factor(code, c, c.right, k, first, widths),
+    match c.left {
+        Operand::Known(left) => match c.right {
+            Operand::Known(right) => code.push(Instr::Plain(Plain::Copy(
+                c.to,
+                Operand::Known(work_out(c.width, left, right)),
+            ))),
+            Operand::Local(_) => push_factor(code, c, c.right, left, first, widths),
+        },
+        Operand::Local(_) => match c.right {
+            Operand::Known(right) => push_factor(code, c, c.left, right, first, widths),
             Operand::Local(_) => push_any(code, c, c.left, c.right, first, widths),
         },
+    }
+}
+
+// The low bytes of the product of two known numbers.
+fn work_out(width: u8, left: u32, right: u32) -> u32
+    ensures { result ≡ worked_out width (left * right) }
+{
+    let product = left.wrapping_mul(right);
+    if width == 0 {
+        0
+    } else if width == 1 {
+        product % 0x100
+    } else if width == 2 {
+        product % 0x1_0000
+    } else if width == 3 {
+        product % 0x100_0000
+    } else {
+        product
     }
 }
 

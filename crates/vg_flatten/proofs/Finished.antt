@@ -1,5 +1,5 @@
 -- That what the code makes of a procedure is the flattened procedure.
-use Rattle.std.specs.Prelude.{◌≡◌, ℕ, zero, suc, ◌+◌, ◌-◌, ◌<◌, ◌≤◌, true, List, [], ◌∷◌, ◌++◌, length, map, replicate, Option, Some}
+use Rattle.std.specs.Prelude.{◌≡◌, ℕ, zero, suc, ◌+◌, ◌-◌, ◌<◌, ◌≤◌, true, false, List, [], ◌∷◌, ◌++◌, length, map, replicate, Option, Some}
 use Rattle.std.specs.List.{AllByRecursion}
 use Rattle.std.proofs.lemmas.List.{append_assoc}
 use Rattle.std.proofs.Common.{refl, sym, ap, ◌∙◌, subst, arith}
@@ -22,7 +22,10 @@ use Rattle.vg_flatten.specs.Blocks.{set_in}
 use Rattle.vg_flatten.specs.Flattened.{zeroes, zero_list, whole, IsFlat}
 use Rattle.vg_flatten.specs.Laying.{IsPiece, IsWhole}
 use Rattle.vg_flatten.proofs.Sound.{MadeIn, BlockIn, in_flat}
-use Rattle.vg_flatten.proofs.Whole.{whole_sound, fit_block}
+use Rattle.vg_flatten.proofs.Whole.{whole_sound, fit_block, in_zeroes}
+use Rattle.vg_flatten.proofs.Onward.{leads_onward}
+use Rattle.vg_flatten.specs.Loops.{has_loop}
+use Rattle.vg_lin.specs.Onward.{all_lead_on}
 
 pub zero_code : (c i at : ℕ) → open_code (zeroes c i) at ≡ zero_list c i
 zero_code zero i at = refl
@@ -74,9 +77,9 @@ module _ (m : FirmProcedure) (r : Room) (params : List ℕ) (locals : r.locals �
   abbrev pub procedure : Procedure
   procedure = record { method = Some m.method; params = m.params; widths = widths; code = code }
 
-  block_in : (b : Block) (s : Shape) → flat r m.body empty ≡ Gives b s → BlockIn (length m.widths + r.temps) b
+  block_in : (b : Block) (s : Shape) → flat r m.body empty ≡ Gives b s → BlockIn (Unit {0}) (length m.widths + r.temps) b
   block_in b s e =
-      subst (λ z. BlockIn (z + r.temps) b) locals (subst (λ z. MadeIn (r.locals + r.temps) z) e (in_flat r m.body empty (tt, tt))).0
+      subst (λ z. BlockIn (Unit {0}) (z + r.temps) b) locals (subst (λ z. MadeIn (Unit {0}) (r.locals + r.temps) z) e (in_flat (Unit {0}) r m.body empty (λ l. tt) (tt, tt))).0
 
   code_is : (b : Block) → open' ≡ open_code (whole m b) 0 → code ≡ map (set_in 0 0) (open_code (whole m b) 0)
   code_is b e = sealed ∙ ap (map (set_in 0 0)) e
@@ -109,3 +112,19 @@ module _ (m : FirmProcedure) (r : Room) (params : List ℕ) (locals : r.locals �
 
   pub procedure_flat : AllFit params open' → IsFlat params m procedure
   procedure_flat fit = flat_by (flat r m.body empty) refl is fit
+
+  onward_by : (x : Made) → flat r m.body empty ≡ x → IsWhole open' x m → has_loop m.body ≡ false → all_lead_on 0 code ≡ true
+  onward_by (Refused why) e h none = absurd h
+  onward_by (Gives b s) e h none =
+      ap (all_lead_on 0) (code_is b h.1)
+      ∙ leads_onward (r.locals + r.temps) (whole m b) (
+        in_zeroes ⊥ (r.locals + r.temps) (length m.widths - m.params) m.params (omega (arith, hp, locals)),
+        ((subst (λ z. MadeIn ⊥ (r.locals + r.temps) z) e (in_flat ⊥ r m.body empty (λ l. not_both (sym none ∙ l)) (tt, tt))).0, tt),
+      ) (subst AllSet h.1 set)
+    where
+      not_both : false ≡ true → ⊥
+      not_both l = grind arith
+
+  -- no jump leads back where the body has no loop
+  pub procedure_onward : has_loop m.body ≡ false → all_lead_on 0 code ≡ true
+  procedure_onward none = onward_by (flat r m.body empty) refl is none

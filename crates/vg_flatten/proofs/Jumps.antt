@@ -8,6 +8,7 @@ use Rattle.vg_flatten.specs.declared.open.Truth.{Truth}
 use Rattle.vg_flatten.specs.declared.open.Truth.TheVariants.{Holds, Fails}
 use Rattle.vg_flatten.specs.declared.open.Open.{Open}
 use Rattle.vg_flatten.specs.declared.open.Open.TheVariants.{Set, Break, Continue}
+use Rattle.vg_flatten.proofs.Choices.{alone, with_jump, choice_cases}
 use Rattle.vg_flatten.specs.Blocks.{Block, Skip, One, CallTo, TakeInterrupt, GiveBack, BreakOut, GoOn, Both, Choice, Repeat, branch, closed, open_code}
 
 -- A jump at a place leads to another one, and to none above the highest.
@@ -45,6 +46,36 @@ module _ (high : ℕ) where
   within_branch (Holds t) at to h = h
   within_branch (Fails t) at to h = h
 
+  both_ways : (t : Truth) (at : ℕ) (as' bs : List Open) → (at + 1 + length as' ≤ high → AllWithin high as' (at + 1))
+      → (at + 1 + length as' + 1 + length bs ≤ high → AllWithin high bs (at + 1 + length as' + 1)) → at + length (with_jump t at as' bs) ≤ high
+      → AllWithin high (with_jump t at as' bs) at
+  both_ways t at as' bs ha hb h = (
+    within_branch t at v (let ne : v ≢ at = omega arith in ne, omega (arith, h, n)),
+    within_both as' (Set (Jump end) ∷ bs) (suc at) (within_at as' (at + 1) (suc at) (omega arith) (ha (omega (arith, h, n)))) (
+      (let ne : end ≢ suc at + length as' = omega arith in ne, omega (arith, h, n)),
+      within_at bs v (suc (suc at + length as')) (omega arith) (hb (omega (arith, h, n))),
+    ),
+  )
+    where
+      v : ℕ
+      v = at + 1 + length as' + 1
+
+      end : ℕ
+      end = at + 1 + length as' + 1 + length bs
+
+      n : length (as' ++ (Set (Jump end) ∷ bs)) ≡ length as' + suc (length bs)
+      n = length-append as' (Set (Jump end) ∷ bs)
+
+  one_way : (t : Truth) (at : ℕ) (as' : List Open) → (at + 1 + length as' ≤ high → AllWithin high as' (at + 1)) → at + length (alone t at as') ≤ high
+      → AllWithin high (alone t at as') at
+  one_way t at as' ha h = (
+    within_branch t at end (let ne : end ≢ at = omega arith in ne, omega (arith, h)),
+    within_at as' (at + 1) (suc at) (omega arith) (ha (omega (arith, h))),
+  )
+    where
+      end : ℕ
+      end = at + 1 + length as'
+
   pub within : (b : Block) (at : ℕ) → at + length (open_code b at) ≤ high → AllWithin high (open_code b at) at
   within Skip at h = tt
   within (One p) at h = (tt, tt)
@@ -57,28 +88,11 @@ module _ (high : ℕ) where
       let n = length-append (open_code a at) (open_code b (at + length (open_code a at))) in
       within_both (open_code a at) (open_code b (at + length (open_code a at))) at (within a at (omega (arith, h, n)))
       (within b (at + length (open_code a at)) (omega (arith, h, n)))
-  within (Choice t a b) at h = (
-    within_branch t at v (let ne : v ≢ at = omega arith in ne, omega (arith, h, n)),
-    within_both as' (Set (Jump end) ∷ bs) (suc at) (within_at as' (at + 1) (suc at) (omega arith) (within a (at + 1) (omega (arith, h, n)))) (
-      (let ne : end ≢ suc at + length as' = omega arith in ne, omega (arith, h, n)),
-      within_at bs v (suc (suc at + length as')) (omega arith) (within b v (omega (arith, h, n))),
-    ),
-  )
-    where
-      as' : List Open
-      as' = open_code a (at + 1)
-
-      v : ℕ
-      v = at + 1 + length as' + 1
-
-      bs : List Open
-      bs = open_code b v
-
-      end : ℕ
-      end = at + 1 + length as' + 1 + length bs
-
-      n : length (as' ++ (Set (Jump end) ∷ bs)) ≡ length as' + suc (length bs)
-      n = length-append as' (Set (Jump end) ∷ bs)
+  within (Choice t a b) at h =
+      choice_cases (λ z. at + length z ≤ high → AllWithin high z at) t at (open_code a (at + 1)) (open_code b (at + 1 + length (open_code a (at + 1)) + 1))
+      (λ e. one_way t at (open_code a (at + 1)) (λ g. within a (at + 1) g))
+      (both_ways t at (open_code a (at + 1)) (open_code b (at + 1 + length (open_code a (at + 1)) + 1)) (λ g. within a (at + 1) g)
+      (λ g. within b (at + 1 + length (open_code a (at + 1)) + 1) g)) h
   within (Repeat p t body next) at h =
       within_both xs behind_test at (within p at (omega (arith, h, n1, n2, n3, n4))) (
         within_branch t (at + length xs) e (let ne : e ≢ at + length xs = omega arith in ne, omega (arith, h, n1, n2, n3, n4)),

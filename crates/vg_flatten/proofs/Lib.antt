@@ -21,3 +21,6 @@ pub mod Whole
 pub mod Starting
 pub mod Finished
 pub mod Along
+pub mod Causes
+pub mod Onward
+pub mod Choices

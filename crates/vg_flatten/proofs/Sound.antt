@@ -1,6 +1,6 @@
 -- That the instructions of what was made keep what every procedure of linear code keeps: operands in range, and jumps that lead to no
 -- place behind the code nor to themselves.
-use Rattle.std.specs.Prelude.{ℕ, zero, suc, ◌+◌, ◌-◌, ◌<◌, ◌≤◌, ◌^◌, Bool, true, false, ◌==◌, ◌&&◌, nat_lt, List, [], ◌∷◌, ◌++◌, length, map, reverse, Option, Some, None, if◌then◌else◌, slice_get}
+use Rattle.std.specs.Prelude.{ℕ, zero, suc, ◌+◌, ◌-◌, ◌<◌, ◌≤◌, ◌^◌, Bool, true, false, ◌==◌, ◌&&◌, ◌||◌, nat_lt, List, [], ◌∷◌, ◌++◌, length, map, reverse, Option, Some, None, if◌then◌else◌, slice_get}
 use Rattle.std.specs.List.{AllByRecursion}
 use Rattle.std.proofs.Common.{◌≡◌, ◌≢◌, refl, sym, ap, ◌∙◌, subst, arith}
 use Rattle.std.proofs.lemmas.List.{length-append, length-map}
@@ -36,6 +36,7 @@ use Rattle.vg_flatten.specs.Blocks.{Block, Skip, One, CallTo, TakeInterrupt, Giv
 use Rattle.vg_flatten.specs.Flat.{Made, Gives, Refused, behind, after, by_temp, settled, settled_as, Tested, tested, tested_as, is_zero, computing, comparing, by_order, test_of}
 use Rattle.vg_flatten.specs.Flat.{computed, compared, operated, operated_as, bytes_of, cut, applied, put_number, get_local, set_local, forgotten, read, written}
 use Rattle.vg_flatten.specs.Flat.{called_with, with_one, with_two, with_three, with_four, called, stepped, landed_as, landed, joined, chosen, where_empty, repeated, repeated_test}
+use Rattle.vg_flatten.specs.Loops.{has_loop}
 use Rattle.vg_flatten.specs.Flat.{repeated_body, repeated_next, given_back, flat}
 use Rattle.vg_flatten.proofs.Locals.{some_is, none_is_not, temp_is}
 
@@ -76,26 +77,27 @@ abbrev pub IsCalleeIn : (size : ℕ) → Callee → Type 0
 IsCalleeIn size (ByNumber q) = Unit {0}
 IsCalleeIn size (ByCode a) = IsIn size a
 
-abbrev pub BlockIn : (size : ℕ) → Block → Type 0
-BlockIn size (One p) = IsPlainIn size p
-BlockIn size (CallTo c) = (c.pushed ≡ 0) × IsCalleeIn size c.callee × AreIn size (operands c.registers) × IsToIn size c.to
-BlockIn size (GiveBack a) = IsIn size a
-BlockIn size (Both a b) = BlockIn size a × BlockIn size b
-BlockIn size (Choice t a b) = IsTruthIn size t × BlockIn size a × BlockIn size b
-BlockIn size (Repeat p t a b) = IsTruthIn size t × BlockIn size p × BlockIn size a × BlockIn size b
-BlockIn size _ = Unit {0}
+-- L is what must hold where there is a loop.
+abbrev pub BlockIn : (L : Type 0) → (size : ℕ) → Block → Type 0
+BlockIn L size (One p) = IsPlainIn size p
+BlockIn L size (CallTo c) = (c.pushed ≡ 0) × IsCalleeIn size c.callee × AreIn size (operands c.registers) × IsToIn size c.to
+BlockIn L size (GiveBack a) = IsIn size a
+BlockIn L size (Both a b) = BlockIn L size a × BlockIn L size b
+BlockIn L size (Choice t a b) = IsTruthIn size t × BlockIn L size a × BlockIn L size b
+BlockIn L size (Repeat p t a b) = IsTruthIn size t × BlockIn L size p × BlockIn L size a × BlockIn L size b × L
+BlockIn L size _ = Unit {0}
 
 abbrev pub ShapeIn : (size : ℕ) → Shape → Type 0
 ShapeIn size s = AreIn size s.homes × MayBeIn size s.truth
 
 -- What was made is in range, and so is the shape behind it.
-abbrev pub MadeIn : (size : ℕ) → Made → Type 0
-MadeIn size (Gives b s) = BlockIn size b × ShapeIn size s
-MadeIn size (Refused why) = Unit {0}
+abbrev pub MadeIn : (L : Type 0) → (size : ℕ) → Made → Type 0
+MadeIn L size (Gives b s) = BlockIn L size b × ShapeIn size s
+MadeIn L size (Refused why) = Unit {0}
 
 -- ---- what was made is in range
 
-module _ (r : Room) where
+module _ (L : Type 0) (r : Room) where
   abbrev size : ℕ
   size = r.locals + r.temps
 
@@ -105,34 +107,34 @@ module _ (r : Room) where
       let lt = (temp_is r hs to e).1 in
       omega (arith, is, lt)
 
-  in_behind : (a : Block) (made : Made) → BlockIn size a → MadeIn size made → MadeIn size (behind a made)
+  in_behind : (a : Block) (made : Made) → BlockIn L size a → MadeIn L size made → MadeIn L size (behind a made)
   in_behind a (Gives b s) ha hm = ((ha, hm.0), hm.1)
   in_behind a (Refused why) ha hm = tt
 
-  in_after : (made : Made) (more : Shape → Made) → MadeIn size made → ((s : Shape) → ShapeIn size s → MadeIn size (more s)) → MadeIn size (after made more)
+  in_after : (made : Made) (more : Shape → Made) → MadeIn L size made → ((s : Shape) → ShapeIn size s → MadeIn L size (more s)) → MadeIn L size (after made more)
   in_after (Gives a s) more hm h = in_behind a (more s) hm.0 (h s hm.1)
   in_after (Refused why) more hm h = tt
 
-  in_by_temp : (hs : List Operand) (go : ℕ → Made) → ((to : ℕ) → to < size → MadeIn size (go to)) → MadeIn size (by_temp (temp r hs) go)
+  in_by_temp : (hs : List Operand) (go : ℕ → Made) → ((to : ℕ) → to < size → MadeIn L size (go to)) → MadeIn L size (by_temp (temp r hs) go)
   in_by_temp hs go h = by_room (temp r hs) refl
     where
-      by_room : (o : Option ℕ) → temp r hs ≡ o → MadeIn size (by_temp o go)
+      by_room : (o : Option ℕ) → temp r hs ≡ o → MadeIn L size (by_temp o go)
       by_room (Some to) e = h to (temp_in hs to e)
       by_room None e = tt
 
-  in_settled : (s : Shape) → ShapeIn size s → MadeIn size (settled r s)
+  in_settled : (s : Shape) → ShapeIn size s → MadeIn L size (settled r s)
   in_settled s h = by_truth s.truth h.1
     where
-      by_truth : (o : Option Truth) → MayBeIn size o → MadeIn size (settled_as r o s.homes)
+      by_truth : (o : Option Truth) → MayBeIn size o → MadeIn L size (settled_as r o s.homes)
       by_truth None t = (tt, (h.0, tt))
       by_truth (Some x) t = in_by_temp s.homes _ (λ to lt. ((t, (lt, tt), (lt, tt)), ((lt, h.0), tt)))
 
-  in_if : (b : Bool) (x y : Made) → MadeIn size x → MadeIn size y → MadeIn size (if b then x else y)
+  in_if : (b : Bool) (x y : Made) → MadeIn L size x → MadeIn L size y → MadeIn L size (if b then x else y)
   in_if true x y hx hy = hx
   in_if false x y hx hy = hy
 
   in_computed : (op : LinOperator) (width : ℕ) (x y : Operand) (hs : List Operand) → 1 ≤ width → width ≤ 4 → IsIn size x → IsIn size y → AreIn size hs
-      → MadeIn size (computed r op width x y hs)
+      → MadeIn L size (computed r op width x y hs)
   in_computed op width x y hs low high hx hy h = in_by_temp hs _ (λ to lt. ((low, high, lt, hx, hy), ((lt, h), tt)))
 
   in_test : (x y : Operand) → IsIn size x → IsIn size y → (c : _) → IsTestIn size (test_of c x y)
@@ -157,17 +159,17 @@ module _ (r : Room) where
   in_comparing (ShiftRight k) x y hx hy = tt
   in_comparing (Concat k) x y hx hy = tt
 
-  in_operated : (op : Operator) (hs : List Operand) → AreIn size hs → MadeIn size (operated r op hs)
+  in_operated : (op : Operator) (hs : List Operand) → AreIn size hs → MadeIn L size (operated r op hs)
   in_operated op [] h = tt
   in_operated op (y ∷ []) h = tt
   in_operated op (y ∷ x ∷ hs) h = by_kind (computing op) (comparing op x y) (in_comparing op x y h.1.0 h.0)
     where
-      by_kind : (o : Option LinOperator) (t : Option Truth) → MayBeIn size t → MadeIn size (operated_as r o t x y hs)
+      by_kind : (o : Option LinOperator) (t : Option Truth) → MayBeIn size t → MadeIn L size (operated_as r o t x y hs)
       by_kind (Some lop) t ht = in_computed lop 4 x y hs (omega arith) (omega arith) h.1.0 h.0 h.1.1
       by_kind None (Some t) ht = (tt, (h.1.1, ht))
       by_kind None None ht = tt
 
-  in_cut : (bits : ℕ) (h : Operand) (hs : List Operand) → IsIn size h → AreIn size hs → (o : Option ℕ) → bytes_of bits ≡ o → MadeIn size (cut r o h hs)
+  in_cut : (bits : ℕ) (h : Operand) (hs : List Operand) → IsIn size h → AreIn size hs → (o : Option ℕ) → bytes_of bits ≡ o → MadeIn L size (cut r o h hs)
   in_cut bits h hs hh hhs None e = tt
   in_cut bits h hs hh hhs (Some width) e = in_computed Sum width h (Known 0) hs (above bits width e) (below bits width e) hh tt hhs
     where
@@ -177,7 +179,7 @@ module _ (r : Room) where
       below : (n v : ℕ) → bytes_of n ≡ Some v → v ≤ 4
       below n v e1 = grind arith
 
-  in_applied : (op : Prefix) (hs : List Operand) → AreIn size hs → MadeIn size (applied r op hs)
+  in_applied : (op : Prefix) (hs : List Operand) → AreIn size hs → MadeIn L size (applied r op hs)
   in_applied Not [] h = tt
   in_applied Negative [] h = tt
   in_applied (Cut bits) [] h = tt
@@ -187,65 +189,65 @@ module _ (r : Room) where
   in_applied (Cut bits) (a ∷ hs) h = in_cut bits a hs h.0 h.1 (bytes_of bits) refl
   in_applied (Complement bits) (a ∷ hs) h = tt
 
-  in_local : (i : ℕ) (hs : List Operand) → AreIn size hs → MadeIn size (get_local r i hs)
+  in_local : (i : ℕ) (hs : List Operand) → AreIn size hs → MadeIn L size (get_local r i hs)
   in_local i hs h = by_size (nat_lt i r.locals) refl
     where
-      by_size : (b : Bool) → nat_lt i r.locals ≡ b → MadeIn size (if b then Gives Skip (only (Local i ∷ hs)) else Refused NotTaken)
+      by_size : (b : Bool) → nat_lt i r.locals ≡ b → MadeIn L size (if b then Gives Skip (only (Local i ∷ hs)) else Refused NotTaken)
       by_size true e = let lt : i < r.locals = grind arith in (tt, ((omega (arith, lt), h), tt))
       by_size false e = tt
 
-  in_set : (i : ℕ) (hs : List Operand) → AreIn size hs → MadeIn size (set_local r i hs)
+  in_set : (i : ℕ) (hs : List Operand) → AreIn size hs → MadeIn L size (set_local r i hs)
   in_set i [] h = tt
   in_set i (a ∷ hs) h = by_size (nat_lt i r.locals) (is_free i (reverse hs)) refl
     where
-      by_size : (b c : Bool) → nat_lt i r.locals ≡ b → MadeIn size (if b && c then Gives (One (Copy i a)) (only hs) else Refused NotTaken)
+      by_size : (b c : Bool) → nat_lt i r.locals ≡ b → MadeIn L size (if b && c then Gives (One (Copy i a)) (only hs) else Refused NotTaken)
       by_size true true e = let lt : i < r.locals = grind arith in ((omega (arith, lt), h.0), (h.1, tt))
       by_size true false e = tt
       by_size false c e = tt
 
-  in_number : (v : ℕ) (hs : List Operand) → AreIn size hs → MadeIn size (put_number v hs)
+  in_number : (v : ℕ) (hs : List Operand) → AreIn size hs → MadeIn L size (put_number v hs)
   in_number v hs h = in_if (nat_lt v (2 ^ 32)) (Gives Skip (only (Known v ∷ hs))) (Refused NotTaken) (tt, ((tt, h), tt)) tt
 
-  in_called_with : (q : ℕ) (args : Registers) (hs : List Operand) → AreIn size (operands args) → AreIn size hs → MadeIn size (called_with r q args hs)
+  in_called_with : (q : ℕ) (args : Registers) (hs : List Operand) → AreIn size (operands args) → AreIn size hs → MadeIn L size (called_with r q args hs)
   in_called_with q args hs ha h = in_by_temp hs _ (λ to lt. ((refl, tt, ha, lt), ((lt, h), tt)))
 
-  in_one : (q : ℕ) (hs : List Operand) → AreIn size hs → MadeIn size (with_one r q hs)
+  in_one : (q : ℕ) (hs : List Operand) → AreIn size hs → MadeIn L size (with_one r q hs)
   in_one q [] h = tt
   in_one q (a ∷ hs) h = in_called_with q (One' a) hs (h.0, tt) h.1
 
-  in_two : (q : ℕ) (hs : List Operand) → AreIn size hs → MadeIn size (with_two r q hs)
+  in_two : (q : ℕ) (hs : List Operand) → AreIn size hs → MadeIn L size (with_two r q hs)
   in_two q [] h = tt
   in_two q (b ∷ []) h = tt
   in_two q (b ∷ a ∷ hs) h = in_called_with q (Two a b) hs (h.1.0, (h.0, tt)) h.1.1
 
-  in_three : (q : ℕ) (hs : List Operand) → AreIn size hs → MadeIn size (with_three r q hs)
+  in_three : (q : ℕ) (hs : List Operand) → AreIn size hs → MadeIn L size (with_three r q hs)
   in_three q [] h = tt
   in_three q (c ∷ []) h = tt
   in_three q (c ∷ b ∷ []) h = tt
   in_three q (c ∷ b ∷ a ∷ hs) h = in_called_with q (Three a b c) hs (h.1.1.0, (h.1.0, (h.0, tt))) h.1.1.1
 
-  in_four : (q : ℕ) (hs : List Operand) → AreIn size hs → MadeIn size (with_four r q hs)
+  in_four : (q : ℕ) (hs : List Operand) → AreIn size hs → MadeIn L size (with_four r q hs)
   in_four q [] h = tt
   in_four q (d ∷ []) h = tt
   in_four q (d ∷ c ∷ []) h = tt
   in_four q (d ∷ c ∷ b ∷ []) h = tt
   in_four q (d ∷ c ∷ b ∷ a ∷ hs) h = in_called_with q (Four a b c d) hs (h.1.1.1.0, (h.1.1.0, (h.1.0, (h.0, tt)))) h.1.1.1.1
 
-  in_called : (q count : ℕ) (hs : List Operand) → AreIn size hs → MadeIn size (called r q count hs)
+  in_called : (q count : ℕ) (hs : List Operand) → AreIn size hs → MadeIn L size (called r q count hs)
   in_called q count hs h =
       in_if (count == 0) _ _ (in_called_with q Empty hs tt h)
       (in_if (count == 1) _ _ (in_one q hs h) (in_if (count == 2) _ _ (in_two q hs h)
       (in_if (count == 3) _ _ (in_three q hs h) (in_if (count == 4) _ _ (in_four q hs h) tt))))
 
-  in_forgotten : (hs : List Operand) → AreIn size hs → MadeIn size (forgotten hs)
+  in_forgotten : (hs : List Operand) → AreIn size hs → MadeIn L size (forgotten hs)
   in_forgotten [] h = tt
   in_forgotten (a ∷ hs) h = (tt, (h.1, tt))
 
-  in_written : (address : ℕ) (hs : List Operand) → AreIn size hs → MadeIn size (written address hs)
+  in_written : (address : ℕ) (hs : List Operand) → AreIn size hs → MadeIn L size (written address hs)
   in_written address [] h = tt
   in_written address (a ∷ hs) h = (h.0, (h.1, tt))
 
-  in_stepped : (q : Step) (hs : List Operand) → AreIn size hs → MadeIn size (stepped r q hs)
+  in_stepped : (q : Step) (hs : List Operand) → AreIn size hs → MadeIn L size (stepped r q hs)
   in_stepped (Number v) hs h = in_number v hs h
   in_stepped (GetLocal i) hs h = in_local i hs h
   in_stepped (SetLocal i) hs h = in_set i hs h
@@ -275,15 +277,15 @@ module _ (r : Room) where
 
   -- ---- choices and loops
 
-  in_landed_as : (hs : List Operand) → AreIn size hs → MadeIn size (landed_as r hs)
+  in_landed_as : (hs : List Operand) → AreIn size hs → MadeIn L size (landed_as r hs)
   in_landed_as [] h = (tt, (tt, tt))
   in_landed_as (a ∷ hs) h = in_by_temp hs _ (λ to lt. in_if (same_operand (Local to) a) (Gives Skip (only (a ∷ hs))) (Gives (One (Copy to a)) (only
       (Local to ∷ hs))) (tt, (h, tt)) ((lt, h.0), ((lt, h.1), tt)))
 
-  in_landed : (made : Made) → MadeIn size made → MadeIn size (landed r made)
+  in_landed : (made : Made) → MadeIn L size made → MadeIn L size (landed r made)
   in_landed made h = in_after made _ h (λ s hs. in_after (settled r s) _ (in_settled s hs) (λ s1 h1. in_landed_as s1.homes h1.0))
 
-  in_joined : (t : Truth) (x y : Made) → IsTruthIn size t → MadeIn size x → MadeIn size y → MadeIn size (joined t x y)
+  in_joined : (t : Truth) (x y : Made) → IsTruthIn size t → MadeIn L size x → MadeIn L size y → MadeIn L size (joined t x y)
   in_joined t (Refused why) y ht hx hy = tt
   in_joined t (Gives a s) (Refused why) ht hx hy = tt
   in_joined t (Gives a s) (Gives b s1) ht hx hy = in_if (same_homes (reverse s.homes) (reverse s1.homes)) (Gives (Choice t a b) s) (Refused NotTaken)
@@ -299,49 +301,64 @@ module _ (r : Room) where
       by_shape None (a ∷ hs) h1 e1 = subst (λ z. IsTruthIn size z.truth × AreIn size z.homes) (some_is _ t e1) (in_test a (Known 0) h1.0.0 tt Same, h1.0.1)
       by_shape None [] h1 e1 = none_is_not t e1
 
-  in_chosen : (s : Shape) (x y : Shape → Made) → ShapeIn size s → ((z : Shape) → ShapeIn size z → MadeIn size (x z)) → ((z : Shape) → ShapeIn size z
-      → MadeIn size (y z))
-      → MadeIn size (chosen r (tested s) x y)
+  in_chosen : (s : Shape) (x y : Shape → Made) → ShapeIn size s → ((z : Shape) → ShapeIn size z → MadeIn L size (x z)) → ((z : Shape) → ShapeIn size z
+      → MadeIn L size (y z))
+      → MadeIn L size (chosen r (tested s) x y)
   in_chosen s x y h hx hy = by_test (tested s) refl
     where
-      by_test : (o : Option Tested) → tested s ≡ o → MadeIn size (chosen r o x y)
+      by_test : (o : Option Tested) → tested s ≡ o → MadeIn L size (chosen r o x y)
       by_test None e = tt
       by_test (Some t) e =
           let ht = in_tested s t h e in
           in_joined t.truth (landed r (x (only t.homes))) (landed r (y (only t.homes))) ht.0 (in_landed _ (hx (only t.homes) (ht.1, tt)))
           (in_landed _ (hy (only t.homes) (ht.1, tt)))
 
-  in_next : (p : Block) (t : Truth) (b : Block) (z : Made) → BlockIn size p → IsTruthIn size t → BlockIn size b → MadeIn size z
-      → MadeIn size (repeated_next p t b z)
-  in_next p t b (Refused why) hp ht hb hz = tt
-  in_next p t b (Gives n s) hp ht hb hz = in_if (is_empty s) (Gives (Repeat p t b n) empty) (Refused NotTaken) ((ht, hp, hb, hz.0), (tt, tt)) tt
+  in_next : L → (p : Block) (t : Truth) (b : Block) (z : Made) → BlockIn L size p → IsTruthIn size t → BlockIn L size b → MadeIn L size z
+      → MadeIn L size (repeated_next p t b z)
+  in_next l p t b (Refused why) hp ht hb hz = tt
+  in_next l p t b (Gives n s) hp ht hb hz = in_if (is_empty s) (Gives (Repeat p t b n) empty) (Refused NotTaken) ((ht, hp, hb, hz.0, l), (tt, tt)) tt
 
-  in_body : (p : Block) (t : Truth) (y z : Made) → BlockIn size p → IsTruthIn size t → MadeIn size y → MadeIn size z → MadeIn size (repeated_body p t y z)
-  in_body p t (Refused why) z hp ht hy hz = tt
-  in_body p t (Gives b s) z hp ht hy hz = in_if (is_empty s) (repeated_next p t b z) (Refused NotTaken) (in_next p t b z hp ht hy.0 hz) tt
+  in_body : L → (p : Block) (t : Truth) (y z : Made) → BlockIn L size p → IsTruthIn size t → MadeIn L size y → MadeIn L size z → MadeIn L size (repeated_body p t y z)
+  in_body l p t (Refused why) z hp ht hy hz = tt
+  in_body l p t (Gives b s) z hp ht hy hz = in_if (is_empty s) (repeated_next p t b z) (Refused NotTaken) (in_next l p t b z hp ht hy.0 hz) tt
 
-  in_repeated : (x y z : Made) → MadeIn size x → MadeIn size y → MadeIn size z → MadeIn size (repeated x y z)
-  in_repeated (Refused why) y z hx hy hz = tt
-  in_repeated (Gives p s) y z hx hy hz = by_test (tested s) refl
+  in_repeated : L → (x y z : Made) → MadeIn L size x → MadeIn L size y → MadeIn L size z → MadeIn L size (repeated x y z)
+  in_repeated l (Refused why) y z hx hy hz = tt
+  in_repeated l (Gives p s) y z hx hy hz = by_test (tested s) refl
     where
-      by_test : (o : Option Tested) → tested s ≡ o → MadeIn size (repeated_test p o y z)
+      by_test : (o : Option Tested) → tested s ≡ o → MadeIn L size (repeated_test p o y z)
       by_test None e = tt
-      by_test (Some t) e = in_if (is_empty (only t.homes)) (repeated_body p t.truth y z) (Refused NotTaken) (in_body p t.truth y z hx.0
+      by_test (Some t) e = in_if (is_empty (only t.homes)) (repeated_body p t.truth y z) (Refused NotTaken) (in_body l p t.truth y z hx.0
           (in_tested s t hx.1 e).0 hy hz) tt
 
-  in_given_back : (hs : List Operand) → AreIn size hs → MadeIn size (given_back hs)
+  in_given_back : (hs : List Operand) → AreIn size hs → MadeIn L size (given_back hs)
   in_given_back [] h = tt
   in_given_back (a ∷ []) h = (h.0, (tt, tt))
   in_given_back (a ∷ b ∷ hs) h = tt
 
-  pub in_flat : (c : Code Step) (s : Shape) → ShapeIn size s → MadeIn size (flat r c s)
-  in_flat Nothing s h = (tt, h)
-  in_flat (Then a b) s h = in_after (flat r a s) (flat r b) (in_flat a s h) (λ s1 h1. in_flat b s1 h1)
-  in_flat (Do q) s h = in_after (settled r s) _ (in_settled s h) (λ s1 h1. in_stepped q s1.homes h1.0)
-  in_flat (If a b) s h = in_chosen s (flat r a) (flat r b) h (λ z hz. in_flat a z hz) (λ z hz. in_flat b z hz)
-  in_flat (Loop c body next) s h =
-      in_if (is_empty s) _ _ (in_repeated (flat r c empty) (flat r body empty) (flat r next empty) (in_flat c empty (tt, tt)) (in_flat body empty (tt, tt))
-      (in_flat next empty (tt, tt))) tt
-  in_flat Break s h = in_if (is_empty s) (Gives BreakOut empty) (Refused NotTaken) (tt, (tt, tt)) tt
-  in_flat Continue s h = in_if (is_empty s) (Gives GoOn empty) (Refused NotTaken) (tt, (tt, tt)) tt
-  in_flat Return s h = in_after (settled r s) _ (in_settled s h) (λ s1 h1. in_given_back s1.homes h1.0)
+  first_of : (x y : Bool) → ((x || y) ≡ true → L) → x ≡ true → L
+  first_of true y h e = h refl
+  first_of false y h e = absurd (false_is e)
+    where
+      false_is : false ≡ true → ⊥
+      false_is e1 = grind arith
+
+  rest_of : (x y : Bool) → ((x || y) ≡ true → L) → y ≡ true → L
+  rest_of true y h e = h refl
+  rest_of false y h e = h e
+
+  pub in_flat : (c : Code Step) (s : Shape) → (has_loop c ≡ true → L) → ShapeIn size s → MadeIn L size (flat r c s)
+  in_flat Nothing s l h = (tt, h)
+  in_flat (Then a b) s l h =
+      in_after (flat r a s) (flat r b) (in_flat a s (first_of (has_loop a) (has_loop b) l) h)
+      (λ s1 h1. in_flat b s1 (rest_of (has_loop a) (has_loop b) l) h1)
+  in_flat (Do q) s l h = in_after (settled r s) _ (in_settled s h) (λ s1 h1. in_stepped q s1.homes h1.0)
+  in_flat (If a b) s l h =
+      in_chosen s (flat r a) (flat r b) h (λ z hz. in_flat a z (first_of (has_loop a) (has_loop b) l) hz)
+      (λ z hz. in_flat b z (rest_of (has_loop a) (has_loop b) l) hz)
+  in_flat (Loop c body next) s l h =
+      in_if (is_empty s) _ _ (in_repeated (l refl) (flat r c empty) (flat r body empty) (flat r next empty)
+      (in_flat c empty (λ e. l refl) (tt, tt)) (in_flat body empty (λ e. l refl) (tt, tt)) (in_flat next empty (λ e. l refl) (tt, tt))) tt
+  in_flat Break s l h = in_if (is_empty s) (Gives BreakOut empty) (Refused NotTaken) (tt, (tt, tt)) tt
+  in_flat Continue s l h = in_if (is_empty s) (Gives GoOn empty) (Refused NotTaken) (tt, (tt, tt)) tt
+  in_flat Return s l h = in_after (settled r s) _ (in_settled s h) (λ s1 h1. in_given_back s1.homes h1.0)

@@ -5,6 +5,8 @@ use Rattle.std.proofs.lemmas.List.{length-append, length-map}
 use Rattle.vg_meaning.specs.Code.{Code}
 use Rattle.vg_lin.specs.declared.instr.Instr.{Instr}
 use Rattle.vg_lin.specs.declared.instr.Instr.TheVariants.{Plain, When, Unless, Jump, Call, Return, Idle}
+use Rattle.vg_flatten.proofs.Choices.{alone, with_jump, choice_cases, nothing_anywhere}
+use Rattle.vg_lin.specs.Structured.{Step}
 use Rattle.vg_lin.specs.Stands.{Next, Either, Stands, nothing, sequence, plain, call, idle, when, unless, flip, choice, loop, break', continue', return, before, behind}
 use Rattle.vg_flatten.specs.declared.open.Truth.{Truth}
 use Rattle.vg_flatten.specs.declared.open.Truth.TheVariants.{Holds, Fails}
@@ -46,6 +48,66 @@ module _ (fetch : ℕ → Option Instr) where
   stands_picked x y (Holds t) at to paid h = unless h
   stands_picked x y (Fails t) at to paid h = flip (when h)
 
+  place_a : (x y at n : ℕ) (c : Code Step) → Stands fetch x y c (at + 1) (Next (at + 1 + n)) → Stands fetch x y c (suc at) (Next (suc at + n))
+  place_a x y at n c s =
+      goal_at x y c (suc at) (at + 1 + n) (suc at + n) (omega arith) (place_at x y c (at + 1) (suc at) (at + 1 + n) (omega arith) s)
+
+  -- a choice of which both ways have code
+  both_ways : (x y at : ℕ) (t : Truth) (a b : Block) (as' bs : List Open)
+      → (Lies fetch x y as' (at + 1) → Stands fetch x y (structured a) (at + 1) (Next (at + 1 + length as')))
+      → (Lies fetch x y bs (at + 1 + length as' + 1) → Stands fetch x y (structured b) (at + 1 + length as' + 1) (Next (at + 1 + length as' + 1 + length bs)))
+      → Lies fetch x y (with_jump t at as' bs) at → Stands fetch x y (structured (Choice t a b)) at (Next (at + length (with_jump t at as' bs)))
+  both_ways x y at t a b as' bs sa sb l =
+      choice {u = suc at} {v = v}
+      (stands_picked x y t at v false l.0)
+      (goal_at x y (structured a) (suc at) end whole (omega (arith, n))
+      (behind {mid = suc at + length as'}
+      (place_a x y at (length as') (structured a) (sa (lies_at x y as' (suc at) (at + 1) (omega arith) (lies_front x y as' (Set (Jump end) ∷ bs) (suc at) l.1))))
+      (jump.0)))
+      (goal_at x y (structured b) v (v + length bs) whole (omega (arith, n))
+      (sb (lies_at x y bs (suc (suc at + length as')) v (omega arith) jump.1)))
+    where
+      v : ℕ
+      v = at + 1 + length as' + 1
+
+      end : ℕ
+      end = at + 1 + length as' + 1 + length bs
+
+      whole : ℕ
+      whole = at + length (with_jump t at as' bs)
+
+      n : length (as' ++ (Set (Jump end) ∷ bs)) ≡ length as' + suc (length bs)
+      n = length-append as' (Set (Jump end) ∷ bs)
+
+      jump : Lies fetch x y (Set (Jump end) ∷ bs) (suc at + length as')
+      jump = lies_back x y as' (Set (Jump end) ∷ bs) (suc at) l.1
+
+  -- a choice of which the second way has none
+  one_way : (x y at : ℕ) (t : Truth) (a b : Block) (as' : List Open)
+      → (Lies fetch x y as' (at + 1) → Stands fetch x y (structured a) (at + 1) (Next (at + 1 + length as')))
+      → Stands fetch x y (structured b) (at + 1 + length as') (Next (at + 1 + length as'))
+      → Lies fetch x y (alone t at as') at → Stands fetch x y (structured (Choice t a b)) at (Next (at + length (alone t at as')))
+  one_way x y at t a b as' sa sb l =
+      choice {u = suc at} {v = end}
+      (stands_picked x y t at end false l.0)
+      (goal_at x y (structured a) (suc at) (suc at + length as') whole (omega arith)
+      (place_a x y at (length as') (structured a) (sa (lies_at x y as' (suc at) (at + 1) (omega arith) l.1))))
+      (goal_at x y (structured b) end end whole (omega arith) sb)
+    where
+      end : ℕ
+      end = at + 1 + length as'
+
+      whole : ℕ
+      whole = at + length (alone t at as')
+
+  -- a block without code stands everywhere
+  nowhere : (b : Block) (x y at : ℕ) → open_code b at ≡ []
+      → (Lies fetch x y (open_code b at) at → Stands fetch x y (structured b) at (Next (at + length (open_code b at))))
+      → Stands fetch x y (structured b) at (Next at)
+  nowhere b x y at e h =
+      let n = ap length e in
+      goal_at x y (structured b) at (at + length (open_code b at)) at (omega (arith, n)) (h (subst (λ z. Lies fetch x y z at) (sym e) tt))
+
   pub stands : (b : Block) (x y at : ℕ) → Lies fetch x y (open_code b at) at → Stands fetch x y (structured b) at (Next (at + length (open_code b at)))
   stands Skip x y at l = goal_at x y _ at at (at + 0) (omega arith) nothing
   stands (One p) x y at l = goal_at x y _ at (suc at) (at + 1) (omega arith) (plain l.0)
@@ -61,39 +123,13 @@ module _ (fetch : ℕ → Option Instr) where
       (at + length (open_code a at ++ open_code b (at + length (open_code a at)))) (omega (arith, n))
       (stands b x y (at + length (open_code a at)) (lies_back x y (open_code a at) (open_code b (at + length (open_code a at))) at l)))
   stands (Choice t a b) x y at l =
-      choice {u = suc at} {v = v}
-      (stands_picked x y t at v false l.0)
-      (goal_at x y (structured a) (suc at) end whole (omega (arith, n))
-      (behind {mid = suc at + length as'} (place_a (stands a x y (at + 1) (lies_at x y as' (suc at) (at + 1) (omega arith) (lies_front x y as' (Set
-      (Jump end) ∷ bs) (suc at) l.1))))
-      (jump.0)))
-      (goal_at x y (structured b) v (v + length bs) whole (omega (arith, n))
-      (stands b x y v (lies_at x y bs (suc (suc at + length as')) v (omega arith) jump.1)))
-    where
-      as' : List Open
-      as' = open_code a (at + 1)
-
-      v : ℕ
-      v = at + 1 + length as' + 1
-
-      bs : List Open
-      bs = open_code b v
-
-      end : ℕ
-      end = at + 1 + length as' + 1 + length bs
-
-      whole : ℕ
-      whole = at + length (open_code (Choice t a b) at)
-
-      n : length (as' ++ (Set (Jump end) ∷ bs)) ≡ length as' + suc (length bs)
-      n = length-append as' (Set (Jump end) ∷ bs)
-
-      jump : Lies fetch x y (Set (Jump end) ∷ bs) (suc at + length as')
-      jump = lies_back x y as' (Set (Jump end) ∷ bs) (suc at) l.1
-
-      place_a : Stands fetch x y (structured a) (at + 1) (Next (at + 1 + length as')) → Stands fetch x y (structured a) (suc at) (Next (suc at + length as'))
-      place_a s = goal_at x y (structured a) (suc at) (at + 1 + length as') (suc at + length as') (omega arith) (place_at x y (structured a) (at + 1)
-          (suc at) (at + 1 + length as') (omega arith) s)
+      choice_cases (λ z. Lies fetch x y z at → Stands fetch x y (structured (Choice t a b)) at (Next (at + length z))) t at (open_code a (at + 1))
+      (open_code b (at + 1 + length (open_code a (at + 1)) + 1))
+      (λ e. one_way x y at t a b (open_code a (at + 1)) (λ h. stands a x y (at + 1) h)
+      (nowhere b x y (at + 1 + length (open_code a (at + 1))) (nothing_anywhere b (at + 1 + length (open_code a (at + 1)) + 1) (at + 1 + length (open_code a (at + 1))) e)
+      (λ h. stands b x y (at + 1 + length (open_code a (at + 1))) h)))
+      (both_ways x y at t a b (open_code a (at + 1)) (open_code b (at + 1 + length (open_code a (at + 1)) + 1)) (λ h. stands a x y (at + 1) h)
+      (λ h. stands b x y (at + 1 + length (open_code a (at + 1)) + 1) h)) l
   stands (Repeat p t body next) x y at l =
       goal_at x y (structured (Repeat p t body next)) at e (at + length (open_code (Repeat p t body next) at)) (omega (arith, n1, n2, n3, n4))
       (loop {u = u} {v = n}

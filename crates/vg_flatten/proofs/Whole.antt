@@ -20,6 +20,7 @@ use Rattle.vg_flatten.specs.declared.open.Truth.{Truth}
 use Rattle.vg_flatten.specs.declared.open.Truth.TheVariants.{Holds, Fails}
 use Rattle.vg_flatten.specs.declared.open.Open.{Open}
 use Rattle.vg_flatten.specs.declared.open.Open.TheVariants.{Set, Break, Continue}
+use Rattle.vg_flatten.proofs.Choices.{choice_cases}
 use Rattle.vg_flatten.specs.Blocks.{Block, Skip, One, CallTo, TakeInterrupt, GiveBack, BreakOut, GoOn, Both, Choice, Repeat, branch, closed, open_code}
 use Rattle.vg_flatten.specs.Fitting.{CallsFit, CallFits, OpenFits, AllFit, IsSet, AllSet}
 use Rattle.vg_flatten.specs.Blocks.{set_in}
@@ -42,7 +43,7 @@ abbrev pub AllIn : (size : ℕ) → List Open → Type 0
 AllIn size [] = Unit {0}
 AllIn size (o ∷ os) = InstrIn size o × AllIn size os
 
-module _ (size : ℕ) where
+module _ (L : Type 0) (size : ℕ) where
   in_both : (os qs : List Open) → AllIn size os → AllIn size qs → AllIn size (os ++ qs)
   in_both [] qs h g = g
   in_both (o ∷ os) qs h g = (h.0, in_both os qs h.1 g)
@@ -57,7 +58,7 @@ module _ (size : ℕ) where
   in_branch (Holds t) to h = h
   in_branch (Fails t) to h = h
 
-  pub in_code : (b : Block) (at : ℕ) → BlockIn size b → AllIn size (open_code b at)
+  pub in_code : (b : Block) (at : ℕ) → BlockIn L size b → AllIn size (open_code b at)
   in_code Skip at h = tt
   in_code (One p) at h = (h, tt)
   in_code (CallTo c) at h = (h, tt)
@@ -66,7 +67,10 @@ module _ (size : ℕ) where
   in_code BreakOut at h = (tt, tt)
   in_code GoOn at h = (tt, tt)
   in_code (Both a b) at h = in_both (open_code a at) _ (in_code a at h.0) (in_code b _ h.1)
-  in_code (Choice t a b) at h = (in_branch t _ h.0, in_both (open_code a (at + 1)) _ (in_code a (at + 1) h.1) (tt, in_code b _ h.2))
+  in_code (Choice t a b) at h =
+      choice_cases (AllIn size) t at (open_code a (at + 1)) (open_code b (at + 1 + length (open_code a (at + 1)) + 1))
+      (λ e. (in_branch t _ h.0, in_code a (at + 1) h.1))
+      (in_branch t _ h.0, in_both (open_code a (at + 1)) _ (in_code a (at + 1) h.1) (tt, in_code b _ h.2))
   in_code (Repeat p t body next) at h =
       in_both (open_code p at) _ (in_code p at h.1) (
         in_branch t _ h.0,
@@ -74,9 +78,9 @@ module _ (size : ℕ) where
             (in_both (open_code next _) _ (in_code next _ h.3) (tt, tt)),
       )
 
-in_zeroes : (size c i : ℕ) → i + c ≤ size → BlockIn size (zeroes c i)
-in_zeroes size zero i h = tt
-in_zeroes size (suc c) i h = ((omega (arith, h), tt), in_zeroes size c (suc i) (omega (arith, h)))
+pub in_zeroes : (L : Type 0) (size c i : ℕ) → i + c ≤ size → BlockIn L size (zeroes c i)
+in_zeroes L size zero i h = tt
+in_zeroes L size (suc c) i h = ((omega (arith, h), tt), in_zeroes L size c (suc i) (omega (arith, h)))
 
 -- ---- calls that fit
 
@@ -104,7 +108,14 @@ module _ (params : List ℕ) where
   fit_block BreakOut at h = tt
   fit_block GoOn at h = tt
   fit_block (Both a b) at h = (fit_block a at (fit_front (open_code a at) _ h), fit_block b _ (fit_back (open_code a at) _ h))
-  fit_block (Choice t a b) at h = (fit_block a (at + 1) (fit_front (open_code a (at + 1)) _ h.1), fit_block b _ (fit_back (open_code a (at + 1)) _ h.1).1)
+  fit_block (Choice t a b) at h =
+      choice_cases (λ z. AllFit params z → CallsFit params a × CallsFit params b) t at (open_code a (at + 1))
+      (open_code b (at + 1 + length (open_code a (at + 1)) + 1))
+      (λ e g. (fit_block a (at + 1) g.1, fit_block b (at + 1 + length (open_code a (at + 1)) + 1) (subst (AllFit params) (sym e) tt)))
+      (λ g. (
+        fit_block a (at + 1) (fit_front (open_code a (at + 1)) _ g.1),
+        fit_block b (at + 1 + length (open_code a (at + 1)) + 1) (fit_back (open_code a (at + 1)) _ g.1).1,
+      )) h
   fit_block (Repeat p t body next) at h =
       let test = fit_back (open_code p at) _ h in (
         fit_block p at (fit_front (open_code p at) _ h),
@@ -220,7 +231,7 @@ module _ (p : Procedure) where
 
 -- A flattened procedure, of a block in range.
 pub whole_sound : (m : FirmProcedure) (b : Block) (temps : ℕ) (method : Option ℕ) (code : List Instr) → m.params ≤ length m.widths
-    → AllByRecursion IsWidth m.widths → length m.widths + temps ≤ 252 → BlockIn (length m.widths + temps) b → AllSet (open_code (whole m b) 0)
+    → AllByRecursion IsWidth m.widths → length m.widths + temps ≤ 252 → BlockIn (Unit {0}) (length m.widths + temps) b → AllSet (open_code (whole m b) 0)
     → code ≡ map (set_in 0 0) (open_code (whole m b) 0)
     → IsSound (record { method = method; params = m.params; widths = m.widths ++ replicate temps 4; code = code })
 whole_sound m b temps method code hp hw few hb set is =
@@ -259,10 +270,10 @@ whole_sound m b temps method code hp hw few hb set is =
     code_is : length code ≡ length front + 1
     code_is = ap length is ∙ length-map (open_code (whole m b) 0) (set_in 0 0) ∙ ap length shape ∙ length-append front (last ∷ [])
 
-    block_in : BlockIn (length p.widths) (whole m b)
+    block_in : BlockIn (Unit {0}) (length p.widths) (whole m b)
     block_in =
-        subst (λ z. BlockIn z (whole m b)) (sym size_is)
-        (in_zeroes (length m.widths + temps) (length m.widths - m.params) m.params (omega (arith, hp)), (hb, tt))
+        subst (λ z. BlockIn (Unit {0}) z (whole m b)) (sym size_is)
+        (in_zeroes (Unit {0}) (length m.widths + temps) (length m.widths - m.params) m.params (omega (arith, hp)), (hb, tt))
 
     place : (at : ℕ) (i : Instr) → slice_get code at ≡ Some i → slice_get (front ++ last ∷ []) at ≡ Some (Set i)
     place at i e =
@@ -270,7 +281,7 @@ whole_sound m b temps method code hp hw few hb set is =
 
     instr_at : (at : ℕ) (i : Instr) → slice_get code at ≡ Some i → InstrIn (length p.widths) (Set i)
     instr_at at i e =
-        in_at (length p.widths) (front ++ last ∷ []) at (Set i) (subst (AllIn (length p.widths)) shape (in_code (length p.widths) (whole m b) 0 block_in))
+        in_at (length p.widths) (front ++ last ∷ []) at (Set i) (subst (AllIn (length p.widths)) shape (in_code (Unit {0}) (length p.widths) (whole m b) 0 block_in))
         (place at i e)
 
     jumps : AllWithin (length front) (front ++ last ∷ []) 0

@@ -1,5 +1,5 @@
 -- Blocks: structured code over the instructions of linear code. Each stands for structured code, and has its instructions from a place on.
-use Rattle.std.specs.Prelude.{ℕ, suc, ◌+◌, List, [], ◌∷◌, ◌++◌, length, map}
+use Rattle.std.specs.Prelude.{ℕ, suc, ◌+◌, ◌==◌, List, [], ◌∷◌, ◌++◌, length, map, if◌then◌else◌}
 use Rattle.vg_meaning.specs.Code.{Code, Nothing, Then, Do, If, Loop, Break as Breaking, Continue as Continuing, Return as Returning}
 use Rattle.vg_lin.specs.declared.instr.Operand.{Operand}
 use Rattle.vg_lin.specs.declared.instr.Plain.{Plain as PlainInstr}
@@ -56,10 +56,12 @@ closed behind again (Set i) = Set i
 closed behind again Break = Set (Jump behind)
 closed behind again Continue = Set (Jump again)
 
--- A choice from a place on: the branch, what is done where the value is true, a jump behind the rest, and the rest.
+-- A choice from a place on: the branch, what is done where the value is true, a jump behind the rest, and the rest; where there is no
+-- rest, the branch leads behind what is done.
 abbrev pub choice_code : Truth → (at : ℕ) → (x y : List Open) → List Open
 choice_code t at x y =
-    Set (branch t (at + 1 + length x + 1)) ∷ (x ++ (Set (Jump (at + 1 + length x + 1 + length y)) ∷ y))
+    if length y == 0 then Set (branch t (at + 1 + length x)) ∷ x
+    else Set (branch t (at + 1 + length x + 1)) ∷ (x ++ (Set (Jump (at + 1 + length x + 1 + length y)) ∷ y))
 
 -- A loop from a place on: what is done before its test, the branch behind it, the body, what is done behind that, and the jump back.
 abbrev pub loop_code : Truth → (at : ℕ) → (x y z : List Open) → List Open

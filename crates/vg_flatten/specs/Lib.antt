@@ -8,3 +8,4 @@ pub mod Fitting
 pub mod Flattened
 pub mod Runs
 pub mod Refusals
+pub mod Loops

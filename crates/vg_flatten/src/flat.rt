@@ -1,6 +1,7 @@
 // Code to pieces.
 ghost use Rattle.std.specs.Prelude.{◌≡◌, ◌+◌, ◌≤◌, ◌∷◌, ◌++◌, [], length, map, OnOk, IfOk, Some, None};
 ghost use Rattle.vg_meaning.specs.Code.{Nothing, Then, If};
+ghost use Rattle.vg_flatten.specs.declared.open.Open.TheVariants.{Set};
 ghost use Rattle.vg_firm.specs.Held.{code_of, list_of};
 ghost use Rattle.vg_flatten.specs.Shapes.{only, empty, is_empty, temp};
 ghost use Rattle.vg_flatten.specs.Blocks.{Block, open_code, branch, choice_code, loop_code, closed};
@@ -28,7 +29,7 @@ fn branch(truth: Truth, to: u16) -> Instr
     }
 }
 
-/// The code of a choice, from a place on, of the codes of both ways, which stand behind the branch and behind the jump.
+/// The code of a choice, from a place on, of the codes of both ways; the second way needs a jump before it where it has code.
 fn choice(
     alloc: Global,
     at: u16,
@@ -40,6 +41,9 @@ fn choice(
 {
     let first_at = place_behind(at, 1)?;
     let jump_at = place_behind(first_at, first.len())?;
+    if rest.len() == 0 {
+        return choice_alone(alloc, truth, jump_at, first);
+    }
     let rest_at = place_behind(jump_at, 1)?;
     let end = place_behind(rest_at, rest.len())?;
     let mut code = Row::new(alloc);
@@ -47,6 +51,20 @@ fn choice(
     let mut code = append(code, first)?;
     code.push(Open::Set(Instr::Jump(end)))?;
     Ok(append(code, rest)?)
+}
+
+/// The code of a choice of which one way has no code, with the place behind it.
+fn choice_alone(
+    alloc: Global,
+    truth: Truth,
+    end: u16,
+    first: &[Open],
+) -> Result<Row<Open>, Refusal<Fault>>
+    ensures { LaysCode result (Set (branch truth end) ∷ first.now) }
+{
+    let mut code = Row::new(alloc);
+    code.push(Open::Set(branch(truth, end)))?;
+    Ok(append(code, first)?)
 }
 
 /// A truth value that waits as a test becomes a number.

@@ -1,5 +1,5 @@
 // Procedures, flattened.
-ghost use Rattle.std.specs.Prelude.{◌≡◌, ◌+◌, ◌-◌, ◌≤◌, ◌++◌, ◌∷◌, [], true, min, map, length, replicate, IfOk, OnOk, IsTrue, Some, None};
+ghost use Rattle.std.specs.Prelude.{◌↔◌, ◌≡◌, ◌+◌, ◌-◌, ◌≤◌, ◌++◌, ◌∷◌, [], true, false, min, map, length, replicate, IfOk, OnOk, IsTrue, Some, None};
 ghost use Rattle.std.specs.List.{AllByRecursion};
 ghost use Rattle.vg_firm.specs.Held.{procedure_of, code_of};
 ghost use Rattle.vg_lin.specs.Sound.{IsWidth};
@@ -7,6 +7,9 @@ ghost use Rattle.vg_flatten.specs.Blocks.{Block, open_code};
 ghost use Rattle.vg_flatten.specs.Flattened.{IsFlat, zero_list, whole, start_of};
 ghost use Rattle.vg_flatten.specs.Blocks.{set_in};
 ghost use Rattle.vg_flatten.specs.Laying.{Seals, Wholes};
+ghost use Rattle.vg_lin.specs.Onward.{all_lead_on};
+ghost use Rattle.vg_flatten.specs.Loops.{has_loop};
+ghost use Rattle.vg_flatten.specs.Refusals.{temps_for, IsRefusedFor};
 ghost use Rattle.vg_flatten.specs.Fitting.{OpenFits, AllFit};
 ghost use Rattle.vg_flatten.specs.Flat.{flat};
 ghost use Rattle.vg_flatten.specs.Shapes.{empty};
@@ -65,7 +68,7 @@ fn count_registers(registers: Registers) -> u8
 
 /// Whether an instruction, where it is a call, names a procedure and has as many arguments as that has parameters.
 fn fits(params: &[u8], instr: Open) -> bool
-    ensures { IsTrue result → OpenFits params.now instr }
+    ensures { IsTrue result ↔ OpenFits params.now instr }
 {
     match instr {
         Open::Set(Instr::Call(call)) => match call.callee {
@@ -81,7 +84,7 @@ fn fits(params: &[u8], instr: Open) -> bool
 
 /// Whether all calls among these instructions fit.
 fn all_fit(params: &[u8], code: &[Open]) -> bool
-    ensures { IsTrue result → AllFit params.now code.now }
+    ensures { IsTrue result ↔ AllFit params.now code.now }
 {
     for instr in code {
         if !fits(params, *instr) {
@@ -138,7 +141,8 @@ fn all_widths(alloc: Global, widths: &[u8], temps: u8) -> Result<Row<u8>, NoMemo
 /// As many temporaries as values may wait at one time, or as many as there is room for beside so many locals.
 fn temps_beside(locals: u8) -> u8
     requires { locals ≤ 252 }
-    ensures { locals + result ≤ 252 }
+    ensures few { locals + result ≤ 252 }
+    ensures is { result ≡ temps_for locals }
 {
     if locals > 204 { 252 - locals } else { 48 }
 }
@@ -154,6 +158,8 @@ pub fn flatten(
     requires params { procedure.now.params ≤ length procedure.now.widths }
     requires widths { AllByRecursion IsWidth procedure.now.widths }
     ensures flat { IfOk result (λ p. IsFlat params.now (procedure_of procedure.now) p) }
+    ensures onward { IfOk result (λ p. has_loop (code_of procedure.now.body) ≡ false → all_lead_on 0 p.code ≡ true) }
+    ensures refusal { IsRefusedFor result params.now (procedure_of procedure.now) }
 {
     let count = procedure.widths.len();
     if count > 252 {

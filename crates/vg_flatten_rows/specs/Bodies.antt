@@ -77,9 +77,17 @@ conjunction : flattened 4 (procedure 3 (4 ∷ 4 ∷ 4 ∷ 4 ∷ [])
     (If (steps (Number 1 ∷ SetLocal 3 ∷ []) Nothing) Nothing)))
     ≡ Some (
     Plain (Copy 3 (Known 0)) ∷ Unless (less (Local 0) (Local 1)) 7 ∷ When (is_zero (Local 2)) 5 ∷ Plain (Copy 4 (Known 1)) ∷ Jump 6
-    ∷ Plain (Copy 4 (Known 0)) ∷ Jump 8 ∷ Plain (Copy 4 (Known 0)) ∷ When (is_zero (Local 4)) 11 ∷ Plain (Copy 3 (Known 1)) ∷ Jump 11
+    ∷ Plain (Copy 4 (Known 0)) ∷ Jump 8 ∷ Plain (Copy 4 (Known 0)) ∷ When (is_zero (Local 4)) 10 ∷ Plain (Copy 3 (Known 1))
     ∷ Return (Known 0) ∷ [])
 conjunction = refl
+
+-- if (x < 3) y = 1; else y = 2;
+either : flattened 4 (procedure 1 (4 ∷ 4 ∷ [])
+    (Then (steps (Get 0 ∷ Number 3 ∷ Operate (Less Signed) ∷ []) Nothing) (If (steps (Number 1 ∷ SetLocal 1 ∷ []) Nothing) (steps (Number 2 ∷ SetLocal 1 ∷ []) Nothing))))
+    ≡ Some (
+    Plain (Copy 1 (Known 0)) ∷ Unless (less (Local 0) (Known 3)) 4 ∷ Plain (Copy 1 (Known 1)) ∷ Jump 5 ∷ Plain (Copy 1 (Known 2))
+    ∷ Return (Known 0) ∷ [])
+either = refl
 
 -- for (i = 0; i < n; i = i + 1) write 1 to 0x38;
 counting : flattened 4 (procedure 1 (4 ∷ 4 ∷ [])
@@ -95,7 +103,7 @@ leaving : flattened 4 (procedure 1 (4 ∷ [])
     (Loop (steps (Get 0 ∷ Number 9 ∷ Operate (Less Signed) ∷ []) Nothing)
     (Then (steps (Get 0 ∷ Number 3 ∷ Operate (Less Signed) ∷ []) (If Continue Nothing)) Break) (steps (Number 7 ∷ SetLocal 0 ∷ []) Nothing)))
     ≡ Some (
-    Unless (less (Local 0) (Known 9)) 7 ∷ Unless (less (Local 0) (Known 3)) 4 ∷ Jump 5 ∷ Jump 4 ∷ Jump 7 ∷ Plain (Copy 0 (Known 7)) ∷ Jump 0
+    Unless (less (Local 0) (Known 9)) 6 ∷ Unless (less (Local 0) (Known 3)) 3 ∷ Jump 4 ∷ Jump 6 ∷ Plain (Copy 0 (Known 7)) ∷ Jump 0
     ∷ Return (Known 0) ∷ [])
 leaving = refl
 

@@ -150,3 +150,13 @@ of_byte_and_known = refl
 
 of_byte_and_more : product_code 4 (Local 2) (Local 0) ≡ routine_call 2 (Two (Local 2) (Local 0)) 1 ∷ []
 of_byte_and_more = refl
+
+-- of two known numbers it is worked out, and cut to its width
+of_known : product_code 4 (Known 60) (Known 60) ≡ Plain (Copy 1 (Known 3600)) ∷ []
+of_known = refl
+
+of_known_narrow : product_code 1 (Known 60) (Known 60) ≡ Plain (Copy 1 (Known 16)) ∷ []
+of_known_narrow = refl
+
+of_known_wide : product_code 4 (Known 0x80000001) (Known 3) ≡ Plain (Copy 1 (Known 0x80000003)) ∷ []
+of_known_wide = refl

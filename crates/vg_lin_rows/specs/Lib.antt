@@ -6,3 +6,4 @@ pub mod Standing
 pub mod Smallest
 pub mod Edges
 pub mod Arithmetic
+pub mod Sample

@@ -1,16 +1,13 @@
-//! A table of the machine, of HEX texts and of scripts, checked against the programs: one question a line comes in, with what it must answer; each line that
+//! A table of spellings and of runs of the machine, checked against the programs: one question a line comes in, with what it must answer; each line that
 //! differs goes out, and how many there are.
 #![tactic(auto)]
 
 mod answers;
-mod bytes;
-mod line;
 mod runs;
-mod shown;
 
 use answers::answer_of;
-use line::TextLine;
 use std::io;
+use vg_rows_lines::TextLine;
 
 fn main(rt: HostRuntime) -> io::Result<()> {
     let alloc = rt.alloc();

@@ -1,21 +1,26 @@
 // Runs of images on scripts. A field has an image, and behind a semicolon a script.
-use crate::answers::image_in;
-use crate::bytes::text_bytes;
-use crate::shown::{said, shown_fault, shown_text};
-use avr_isa::PlainMachine;
+use avr_isa::{Image, PlainMachine};
 use avr_sim::Machine;
 use std::alloc::Global;
 use vg_base::{IMAGE_TEXT_LIMIT, NoMemory};
 use vg_io::{Failed, MemorySink};
+use vg_rows_lines::{image_bytes, said, shown_text, spelled};
 use vg_script::{Script, ScriptFault, put_event, read_script};
-use vg_sim::{Simulated, simulate_text};
 
 // The bytes of room for the lines of a run.
 const ROOM: usize = 200;
 
+// The image that a field spells; None where it spells none.
+fn image_in(alloc: Global, field: &str) -> Result<Option<Image>, NoMemory> {
+    match image_bytes(alloc, field)? {
+        None => Ok(None),
+        Some(bytes) => Ok(Some(Image::from_vec(bytes))),
+    }
+}
+
 // The script that a field spells; None where it spells none.
 fn script_in(alloc: Global, field: &str) -> Result<Option<Script>, NoMemory> {
-    let text = text_bytes(alloc, field)?;
+    let text = spelled(alloc, field)?;
     if text.len() > IMAGE_TEXT_LIMIT {
         return Ok(None);
     }
@@ -26,11 +31,9 @@ fn script_in(alloc: Global, field: &str) -> Result<Option<Script>, NoMemory> {
     }
 }
 
+// What stands before a semicolon with a space, and what stands behind them.
 fn parts(field: &str) -> (&str, &str) {
-    match field.split_once(';') {
-        Some((image, script)) => (image, script.strip_prefix(' ').unwrap_or(script)),
-        None => (field, ""),
-    }
+    field.split_once("; ").unwrap_or((field, ""))
 }
 
 fn budget_of(word: &str) -> u32 {
@@ -91,36 +94,5 @@ pub fn cut(alloc: Global, word: &str, field: &str) -> Result<String, NoMemory> {
     match Machine::new(alloc, &image)?.run(&script, 100, &mut told) {
         Ok(_) => said(alloc, "no put failed"),
         Err(_) => shown_text(alloc, told.bytes()),
-    }
-}
-
-/// The lines of a simulation of a HEX text and a script, and its answer.
-pub fn simulated(alloc: Global, word: &str, field: &str) -> Result<String, NoMemory> {
-    let (hex, script) = parts(field);
-    let hex = text_bytes(alloc, hex)?;
-    let script = text_bytes(alloc, script)?;
-    if hex.len() > IMAGE_TEXT_LIMIT || script.len() > IMAGE_TEXT_LIMIT {
-        return said(alloc, "too long");
-    }
-    let mut out = MemorySink::with_room(alloc, ROOM)?;
-    let answer = simulate_text(
-        alloc,
-        hex.as_slice(),
-        script.as_slice(),
-        budget_of(word),
-        &mut out,
-    );
-    let lines = shown_text(alloc, out.bytes())?;
-    let lines = lines.as_str();
-    match answer {
-        Simulated::Ended(end) => Ok(format!(in alloc; "{lines} {end:?}")?),
-        Simulated::WriteFault => Ok(format!(in alloc; "{lines} write fault")?),
-        Simulated::HexRefused(fault) => {
-            let fault = shown_fault(alloc, fault)?;
-            let fault = fault.as_str();
-            Ok(format!(in alloc; "{lines} hex {fault}")?)
-        }
-        Simulated::ScriptRefused(line) => Ok(format!(in alloc; "{lines} script {line}")?),
-        Simulated::NoMemory => Err(NoMemory),
     }
 }

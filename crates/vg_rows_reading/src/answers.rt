@@ -2,15 +2,11 @@
 ghost use Rattle.std.specs.Prelude.{◌≤◌, length};
 ghost use Rattle.vg_base.specs.Limits.{text_limit};
 
-use crate::line::TextLine;
 use crate::outline::outline;
-use crate::spelled::spelled;
 use std::alloc::Global;
 use vg_base::{Names, NoMemory, NodeId, Place, Refusal, TEXT_LIMIT};
-use vg_first_text::read_first;
-use vg_grammar::{Stop, derive};
 use vg_reader::{ReadFault, derive_text, read};
-use vg_scan::scan;
+use vg_rows_lines::{TextLine, said, spelled};
 
 /// The answer to the question of a line; `front` asks about the first bytes of `whole`.
 pub fn answer_of(alloc: Global, line: TextLine<'_>, whole: &[u8]) -> Result<String, NoMemory> {
@@ -26,19 +22,12 @@ pub fn answer_of(alloc: Global, line: TextLine<'_>, whole: &[u8]) -> Result<Stri
     let bytes = text.as_slice();
     match line.question {
         "text" | "whole" => reads(alloc, bytes),
-        "tokens" => tokens(alloc, bytes),
-        "stop" => stop(alloc, bytes),
         "steps" => steps(alloc, bytes),
         "tree" => tree(alloc, bytes),
         "count" => count(alloc, bytes, line.word),
         "class" => class(alloc, bytes, line.word),
-        "writes" => writes(alloc, bytes),
         _ => said(alloc, "no such question"),
     }
-}
-
-fn said(alloc: Global, words: &str) -> Result<String, NoMemory> {
-    Ok(String::from_str(alloc, words)?)
 }
 
 fn placed(alloc: Global, words: &str, place: Place) -> Result<String, NoMemory> {
@@ -73,43 +62,6 @@ fn front(alloc: Global, count: &str, whole: &[u8]) -> Result<String, NoMemory> {
     match whole.get(..count) {
         Some(bytes) if bytes.len() <= TEXT_LIMIT => reads(alloc, bytes),
         _ => said(alloc, "no such front"),
-    }
-}
-
-// The tokens, each with its kind, its place, and the offsets of its bytes.
-fn tokens(alloc: Global, bytes: &[u8]) -> Result<String, NoMemory>
-    requires { length bytes.now ≤ text_limit }
-{
-    let tokens = scan(alloc, bytes)?;
-    let mut out = String::new(alloc);
-    for token in tokens.as_slice() {
-        let kind = token.kind;
-        let line = token.place.line;
-        let col = token.place.col;
-        let start = token.start;
-        let end = token.end;
-        let word = format!(in alloc; "{kind:?} {line}:{col} {start}-{end};")?;
-        out.push_str(word.as_str())?;
-    }
-    Ok(out)
-}
-
-// Whether the tokens are a text, or at which of them they cease to be one.
-fn stop(alloc: Global, bytes: &[u8]) -> Result<String, NoMemory>
-    requires { length bytes.now ≤ text_limit }
-{
-    let tokens = scan(alloc, bytes)?;
-    match derive(alloc, tokens.as_slice()) {
-        Ok(_) => said(alloc, "text"),
-        Err(Refusal::Fault(stop)) => stopped(alloc, stop),
-        Err(Refusal::NoMemory) => Err(NoMemory),
-    }
-}
-
-fn stopped(alloc: Global, stop: Stop) -> Result<String, NoMemory> {
-    match stop {
-        Stop::NoTree(index) => Ok(format!(in alloc; "no tree at token {index}")?),
-        Stop::TooDeep(index) => Ok(format!(in alloc; "too deep at token {index}")?),
     }
 }
 
@@ -172,25 +124,6 @@ fn class(alloc: Global, bytes: &[u8], name: &str) -> Result<String, NoMemory>
         Some(NodeId(number)) => Ok(format!(in alloc; "{number}")?),
         None => said(alloc, "none"),
     }
-}
-
-// The writes of a program of constants, each as its address and its value.
-fn writes(alloc: Global, bytes: &[u8]) -> Result<String, NoMemory>
-    requires { length bytes.now ≤ text_limit }
-{
-    let writes = match read_first(alloc, bytes) {
-        Ok(writes) => writes,
-        Err(Refusal::Fault(_)) => return said(alloc, "none"),
-        Err(Refusal::NoMemory) => return Err(NoMemory),
-    };
-    let mut out = String::new(alloc);
-    for write in writes.as_slice() {
-        let address = write.address;
-        let value = write.value;
-        let word = format!(in alloc; "{address}={value};")?;
-        out.push_str(word.as_str())?;
-    }
-    Ok(out)
 }
 
 // What is answered to two texts that are read with the same names, where an earlier name keeps its text throughout: the name and the texts stand between bars.

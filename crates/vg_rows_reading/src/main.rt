@@ -3,14 +3,11 @@
 #![tactic(auto)]
 
 mod answers;
-mod line;
 mod outline;
-mod spelled;
 
 use answers::answer_of;
-use line::TextLine;
-use spelled::spelled;
 use std::io;
+use vg_rows_lines::{TextLine, spelled};
 
 fn main(rt: HostRuntime) -> io::Result<()> {
     let alloc = rt.alloc();

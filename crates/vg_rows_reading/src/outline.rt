@@ -75,10 +75,8 @@ pub fn outline(alloc: Global, node: &Node, out: &mut String) -> Result<(), NoMem
 }
 
 fn word(alloc: Global, out: &mut String, name: &str, place: &Place) -> Result<(), NoMemory> {
-    let column = place.col.to_string(alloc)?;
-    out.push_str(name)?;
-    out.push_str("@")?;
-    out.push_str(column.as_str())?;
-    out.push_str(" ")?;
+    let column = place.col;
+    let word = format!(in alloc; "{name}@{column} ")?;
+    out.push_str(word.as_str())?;
     Ok(())
 }

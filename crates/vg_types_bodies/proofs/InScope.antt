@@ -4,7 +4,7 @@ use Rattle.std.specs.List.{AllByRecursion}
 use Rattle.vg_syntax.specs.Tree.{Param}
 use Rattle.vg_source.specs.Types.{StaticType, NoType, MoreTypes}
 use Rattle.vg_source.specs.Declared.{written_type, row_of}
-use Rattle.vg_source.specs.Resolved.{Scope, declare, no_names}
+use Rattle.vg_source.specs.Resolved.{Scope, declare}
 use Rattle.vg_source.specs.Program.{with_params, scope_of}
 use Rattle.vg_core.specs.declared.types.CoreType.{CoreType}
 use Rattle.vg_types_tables.specs.declared.declared.Declared.{Declared}

@@ -1,11 +1,12 @@
 -- The defaults of the locals behind the parameters.
-use Rattle.std.proofs.Common.{◌≡◌, ℕ, List, [], ◌∷◌, ◌++◌, map, reverse, drop, length, refl, sym, ap, ◌∙◌}
+use Rattle.std.proofs.Common.{◌≡◌, ℕ, List, [], ◌∷◌, ◌++◌, map, reverse, drop, refl, sym, ap, ◌∙◌}
 use Rattle.std.proofs.lemmas.List.{reverse-append, reverse-reverse, map-append, drop-map}
 use Rattle.vg_source.specs.Values as source
 use Rattle.vg_source.specs.Resolved.{Resolved}
 use Rattle.vg_source.specs.Program.{defaults_of}
 use Rattle.vg_core.specs.declared.types.CoreType.{CoreType}
-use Rattle.vg_core.specs.declared.types.CoreType.TheVariants.{IntType, BoolType, CharType, RawType, NullType, ClassType, ArrayType, FunctionType, NoType, MoreTypes}
+use Rattle.vg_core.specs.declared.types.CoreType.TheVariants.{IntType, BoolType, CharType, RawType, NullType, ClassType, ArrayType, FunctionType}
+use Rattle.vg_core.specs.declared.types.CoreType.TheVariants.{NoType, MoreTypes}
 use Rattle.vg_core.specs.declared.program.Body.{Body}
 use Rattle.vg_core.specs.Heap.{default}
 use Rattle.vg_core.specs.Naming.{named_value}
@@ -21,7 +22,7 @@ map_back f (x ∷ xs) =
     ∙ sym (reverse-append (f x ∷ []) (map f xs))
 
 module _ (texts : List (List ℕ)) (d : Declared) where
-  default_named : (t : CoreType) → named_value (naming texts d) d.tables (default t) ≡ source.default (type_view texts d t)
+  pub default_named : (t : CoreType) → named_value (naming texts d) d.tables (default t) ≡ source.default (type_view texts d t)
   default_named IntType = refl
   default_named BoolType = refl
   default_named CharType = refl

@@ -5,12 +5,11 @@ use Rattle.vg_base.specs.declared.refusal.Refusal.{Refusal}
 use Rattle.vg_syntax.specs.Tree.{Node}
 use Rattle.vg_tree.specs.declared.node.Node as held_node
 use Rattle.vg_meaning.specs.Shapes.{Fits}
-use Rattle.vg_source.specs.Types.{StaticType, NoType, MoreTypes}
+use Rattle.vg_source.specs.Types.{StaticType, MoreTypes}
 use Rattle.vg_source.specs.Resolved.{Scope, Fresh, resolved}
 use Rattle.vg_rules.specs.Bodies.{breach}
 use Rattle.vg_core.specs.declared.types.CoreType.{CoreType}
 use Rattle.vg_core.specs.declared.program.Body.{Body}
-use Rattle.vg_core.specs.declared.program.Owner.{Owner}
 use Rattle.vg_core.specs.declared.program.Tables.{Tables}
 use Rattle.vg_core.specs.HeldProgram.{code_of, body_at}
 use Rattle.vg_core.specs.State.{onto}
@@ -21,7 +20,7 @@ use Rattle.vg_types_views.specs.Judges.{Judges}
 use Rattle.vg_types_tables.specs.declared.declared.Declared.{Declared}
 use Rattle.vg_types_tables.specs.declared.locals.Locals.{Locals}
 use Rattle.vg_types_tables.specs.declared.body.BodyKind.{BodyKind}
-use Rattle.vg_types_tables.specs.Views.{declarations_at, type_view, row_view, owner_view, body_view, scope_view}
+use Rattle.vg_types_tables.specs.Views.{declarations_at, row_view, owner_view, body_view, scope_view}
 use Rattle.vg_types_tables.specs.Declares.{IsKnown, Declares}
 use Rattle.vg_types_tables.specs.Promises.{Sees, meant}
 use Rattle.vg_types_tables.proofs.OneClass.{one_type}
@@ -33,7 +32,8 @@ onto_onto : {A : Type 0} (xs acc ys : List A) → onto (onto xs acc) ys ≡ onto
 onto_onto [] acc ys = refl
 onto_onto (x ∷ xs) acc ys = onto_onto xs (x ∷ acc) ys
 
-pub typed_body : (p : Tables) (k : BodyKind) (g : Signature) (b : Body) (ts : List CoreType) → k.owner ≡ Some g.owner → k.result ≡ g.result → k.in_loop ≡ false
+pub typed_body : (p : Tables) (k : BodyKind) (g : Signature) (b : Body) (ts : List CoreType) → k.owner ≡ Some g.owner → k.result ≡ g.result
+    → k.in_loop ≡ false
     → ts ≡ g.params → RunsIn p k (ts ++ b.others) (code_of b.code) → TypedBody p g (body_at b)
 typed_body p k g b ts o r l e h =
     subst (λ z. Fits (known p z g.owner g.result) false (code_of b.code) [] []) (ap (λ z. z ++ b.others) e ∙ sym (onto_onto g.params [] b.others))

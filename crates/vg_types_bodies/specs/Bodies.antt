@@ -1,12 +1,7 @@
 -- What the bodies of members stand for.
-use Rattle.std.specs.Prelude.{◌≡◌, ℕ, List, [], map, drop, length}
-use Rattle.vg_meaning.specs.Code.{Code}
-use Rattle.vg_meaning.specs.Shapes.{Fits}
+use Rattle.std.specs.Prelude.{◌≡◌, ℕ, List, map, drop}
 use Rattle.vg_source.specs.Resolved.{Resolved}
 use Rattle.vg_source.specs.Program.{defaults_of}
-use Rattle.vg_core.specs.declared.types.CoreType.{CoreType}
-use Rattle.vg_core.specs.declared.step.Step.{Step}
-use Rattle.vg_core.specs.declared.program.Owner.{Owner}
 use Rattle.vg_core.specs.declared.program.Body.{Body}
 use Rattle.vg_core.specs.declared.program.Method.{Method}
 use Rattle.vg_core.specs.Program.{Signature}

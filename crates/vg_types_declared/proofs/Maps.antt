@@ -1,6 +1,6 @@
 -- Maps of the names of one sort of declarations. Names that are new go last with the next number, so numbers are places; and what is found is what was there,
 -- or one of those that came.
-use Rattle.std.proofs.Common.{◌≡◌, ℕ, suc, ◌+◌, Bool, true, false, not, ◌&&◌, ◌||◌, List, [], ◌∷◌, ◌++◌, length, map, Option, Some, None, is_some, bytes_eq}
+use Rattle.std.proofs.Common.{◌≡◌, ℕ, zero, suc, ◌+◌, Bool, true, false, not, ◌&&◌, ◌||◌, List, [], ◌∷◌, ◌++◌, length, map, Option, Some, None, is_some, slice_get, bytes_eq}
 use Rattle.std.proofs.Common.{if◌then◌else◌, Decides, refl, sym, ap, ◌∙◌, subst, arith}
 use Rattle.std.proofs.lemmas.List.{map-append, length_push, length-map}
 use Rattle.std.proofs.lemmas.Slice.Eq.{bytes_eq-Decides}
@@ -11,7 +11,8 @@ use Rattle.vg_rules.specs.Names.{names_breach}
 use Rattle.vg_types_views.specs.ByText.{found, added}
 use Rattle.vg_types_names.specs.Declarations.{is_declaration, are_declarations}
 use Rattle.vg_types_interned.specs.Types.{AreNumbered}
-use Rattle.vg_types_members.proofs.Growing.{found_added, new_added, numbered_more}
+use Rattle.vg_types_members.proofs.Growing.{found_added, found_new, new_added, stay_added, numbered_more}
+use Rattle.vg_types_declared.specs.Heads.{Placed}
 use Rattle.vg_types_declared.specs.Picks.{next_map, next_count, name_row, is_name, map_on, names_on, is_picked}
 
 both : (a b : Bool) → a && b ≡ true → (a ≡ true) × (b ≡ true)
@@ -85,6 +86,21 @@ head seen _ rest h e = cc
 
 -- ---- numbers
 
+-- what stands at a place of a list with one thing more
+pub data At {A : Type 0} (xs : List A) (y : A) (i : ℕ) (x : A) : Type 0 where
+  earlier : slice_get xs i ≡ Some x → At xs y i x
+  last : i ≡ length xs → y ≡ x → At xs y i x
+
+later : {A : Type 0} (z : A) (xs : List A) (y : A) (i : ℕ) (x : A) → At xs y i x → At (z ∷ xs) y (suc i) x
+later z xs y i x (earlier e) = earlier e
+later z xs y i x (last e f) = last (ap suc e) f
+
+pub at_last : {A : Type 0} (xs : List A) (y : A) (i : ℕ) (x : A) → slice_get (xs ++ y ∷ []) i ≡ Some x → At xs y i x
+at_last [] y zero x e = last refl cc
+at_last [] y (suc i) x e = cc
+at_last (z ∷ xs) y zero x e = earlier e
+at_last (z ∷ xs) y (suc i) x e = later z xs y i x (at_last xs y i x e)
+
 -- the names of a map were seen
 abbrev Sees : List Name → List (Name × ℕ) → Type 0
 Sees seen m = (x : Name) → is_some (found x m) ≡ true → is_among seen x ≡ true
@@ -95,6 +111,7 @@ pub record Numbers (seen : List Name) (m : List (Name × ℕ)) (k : ℕ) (xs : L
   pub next : k ≡ length m
   pub names : map (λ e. e.0) m ≡ xs
   pub sees : Sees seen m
+  pub back : (c : ℕ) (e : Name × ℕ) → slice_get m c ≡ Some e → found e.0 m ≡ Some c
 
 or_right : (a b : Bool) → b ≡ true → a || b ≡ true
 or_right true b e = refl
@@ -115,9 +132,15 @@ with_new seen m k xs c n f =
       numbered = subst AreNumbered (sym q) (numbered_more m c k n.numbered n.next none);
       next = omega (arith, l, s);
       names = ap (map (λ e. e.0)) q ∙ map-append (λ e. e.0) m ((c, k) ∷ []) ∙ ap (λ z. z ++ c ∷ []) n.names;
+      back = λ i e h. back_new i e none (at_last m (c, k) i e (ap (λ z. slice_get z i) (sym q) ∙ h));
       sees = λ x e. by x (is_some (found x m)) (bytes_eq c x) (n.sees x) (sym (some_added m c k x) ∙ e);
     }
   where
+    back_new : (i : ℕ) (e : Name × ℕ) → found c m ≡ None → At m (c, k) i e → found e.0 (added c k m) ≡ Some i
+    back_new i e none (earlier h) = stay_added m c k e.0 i (n.back i e h)
+    back_new i e none (last h f) =
+        ap (λ z. found z.0 (added c k m)) (sym f) ∙ found_new m c k none ∙ ap Some (n.next ∙ sym h)
+
     by : (x : Name) (a b : Bool) → (a ≡ true → is_among seen x ≡ true) → a || b ≡ true → b || is_among seen x ≡ true
     by x true b h e = or_right b (is_among seen x) (h refl)
     by x false true h e = refl
@@ -132,6 +155,7 @@ without_new seen m k xs c n = record {
   numbered = n.numbered;
   next = n.next;
   names = n.names ∙ sym (append-none xs);
+  back = n.back;
   sees = λ x e. or_right (bytes_eq c x) (is_among seen x) (n.sees x e);
 }
 
@@ -148,12 +172,12 @@ module _ (pick : Node → Option Name) (of_name : (d : Node) (c : Name) → pick
           subst (λ z. Numbers (z ∷ seen) (added c k m) (suc k) (xs ++ c ∷ [])) (sym q) (with_new seen m k xs c n (ap (is_among seen) (sym q) ∙ h.new))
 
   pub all_numbered : (seen : List Name) (ds : Node) (m : List (Name × ℕ)) (k : ℕ) (xs : List Name) → Numbers seen m k xs → names_breach seen ds ≡ None
-      → are_declarations ds ≡ true → AreNumbered (map_on pick ds m k) × (map (λ e. e.0) (map_on pick ds m k) ≡ names_on pick ds xs)
+      → are_declarations ds ≡ true → Placed (map_on pick ds m k) (names_on pick ds xs)
   all_numbered seen (Then d rest) m k xs n e a =
       let p = both (is_declaration d) (are_declarations rest) a in
       let h = head seen d rest p.0 e in
       all_numbered (h.name ∷ seen) rest (next_map (pick d) m k) (next_count (pick d) k) (xs ++ name_row (pick d)) (next_numbers seen d rest m k xs h n) h.others p.1
-  all_numbered seen _ m k xs n e a = (n.numbered, n.names)
+  all_numbered seen _ m k xs n e a = record { numbers = n.numbered; back = n.back; listed = n.names }
 
 pub no_numbers : Numbers [] [] 0 []
-no_numbers = record { numbered = λ x c e. cc; next = refl; names = refl; sees = λ x e. cc }
+no_numbers = record { numbered = λ x c e. cc; next = refl; names = refl; sees = λ x e. cc; back = λ c e h. cc }

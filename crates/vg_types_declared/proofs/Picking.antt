@@ -15,7 +15,7 @@ use Rattle.vg_types_names.specs.Declarations.{are_declarations}
 use Rattle.vg_types_tables.specs.Declares.{found_in}
 use Rattle.vg_types_members.proofs.Growing.{found_added}
 use Rattle.vg_types_heads.specs.Heads.{HeadsView, no_heads, with_class, with_component, with_device, with_register, with_registers, with_head, with_heads}
-use Rattle.vg_types_declared.specs.Heads.{register_on, Agree}
+use Rattle.vg_types_declared.specs.Heads.{Placed, register_on, Agree}
 use Rattle.vg_types_declared.specs.Picks.{class_pick, component_pick, device_pick, next_map, next_count, name_row, is_name, map_on, names_on, is_picked}
 use Rattle.vg_types_interned.specs.Types.{AreNumbered}
 use Rattle.vg_types_declared.proofs.Devices.{devices_made, device_found, all_registers}
@@ -81,7 +81,7 @@ classes_made (Then d rest) v =
     ∙ ap (map_on class_pick rest (next_map (class_pick d) v.classes (length v.class_names))) k.class_count
 classes_made _ v = refl
 
-class_names_made : (ds : Node) (v : HeadsView) → (with_heads ds v).class_names ≡ names_on class_pick ds v.class_names
+pub class_names_made : (ds : Node) (v : HeadsView) → (with_heads ds v).class_names ≡ names_on class_pick ds v.class_names
 class_names_made (Then d rest) v = let k = made d v in class_names_made rest (with_head d v) ∙ ap (names_on class_pick rest) k.class_names
 class_names_made _ v = refl
 
@@ -92,7 +92,7 @@ components_made (Then d rest) v =
     ∙ ap (map_on component_pick rest (next_map (component_pick d) v.components (length v.component_names))) k.component_count
 components_made _ v = refl
 
-component_names_made : (ds : Node) (v : HeadsView) → (with_heads ds v).component_names ≡ names_on component_pick ds v.component_names
+pub component_names_made : (ds : Node) (v : HeadsView) → (with_heads ds v).component_names ≡ names_on component_pick ds v.component_names
 component_names_made (Then d rest) v =
     let k = made d v in component_names_made rest (with_head d v) ∙ ap (names_on component_pick rest) k.component_names
 component_names_made _ v = refl
@@ -135,8 +135,8 @@ agree ds e a =
       components = λ x. ap (λ m. is_some (found x m)) (components_made ds no_heads) ∙ some_found component_pick ds [] 0 x ∙ sym (component_found ds x);
       devices = λ x. ap (λ m. is_some (found x m)) (devices_made ds no_heads) ∙ some_found device_pick ds [] 0 x ∙ sym (device_found ds x);
       registers = all_registers ds;
-      class_numbers = subst AreNumbered (sym (classes_made ds no_heads)) cs.0;
-      component_numbers = subst AreNumbered (sym (components_made ds no_heads)) ks.0;
-      class_names = ap (map (λ e. e.0)) (classes_made ds no_heads) ∙ cs.1 ∙ sym (class_names_made ds no_heads);
-      component_names = ap (map (λ e. e.0)) (components_made ds no_heads) ∙ ks.1 ∙ sym (component_names_made ds no_heads);
+      class_places = subst (Placed (with_heads ds no_heads).classes) (sym (class_names_made ds no_heads))
+          (subst (λ m. Placed m (names_on class_pick ds [])) (sym (classes_made ds no_heads)) cs);
+      component_places = subst (Placed (with_heads ds no_heads).components) (sym (component_names_made ds no_heads))
+          (subst (λ m. Placed m (names_on component_pick ds [])) (sym (components_made ds no_heads)) ks);
     }

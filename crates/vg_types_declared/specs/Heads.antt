@@ -15,13 +15,17 @@ abbrev pub register_on : HeadsView → Option ℕ → Name → Option ℕ
 register_on v (Some k) x = found_in x (slice_get v.registers k)
 register_on v None x = None
 
+-- Names are mapped to their places, each to one.
+pub record Placed (m : List (Name × ℕ)) (names : List Name) : Type 0 where
+  pub numbers : AreNumbered m
+  pub back : (c : ℕ) (e : Name × ℕ) → slice_get m c ≡ Some e → found e.0 m ≡ Some c
+  pub listed : map (λ e. e.0) m ≡ names
+
 -- Each name finds what it names in the declarations, and numbers are places in order of the text.
 pub record Agree (ds : Node) (v : HeadsView) : Type 0 where
   pub classes : (x : Name) → is_some (found x v.classes) ≡ is_some (class_named ds x)
   pub components : (x : Name) → is_some (found x v.components) ≡ is_some (component_named ds x)
   pub devices : (x : Name) → is_some (found x v.devices) ≡ is_some (device_named ds x)
   pub registers : (x y : Name) → register_on v (found x v.devices) y ≡ register_of (device_named ds x) y
-  pub class_numbers : AreNumbered v.classes
-  pub component_numbers : AreNumbered v.components
-  pub class_names : map (λ e. e.0) v.classes ≡ v.class_names
-  pub component_names : map (λ e. e.0) v.components ≡ v.component_names
+  pub class_places : Placed v.classes v.class_names
+  pub component_places : Placed v.components v.component_names

@@ -3,4 +3,6 @@
 
 mod laws;
 
-pub use laws::heads_agree;
+pub use laws::{
+    chains_agree, dispatch_agrees, heads_agree, inherited_agree, members_agree, slots_agree,
+};

@@ -3,3 +3,5 @@ pub mod Linking
 pub mod Settling
 pub mod Sorts
 pub mod Wholes
+pub mod Arguing
+pub mod Aiming

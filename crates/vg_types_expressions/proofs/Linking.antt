@@ -25,7 +25,7 @@ use Rattle.vg_types_tables.specs.Promises.{IsHead, waiting, meant, Leaves, Leads
 use Rattle.vg_types_expressions.specs.Links.{code_behind, behind_all, Linking}
 
 -- one more link
-code_more : (cs : List held.Code) (c : held.Code) (e : Code Step) → code_behind (cs ++ c ∷ []) e ≡ code_behind cs (Then (code_of c) e)
+pub code_more : (cs : List held.Code) (c : held.Code) (e : Code Step) → code_behind (cs ++ c ∷ []) e ≡ code_behind cs (Then (code_of c) e)
 code_more [] c e = refl
 code_more (d ∷ cs) c e = ap (Then (code_of d)) (code_more cs c e)
 
@@ -36,20 +36,20 @@ chain_behind (d ∷ []) c = refl
 chain_behind (d ∷ e ∷ cs) c = ap (Then (code_of d)) (chain_behind (e ∷ cs) c)
 
 module _ (texts : List (List ℕ)) (d : Declared) where
-  behind_more : (cs : List held.Code) (c : held.Code) (m : Resolved)
+  pub behind_more : (cs : List held.Code) (c : held.Code) (m : Resolved)
       → behind_all texts d (cs ++ c ∷ []) m ≡ behind_all texts d cs (in_front (code_view texts d c) m)
   behind_more [] c m = refl
   behind_more (e ∷ cs) c m = ap (in_front (code_view texts d e)) (behind_more cs c m)
 
-  behind_head : (cs : List held.Code) (m : Resolved) → (behind_all texts d cs m).head ≡ m.head
+  pub behind_head : (cs : List held.Code) (m : Resolved) → (behind_all texts d cs m).head ≡ m.head
   behind_head [] m = refl
   behind_head (e ∷ cs) m = behind_head cs m
 
-  behind_scope : (cs : List held.Code) (m : Resolved) → (behind_all texts d cs m).scope ≡ m.scope
+  pub behind_scope : (cs : List held.Code) (m : Resolved) → (behind_all texts d cs m).scope ≡ m.scope
   behind_scope [] m = refl
   behind_scope (e ∷ cs) m = behind_scope cs m
 
-  behind_does : (cs : List held.Code) (c : Code Step) (m : Resolved) → named_code (naming texts d) d.tables c ≡ m.does
+  pub behind_does : (cs : List held.Code) (c : Code Step) (m : Resolved) → named_code (naming texts d) d.tables c ≡ m.does
       → named_code (naming texts d) d.tables (code_behind cs c) ≡ (behind_all texts d cs m).does
   behind_does [] c m e = e
   behind_does (b ∷ cs) c m e = ap (Then (code_view texts d b)) (behind_does cs c m e)

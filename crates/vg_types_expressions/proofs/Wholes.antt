@@ -132,3 +132,9 @@ module _ (texts : List (List ℕ)) (root : held_node.Node) (d : Declared) (k : B
       → asks (index_keeps (head_view texts d h) (IsValue (type_view texts d i.type_))) 20 spot ≡ Some (record { rule = 20; node = spot.id })
   element_breaks n spot h i eh e =
       ap (λ z. asks (index_keeps (head_view texts d z) (IsValue (type_view texts d i.type_))) 20 spot) eh ∙ ap (λ b. asks b 20 spot) e
+
+-- `this` is no place
+pub this_no_place : (o : Owner) (ls : Scope) → (resolved.this_in o ls).store ≡ None
+this_no_place (resolved.InClass c) ls = refl
+this_no_place (resolved.InComponent c) ls = refl
+this_no_place resolved.NoOwner ls = refl

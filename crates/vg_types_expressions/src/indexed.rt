@@ -12,15 +12,17 @@ ghost use Rattle.vg_types_tables.specs.declared.judged.Head.TheVariants.{Value};
 ghost use Rattle.vg_types_views.specs.Judges.{Judges};
 ghost use Rattle.vg_types_tables.specs.Views.{type_view, head_view};
 ghost use Rattle.vg_types_tables.specs.Declares.{Declares};
-ghost use Rattle.vg_types_tables.specs.Promises.{IsHead, Puts, Leads};
-ghost use Rattle.vg_types_leaves.specs.Judgements.{HasValue, Shows};
+ghost use Rattle.vg_types_tables.specs.Promises.{IsHead, Puts, Leads, Stores};
+ghost use Rattle.vg_types_leaves.specs.Judgements.{HasValue, Shows, AimsAt};
 ghost use Rattle.vg_types_expressions.specs.Judged.{value_of};
 
 use std::alloc::Global;
 use vg_base::{Names, NodeId, Place, Refusal};
 use vg_core::{Code, CoreType, Step};
 use vg_tree::Node;
-use vg_types_tables::{BodyKind, Declared, Head, Judged, Locals, Standing, two, type_of_number};
+use vg_types_tables::{
+    Aimed, BodyKind, Declared, Head, Judged, Locals, Standing, Storing, two, type_of_number,
+};
 use vg_types_views::Broken;
 
 /// An element of the array that waits, by an index that was judged: rule 20.
@@ -113,5 +115,54 @@ pub(crate) fn is_int(type_: CoreType) -> bool
         | CoreType::FunctionType(_, _)
         | CoreType::NoType
         | CoreType::MoreTypes(_, _) => false,
+    }
+}
+
+/// An element of the array that waits as the target of an assignment, by an index that was judged: rule 20.
+pub(crate) fn element_target(
+    names: &Names,
+    root: &Node,
+    declared: &Declared,
+    body: BodyKind,
+    locals: &Locals,
+    head: Head,
+    place: Place,
+    index: Judged,
+    id: u32,
+) -> Result<Aimed, Refusal<Broken>>
+    requires declares { Declares names.now root.now declared.now }
+    requires head { IsHead names.now declared.now head }
+    requires typed { Puts declared.now.tables body locals.now (code_of index.code) index.type_ }
+    ensures judged { Judges (λ j. AimsAt names.now declared.now
+        (index_suffix id (value_of names.now declared.now locals.now index) (head_view names.now declared.now head)) j.place) result
+        (asks (index_keeps (head_view names.now declared.now head) (IsValue (type_view names.now declared.now index.type_))) 20 (with_id id (spot place))) }
+    ensures typed { IfOk result (λ j. IfSome j.place (Stores declared.now.tables body locals.now head)) }
+    ensures next { IfOk result (λ j. j.next ≡ index.next) }
+{
+    match elements(head) {
+        Some(number) => {
+            if !is_int(index.type_) {
+                return Err(Refusal::Fault(Broken {
+                    rule: 20,
+                    node: NodeId(id),
+                }));
+            }
+            match type_of_number(declared, number) {
+                Some(type_) => Ok(Aimed {
+                    place: Some(Storing {
+                        aims: index.code,
+                        store: Step::SetItem(id, number),
+                        type_,
+                    }),
+                    next: index.next,
+                }),
+                // The tables have the types of all elements.
+                None => Err(Refusal::NoMemory),
+            }
+        }
+        None => Err(Refusal::Fault(Broken {
+            rule: 20,
+            node: NodeId(id),
+        })),
     }
 }

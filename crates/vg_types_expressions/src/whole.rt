@@ -1,5 +1,5 @@
 // Expressions: each node is judged from its children, and rows one node after another.
-ghost use Rattle.std.specs.Prelude.{◌≡◌, ◌+◌, ◌-◌, ◌<◌, ◌^◌, ℕ, length, drop, IfOk};
+ghost use Rattle.std.specs.Prelude.{◌≡◌, ◌+◌, ◌-◌, ◌<◌, ◌^◌, ℕ, length, drop, None, IfOk};
 ghost use Rattle.vg_syntax.specs.Numbering.{count_nodes, numbered};
 ghost use Rattle.vg_syntax.specs.Reads.{spot};
 ghost use Rattle.vg_tree.specs.Held.{node_at, row_at};
@@ -10,7 +10,7 @@ ghost use Rattle.vg_types_views.specs.Judges.{Judges};
 ghost use Rattle.vg_types_tables.specs.declared.judged.Head.TheVariants.{Nothing};
 ghost use Rattle.vg_types_tables.specs.Views.{declarations_at, body_view, owner_view, scope_view, head_view};
 ghost use Rattle.vg_types_tables.specs.Declares.{Declares};
-ghost use Rattle.vg_types_tables.specs.Promises.{AreDeclared, IsBody, IsHead, Stands, Leaves, Puts, Leads};
+ghost use Rattle.vg_types_tables.specs.Promises.{AreDeclared, IsBody, IsHead, Stands, Leaves, Puts, Leads, meant};
 ghost use Rattle.vg_types_leaves.specs.Judgements.{HasValue, Behind, Whole};
 ghost use Rattle.vg_types_expressions.specs.Nodes.{postfix_node, chain_node, index_node};
 ghost use Rattle.vg_types_expressions.specs.Links.{JudgesFront, Linking};
@@ -76,6 +76,42 @@ fn primary(
     ensures next { IfOk result (λ j. j.next ≡ id + count_nodes (node_at names.now node.now)) }
 {
     match node {
+        Node::Name(place, name) => name_alone(
+            alloc, names, root, declared, body, locals, *place, *name, id,
+        ),
+        Node::Chain(place, first, parts) => operator_chain(
+            alloc, names, root, declared, body, locals, *place, first, parts, id,
+        ),
+        Node::Postfix(place, first, suffixes) => postfix(
+            alloc, names, root, declared, body, locals, *place, first, suffixes, id,
+        ),
+        _ => plain(alloc, names, root, declared, body, locals, node, id),
+    }
+}
+
+// An expression that is no place.
+#[tactic(auto, using(crate::proofs::Wholes::this_no_place))]
+pub(crate) fn plain(
+    alloc: Global,
+    names: &Names,
+    root: &Node,
+    declared: &Declared,
+    body: BodyKind,
+    locals: &Locals,
+    node: &Node,
+    id: u32,
+) -> Result<Standing, Refusal<Broken>>
+    requires declares { Declares names.now root.now declared.now }
+    requires body { IsBody declared.now.tables body }
+    requires scope { AreDeclared declared.now.tables locals.now }
+    requires room { id + count_nodes (node_at names.now node.now) < 2 ^ 32 }
+    ensures judged { Behind names.now root.now declared.now body locals.now (numbered id (node_at names.now node.now)) Fresh result }
+    ensures typed { IfOk result (λ j. Leads declared.now.tables body locals.now Nothing (code_of j.code) j.head) }
+    ensures place { IfOk result (λ j. (meant names.now root.now declared.now body locals.now (numbered id (node_at names.now node.now)) Fresh).store ≡ None) }
+    ensures value { IfOk result (λ j. HasValue j.head) }
+    ensures next { IfOk result (λ j. j.next ≡ id + count_nodes (node_at names.now node.now)) }
+{
+    match node {
         Node::Number(place, digits) => number(
             names, root, declared, body, locals, *place, *digits, id,
         ),
@@ -110,15 +146,6 @@ fn primary(
             id,
         )),
         Node::This(place) => this_object(names, root, declared, body, locals, *place, id),
-        Node::Name(place, name) => name_alone(
-            alloc, names, root, declared, body, locals, *place, *name, id,
-        ),
-        Node::Chain(place, first, parts) => operator_chain(
-            alloc, names, root, declared, body, locals, *place, first, parts, id,
-        ),
-        Node::Postfix(place, first, suffixes) => postfix(
-            alloc, names, root, declared, body, locals, *place, first, suffixes, id,
-        ),
         // No tree of a text has another node in the place of an expression.
         _ => Err(Refusal::NoMemory),
     }
@@ -173,7 +200,7 @@ fn postfix(
 
 // An operand in front of suffixes: in front of a Member suffix a name may be that of a component or a device.
 #[cycle(expression)]
-fn operand(
+pub(crate) fn operand(
     alloc: Global,
     names: &Names,
     root: &Node,
@@ -340,7 +367,7 @@ fn link_row(
 
 // All suffixes or parts of a row but the last.
 #[cycle(expression)]
-fn front_links(
+pub(crate) fn front_links(
     alloc: Global,
     names: &Names,
     root: &Node,
@@ -390,7 +417,7 @@ fn front_links(
 
 // A suffix or a part behind what is in front of it.
 #[cycle(expression)]
-fn link(
+pub(crate) fn link(
     alloc: Global,
     names: &Names,
     root: &Node,

@@ -45,7 +45,7 @@ module _ (texts : List (List ℕ)) (d : Declared) (ls : Locals) where
   reads k at (reached.OwnMethod c m) h o x s = refl
   reads k at (reached.ItsMethod m) h o x s = refl
 
-  reads_head : (at : ℕ) (r : Reached) → (reached_at texts d at (scope_view texts d ls) r).head ≡ head_view texts d (reached_head at r)
+  pub reads_head : (at : ℕ) (r : Reached) → (reached_at texts d at (scope_view texts d ls) r).head ≡ head_view texts d (reached_head at r)
   reads_head at (reached.Local i t) = refl
   reads_head at (reached.Field c f t) = refl
   reads_head at (reached.Global f t) = refl

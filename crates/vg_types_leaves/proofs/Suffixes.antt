@@ -1,5 +1,5 @@
 -- What a Member suffix stands for.
-use Rattle.std.proofs.Common.{◌≡◌, ℕ, true, List, Some, None, refl, sym, ap, ◌∙◌, subst}
+use Rattle.std.proofs.Common.{◌≡◌, ℕ, true, List, Option, Some, None, IfSome, refl, sym, ap, ◌∙◌, subst}
 use Rattle.vg_meaning.specs.Code.{Code}
 use Rattle.vg_meaning.specs.Shapes.{Fits}
 use Rattle.vg_syntax.specs.Tree.{Spot, Node}
@@ -17,14 +17,15 @@ use Rattle.vg_types_tables.specs.declared.locals.Locals.{Locals}
 use Rattle.vg_types_tables.specs.declared.body.BodyKind.{BodyKind}
 use Rattle.vg_types_tables.specs.declared.judged.Head.{Head}
 use Rattle.vg_types_tables.specs.declared.judged.Standing.{Standing}
+use Rattle.vg_types_tables.specs.declared.judged.Storing.{Storing}
 use Rattle.vg_types_tables.specs.Views.{declarations_at, head_view, body_view, scope_view}
-use Rattle.vg_types_tables.specs.Promises.{waiting, Leads, Leaves}
+use Rattle.vg_types_tables.specs.Promises.{waiting, Leads, Leaves, Aims, Stores}
 use Rattle.vg_types_leaves.specs.declared.reached.Reached.{Reached}
 use Rattle.vg_types_leaves.specs.declared.reached.Reached.TheVariants as reached
 use Rattle.vg_types_leaves.specs.Nodes.{member_node}
-use Rattle.vg_types_leaves.specs.Judgements.{Shows}
-use Rattle.vg_types_leaves.specs.Reached.{front, reached_head, reached_code, Reaches}
-use Rattle.vg_types_leaves.proofs.Reading.{shows_reached, leads_reached}
+use Rattle.vg_types_leaves.specs.Judgements.{Shows, AimsAt}
+use Rattle.vg_types_leaves.specs.Reached.{front, reached_head, reached_code, reached_at, IsReached, Places, Reaches}
+use Rattle.vg_types_leaves.proofs.Reading.{shows_reached, sets, places, no_places, reads_head}
 
 module _ (texts : List (List ℕ)) (root : held_node.Node) (d : Declared) (k : BodyKind) (ls : Locals) where
   there : (at : ℕ) (r : Reached) → is_there (head_view texts d (reached_head at r)) ≡ true
@@ -55,3 +56,34 @@ module _ (texts : List (List ℕ)) (root : held_node.Node) (d : Declared) (k : B
   pub leads_from : (h g : Head) (c : Code Step) (e : Head) → ((x : List CoreType) → waiting h x ≡ waiting g x) → Leads d.tables k ls g c e → Leads d.tables k ls h c e
   leads_from h g c e w l o x s =
       subst (λ z. Fits (known d.tables ls.declared o k.result) k.in_loop c z (waiting e x)) (sym (w x)) (l o x s)
+
+  -- what is reached as a target
+  pub aims_at : (at : ℕ) (r : Reached) (o : Option Storing) → IsReached texts d ls r → Places at r o → AimsAt texts d (reached_at texts d at (scope_view texts d ls) r) o
+  aims_at at r (Some s) h p = places texts d ls at r s h p
+  aims_at at r None h p = no_places texts d ls at r p
+
+  member_place : (h : Head) (at : ℕ) (spot : Spot) (x : Name) (o : Option Storing) (next : ℕ)
+      → AimsAt texts d (member_suffix (declarations_at texts root) at x (scope_view texts d ls) (head_view texts d h)) o
+      → Aims texts root d k ls (member_node at spot x) (Onto (head_view texts d h)) (record { place = o; next = next })
+  member_place h at spot x (Some s) next p = record { head = p.head; aims = p.aims; store = p.store; known = p.known }
+  member_place h at spot x None next p = p
+
+  pub member_aims : (h : Head) (at : ℕ) (spot : Spot) (x y : Name) (r : Reached) (o : Option Storing) (next : ℕ) → y ≡ x
+      → Reaches texts d at ls (member_suffix (declarations_at texts root) at y (scope_view texts d ls) (head_view texts d h)) (Some r) → Places at r o
+      → (breach (declarations_at texts root) (body_view texts d k) (member_node at spot x) (Onto (head_view texts d h)) (scope_view texts d ls) ≡ None)
+      × Aims texts root d k ls (member_node at spot x) (Onto (head_view texts d h)) (record { place = o; next = next })
+  member_aims h at spot x y r o next e (m, is) p =
+      let a = subst (λ z. AimsAt texts d z o) (sym m) (aims_at at r o is p) in
+      subst (λ z. (breach (declarations_at texts root) (body_view texts d k) (member_node at spot z) (Onto (head_view texts d h)) (scope_view texts d ls) ≡ None)
+      × Aims texts root d k ls (member_node at spot z) (Onto (head_view texts d h)) (record { place = o; next = next })) e (
+        ap (λ z. asks (is_there z) 16 (record { id = at; place = spot.place })) (ap (λ z. z.head) m ∙ reads_head texts d ls at r)
+            ∙ ap (λ b. asks b 16 (record { id = at; place = spot.place })) (there at r),
+        member_place h at spot y o next a,
+      )
+
+  pub member_stores : (h : Head) (at : ℕ) (r : Reached) (o : Option Storing) → ((x : List CoreType) → waiting h x ≡ waiting (front r) x) → IsReached texts d ls r
+      → Places at r o → IfSome o (Stores d.tables k ls h)
+  member_stores h at r None w is p = tt
+  member_stores h at r (Some s) w is p = λ o x sees.
+      let inner = sets texts d ls k at r s is p o x sees in
+      (inner.0, subst (λ z. Fits (known d.tables ls.declared o k.result) k.in_loop (code_of s.aims) z inner.0) (sym (w x)) inner.1, inner.2)

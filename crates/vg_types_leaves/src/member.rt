@@ -8,9 +8,11 @@ ghost use Rattle.vg_core.specs.declared.types.CoreType.{CoreType as SpecType};
 ghost use Rattle.vg_core.specs.declared.types.CoreType.TheVariants.{ClassType};
 ghost use Rattle.vg_types_tables.specs.declared.judged.Head.TheVariants.{Nothing, Value};
 ghost use Rattle.vg_source.specs.Declared.{class_member, component_member, device_named};
-ghost use Rattle.vg_types_tables.specs.Views.{declarations_at, naming, scope_view, head_view};
+ghost use Rattle.vg_types_tables.specs.Views.{declarations_at, naming, body_view, scope_view, head_view};
+ghost use Rattle.vg_rules.specs.Bodies.{breach};
+ghost use Rattle.vg_types_views.specs.Judges.{Judges};
 ghost use Rattle.vg_types_tables.specs.Declares.{Declares, IsClass, IsComponent, IsKnown};
-ghost use Rattle.vg_types_tables.specs.Promises.{IsHead, waiting, Leads};
+ghost use Rattle.vg_types_tables.specs.Promises.{IsHead, waiting, Leads, Aims, Stores};
 ghost use Rattle.vg_types_leaves.specs.Nodes.{member_node};
 ghost use Rattle.vg_types_leaves.specs.Judgements.{Behind, HasValue};
 ghost use Rattle.vg_types_leaves.specs.Reached.{Reaches, front};
@@ -21,8 +23,8 @@ use vg_base::{Name, Names, NodeId, Place, Refusal};
 use vg_core::{CoreType, Field};
 use vg_tree::Node;
 use vg_types_tables::{
-    BodyKind, Declared, Head, Locals, MemberNumber, Standing, class_member, component_member,
-    register_of,
+    Aimed, BodyKind, Declared, Head, Locals, MemberNumber, Standing, class_member,
+    component_member, register_of,
 };
 use vg_types_views::{Broken, text_of};
 
@@ -217,6 +219,49 @@ pub fn member_behind(
         Some(reached) => Ok(Standing {
             head: reached.head(id),
             code: reached.code(alloc, id),
+            next: id + 1,
+        }),
+        None => Err(Refusal::Fault(Broken {
+            rule: 16,
+            node: NodeId(id),
+        })),
+    }
+}
+
+/// A Member suffix as the target of an assignment, behind what is in front of it: rule 16.
+pub fn member_target(
+    alloc: Global,
+    names: &Names,
+    root: &Node,
+    declared: &Declared,
+    body: BodyKind,
+    locals: &Locals,
+    head: Head,
+    place: Place,
+    name: Name,
+    id: u32,
+) -> Result<Aimed, Refusal<Broken>>
+    requires declares { Declares names.now root.now declared.now }
+    requires head { IsHead names.now declared.now head }
+    requires room { id + 1 < 2 ^ 32 }
+    ensures judged { Judges (Aims names.now root.now declared.now body locals.now (member_node id (spot place) (text_at names.now name))
+        (Onto (head_view names.now declared.now head))) result
+        (breach (declarations_at names.now root.now) (body_view names.now declared.now body) (member_node id (spot place) (text_at names.now name))
+        (Onto (head_view names.now declared.now head)) (scope_view names.now declared.now locals.now)) }
+    ensures typed { IfOk result (λ j. IfSome j.place (Stores declared.now.tables body locals.now head)) }
+    ensures next { IfOk result (λ j. j.next ≡ id + 1) }
+{
+    match reach_member(
+        names,
+        root,
+        declared,
+        locals,
+        head,
+        text_of(names, name),
+        id,
+    ) {
+        Some(reached) => Ok(Aimed {
+            place: reached.place(alloc, id),
             next: id + 1,
         }),
         None => Err(Refusal::Fault(Broken {

@@ -1,6 +1,6 @@
 -- The arms of an `if` as a list.
-use Rattle.std.proofs.Common.{◌≡◌, List, Vec, Global, refl, ap, ◌∙◌}
-use Rattle.vg_meaning.specs.Code.{Code, Then, If}
+use Rattle.std.proofs.Common.{◌≡◌, Vec, Global, refl, ap, ◌∙◌}
+use Rattle.vg_meaning.specs.Code.{Code}
 use Rattle.vg_core.specs.declared.step.Step.{Step}
 use Rattle.vg_core.specs.declared.code.Code as held
 use Rattle.vg_core.specs.HeldProgram.{code_of, arms_of}

@@ -11,9 +11,9 @@ use Rattle.vg_tree.specs.Held.{arm_at, arm_row}
 use Rattle.vg_tree.specs.Nothing.{is_pair}
 use Rattle.vg_tree_walks.proofs.Passing.{left_of}
 use Rattle.vg_source.specs.Steps.{Step as SourceStep}
-use Rattle.vg_source.specs.Resolved.{NoHead, Fresh, Otherwise, Scope, Resolved, settled, resolved}
+use Rattle.vg_source.specs.Resolved.{NoHead, Fresh, Otherwise, Scope, Resolved, resolved}
 use Rattle.vg_rules.specs.Breach.{Breach, asks, ◌or◌}
-use Rattle.vg_rules.specs.Bodies.{Body, breach, head, is_bool, conditions_keep}
+use Rattle.vg_rules.specs.Bodies.{breach, conditions_keep}
 use Rattle.vg_core.specs.declared.types.CoreType.TheVariants.{BoolType}
 use Rattle.vg_core.specs.declared.step.Step.{Step}
 use Rattle.vg_core.specs.declared.code.Code as held

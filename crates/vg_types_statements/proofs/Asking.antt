@@ -1,5 +1,6 @@
--- Rules on values that are written: what is returned, and what a local is set to.
-use Rattle.std.proofs.Common.{◌≡◌, ℕ, Bool, true, false, List, [], ◌∷◌, ◌++◌, length, map, reverse, zero, suc, not, is_some, slice_get, Option, Some}
+-- Rules on values that are written: what is returned, and what a local is set to. The value keeps the rules, so what is left of the
+-- breach is the rule at the node; that the code runs is read off the typing of the value and of the step behind it.
+use Rattle.std.proofs.Common.{◌≡◌, ℕ, Bool, true, false, List, [], ◌∷◌, ◌++◌, length, map, not, is_some, slice_get, Some}
 use Rattle.std.proofs.Common.{None, if◌then◌else◌, refl, sym, ap, ◌∙◌, subst}
 use Rattle.std.proofs.lemmas.List.{length-reverse, length-map}
 use Rattle.vg_meaning.specs.Code.{Code, Nothing, Then, Do, Return}
@@ -12,10 +13,10 @@ use Rattle.vg_source.specs.Types.{StaticType, NoType}
 use Rattle.vg_source.specs.Declared.{written_type}
 use Rattle.vg_source.specs.Steps as source
 use Rattle.vg_source.specs.Resolved.{IsValue, Fresh, Scope, declare, find_local, settled, resolved, or_default}
-use Rattle.vg_rules.specs.Breach.{Breach, asks, ◌or◌}
+use Rattle.vg_rules.specs.Breach.{asks, ◌or◌}
 use Rattle.vg_rules.specs.Fits.{fits}
 use Rattle.vg_rules.specs.Written.{type_keeps}
-use Rattle.vg_rules.specs.Bodies.{Body, breach, head, head_fits, return_keeps, initialiser_keeps}
+use Rattle.vg_rules.specs.Bodies.{Body, head, head_fits, return_keeps, initialiser_keeps}
 use Rattle.vg_rules.specs.Inherited.{has_no_type}
 use Rattle.vg_core.specs.declared.types.CoreType.{CoreType}
 use Rattle.vg_core.specs.declared.types.CoreType.TheVariants as core
@@ -32,7 +33,7 @@ use Rattle.vg_types_tables.specs.declared.locals.Locals.{Locals}
 use Rattle.vg_types_tables.specs.declared.body.BodyKind.{BodyKind}
 use Rattle.vg_types_tables.specs.declared.judged.Judged.{Judged}
 use Rattle.vg_types_tables.specs.declared.judged.Done.{Done}
-use Rattle.vg_types_tables.specs.Views.{declarations_at, naming, type_view, body_view, scope_view, code_view}
+use Rattle.vg_types_tables.specs.Views.{declarations_at, naming, type_view, body_view, scope_view}
 use Rattle.vg_types_tables.specs.Promises.{Stands, Does, Puts, Runs}
 use Rattle.vg_types_statements.specs.Nodes.{return_node, local_node}
 use Rattle.vg_types_statements.specs.Grows.{first_breach}

@@ -1,18 +1,18 @@
 -- Rows of statements. A loop keeps how far the row has come: what is left of it has the breach of all, behind the codes so far, in the
 -- scope that the statements so far have left; and all codes so far run under the locals so far.
-use Rattle.std.proofs.Common.{◌≡◌, ℕ, zero, suc, ◌≤◌, ◌+◌, ◌<◌, List, [], ◌∷◌, ◌++◌, length, drop, take, get_or, slice_get, Option, Some, None, refl}
+use Rattle.std.proofs.Common.{◌≡◌, ℕ, zero, suc, ◌≤◌, ◌+◌, ◌<◌, List, [], ◌∷◌, ◌++◌, length, drop, take, get_or, slice_get, Some, None, refl}
 use Rattle.std.proofs.Common.{sym, ap, ◌∙◌, subst, arith}
 use Rattle.std.specs.List.{AllByRecursion}
 use Rattle.std.proofs.Math.Seq.{take-append_seam}
 use Rattle.std.proofs.lemmas.List.{append_assoc, append-nil}
-use Rattle.vg_meaning.specs.Code.{Code, Nothing, Then, Do}
+use Rattle.vg_meaning.specs.Code.{Code, Nothing, Then}
 use Rattle.vg_syntax.specs.Tree.{Node, Nothing as NoNode, Then as ThenNode}
 use Rattle.vg_syntax.specs.Numbering.{count_nodes, numbered}
 use Rattle.vg_tree.specs.declared.node.Node as held_node
 use Rattle.vg_tree.specs.Held.{row_at, node_at}
 use Rattle.vg_source.specs.Steps.{Step as SourceStep}
 use Rattle.vg_source.specs.Resolved.{NoHead, Fresh, Scope, Resolved, settled, settled_as, resolved}
-use Rattle.vg_rules.specs.Breach.{Breach, ◌or◌}
+use Rattle.vg_rules.specs.Breach.{◌or◌}
 use Rattle.vg_rules.specs.Bodies.{Body, breach}
 use Rattle.vg_core.specs.declared.types.CoreType.{CoreType}
 use Rattle.vg_core.specs.declared.program.Tables.{Tables}

@@ -1,5 +1,6 @@
--- The typing of statements, from that of their parts.
-use Rattle.std.proofs.Common.{◌≡◌, Bool, true, Option, Some, IfSome, List, [], ◌∷◌, ◌++◌, refl, sym, ap, ◌∙◌, subst}
+-- The typing of statements, from that of their parts. Nothing waits between statements, so each lemma names the types that wait behind the
+-- parts; code that was typed before more locals were declared is typed under them too.
+use Rattle.std.proofs.Common.{◌≡◌, true, Option, Some, IfSome, List, [], ◌∷◌, ◌++◌, refl, sym, ap, ◌∙◌, subst}
 use Rattle.std.proofs.lemmas.List.{append_assoc}
 use Rattle.vg_meaning.specs.Code.{Code, Nothing, Then, Do, If, Loop, Break, Continue, Return}
 use Rattle.vg_meaning.specs.Shapes.{Fits}

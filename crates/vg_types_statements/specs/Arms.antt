@@ -1,12 +1,12 @@
 -- The arms of an `if`.
-use Rattle.std.specs.Prelude.{◌≡◌, ℕ, Bool, List, [], ◌∷◌, ◌++◌}
+use Rattle.std.specs.Prelude.{◌≡◌, ℕ, List, [], ◌∷◌, ◌++◌}
 use Rattle.vg_meaning.specs.Code.{Code, Then, If}
 use Rattle.vg_meaning.specs.Shapes.{Fits}
 use Rattle.vg_syntax.specs.Tree.{Node, Nothing}
 use Rattle.vg_tree.specs.declared.node.Node as held_node
 use Rattle.vg_tree.specs.Held.{node_at}
 use Rattle.vg_source.specs.Steps.{Step as SourceStep}
-use Rattle.vg_source.specs.Resolved.{Scope, Resolved, NoHead, Fresh, Otherwise, resolved}
+use Rattle.vg_source.specs.Resolved.{Scope, Resolved, NoHead, Fresh, Otherwise}
 use Rattle.vg_rules.specs.Bodies.{head, is_bool, conditions_keep}
 use Rattle.vg_core.specs.declared.types.CoreType.{CoreType}
 use Rattle.vg_core.specs.declared.program.Owner.{Owner}
@@ -18,7 +18,7 @@ use Rattle.vg_core.specs.Typing.{known}
 use Rattle.vg_types_tables.specs.declared.declared.Declared.{Declared}
 use Rattle.vg_types_tables.specs.declared.locals.Locals.{Locals}
 use Rattle.vg_types_tables.specs.declared.body.BodyKind.{BodyKind}
-use Rattle.vg_types_tables.specs.Views.{declarations_at, owner_view, body_view, scope_view, code_view}
+use Rattle.vg_types_tables.specs.Views.{declarations_at, body_view, scope_view, code_view}
 use Rattle.vg_types_tables.specs.Promises.{Sees, meant, whole}
 use Rattle.vg_types_statements.specs.declared.arms.Armed.{Armed}
 use Rattle.vg_types_statements.specs.declared.arms.AllArms.{AllArms}

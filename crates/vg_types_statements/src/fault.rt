@@ -6,7 +6,7 @@ use vg_base::{NodeId, Refusal};
 use vg_types_views::Broken;
 
 /// The breach of a rule at a node.
-pub(crate) fn broken(rule: u8, node: u32) -> Refusal<Broken>
+pub fn broken(rule: u8, node: u32) -> Refusal<Broken>
     ensures { result ≡ Fault (record { rule = rule; node = record { 0 = node } }) }
 {
     Refusal::Fault(Broken {

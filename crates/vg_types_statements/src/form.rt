@@ -14,7 +14,7 @@ use vg_core::Code;
 use vg_types_tables::row;
 
 /// Code that does nothing. It takes no memory.
-pub(crate) fn nothing(alloc: Global) -> Code
+pub fn nothing(alloc: Global) -> Code
     ensures { code_of result ≡ Nothing }
 {
     row(Vec::new(alloc))

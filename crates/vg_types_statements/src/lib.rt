@@ -11,4 +11,6 @@ mod returns;
 mod simple;
 mod values;
 
+pub use fault::broken;
+pub use form::nothing;
 pub use nested::{statement, statements};

@@ -1,4 +1,3 @@
-use Rattle.std.proofs.Common.{sym}
 use Rattle.vg_types_statements.proofs.ArmCodes.{code_of_arms}
 use Rattle.vg_types_statements.proofs.form.all_arms.Goals as goal
 

@@ -1,4 +1,6 @@
-use Rattle.std.proofs.Common.{◌≡◌, ◌+◌, ◌<◌, ◌^◌, ℕ, List, drop, refl, sym, ap, ◌∙◌, arith}
+-- Statements leave the locals as they are, or more of them. Rows are loops: what is left of a row has the breach of all, so a fault in the
+-- statement or arm at hand is the first of all, and behind the last one the row is done.
+use Rattle.std.proofs.Common.{◌+◌, refl, ◌∙◌, arith}
 use Rattle.vg_syntax.specs.Numbering.{count_nodes, numbered}
 use Rattle.vg_syntax.specs.Reads.{spot}
 use Rattle.vg_tree.specs.Held.{node_at, row_at, arm_row}

@@ -1,4 +1,4 @@
-use Rattle.std.proofs.Common.{◌≡◌, ◌+◌, false, [], ◌∷◌, refl, sym, ◌∙◌}
+use Rattle.std.proofs.Common.{◌≡◌, ◌+◌, false, refl, sym, ◌∙◌}
 use Rattle.vg_meaning.specs.Code.{Nothing, Then, Do}
 use Rattle.vg_syntax.specs.Numbering.{numbered}
 use Rattle.vg_syntax.specs.Reads.{spot}

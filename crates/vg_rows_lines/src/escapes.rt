@@ -1,4 +1,4 @@
-// The bytes that a field of the table spells.
+// The bytes that a field of a table spells.
 use std::alloc::Global;
 use vg_base::NoMemory;
 

@@ -1,27 +1,10 @@
-// How the table writes what it is about.
+// How the table writes images and faults.
 use avr_isa::Image;
 use hex::encode;
 use std::alloc::Global;
 use vg_base::NoMemory;
 use vg_hex::HexFault;
-
-/// Words that were made with no memory wanting.
-pub fn said(alloc: Global, words: &str) -> Result<String, NoMemory> {
-    Ok(String::from_str(alloc, words)?)
-}
-
-/// A text, with `\n` for LF and `\r` for CR.
-pub fn shown_text(alloc: Global, bytes: &[u8]) -> Result<String, NoMemory> {
-    let mut text = String::new(alloc);
-    for byte in bytes {
-        match *byte {
-            b'\n' => text.push_str("\\n")?,
-            b'\r' => text.push_str("\\r")?,
-            other => text.push(char::from(other))?,
-        }
-    }
-    Ok(text)
-}
+use vg_rows_lines::said;
 
 /// An image: the digits of its bytes behind those 0xFF that it begins with, and how many these are.
 pub fn shown_image(alloc: Global, image: &Image) -> Result<String, NoMemory> {

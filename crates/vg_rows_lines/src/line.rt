@@ -1,4 +1,4 @@
-// One line of the table.
+// One line of a table.
 
 /// A line of three fields with a tab between them: a question, which may have a word of its own behind a space; the text that it is about; and the answer.
 #[derive(Clone, Copy)]
