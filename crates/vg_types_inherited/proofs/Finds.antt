@@ -80,7 +80,8 @@ module _ (texts : List (List ℕ)) (root : held_node.Node) (d : Declared) (h : D
   pub class_there : (c : Name) (k : ℕ) → Some k ≡ found c d.classes → IsClass d.tables k
   class_there c k e = (h.class_names c k (sym e)).0
 
-  pub params_taken : (c : Name) (k : ℕ) (z : Class) (b : Bool) → Some k ≡ found c d.classes → slice_get d.tables.classes k ≡ Some z → (IsTrue b ↔ (z.params ≡ []))
+  pub params_taken : (c : Name) (k : ℕ) (z : Class) (b : Bool) → Some k ≡ found c d.classes → slice_get d.tables.classes k ≡ Some z
+      → (IsTrue b ↔ (z.params ≡ []))
       → b ≡ has_no_type (params_of_class (declarations_at texts root) c)
   params_taken c k z b e f g =
       row_empty texts d b z.params g ∙ ap has_no_type (h.params k z f)
