@@ -11,3 +11,4 @@ mod Slotting
 mod Standing
 mod Forming
 mod Naming
+mod Looking
