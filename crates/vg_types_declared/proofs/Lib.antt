@@ -12,3 +12,4 @@ mod Standing
 mod Forming
 mod Naming
 mod Looking
+mod Owning

@@ -19,8 +19,9 @@ use Rattle.vg_types_heads.specs.Heads.{heads_view, no_heads, with_heads}
 use Rattle.vg_types_homes.specs.declared.homes.Homes.{Homes}
 use Rattle.vg_types_homes.specs.Homes.{AreHomes, homes_view, no_view, with_declarations}
 use Rattle.vg_types_tables.specs.declared.declared.Declared.{Declared}
+use Rattle.vg_types_tables.specs.declared.declared.MemberNumber.{MemberNumber}
 use Rattle.vg_types_tables.specs.Views.{naming, member_view}
-use Rattle.vg_types_tables.specs.Declares.{IsClass, IsComponent, found_in, member_of, register_at}
+use Rattle.vg_types_tables.specs.Declares.{IsClass, IsComponent, IsMemberOf, IsMemberOfComponent, found_in, member_of, register_at}
 use Rattle.vg_types_declared.specs.Built.{IsBuilt}
 
 -- Declarations whose names and classes keep the rules.
@@ -62,3 +63,10 @@ pub record Names (texts : List (List ℕ)) (ds : Node) (d : Declared) : Type 0 w
   pub registers : (x y : Name) → register_at d (found x d.devices) y ≡ register_of (device_named ds x) y
   pub below : (c e : ℕ) (k l : Class) → slice_get d.tables.classes c ≡ Some k → slice_get d.tables.classes e ≡ Some l
       → tables.is_below d.tables c e ≡ is_below ds ((naming texts d).class c) ((naming texts d).class e)
+
+-- What is found under a name is there, and has the name: a field of the class or of one above it, or the method that its objects have for the selector of the name.
+pub record Owned (texts : List (List ℕ)) (d : Declared) : Type 0 where
+  pub of_class : (c : ℕ) (k : Class) (x : Name) (m : MemberNumber) → slice_get d.tables.classes c ≡ Some k → member_of d k.above x ≡ Some m
+      → IsMemberOf texts d c x m
+  pub of_component : (k y : ℕ) (x : Name) (m : MemberNumber) → slice_get d.tables.components k ≡ Some y
+      → found_in x (slice_get d.component_members k) ≡ Some m → IsMemberOfComponent texts d k x m

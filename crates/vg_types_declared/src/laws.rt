@@ -17,7 +17,7 @@ ghost use Rattle.vg_types_declared.specs.Members.{Found};
 ghost use Rattle.vg_types_declared.specs.Slots.{Slotted};
 ghost use Rattle.vg_types_declared.specs.Placing.{Stands};
 ghost use Rattle.vg_types_declared.specs.Built.{BuiltFormed};
-ghost use Rattle.vg_types_declared.specs.Named.{Keeps, IsLeft, Members, Names};
+ghost use Rattle.vg_types_declared.specs.Named.{Keeps, IsLeft, Members, Names, Owned};
 ghost use Rattle.vg_types_declared.specs.Dispatch.{Dispatches};
 ghost use Rattle.vg_types_declared.specs.Inherits.{Inherits};
 
@@ -69,4 +69,6 @@ pub fn tables_find()
         → IsLeft texts ds types heads homes d → Names texts ds d }
     ensures members { (texts : List (List ℕ)) (ds : Node) (types : Types) (heads : Heads) (homes : Homes) (d : Declared) → Keeps ds
         → IsLeft texts ds types heads homes d → Members texts ds d }
+    ensures owned { (texts : List (List ℕ)) (ds : Node) (types : Types) (heads : Heads) (homes : Homes) (d : Declared) → Keeps ds
+        → IsLeft texts ds types heads homes d → Owned texts d }
 {}
