@@ -138,7 +138,7 @@ module _ (texts : List (List ℕ)) (types : Types) (homes : Homes) (most : ℕ) 
       by None e g = cc
       by (Some z) e g = (class_within c z e, ap (λ x. is_in x.above d) (sym (class_is c z e)) ∙ g)
 
-  below_from : (c d : ℕ) → c < length names → is_in (chain_at most above c) d ≡ true → is_below p c d ≡ true
+  pub below_from : (c d : ℕ) → c < length names → is_in (chain_at most above c) d ≡ true → is_below p c d ≡ true
   below_from c d h e = ap (λ o. is_in (above_in o) d) (class_at c h) ∙ e
 
   one_top : (c d : ℕ) → is_below p c d ≡ true → top p c ≡ top p d

@@ -11,3 +11,5 @@ mod Slotting
 mod Standing
 mod Forming
 mod Naming
+mod Looking
+mod Owning

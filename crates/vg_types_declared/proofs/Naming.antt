@@ -49,7 +49,7 @@ use Rattle.vg_types_declared.proofs.Homes.{all_found}
 use Rattle.vg_types_declared.proofs.Inheriting.{inherits}
 use Rattle.vg_types_declared.proofs.Forming.{Viewed, viewed, view_at, class_at, class_within, class_is, field_there}
 
-text_same : (texts : List Name) (x : ℕ) → text_at texts x ≡ tree.text_at texts x
+pub text_same : (texts : List Name) (x : ℕ) → text_at texts x ≡ tree.text_at texts x
 text_same texts x = by (slice_get texts x)
   where
     by : (o : Option Name) → text_in o ≡ tree.text_or_none o
@@ -66,48 +66,48 @@ types_same n m h done [] = refl
 types_same n m h done (t ∷ ts) =
     types_same n m h (done ++ named_type_in n done t ∷ []) ts ∙ ap (λ z. named_types m (done ++ z ∷ []) ts) (type_same n m h done t)
 
-chain_same : (d : Declared) (chain : List ℕ) (x : Name) → member_of d chain x ≡ chain_member d.class_members chain x
+pub chain_same : (d : Declared) (chain : List ℕ) (x : Name) → member_of d chain x ≡ chain_member d.class_members chain x
 chain_same d [] x = refl
 chain_same d (c ∷ cs) x = ap (or_else (found_in x (slice_get d.class_members c))) (chain_same d cs x)
 
 module _ (texts : List (List ℕ)) (ds : Node) (types : Types) (heads : Heads) (homes : Homes) (d : Declared) (kept : Keeps ds)
     (left : IsLeft texts ds types heads homes d) where
-  agrees : Agree ds (heads_view texts heads)
+  pub agrees : Agree ds (heads_view texts heads)
   agrees = subst (Agree ds) (sym left.heads_left) (agree ds kept.names kept.declared)
 
-  listed : Lists ds (heads_view texts heads)
+  pub listed : Lists ds (heads_view texts heads)
   listed = subst (Lists ds) (sym left.heads_left) (lists ds (agree ds kept.names kept.declared))
 
-  above_same : (os : List (Option ℕ)) → map (above_number texts heads.classes) os ≡ map (number_of heads.classes) (map (option_map (tree.text_at texts)) os)
+  pub above_same : (os : List (Option ℕ)) → map (above_number texts heads.classes) os ≡ map (number_of heads.classes) (map (option_map (tree.text_at texts)) os)
   above_same [] = refl
   above_same (None ∷ os) = ap (λ z. None ∷ z) (above_same os)
   above_same (Some x ∷ os) = ap (λ z. found (tree.text_at texts x) heads.classes ∷ z) (above_same os)
 
-  chains : Chained ds (heads_view texts heads)
+  pub chains : Chained ds (heads_view texts heads)
   chains = chained ds (heads_view texts heads) agrees listed kept.classes
 
-  close : Close (length_of ds) (map (above_number texts heads.classes) heads.above)
+  pub close : Close (length_of ds) (map (above_number texts heads.classes) heads.above)
   close = subst (Close (length_of ds)) (sym (above_same heads.above)) chains.close
 
-  finds : Found ds (homes_view texts types homes)
+  pub finds : Found ds (homes_view texts types homes)
   finds = subst (Found ds) (sym left.homes_left) (all_found ds)
 
-  inherited : Inherits ds (heads_view texts heads) (homes_view texts types homes)
+  pub inherited : Inherits ds (heads_view texts heads) (homes_view texts types homes)
   inherited = inherits ds (heads_view texts heads) (homes_view texts types homes) agrees listed kept.classes finds
 
   -- ---- names
 
-  name_there : (xs : List ℕ) (c : ℕ) → c < length xs → tree.text_at texts (get_or xs c 0) ≡ name_or (slice_get (map (tree.text_at texts) xs) c)
+  pub name_there : (xs : List ℕ) (c : ℕ) → c < length xs → tree.text_at texts (get_or xs c 0) ≡ name_or (slice_get (map (tree.text_at texts) xs) c)
   name_there xs c h =
       sym (ap name_or (slice_get-map (tree.text_at texts) xs c ∙ ap (option_map (tree.text_at texts)) (slice_get-get_or xs c 0 h)))
 
-  class_named : (c : ℕ) → c < length heads.class_names → (naming texts d).class c ≡ name_of (heads_view texts heads) c
+  pub class_named : (c : ℕ) → c < length heads.class_names → (naming texts d).class c ≡ name_of (heads_view texts heads) c
   class_named c h =
       ap (class_name texts)
       (class_at texts types homes (length_of ds) heads.class_names (map (above_number texts heads.classes) heads.above) d.tables left.built close c h)
       ∙ text_same texts (get_or heads.class_names c 0) ∙ name_there heads.class_names c h
 
-  class_number : (c : ℕ) (x : Name) → slice_get (heads_view texts heads).class_names c ≡ Some x → found x heads.classes ≡ Some c
+  pub class_number : (c : ℕ) (x : Name) → slice_get (heads_view texts heads).class_names c ≡ Some x → found x heads.classes ≡ Some c
   class_number c x e = by (slice_get heads.classes c) refl
       (sym (slice_get-map (λ e. e.0) heads.classes c) ∙ ap (λ z. slice_get z c) agrees.class_places.listed ∙ e)
     where
@@ -115,7 +115,7 @@ module _ (texts : List (List ℕ)) (ds : Node) (types : Types) (heads : Heads) (
       by None g h = cc
       by (Some q) g h = let n : q.0 ≡ x = cc in ap (λ z. found z heads.classes) (sym n) ∙ agrees.class_places.back c q g
 
-  of_class : (c : ℕ) → c < length heads.class_names → found ((naming texts d).class c) heads.classes ≡ Some c
+  pub of_class : (c : ℕ) → c < length heads.class_names → found ((naming texts d).class c) heads.classes ≡ Some c
   of_class c h =
       class_number c ((naming texts d).class c)
       (slice_get-map (tree.text_at texts) heads.class_names c ∙ ap (option_map (tree.text_at texts)) (slice_get-get_or heads.class_names c 0 h)
@@ -195,7 +195,7 @@ module _ (texts : List (List ℕ)) (ds : Node) (types : Types) (heads : Heads) (
       by : Viewed (method_view texts types) homes.making.methods m h.1 → member_view texts d (MethodNumber m) ≡ r
       by (viewed y q v) = method_shown m y q ∙ ap (λ z. Some (AMethod (row_from z.params) z.result)) v ∙ sym h.6
 
-  count_above : length (numbers (heads_view texts heads)) ≡ length heads.class_names
+  pub count_above : length (numbers (heads_view texts heads)) ≡ length heads.class_names
   count_above = ap length (sym (above_same heads.above)) ∙ left.built.above_count
 
   class_members : (c : ℕ) (k : Class) (x : Name) → slice_get d.tables.classes c ≡ Some k
@@ -227,7 +227,7 @@ module _ (texts : List (List ℕ)) (ds : Node) (types : Types) (heads : Heads) (
       by None g h = cc
       by (Some q) g h = let n : q.0 ≡ x = cc in ap (λ z. found z heads.components) (sym n) ∙ agrees.component_places.back k q g
 
-  component_found : (k y : ℕ) → slice_get d.tables.components k ≡ Some y → found ((naming texts d).component k) heads.components ≡ Some k
+  pub component_found : (k y : ℕ) → slice_get d.tables.components k ≡ Some y → found ((naming texts d).component k) heads.components ≡ Some k
   component_found k y e =
       component_number k ((naming texts d).component k)
       (slice_get-map (tree.text_at texts) heads.component_names k

@@ -17,7 +17,7 @@ ghost use Rattle.vg_types_declared.specs.Members.{Found};
 ghost use Rattle.vg_types_declared.specs.Slots.{Slotted};
 ghost use Rattle.vg_types_declared.specs.Placing.{Stands};
 ghost use Rattle.vg_types_declared.specs.Built.{BuiltFormed};
-ghost use Rattle.vg_types_declared.specs.Named.{Keeps, IsLeft, Members};
+ghost use Rattle.vg_types_declared.specs.Named.{Keeps, IsLeft, Members, Names, Owned};
 ghost use Rattle.vg_types_declared.specs.Dispatch.{Dispatches};
 ghost use Rattle.vg_types_declared.specs.Inherits.{Inherits};
 
@@ -63,8 +63,12 @@ pub fn tables_formed()
     ensures { (texts : List (List ℕ)) (types : Types) (homes : Homes) (p : Tables) → BuiltFormed texts types homes p }
 {}
 
-/// The members of classes and components are found in the tables by their names.
+/// Declarations, and the members of classes and components, are found in the tables by their names.
 pub fn tables_find()
-    ensures { (texts : List (List ℕ)) (ds : Node) (types : Types) (heads : Heads) (homes : Homes) (d : Declared) → Keeps ds
+    ensures names { (texts : List (List ℕ)) (ds : Node) (types : Types) (heads : Heads) (homes : Homes) (d : Declared) → Keeps ds
+        → IsLeft texts ds types heads homes d → Names texts ds d }
+    ensures members { (texts : List (List ℕ)) (ds : Node) (types : Types) (heads : Heads) (homes : Homes) (d : Declared) → Keeps ds
         → IsLeft texts ds types heads homes d → Members texts ds d }
+    ensures owned { (texts : List (List ℕ)) (ds : Node) (types : Types) (heads : Heads) (homes : Homes) (d : Declared) → Keeps ds
+        → IsLeft texts ds types heads homes d → Owned texts d }
 {}
