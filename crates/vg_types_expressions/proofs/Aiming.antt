@@ -112,7 +112,8 @@ module _ (texts : List (List ℕ)) (root : held_node.Node) (d : Declared) (k : B
       → IsPlace texts root d k ls (numbered n p) (Onto (head_view texts d f.head)) s → code_of t.aims ≡ Then (code_of f.code) (code_of s.aims)
       → t.store ≡ s.store → t.type_ ≡ s.type_ → IsPlace texts root d k ls (postfix_node id at e (numbered m p)) Fresh t
   postfix_place id n m at e p f s t en l q ea es et =
-      let at_row = ap (λ z. meant texts root d k ls (numbered m p) (Onto z)) l.head ∙ ap (λ z. meant texts root d k ls (numbered z p) (Onto (head_view texts d f.head))) (sym en) in
+      let at_row = ap (λ z. meant texts root d k ls (numbered m p) (Onto z)) l.head
+      ∙ ap (λ z. meant texts root d k ls (numbered z p) (Onto (head_view texts d f.head))) (sym en) in
       let row : Resolved = meant texts root d k ls (numbered n p) (Onto (head_view texts d f.head)) in
       let is = ap settled at_row ∙ ap (settled_as row) q.head in record {
         head = ap (λ z. z.head) is ∙ q.head ∙ ap (λ z. IsValue (type_view texts d z)) (sym et);
@@ -126,9 +127,11 @@ module _ (texts : List (List ℕ)) (root : held_node.Node) (d : Declared) (k : B
       → (meant texts root d k ls (numbered n p) (Onto (head_view texts d f.head))).store ≡ None
       → (meant texts root d k ls (postfix_node id at e (numbered m p)) Fresh).store ≡ None
   postfix_no_place id n m at e p f en l q =
-      let at_row = ap (λ z. meant texts root d k ls (numbered m p) (Onto z)) l.head ∙ ap (λ z. meant texts root d k ls (numbered z p) (Onto (head_view texts d f.head))) (sym en) in
+      let at_row = ap (λ z. meant texts root d k ls (numbered m p) (Onto z)) l.head
+      ∙ ap (λ z. meant texts root d k ls (numbered z p) (Onto (head_view texts d f.head))) (sym en) in
       ap (λ z. (settled z).store) at_row
-      ∙ settled_store (meant texts root d k ls (numbered n p) (Onto (head_view texts d f.head))) (meant texts root d k ls (numbered n p) (Onto (head_view texts d f.head))).head q
+      ∙ settled_store (meant texts root d k ls (numbered n p) (Onto (head_view texts d f.head)))
+      (meant texts root d k ls (numbered n p) (Onto (head_view texts d f.head))).head q
 
   pub postfix_kept : (id n m : ℕ) (at : Spot) (e p : Node) (f : Standing) → n ≡ m → Leaves texts root d k ls e Fresh f
       → primary_breach (declarations_at texts root) (body_view texts d k).owner (scope_view texts d ls) e (numbered m p)
@@ -136,9 +139,11 @@ module _ (texts : List (List ℕ)) (root : held_node.Node) (d : Declared) (k : B
       → breach (declarations_at texts root) (body_view texts d k) (numbered n p) (Onto (head_view texts d f.head)) (scope_view texts d ls) ≡ None
       → breach (declarations_at texts root) (body_view texts d k) (postfix_node id at e (numbered m p)) Fresh (scope_view texts d ls) ≡ None
   postfix_kept id n m at e p f en l ke kp =
-      ap (λ z. z or breach (declarations_at texts root) (body_view texts d k) (numbered m p) (Onto (meant texts root d k ls e Fresh).head) (scope_view texts d ls)) ke
+      ap (λ z. z or breach (declarations_at texts root) (body_view texts d k) (numbered m p) (Onto (meant texts root d k ls e Fresh).head)
+      (scope_view texts d ls)) ke
       ∙ ap (λ z. breach (declarations_at texts root) (body_view texts d k) (numbered m p) (Onto z) (scope_view texts d ls)) l.head
-      ∙ ap (λ z. breach (declarations_at texts root) (body_view texts d k) (numbered z p) (Onto (head_view texts d f.head)) (scope_view texts d ls)) (sym en) ∙ kp
+      ∙ ap (λ z. breach (declarations_at texts root) (body_view texts d k) (numbered z p) (Onto (head_view texts d f.head)) (scope_view texts d ls))
+      (sym en) ∙ kp
 
   -- a chain
   pub chain_place : (id n m : ℕ) (at : Spot) (e p : Node) (f : Judged) (s t : Storing) → n ≡ m → Stands texts root d k ls e f
@@ -168,7 +173,8 @@ module _ (texts : List (List ℕ)) (root : held_node.Node) (d : Declared) (k : B
   chain_kept id n m at e p f en l ke kp =
       ap (λ z. z or breach (declarations_at texts root) (body_view texts d k) (numbered m p) (Onto (whole texts root d k ls e).head) (scope_view texts d ls)) ke
       ∙ ap (λ z. breach (declarations_at texts root) (body_view texts d k) (numbered m p) (Onto z) (scope_view texts d ls)) l.head
-      ∙ ap (λ z. breach (declarations_at texts root) (body_view texts d k) (numbered z p) (Onto (IsValue (type_view texts d f.type_))) (scope_view texts d ls)) (sym en)
+      ∙ ap (λ z. breach (declarations_at texts root) (body_view texts d k) (numbered z p) (Onto (IsValue (type_view texts d f.type_)))
+      (scope_view texts d ls)) (sym en)
       ∙ kp
 
   -- an element of an array

@@ -100,7 +100,8 @@ module _ (texts : List (List ℕ)) (root : held_node.Node) (d : Declared) (k : B
           ∙ ap (λ b. b && fit_of (numbered j.next more) (drop (count + 1) params)) (sym (eo ∙ ap (argument_fits texts root d j.type_) q))
       by (Some t) q =
           ap (fit_of (numbered next (tree.Then e more))) (there params count t q)
-          ∙ ap (λ z. head_fits (declarations_at texts root) z (type_view texts d t) && fit_of (numbered (next + count_nodes e) more) (drop (count + 1) params)) s.head
+          ∙ ap (λ z. head_fits (declarations_at texts root) z (type_view texts d t) && fit_of (numbered (next + count_nodes e) more)
+          (drop (count + 1) params)) s.head
           ∙ ap (λ b. b && fit_of (numbered (next + count_nodes e) more) (drop (count + 1) params)) (sym (eo ∙ ap (argument_fits texts root d j.type_) q))
           ∙ ap (λ z. one && fit_of (numbered z more) (drop (count + 1) params)) (sym n)
 
@@ -121,7 +122,8 @@ module _ (texts : List (List ℕ)) (root : held_node.Node) (d : Declared) (k : B
             ∙ ap (λ z. breach ds (body_view texts d k) (numbered z more) Fresh (scope_view texts d ls)) (sym n);
         stands = r.stands
             ∙ ap (λ z. behind_all texts d codes (in_front z
-            (resolved ds (body_view texts d k).owner (numbered (next + count_nodes e) more) Fresh (whole texts root d k ls (numbered next e)).scope))) (sym s.does)
+            (resolved ds (body_view texts d k).owner (numbered (next + count_nodes e) more) Fresh (whole texts root d k ls (numbered next e)).scope)))
+            (sym s.does)
             ∙ ap (λ z. behind_all texts d codes (in_front (code_view texts d j.code)
             (resolved ds (body_view texts d k).owner (numbered (next + count_nodes e) more) Fresh z))) s.scope
             ∙ ap (λ z. behind_all texts d codes (in_front (code_view texts d j.code) (meant texts root d k ls (numbered z more) Fresh))) (sym n)
@@ -140,7 +142,8 @@ module _ (texts : List (List ℕ)) (root : held_node.Node) (d : Declared) (k : B
             let size = old.1 in (
               j.type_ ∷ old.0,
               omega (arith, size),
-              subst (Subs d.tables (j.type_ ∷ old.0)) (sym (ap (λ z. onto z []) (take_more params count t.0 t.1) ∙ onto_last (take count params) t.0 [])) (t.2, old.2),
+              subst (Subs d.tables (j.type_ ∷ old.0)) (sym (ap (λ z. onto z []) (take_more params count t.0 t.1) ∙ onto_last (take count params) t.0 []))
+                  (t.2, old.2),
               λ o x sees c y g. subst (λ z. Fits (known d.tables ls.declared o k.result) k.in_loop z x y) (sym (code_more codes j.code c))
                   (old.3 o x sees (Then (code_of j.code) c) y (j.type_ ∷ (old.0 ++ x), l o (old.0 ++ x) sees, g)),
             );

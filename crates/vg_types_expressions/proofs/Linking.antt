@@ -84,8 +84,10 @@ module _ (texts : List (List ℕ)) (root : held_node.Node) (d : Declared) (k : B
         stands = r.stands
             ∙ ap (λ z. behind_all texts d codes (in_front z (meant texts root d k ls (numbered (next + count_nodes e) rest)
             (Onto (meant texts root d k ls (numbered next e) (Onto (head_view texts d h))).head)))) (sym s.does)
-            ∙ ap (λ z. behind_all texts d codes (in_front (code_view texts d j.code) (meant texts root d k ls (numbered (next + count_nodes e) rest) (Onto z)))) s.head
-            ∙ ap (λ z. behind_all texts d codes (in_front (code_view texts d j.code) (meant texts root d k ls (numbered z rest) (Onto (head_view texts d j.head)))))
+            ∙ ap (λ z. behind_all texts d codes (in_front (code_view texts d j.code)
+            (meant texts root d k ls (numbered (next + count_nodes e) rest) (Onto z)))) s.head
+            ∙ ap (λ z. behind_all texts d codes (in_front (code_view texts d j.code)
+            (meant texts root d k ls (numbered z rest) (Onto (head_view texts d j.head)))))
             (sym n)
             ∙ sym (behind_more texts d codes j.code (meant texts root d k ls (numbered j.next rest) (Onto (head_view texts d j.head))));
         along = λ o x sees c y f.

@@ -1,5 +1,6 @@
 -- What expressions stand for, from what stands for their parts.
-use Rattle.std.proofs.Common.{◌≡◌, ℕ, ◌<◌, ◌+◌, zero, suc, true, false, List, [], ◌∷◌, Option, Some, None, length, get_or, slice_get, refl, sym, ap, ◌∙◌, subst, arith}
+use Rattle.std.proofs.Common.{◌≡◌, ℕ, ◌<◌, ◌+◌, zero, suc, true, false, List, [], ◌∷◌}
+use Rattle.std.proofs.Common.{Option, Some, None, length, get_or, slice_get, refl, sym, ap, ◌∙◌, subst, arith}
 use Rattle.std.proofs.lemmas.Option.{slice_get_within, slice_get-get_or}
 use Rattle.vg_meaning.specs.Code.{Code, Then, Do}
 use Rattle.vg_meaning.specs.Shapes.{Fits}
@@ -14,7 +15,8 @@ use Rattle.vg_source.specs.Resolved.{Owner, Scope, Fresh, Onto, IsValue, index_s
 use Rattle.vg_rules.specs.Breach.{Breach, asks, ◌or◌}
 use Rattle.vg_rules.specs.Bodies.{breach, primary_breach, index_keeps, is_int}
 use Rattle.vg_core.specs.declared.types.CoreType.{CoreType}
-use Rattle.vg_core.specs.declared.types.CoreType.TheVariants.{IntType, BoolType, CharType, RawType, NullType, ClassType, ArrayType, FunctionType, NoType, MoreTypes}
+use Rattle.vg_core.specs.declared.types.CoreType.TheVariants.{IntType, BoolType, CharType, RawType, NullType}
+use Rattle.vg_core.specs.declared.types.CoreType.TheVariants.{ClassType, ArrayType, FunctionType, NoType, MoreTypes}
 use Rattle.vg_core.specs.declared.step.Step.{Step}
 use Rattle.vg_core.specs.declared.step.Step.TheVariants as step
 use Rattle.vg_core.specs.declared.program.Tables.{Tables}
@@ -80,8 +82,10 @@ module _ (texts : List (List ℕ)) (root : held_node.Node) (d : Declared) (k : B
   chain_leaves id n m at e p f b t en ke s kb l eh ec =
       let ds : Node = declarations_at texts root in
       let at_parts = ap (λ z. resolved.resolved ds (body_view texts d k).owner (numbered m p) (Onto z) (scope_view texts d ls)) s.head
-      ∙ ap (λ z. resolved.resolved ds (body_view texts d k).owner (numbered z p) (Onto (IsValue (type_view texts d f.type_))) (scope_view texts d ls)) (sym en) in (
-        ap (λ z. z or breach ds (body_view texts d k) (numbered m p) (Onto (resolved.settled (resolved.resolved ds (body_view texts d k).owner e Fresh (scope_view texts d ls))).head)
+      ∙ ap (λ z. resolved.resolved ds (body_view texts d k).owner (numbered z p) (Onto (IsValue (type_view texts d f.type_))) (scope_view texts d ls))
+      (sym en) in (
+        ap (λ z. z or breach ds (body_view texts d k) (numbered m p) (Onto
+            (resolved.settled (resolved.resolved ds (body_view texts d k).owner e Fresh (scope_view texts d ls))).head)
             (scope_view texts d ls)) ke
             ∙ ap (λ z. breach ds (body_view texts d k) (numbered m p) (Onto z) (scope_view texts d ls)) s.head
             ∙ ap (λ z. breach ds (body_view texts d k) (numbered z p) (Onto (IsValue (type_view texts d f.type_))) (scope_view texts d ls)) (sym en) ∙ kb,
@@ -124,7 +128,8 @@ module _ (texts : List (List ℕ)) (root : held_node.Node) (d : Declared) (k : B
       (subst (Leads d.tables k ls (Value (ArrayType n)) (code_of j.code)) (sym ej)
       (λ o x s. subst (λ z. Fits (known d.tables ls.declared o k.result) k.in_loop z (ArrayType n ∷ x) (t ∷ x)) (sym ec) (
         IntType ∷ ArrayType n ∷ x,
-        subst (λ z. Fits (known d.tables ls.declared o k.result) k.in_loop (code_of i.code) (ArrayType n ∷ x) (z ∷ ArrayType n ∷ x)) ei (puts o (ArrayType n ∷ x) s),
+        subst (λ z. Fits (known d.tables ls.declared o k.result) k.in_loop (code_of i.code) (ArrayType n ∷ x) (z ∷ ArrayType n ∷ x)) ei
+            (puts o (ArrayType n ∷ x) s),
         t_item et,
       )))
 

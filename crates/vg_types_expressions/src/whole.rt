@@ -215,7 +215,8 @@ pub(crate) fn operand(
     requires body { IsBody declared.now.tables body }
     requires scope { AreDeclared declared.now.tables locals.now }
     requires room { id + count_nodes (node_at names.now first.now) < 2 ^ 32 }
-    ensures judged { Judges (Leaves names.now root.now declared.now body locals.now (numbered id (node_at names.now first.now)) Fresh) result (primary_breach (declarations_at names.now root.now)
+    ensures judged { Judges (Leaves names.now root.now declared.now body locals.now (numbered id (node_at names.now first.now)) Fresh) result
+        (primary_breach (declarations_at names.now root.now)
         (owner_view names.now declared.now body.owner) (scope_view names.now declared.now locals.now) (numbered id (node_at names.now first.now))
         (numbered (id + count_nodes (node_at names.now first.now)) (node_at names.now suffixes.now))
         (breach (declarations_at names.now root.now) (body_view names.now declared.now body) (numbered id (node_at names.now first.now)) Fresh
@@ -305,7 +306,8 @@ fn links(
     requires scope { AreDeclared declared.now.tables locals.now }
     requires head { IsHead names.now declared.now head }
     requires room { id + count_nodes (node_at names.now row.now) < 2 ^ 32 }
-    ensures judged { Behind names.now root.now declared.now body locals.now (numbered id (node_at names.now row.now)) (Onto (head_view names.now declared.now head)) result }
+    ensures judged { Behind names.now root.now declared.now body locals.now (numbered id (node_at names.now row.now))
+        (Onto (head_view names.now declared.now head)) result }
     ensures typed { IfOk result (λ j. Leads declared.now.tables body locals.now head (code_of j.code) j.head) }
     ensures value { IfOk result (λ j. HasValue j.head) }
     ensures next { IfOk result (λ j. j.next ≡ id + count_nodes (node_at names.now row.now)) }
@@ -335,7 +337,8 @@ fn link_row(
     requires scope { AreDeclared declared.now.tables locals.now }
     requires head { IsHead names.now declared.now head }
     requires room { id + count_nodes (row_at names.now nodes.now) < 2 ^ 32 }
-    ensures judged { Behind names.now root.now declared.now body locals.now (numbered id (row_at names.now nodes.now)) (Onto (head_view names.now declared.now head)) result }
+    ensures judged { Behind names.now root.now declared.now body locals.now (numbered id (row_at names.now nodes.now))
+        (Onto (head_view names.now declared.now head)) result }
     ensures typed { IfOk result (λ j. Leads declared.now.tables body locals.now head (code_of j.code) j.head) }
     ensures value { IfOk result (λ j. HasValue j.head) }
     ensures next { IfOk result (λ j. j.next ≡ id + count_nodes (row_at names.now nodes.now)) }
@@ -433,7 +436,8 @@ pub(crate) fn link(
     requires scope { AreDeclared declared.now.tables locals.now }
     requires head { IsHead names.now declared.now head }
     requires room { id + count_nodes (node_at names.now node.now) < 2 ^ 32 }
-    ensures judged { Behind names.now root.now declared.now body locals.now (numbered id (node_at names.now node.now)) (Onto (head_view names.now declared.now head)) result }
+    ensures judged { Behind names.now root.now declared.now body locals.now (numbered id (node_at names.now node.now))
+        (Onto (head_view names.now declared.now head)) result }
     ensures typed { IfOk result (λ j. Leads declared.now.tables body locals.now head (code_of j.code) j.head) }
     ensures value { IfOk result (λ j. HasValue j.head) }
     ensures next { IfOk result (λ j. j.next ≡ id + count_nodes (node_at names.now node.now)) }
@@ -469,7 +473,8 @@ fn index_behind(
     requires scope { AreDeclared declared.now.tables locals.now }
     requires head { IsHead names.now declared.now head }
     requires room { id + 1 + count_nodes (node_at names.now index.now) < 2 ^ 32 }
-    ensures judged { Behind names.now root.now declared.now body locals.now (index_node id (spot place) (numbered (id + 1) (node_at names.now index.now))) (Onto (head_view names.now declared.now head)) result }
+    ensures judged { Behind names.now root.now declared.now body locals.now (index_node id (spot place) (numbered (id + 1) (node_at names.now index.now)))
+        (Onto (head_view names.now declared.now head)) result }
     ensures typed { IfOk result (λ j. Leads declared.now.tables body locals.now head (code_of j.code) j.head) }
     ensures value { IfOk result (λ j. HasValue j.head) }
     ensures next { IfOk result (λ j. j.next ≡ id + 1 + count_nodes (node_at names.now index.now)) }

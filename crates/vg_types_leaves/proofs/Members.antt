@@ -27,11 +27,13 @@ use Rattle.vg_types_leaves.proofs.Types.{number_view}
 module _ (texts : List (List ℕ)) (root : held_node.Node) (d : Declared) (all : Declares texts root d) (ls : Locals) where
   pub object_field : (c f id : ℕ) (x : Name) (k : Class) (y : Field) → slice_get d.tables.classes c ≡ Some k → member_of d k.above x ≡ Some (FieldNumber f)
       → slice_get d.tables.fields f ≡ Some y
-      → Reaches texts d id ls (object_member id ((naming texts d).class c) x (class_member (declarations_at texts root) ((naming texts d).class c) x) (scope_view texts d ls))
+      → Reaches texts d id ls (object_member id ((naming texts d).class c) x (class_member (declarations_at texts root) ((naming texts d).class c) x)
+      (scope_view texts d ls))
       (Some (reached.Field c f y.type_))
   object_field c f id x k y hk hm hf =
       let m = all.member_is c k x (FieldNumber f) hk hm in
-      let e : class_member (declarations_at texts root) ((naming texts d).class c) x ≡ Some (AField ((naming texts d).field f).owner (type_view texts d y.type_))
+      let e : class_member (declarations_at texts root) ((naming texts d).class c) x ≡ Some
+      (AField ((naming texts d).field f).owner (type_view texts d y.type_))
       = sym (all.members c k x hk) ∙ ap (option_and_then (member_view texts d)) hm ∙ ap (field_view texts d f) hf in
       let found = m.2 in
       let same : m.0 ≡ y = cc in (
@@ -42,7 +44,8 @@ module _ (texts : List (List ℕ)) (root : held_node.Node) (d : Declared) (all :
       )
 
   pub object_method : (c m id : ℕ) (x : Name) (k : Class) → slice_get d.tables.classes c ≡ Some k → member_of d k.above x ≡ Some (MethodNumber m)
-      → Reaches texts d id ls (object_member id ((naming texts d).class c) x (class_member (declarations_at texts root) ((naming texts d).class c) x) (scope_view texts d ls))
+      → Reaches texts d id ls (object_member id ((naming texts d).class c) x (class_member (declarations_at texts root) ((naming texts d).class c) x)
+      (scope_view texts d ls))
       (Some (reached.OwnMethod c m))
   object_method c m id x k hk hm =
       let is = all.member_is c k x (MethodNumber m) hk hm in
@@ -57,21 +60,26 @@ module _ (texts : List (List ℕ)) (root : held_node.Node) (d : Declared) (all :
 
   pub no_object_field : (c f id : ℕ) (x : Name) (k : Class) → slice_get d.tables.classes c ≡ Some k → member_of d k.above x ≡ Some (FieldNumber f)
       → slice_get d.tables.fields f ≡ None
-      → Reaches texts d id ls (object_member id ((naming texts d).class c) x (class_member (declarations_at texts root) ((naming texts d).class c) x) (scope_view texts d ls))
+      → Reaches texts d id ls (object_member id ((naming texts d).class c) x (class_member (declarations_at texts root) ((naming texts d).class c) x)
+      (scope_view texts d ls))
       None
   no_object_field c f id x k hk hm hf =
       ap (λ z. object_member id ((naming texts d).class c) x z (scope_view texts d ls))
       (sym (all.members c k x hk) ∙ ap (option_and_then (member_view texts d)) hm ∙ ap (field_view texts d f) hf)
 
   pub no_object_member : (c id : ℕ) (x : Name) (k : Class) → slice_get d.tables.classes c ≡ Some k → member_of d k.above x ≡ None
-      → Reaches texts d id ls (object_member id ((naming texts d).class c) x (class_member (declarations_at texts root) ((naming texts d).class c) x) (scope_view texts d ls))
+      → Reaches texts d id ls (object_member id ((naming texts d).class c) x (class_member (declarations_at texts root) ((naming texts d).class c) x)
+      (scope_view texts d ls))
       None
   no_object_member c id x k hk hm =
-      ap (λ z. object_member id ((naming texts d).class c) x z (scope_view texts d ls)) (sym (all.members c k x hk) ∙ ap (option_and_then (member_view texts d)) hm)
+      ap (λ z. object_member id ((naming texts d).class c) x z (scope_view texts d ls))
+      (sym (all.members c k x hk) ∙ ap (option_and_then (member_view texts d)) hm)
 
-  pub its_field : (k f id y : ℕ) (x : Name) (z : Field) → slice_get d.tables.components k ≡ Some y → found_in x (slice_get d.component_members k) ≡ Some (FieldNumber f)
+  pub its_field : (k f id y : ℕ) (x : Name) (z : Field) → slice_get d.tables.components k ≡ Some y
+      → found_in x (slice_get d.component_members k) ≡ Some (FieldNumber f)
       → slice_get d.tables.fields f ≡ Some z
-      → Reaches texts d id ls (its_member ((naming texts d).component k) x (component_member (declarations_at texts root) ((naming texts d).component k) x) (scope_view texts d ls))
+      → Reaches texts d id ls (its_member ((naming texts d).component k) x
+      (component_member (declarations_at texts root) ((naming texts d).component k) x) (scope_view texts d ls))
       (Some (reached.Global f z.type_))
   its_field k f id y x z hk hm hf =
       let m = all.component_member_is k y x (FieldNumber f) hk hm in
@@ -87,7 +95,8 @@ module _ (texts : List (List ℕ)) (root : held_node.Node) (d : Declared) (all :
       )
 
   pub its_method : (k m id y : ℕ) (x : Name) → slice_get d.tables.components k ≡ Some y → found_in x (slice_get d.component_members k) ≡ Some (MethodNumber m)
-      → Reaches texts d id ls (its_member ((naming texts d).component k) x (component_member (declarations_at texts root) ((naming texts d).component k) x) (scope_view texts d ls))
+      → Reaches texts d id ls (its_member ((naming texts d).component k) x
+      (component_member (declarations_at texts root) ((naming texts d).component k) x) (scope_view texts d ls))
       (Some (reached.ItsMethod m))
   its_method k m id y x hk hm =
       let is = all.component_member_is k y x (MethodNumber m) hk hm in
@@ -105,11 +114,13 @@ module _ (texts : List (List ℕ)) (root : held_node.Node) (d : Declared) (all :
       )
 
   pub length_reached : (at i : ℕ) (x : Name) (t : CoreType) → t ≡ ArrayType i → IsKnown d.tables t → bytes_eq x length_name ≡ true
-      → Reaches texts d at ls (member_suffix (declarations_at texts root) at x (scope_view texts d ls) (IsValue (type_view texts d t))) (Some (reached.Length i))
+      → Reaches texts d at ls (member_suffix (declarations_at texts root) at x (scope_view texts d ls) (IsValue (type_view texts d t)))
+      (Some (reached.Length i))
   length_reached at i x t et k e =
       let known : IsTypeNumber d.tables i = subst (IsKnown d.tables) et k in (
         ap (λ z. member_suffix (declarations_at texts root) at x (scope_view texts d ls) (IsValue (type_view texts d z))) et
-            ∙ ap (λ b. if b then single (source.Length at (named_number (named_types (naming texts d) [] d.tables.types) i)) (IsValue IntOf) (scope_view texts d ls)
+            ∙ ap (λ b. if b then single (source.Length at (named_number (named_types (naming texts d) [] d.tables.types) i)) (IsValue IntOf)
+            (scope_view texts d ls)
             else nothing NoHead (scope_view texts d ls)) e
             ∙ ap (λ z. single (source.Length at z) (IsValue IntOf) (scope_view texts d ls)) (number_view (naming texts d) d.tables all.formed i known),
         tt,

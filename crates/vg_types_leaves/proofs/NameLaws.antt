@@ -47,7 +47,8 @@ module _ (ds : Node) (x : Name) (ls : Scope) (none : find_local ls.names x ≡ N
   own texts d at c r None e = has_head texts d at ls r (ap (λ m. m.head) e)
   own texts d at c r (Some m) e = (refl, ap (in_front (Do source.This)) e)
 
-  no_own : (at : ℕ) (c : Name) (o : Option Member) → object_member at c x o ls ≡ nothing NoHead ls → (is_some o ≡ false) × (own_member ds at c x o ls ≡ top_name ds x ls)
+  no_own : (at : ℕ) (c : Name) (o : Option Member) → object_member at c x o ls ≡ nothing NoHead ls → (is_some o ≡ false)
+      × (own_member ds at c x o ls ≡ top_name ds x ls)
   no_own at c None e = (refl, refl)
   no_own at c (Some (AField d t)) e = absurd (let clash : IsValue t ≡ NoHead = ap (λ m. m.head) e in cc)
   no_own at c (Some (AMethod ps r)) e = absurd (let clash : OwnMethod at c x ps r ≡ NoHead = ap (λ m. m.head) e in cc)

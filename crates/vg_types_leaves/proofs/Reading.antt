@@ -107,12 +107,14 @@ module _ (texts : List (List ℕ)) (d : Declared) (ls : Locals) where
     known = subst (IsHead texts d) (sym eh) (reads_known at r h);
   }
 
-  pub leads_this : (k : BodyKind) (at c : ℕ) (r : Reached) (j : Standing) → IsReached texts d ls r → front r ≡ head.Value (ClassType c) → k.owner ≡ Some (InClass c)
+  pub leads_this : (k : BodyKind) (at c : ℕ) (r : Reached) (j : Standing) → IsReached texts d ls r → front r ≡ head.Value (ClassType c)
+      → k.owner ≡ Some (InClass c)
       → j.head ≡ reached_head at r → code_of j.code ≡ Then (Do step.This) (reached_code at r) → Leads d.tables k ls head.Nothing (code_of j.code) j.head
   leads_this k at c r j h ef eo eh ec o x s =
       let is : InClass c ≡ o = subst (λ z. Sees z o) eo s in
       let reading : Fits (known d.tables ls.declared o k.result) k.in_loop (reached_code at r) (ClassType c ∷ x) (waiting (reached_head at r) x)
-      = subst (λ z. Fits (known d.tables ls.declared o k.result) k.in_loop (reached_code at r) (waiting z x) (waiting (reached_head at r) x)) ef (reads k at r h o x s) in
+      = subst (λ z. Fits (known d.tables ls.declared o k.result) k.in_loop (reached_code at r) (waiting z x) (waiting (reached_head at r) x)) ef
+      (reads k at r h o x s) in
       subst (λ z. Fits (known d.tables ls.declared o k.result) k.in_loop z x (waiting j.head x)) (sym ec) (
         ClassType c ∷ x,
         t_this (sym is),

@@ -22,7 +22,8 @@ use Rattle.vg_types_tables.specs.Promises.{IsHead, Leaves}
 use Rattle.vg_types_tables.proofs.TypeViews.{number_named}
 use Rattle.vg_types_leaves.specs.Nodes.{string_node}
 
-pub string_leaves : (texts : List (List ℕ)) (root : held_node.Node) (d : Declared) (k : BodyKind) (ls : Locals) (id n : ℕ) (at : Spot) (x : List ℕ) (j : Standing)
+pub string_leaves : (texts : List (List ℕ)) (root : held_node.Node) (d : Declared) (k : BodyKind) (ls : Locals) (id n : ℕ) (at : Spot) (x : List ℕ)
+    (j : Standing)
     → Declares texts root d → n ≡ place_in (literal_nodes (declarations_at texts root)) id → j.head ≡ Value (ArrayType d.tables.char_type)
     → code_of j.code ≡ Do (Literal n) → Leaves texts root d k ls (string_node id at x) Fresh j
 string_leaves texts root d k ls id n at x j all en eh ec = record {

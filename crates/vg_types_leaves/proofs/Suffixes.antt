@@ -45,7 +45,8 @@ module _ (texts : List (List ℕ)) (root : held_node.Node) (d : Declared) (k : B
   member_leaves h at spot x y r j e (m, is) eh ec =
       let s : Shows texts d ls (member_suffix (declarations_at texts root) at y (scope_view texts d ls) (head_view texts d h)) j
       = subst (λ z. Shows texts d ls z j) (sym m) (shows_reached texts d ls at r j is eh ec) in
-      subst (λ z. (breach (declarations_at texts root) (body_view texts d k) (member_node at spot z) (Onto (head_view texts d h)) (scope_view texts d ls) ≡ None)
+      subst (λ z. (breach (declarations_at texts root) (body_view texts d k) (member_node at spot z) (Onto (head_view texts d h)) (scope_view texts d ls)
+      ≡ None)
       × Leaves texts root d k ls (member_node at spot z) (Onto (head_view texts d h)) j) e (
         ap (λ z. asks (is_there z) 16 (record { id = at; place = spot.place })) (s.head ∙ ap (head_view texts d) eh)
             ∙ ap (λ b. asks b 16 (record { id = at; place = spot.place })) (there at r),
@@ -53,12 +54,14 @@ module _ (texts : List (List ℕ)) (root : held_node.Node) (d : Declared) (k : B
       )
 
   -- code leads from what waits alike
-  pub leads_from : (h g : Head) (c : Code Step) (e : Head) → ((x : List CoreType) → waiting h x ≡ waiting g x) → Leads d.tables k ls g c e → Leads d.tables k ls h c e
+  pub leads_from : (h g : Head) (c : Code Step) (e : Head) → ((x : List CoreType) → waiting h x ≡ waiting g x) → Leads d.tables k ls g c e
+      → Leads d.tables k ls h c e
   leads_from h g c e w l o x s =
       subst (λ z. Fits (known d.tables ls.declared o k.result) k.in_loop c z (waiting e x)) (sym (w x)) (l o x s)
 
   -- what is reached as a target
-  pub aims_at : (at : ℕ) (r : Reached) (o : Option Storing) → IsReached texts d ls r → Places at r o → AimsAt texts d (reached_at texts d at (scope_view texts d ls) r) o
+  pub aims_at : (at : ℕ) (r : Reached) (o : Option Storing) → IsReached texts d ls r → Places at r o
+      → AimsAt texts d (reached_at texts d at (scope_view texts d ls) r) o
   aims_at at r (Some s) h p = places texts d ls at r s h p
   aims_at at r None h p = no_places texts d ls at r p
 
@@ -74,14 +77,16 @@ module _ (texts : List (List ℕ)) (root : held_node.Node) (d : Declared) (k : B
       × Aims texts root d k ls (member_node at spot x) (Onto (head_view texts d h)) (record { place = o; next = next })
   member_aims h at spot x y r o next e (m, is) p =
       let a = subst (λ z. AimsAt texts d z o) (sym m) (aims_at at r o is p) in
-      subst (λ z. (breach (declarations_at texts root) (body_view texts d k) (member_node at spot z) (Onto (head_view texts d h)) (scope_view texts d ls) ≡ None)
+      subst (λ z. (breach (declarations_at texts root) (body_view texts d k) (member_node at spot z) (Onto (head_view texts d h)) (scope_view texts d ls)
+      ≡ None)
       × Aims texts root d k ls (member_node at spot z) (Onto (head_view texts d h)) (record { place = o; next = next })) e (
         ap (λ z. asks (is_there z) 16 (record { id = at; place = spot.place })) (ap (λ z. z.head) m ∙ reads_head texts d ls at r)
             ∙ ap (λ b. asks b 16 (record { id = at; place = spot.place })) (there at r),
         member_place h at spot y o next a,
       )
 
-  pub member_stores : (h : Head) (at : ℕ) (r : Reached) (o : Option Storing) → ((x : List CoreType) → waiting h x ≡ waiting (front r) x) → IsReached texts d ls r
+  pub member_stores : (h : Head) (at : ℕ) (r : Reached) (o : Option Storing) → ((x : List CoreType) → waiting h x ≡ waiting (front r) x)
+      → IsReached texts d ls r
       → Places at r o → IfSome o (Stores d.tables k ls h)
   member_stores h at r None w is p = tt
   member_stores h at r (Some s) w is p = λ o x sees.

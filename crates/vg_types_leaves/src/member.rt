@@ -163,7 +163,8 @@ pub(crate) fn its_register(
     id: u32,
 ) -> Option<Reached>
     requires declares { Declares names.now root.now declared.now }
-    ensures reached { Reaches names.now declared.now id locals.now (its_register (register_of (device_named (declarations_at names.now root.now) device.now) text.now)
+    ensures reached { Reaches names.now declared.now id locals.now (its_register
+        (register_of (device_named (declarations_at names.now root.now) device.now) text.now)
         (scope_view names.now declared.now locals.now)) result }
     ensures front { IfSome result (λ r. front r ≡ Nothing) }
 {

@@ -21,7 +21,10 @@ returns-in_ok-push-in-Some-clause-judged c =
     (last_left c.args.names.now nodes (length nodes - 1) n (grind (arith, common_steps)) c.index-nodes-nodes.is) c.in_ok-fronts.ensures.judged in
     let s = c.in-Some.place in
     let t : Storing = record { aims = c.chain.result; store = s.store; type_ = s.type_ } in
-    let p = subst (λ o. Aims c.args.names.now c.args.root.now c.args.declared.now c.args.body c.args.locals.now (numbered c.in_ok-fronts.fronts.next (node_at c.args.names.now n)) (Onto (head_view c.args.names.now c.args.declared.now c.in_ok-fronts.fronts.head)) (record { place = o; next = c.in_ok-last.last.next })) c.in-Some.is
+    let p = subst (λ o. Aims c.args.names.now c.args.root.now c.args.declared.now c.args.body c.args.locals.now
+    (numbered c.in_ok-fronts.fronts.next (node_at c.args.names.now n))
+    (Onto (head_view c.args.names.now c.args.declared.now c.in_ok-fronts.fronts.head)) (record { place = o; next = c.in_ok-last.last.next }))
+    c.in-Some.is
     c.in_ok-last.ensures.judged.1 in (
       row_kept c.args.names.now c.args.root.now c.args.declared.now c.args.body c.args.locals.now c.args.head c.args.id (row_at c.args.names.now nodes)
           c.in_ok-fronts.fronts.codes.items c.in_ok-fronts.fronts.head c.in_ok-fronts.fronts.next (node_at c.args.names.now n) r c.in_ok-last.ensures.judged.0,
@@ -52,7 +55,10 @@ returns-in-None-clause-judged c =
     let r = subst (Linking c.args.names.now c.args.root.now c.args.declared.now c.args.body c.args.locals.now c.args.head c.args.id
     (row_at c.args.names.now nodes) c.in_ok-fronts.fronts.codes.items c.in_ok-fronts.fronts.head c.in_ok-fronts.fronts.next)
     (last_left c.args.names.now nodes (length nodes - 1) n (grind (arith, common_steps)) c.index-nodes-nodes.is) c.in_ok-fronts.ensures.judged in
-    let p = subst (λ o. Aims c.args.names.now c.args.root.now c.args.declared.now c.args.body c.args.locals.now (numbered c.in_ok-fronts.fronts.next (node_at c.args.names.now n)) (Onto (head_view c.args.names.now c.args.declared.now c.in_ok-fronts.fronts.head)) (record { place = o; next = c.in_ok-last.last.next })) c.in-None.is
+    let p = subst (λ o. Aims c.args.names.now c.args.root.now c.args.declared.now c.args.body c.args.locals.now
+    (numbered c.in_ok-fronts.fronts.next (node_at c.args.names.now n))
+    (Onto (head_view c.args.names.now c.args.declared.now c.in_ok-fronts.fronts.head)) (record { place = o; next = c.in_ok-last.last.next }))
+    c.in-None.is
     c.in_ok-last.ensures.judged.1 in (
       row_kept c.args.names.now c.args.root.now c.args.declared.now c.args.body c.args.locals.now c.args.head c.args.id (row_at c.args.names.now nodes)
           c.in_ok-fronts.fronts.codes.items c.in_ok-fronts.fronts.head c.in_ok-fronts.fronts.next (node_at c.args.names.now n) r c.in_ok-last.ensures.judged.0,

@@ -23,7 +23,8 @@ pub returns-in_ok-code-in-OwnMethod-clause-typed : goal.returns-in_ok-code-in-Ow
 returns-in_ok-code-in-OwnMethod-clause-typed c = λ h l.
     let y = c.in_ok-typed-in-OwnMethod.ensures in
     own_typed c.args.names.now c.args.root.now c.args.declared.now c.requires.declares c.args.body c.args.locals.now c.in-OwnMethod.at c.in-OwnMethod.class
-    c.in-OwnMethod.method c.in_ok-typed-in-OwnMethod.typed.0 y.0 c.in_ok-typed-in-OwnMethod.typed.1 c.args.standing.head h (code_of c.args.standing.code) (code_of c.in_ok-code-in-OwnMethod.code)
+    c.in-OwnMethod.method c.in_ok-typed-in-OwnMethod.typed.0 y.0 c.in_ok-typed-in-OwnMethod.typed.1 c.args.standing.head h (code_of c.args.standing.code)
+    (code_of c.in_ok-code-in-OwnMethod.code)
     c.in-OwnMethod.is c.requires.head y.1 y.2 y.3 c.in_ok-code-in-OwnMethod.ensures l
 
 pub returns-in_ok-code-in-ItsMethod-clause-head : goal.returns-in_ok-code-in-ItsMethod-clause-head

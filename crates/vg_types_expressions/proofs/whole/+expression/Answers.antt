@@ -78,8 +78,10 @@ operator_chain-returns-clause-judged t c =
     let j : Standing = record { head = c.in_ok-behind.behind.head; code = c.in_ok-code.code; next = c.in_ok-behind.behind.next } in
     chain_leaves c.args.names.now c.args.root.now c.args.declared.now c.args.body c.args.locals.now c.args.id c.in_ok-front.front.next
     (c.args.id + 1 + count_nodes (node_at c.args.names.now c.args.first.now)) (spot c.args.place)
-    (numbered (c.args.id + 1) (node_at c.args.names.now c.args.first.now)) (node_at c.args.names.now c.args.parts.now) c.in_ok-front.front c.in_ok-behind.behind j
-    c.in_ok-front.ensures.next c.in_ok-front.ensures.judged.0 c.in_ok-front.ensures.judged.1 c.in_ok-behind.ensures.judged.0 c.in_ok-behind.ensures.judged.1 refl
+    (numbered (c.args.id + 1) (node_at c.args.names.now c.args.first.now))
+    (node_at c.args.names.now c.args.parts.now) c.in_ok-front.front c.in_ok-behind.behind j
+    c.in_ok-front.ensures.next c.in_ok-front.ensures.judged.0 c.in_ok-front.ensures.judged.1 c.in_ok-behind.ensures.judged.0
+    c.in_ok-behind.ensures.judged.1 refl
     c.in_ok-code.ensures
 
 pub operator_chain-returns-clause-typed : goal.operator_chain-returns-clause-typed

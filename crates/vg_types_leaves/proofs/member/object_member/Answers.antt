@@ -12,7 +12,8 @@ pub returns-in-None-field_at-clause-reached : goal.returns-in-None-field_at-clau
 returns-in-None-field_at-clause-reached c =
     no_object_field c.args.names.now c.args.root.now c.args.declared.now c.requires.declares c.args.locals.now c.args.class c.in-Some-Field.number c.args.id
     c.args.text.now c.requires.class.0 c.requires.class.1
-    (sym (c.class_member.ensures _ c.requires.class.1) ∙ c.in-Some-Field.is ∙ ap Some c.in-Some-Field.field-0-is) (sym c.field_at.ensures ∙ c.in-None-field_at.is)
+    (sym (c.class_member.ensures _ c.requires.class.1) ∙ c.in-Some-Field.is ∙ ap Some c.in-Some-Field.field-0-is)
+    (sym c.field_at.ensures ∙ c.in-None-field_at.is)
 
 pub returns-in-Some-Method-clause-reached : goal.returns-in-Some-Method-clause-reached
 returns-in-Some-Method-clause-reached c =
