@@ -33,7 +33,7 @@ or_assoc : {A : Type 0} (a b c : Option A) → or_else (or_else a b) c ≡ or_el
 or_assoc None b c = refl
 or_assoc (Some a) b c = refl
 
-row_written : (ps : List Param) → row_of ps ≡ row_from (written_params ps)
+pub row_written : (ps : List Param) → row_of ps ≡ row_from (written_params ps)
 row_written [] = refl
 row_written (p ∷ ps) = ap (MoreTypes (written_type p.type)) (row_written ps)
 

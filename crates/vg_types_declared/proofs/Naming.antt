@@ -158,7 +158,7 @@ module _ (texts : List (List ℕ)) (ds : Node) (types : Types) (heads : Heads) (
       ∙ ap (λ z. named_type_in (naming texts d) z t) (types_same (naming texts d) (class_names types.classes) all_named [] types.numbers.keys)
       ∙ type_same (naming texts d) (class_names types.classes) all_named (named_types (class_names types.classes) [] types.numbers.keys) t
 
-  row_same : (ts : List CoreType) → row_view texts d ts ≡ row_from (map (view_of texts types) ts)
+  pub row_same : (ts : List CoreType) → row_view texts d ts ≡ row_from (map (view_of texts types) ts)
   row_same [] = refl
   row_same (t ∷ ts) =
       ap (λ z. source.MoreTypes z (row_view texts d ts)) (view_same t) ∙ ap (source.MoreTypes (view_of texts types t)) (row_same ts)
