@@ -45,8 +45,13 @@ params_same i _ = refl
 
 declaration_same : (i : ℕ) (d : Node) (v : HomesView) → with_declaration (numbered i d) v ≡ with_declaration d v
 declaration_same i (ClassDecl at c above ms) v =
-    ap (λ z. class_behind (written_params z) (with_members (record { owner = InClass (length v.class_members); slot = 0 }) (numbered (i + 1) ms) (home_starts v)) v) (params_same (i + 1) ms)
-    ∙ ap (λ z. class_behind (written_params (constructor_in ms).params) z v) (members_same (record { owner = InClass (length v.class_members); slot = 0 }) (i + 1) ms (home_starts v))
+    ap (λ z. class_behind (written_params z) (with_members (record { owner = InClass (length v.class_members); slot = 0 }) (numbered (i + 1) ms)
+    (home_starts v)) v) (params_same (i + 1) ms)
+    ∙ ap (λ z. class_behind (written_params (constructor_in ms).params) z v) (members_same (record {
+      owner = InClass
+          (length v.class_members);
+      slot = 0;
+    }) (i + 1) ms (home_starts v))
 declaration_same i (ComponentDecl at c ms) v =
     ap (λ z. component_behind z v)
     (members_same (record { owner = InComponent (length v.component_members); slot = length v.globals }) (i + 1) ms (home_starts v))

@@ -65,7 +65,8 @@ pub record Names (texts : List (List ℕ)) (ds : Node) (d : Declared) : Type 0 w
   pub below : (c e : ℕ) (k l : Class) → slice_get d.tables.classes c ≡ Some k → slice_get d.tables.classes e ≡ Some l
       → tables.is_below d.tables c e ≡ is_below ds ((naming texts d).class c) ((naming texts d).class e)
 
--- What is found under a name is there, and has the name: a field of the class or of one above it, or the method that its objects have for the selector of the name.
+-- What is found under a name is there, and has the name: a field of the class or of one above it, or the method that its objects have for the
+-- selector of the name.
 pub record Owned (texts : List (List ℕ)) (d : Declared) : Type 0 where
   pub of_class : (c : ℕ) (k : Class) (x : Name) (m : MemberNumber) → slice_get d.tables.classes c ≡ Some k → member_of d k.above x ≡ Some m
       → IsMemberOf texts d c x m
