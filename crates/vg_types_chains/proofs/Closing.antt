@@ -1,4 +1,5 @@
--- Chains end by themselves. The numbers of a chain differ, since no class is above itself; so they are no more than there are classes, and one step more than that
+-- Chains end by themselves. The numbers of a chain differ, since no class is above itself; so they are no more than there are classes, and one step
+-- more than that
 -- adds nothing. So the chain of a class is the class and then the chain of the class above it, and what holds of chains follows step by step.
 use Rattle.std.proofs.Common.{◌≡◌, ℕ, zero, suc, ◌<◌, ◌≤◌, ◌==◌, Bool, true, false, ◌||◌, List, [], ◌∷◌, length, Option, Some, None, slice_get}
 use Rattle.std.proofs.Common.{refl, sym, ap, ◌∙◌, arith}
@@ -62,8 +63,11 @@ module _ (above : List (Option ℕ)) where
     differ : (n : ℕ) (o : Option ℕ) → Valid o → n ≤ suc most → Differ (chain_up n above o)
     differ zero o v h = tt
     differ (suc n) None v h = tt
-    differ (suc n) (Some c) v h =
-        (shorter n most (above_at (slice_get above c)) c (omega (arith, h)) (a.apart c v), differ n (above_at (slice_get above c)) (valid_next c) (omega (arith, h)))
+    differ (suc n) (Some c) v h = (
+      shorter n most (above_at (slice_get above c)) c (omega (arith, h)) (a.apart c v),
+      differ n (above_at (slice_get above c)) (valid_next c)
+          (omega (arith, h)),
+    )
 
     steps : (c : ℕ) → c < length above → chain_at most above c ≡ c ∷ chain_up most above (above_at (slice_get above c))
     steps c v =

@@ -1,6 +1,8 @@
--- The chains of classes by numbers are those by names. By rule 5 what stands behind `extends` is a class, so a chain of numbers goes on exactly where that of names does;
+-- The chains of classes by numbers are those by names. By rule 5 what stands behind `extends` is a class, so a chain of numbers goes on exactly where
+-- that of names does;
 -- and no class is above itself, so chains end by themselves.
-use Rattle.std.proofs.Common.{◌≡◌, ℕ, zero, suc, ◌+◌, ◌<◌, ◌≤◌, ◌==◌, Bool, true, false, not, ◌&&◌, ◌||◌, List, [], ◌∷◌, length, map, Option, Some, None, is_some}
+use Rattle.std.proofs.Common.{◌≡◌, ℕ, zero, suc, ◌+◌, ◌<◌, ◌≤◌, ◌==◌, Bool, true, false}
+use Rattle.std.proofs.Common.{not, ◌&&◌, ◌||◌, List, [], ◌∷◌, length, map, Option, Some, None, is_some}
 use Rattle.std.proofs.Common.{slice_get, bytes_eq, Decides, refl, sym, ap, ◌∙◌, subst, arith}
 use Rattle.std.specs.Option.{option_map}
 use Rattle.std.proofs.lemmas.List.{length-map}
@@ -47,7 +49,8 @@ keeps ds (Then (ClassDecl at n above members) rest) e zero x p h =
     entry_above : Option (Name × ClassParts) → Option Name
     entry_above (Some e) = e.1.above
     entry_above None = None
-keeps ds (Then (ClassDecl at n above members) rest) e (suc c) x p h = keeps ds rest (none_asked (extends_keeps ds n above) at (classes_breach ds rest) e).1 c x p h
+keeps ds (Then (ClassDecl at n above members) rest) e (suc c) x p h =
+    keeps ds rest (none_asked (extends_keeps ds n above) at (classes_breach ds rest) e).1 c x p h
 keeps ds (Then _ rest) e c x p h = keeps ds rest e c x p h
 keeps ds _ e c x p h = cc
 

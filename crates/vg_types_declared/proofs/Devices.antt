@@ -1,5 +1,7 @@
--- Devices and their registers: the map of the registers of a device stands at the number of the device.
-use Rattle.std.proofs.Common.{◌≡◌, ℕ, zero, suc, ◌+◌, ◌<◌, Bool, true, false, ◌||◌, List, [], ◌∷◌, ◌++◌, length, Option, Some, None, is_some, slice_get, bytes_eq}
+-- Devices and their registers: the map of the registers of a device stands at the number of the device. The pass goes from declaration to declaration,
+-- and with the rest it finds what the definition finds.
+use Rattle.std.proofs.Common.{◌≡◌, ℕ, zero, suc, ◌+◌, ◌<◌, Bool, true, false, ◌||◌}
+use Rattle.std.proofs.Common.{List, [], ◌∷◌, ◌++◌, length, Option, Some, None, is_some, slice_get, bytes_eq}
 use Rattle.std.proofs.Common.{if◌then◌else◌, refl, sym, ap, ◌∙◌, subst, arith}
 use Rattle.vg_syntax.specs.Tree.{Node, Then, ClassDecl, ComponentDecl, DeviceDecl, RegisterDecl}
 use Rattle.vg_source.specs.Names.{Name}

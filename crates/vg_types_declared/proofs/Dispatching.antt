@@ -1,4 +1,5 @@
--- The own methods of classes by their names. A method that is added goes last, in the list and, where its name is new, in the map; and methods that come behind change nothing
+-- The own methods of classes by their names. A method that is added goes last, in the list and, where its name is new, in the map; and methods that
+-- come behind change nothing
 -- for those that are there.
 use Rattle.std.proofs.Common.{◌≡◌, ℕ, zero, suc, ◌+◌, ◌<◌, Bool, true, false, List, [], ◌∷◌, ◌++◌, length, Option, Some, None, is_some, slice_get, bytes_eq}
 use Rattle.std.proofs.Common.{if◌then◌else◌, refl, sym, ap, ◌∙◌, subst, arith}
@@ -102,7 +103,8 @@ field_leads h n t v l = record {
 method_leads : (h : Home) (n : Name) (ps : List StaticType) (t : StaticType) (v : HomeView) → HomeLeads v → HomeLeads (with_method h n ps t v)
 method_leads h n ps t v l = record {
   leads = λ y.
-      subst (λ o. Leads o (named_first (v.methods ++ record { owner = h.owner; name = n; params = ps; result = t } ∷ []) (v.own.methods ++ length v.methods ∷ []) y))
+      subst (λ o. Leads o (named_first (v.methods ++ record { owner = h.owner; name = n; params = ps; result = t } ∷ [])
+      (v.own.methods ++ length v.methods ∷ []) y))
       (sym (found_added v.own.members n (Method (length v.methods)) y))
       (subst (Leads (if is_some (found y v.own.members) then found y v.own.members else if bytes_eq n y then Some (Method (length v.methods)) else None))
       (sym (first_is y)) (by y (found y v.own.members) (bytes_eq n y) (l.leads y)));

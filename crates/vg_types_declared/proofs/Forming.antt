@@ -1,6 +1,8 @@
--- The tables that are built keep what tables keep: classes by their chains, which end by themselves; fields by their slots; and types, since each is made of classes and types that
+-- The tables that are built keep what tables keep: classes by their chains, which end by themselves; fields by their slots; and types, since each is
+-- made of classes and types that
 -- are there.
-use Rattle.std.proofs.Common.{◌≡◌, ◌↔◌, ℕ, zero, suc, ◌+◌, ◌-◌, ◌<◌, ◌≤◌, ◌==◌, nat_lt, Bool, true, false, ◌&&◌, List, [], ◌∷◌, ◌++◌, length, map, Option, Some, None}
+use Rattle.std.proofs.Common.{◌≡◌, ◌↔◌, ℕ, zero, suc, ◌+◌, ◌-◌, ◌<◌, ◌≤◌, ◌==◌, nat_lt, Bool}
+use Rattle.std.proofs.Common.{true, false, ◌&&◌, List, [], ◌∷◌, ◌++◌, length, map, Option, Some, None}
 use Rattle.std.proofs.Common.{slice_get, refl, sym, ap, ◌∙◌, subst, arith}
 use Rattle.std.specs.List.{AllByRecursion}
 use Rattle.std.specs.Option.{option_map}
@@ -110,7 +112,8 @@ module _ (texts : List (List ℕ)) (types : Types) (homes : Homes) (most : ℕ) 
   abbrev kind : ℕ → Class
   kind = the_class most names above homes.class_fields homes.class_methods homes.class_params
 
-  pub class_at : (c : ℕ) → c < length names → slice_get p.classes c ≡ Some (the_class most names above homes.class_fields homes.class_methods homes.class_params c)
+  pub class_at : (c : ℕ) → c < length names → slice_get p.classes c ≡ Some
+      (the_class most names above homes.class_fields homes.class_methods homes.class_params c)
   class_at c h =
       ap (λ z. slice_get z c) b.class_table
       ∙ at_first (the_class most names above homes.class_fields homes.class_methods homes.class_params) (length names) c h
@@ -160,7 +163,8 @@ module _ (texts : List (List ℕ)) (types : Types) (homes : Homes) (most : ℕ) 
       ap (λ z. slice_get z f) b.field_table ∙ slice_get-map (with_slot p.classes homes.class_fields) homes.making.fields f
       ∙ ap (option_map (with_slot p.classes homes.class_fields)) e
 
-  view_there : (f : ℕ) (y : Field) → slice_get homes.making.fields f ≡ Some y → slice_get (homes_view texts types homes).fields f ≡ Some (field_view texts types y)
+  view_there : (f : ℕ) (y : Field) → slice_get homes.making.fields f ≡ Some y
+      → slice_get (homes_view texts types homes).fields f ≡ Some (field_view texts types y)
   view_there f y e = slice_get-map (field_view texts types) homes.making.fields f ∙ ap (option_map (field_view texts types)) e
 
   inherited_same : (e : ℕ) → e < length names
@@ -256,8 +260,10 @@ module _ (texts : List (List ℕ)) (types : Types) (homes : Homes) (most : ℕ) 
   known : (t : CoreType) → IsMade types t → IsKnown p t
   known (ClassType c) e = is_class c e
   known (ArrayType t) e = is_number t e
-  known (FunctionType ps r) e = let q = both (nat_lt ps (length types.numbers.keys)) (nat_lt r (length types.numbers.keys)) e in (is_number ps q.0, is_number r q.1)
-  known (MoreTypes t rest) e = let q = both (nat_lt t (length types.numbers.keys)) (nat_lt rest (length types.numbers.keys)) e in (is_number t q.0, is_number rest q.1)
+  known (FunctionType ps r) e =
+      let q = both (nat_lt ps (length types.numbers.keys)) (nat_lt r (length types.numbers.keys)) e in (is_number ps q.0, is_number r q.1)
+  known (MoreTypes t rest) e =
+      let q = both (nat_lt t (length types.numbers.keys)) (nat_lt rest (length types.numbers.keys)) e in (is_number t q.0, is_number rest q.1)
   known _ e = tt
 
   below_made : (n : ℕ) (t : CoreType) → is_made_of (length types.classes) n t ≡ true → IsMadeBelow p n t
@@ -273,7 +279,8 @@ module _ (texts : List (List ℕ)) (types : Types) (homes : Homes) (most : ℕ) 
   module _ (h : AreHomes texts types homes) where
     method_is : (m : ℕ) (y : Method) → slice_get p.methods m ≡ Some y → IsMethod texts types homes.making.selectors.numbers y
     method_is m y e =
-        all_at (IsMethod texts types homes.making.selectors.numbers) homes.making.methods m y h.making.methods (ap (λ z. slice_get z m) (sym b.method_table) ∙ e)
+        all_at (IsMethod texts types homes.making.selectors.numbers) homes.making.methods m y h.making.methods (ap (λ z. slice_get z m)
+        (sym b.method_table) ∙ e)
 
     functions : (m : ℕ) (y : Method) → slice_get p.methods m ≡ Some y → HasFunction p y
     functions m y e =

@@ -1,4 +1,5 @@
--- What is found under the names of the members of all classes and components. Classes and components come one behind another: what was found stays, and the new home shows
+-- What is found under the names of the members of all classes and components. Classes and components come one behind another: what was found stays,
+-- and the new home shows
 -- what it declares.
 use Rattle.std.proofs.Common.{◌≡◌, ℕ, zero, suc, List, [], ◌∷◌, ◌++◌, length, map, Option, Some, None, slice_get, refl, sym, ap, ◌∙◌, subst}
 use Rattle.std.proofs.lemmas.List.{append_assoc}
@@ -64,7 +65,8 @@ class_more es ks v x ms f = record {
         → Shows (with_class ms v).fields (with_class ms v).methods (InClass c) z y (found_in y (slice_get (with_class ms v).class_members c)) (member_in z ns y)
     by c z y ns (earlier e) =
         subst (λ o. Shows (with_class ms v).fields (with_class ms v).methods (InClass c) z y (found_in y o) (member_in z ns y))
-        (sym (within_same v.class_members (with_members (record { owner = InClass (length v.class_members); slot = 0 }) ms (home_starts v)).own.members es (z, ns) c
+        (sym (within_same v.class_members (with_members (record { owner = InClass (length v.class_members); slot = 0 }) ms
+        (home_starts v)).own.members es (z, ns) c
         f.class_count e))
         (shows_stay v.fields (with_class ms v).fields v.methods (with_class ms v).methods (InClass c) z y (found_in y (slice_get v.class_members c))
         (member_in z ns y)
@@ -125,7 +127,8 @@ append-none : {A : Type 0} (xs : List A) → xs ≡ xs ++ []
 append-none [] = refl
 append-none (x ∷ xs) = ap (λ z. x ∷ z) (append-none xs)
 
-all_facts : (ds : Node) (es ks : List (Name × Node)) (v : HomesView) → Facts es ks v → Facts (es ++ class_rows ds) (ks ++ component_list ds) (with_declarations ds v)
+all_facts : (ds : Node) (es ks : List (Name × Node)) (v : HomesView) → Facts es ks v
+    → Facts (es ++ class_rows ds) (ks ++ component_list ds) (with_declarations ds v)
 all_facts (Then (ClassDecl at x above ms) rest) es ks v f =
     subst (λ z. Facts z (ks ++ component_list rest) (with_declarations rest (with_class ms v))) (append_assoc es ((x, ms) ∷ []) (class_rows rest))
     (all_facts rest (es ++ (x, ms) ∷ []) ks (with_class ms v) (class_more es ks v x ms f))

@@ -1,5 +1,7 @@
 -- Members along chains: class by class, what the map of the class finds is what the definition finds among the members of the class of that name.
-use Rattle.std.proofs.Common.{◌≡◌, ℕ, ◌+◌, ◌<◌, ◌==◌, Bool, true, false, ◌||◌, List, [], ◌∷◌, length, map, Option, Some, None, slice_get, refl, sym, ap, ◌∙◌, subst, arith}
+-- By induction on the chain, whose classes all stand in the tables.
+use Rattle.std.proofs.Common.{◌≡◌, ℕ, ◌+◌, ◌<◌, ◌==◌, Bool, true, false, ◌||◌, List, [], ◌∷◌}
+use Rattle.std.proofs.Common.{length, map, Option, Some, None, slice_get, refl, sym, ap, ◌∙◌, subst, arith}
 use Rattle.std.specs.Option.{option_map}
 use Rattle.std.proofs.lemmas.Bool.{eq-eqb}
 use Rattle.std.proofs.lemmas.Option.{slice_get-map}
@@ -101,7 +103,8 @@ standing ds v a l rule c (entry x p e) =
 pub inherits : (ds : Node) (v : HeadsView) (w : HomesView) (a : Agree ds v) (l : Lists ds v) → classes_breach ds ds ≡ None → Found ds w → Inherits ds v w
 inherits ds v w a l rule f = record {
   members = λ x y c h.
-      subst (λ z. ShowsOn v w (chain_at (length_of ds) (numbers v) c) y (chain_member w.class_members (chain_at (length_of ds) (numbers v) c) y) (member_on ds z y))
+      subst (λ z. ShowsOn v w (chain_at (length_of ds) (numbers v) c) y (chain_member w.class_members (chain_at (length_of ds) (numbers v) c) y)
+      (member_on ds z y))
       (k.named x c h)
       (chain_shown ds v w f (chain_at (length_of ds) (numbers v) c) y (λ d i. stands d (k.close.within c d (class_within x c h) i)));
 }

@@ -13,3 +13,5 @@ mod Forming
 mod Naming
 mod Looking
 mod Owning
+mod Numbered
+mod Making

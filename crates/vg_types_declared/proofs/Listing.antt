@@ -1,4 +1,5 @@
--- Classes and components stand at their numbers. What a definition finds by a name is the first entry of it in the list of all; since each name is mapped to the one
+-- Classes and components stand at their numbers. What a definition finds by a name is the first entry of it in the list of all; since each name is
+-- mapped to the one
 -- place where it stands, this is the entry at its number.
 use Rattle.std.proofs.Common.{◌≡◌, ℕ, zero, suc, ◌+◌, Bool, true, false, List, [], ◌∷◌, ◌++◌, map, Option, Some, None, slice_get, bytes_eq}
 use Rattle.std.proofs.Common.{if◌then◌else◌, Decides, refl, sym, ap, ◌∙◌, subst}
@@ -102,7 +103,8 @@ append-none [] = refl
 append-none (x ∷ xs) = ap (λ z. x ∷ z) (append-none xs)
 
 class_names_listed : (ds : Node) (xs : List Name) → names_on class_pick ds xs ≡ xs ++ map (λ e. e.0) (class_list ds)
-class_names_listed (Then (ClassDecl at c above members) rest) xs = class_names_listed rest (xs ++ c ∷ []) ∙ append_assoc xs (c ∷ []) (map (λ e. e.0) (class_list rest))
+class_names_listed (Then (ClassDecl at c above members) rest) xs =
+    class_names_listed rest (xs ++ c ∷ []) ∙ append_assoc xs (c ∷ []) (map (λ e. e.0) (class_list rest))
 class_names_listed (Then _ rest) xs = class_names_listed rest (xs ++ []) ∙ ap (λ z. z ++ map (λ e. e.0) (class_list rest)) (append-none xs)
 class_names_listed _ xs = sym (append-none xs)
 

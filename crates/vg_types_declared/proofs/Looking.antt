@@ -1,5 +1,7 @@
--- Declarations are found in the tables by their names; and since each name is that of one class, one class is below another by numbers exactly where it is so by names.
-use Rattle.std.proofs.Common.{◌≡◌, ℕ, ◌+◌, ◌<◌, ◌==◌, Bool, true, false, ◌||◌, List, [], ◌∷◌, length, map, Option, Some, None, is_some, slice_get, get_or, bytes_eq}
+-- Declarations are found in the tables by their names; and since each name is that of one class, one class is below another by numbers exactly where
+-- it is so by names.
+use Rattle.std.proofs.Common.{◌≡◌, ℕ, ◌+◌, ◌<◌, ◌==◌, Bool, true, false, ◌||◌, List}
+use Rattle.std.proofs.Common.{[], ◌∷◌, length, map, Option, Some, None, is_some, slice_get, get_or, bytes_eq}
 use Rattle.std.proofs.Common.{Decides, refl, sym, ap, ◌∙◌, subst, arith}
 use Rattle.std.specs.Option.{option_map}
 use Rattle.std.proofs.lemmas.Bool.{eqb-true, eq-eqb}
@@ -84,7 +86,8 @@ module _ (texts : List (List ℕ)) (ds : Node) (types : Types) (heads : Heads) (
 
   -- the name of a class finds it
   own_name : (c : ℕ) → c < length heads.class_names → found (name_of (heads_view texts heads) c) heads.classes ≡ Some c
-  own_name c h = ap (λ z. found z heads.classes) (sym (class_named texts ds types heads homes d kept left c h)) ∙ of_class texts ds types heads homes d kept left c h
+  own_name c h =
+      ap (λ z. found z heads.classes) (sym (class_named texts ds types heads homes d kept left c h)) ∙ of_class texts ds types heads homes d kept left c h
 
   one_class : (c e : ℕ) → c < length heads.class_names → e < length heads.class_names
       → (c == e) ≡ bytes_eq (name_of (heads_view texts heads) c) (name_of (heads_view texts heads) e)

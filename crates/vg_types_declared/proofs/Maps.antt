@@ -1,6 +1,7 @@
 -- Maps of the names of one sort of declarations. Names that are new go last with the next number, so numbers are places; and what is found is what was there,
 -- or one of those that came.
-use Rattle.std.proofs.Common.{◌≡◌, ℕ, zero, suc, ◌+◌, Bool, true, false, not, ◌&&◌, ◌||◌, List, [], ◌∷◌, ◌++◌, length, map, Option, Some, None, is_some, slice_get, bytes_eq}
+use Rattle.std.proofs.Common.{◌≡◌, ℕ, zero, suc, ◌+◌, Bool, true, false, not, ◌&&◌, ◌||◌}
+use Rattle.std.proofs.Common.{List, [], ◌∷◌, ◌++◌, length, map, Option, Some, None, is_some, slice_get, bytes_eq}
 use Rattle.std.proofs.Common.{if◌then◌else◌, Decides, refl, sym, ap, ◌∙◌, subst, arith}
 use Rattle.std.proofs.lemmas.List.{map-append, length_push, length-map}
 use Rattle.std.proofs.lemmas.Slice.Eq.{bytes_eq-Decides}
@@ -176,7 +177,8 @@ module _ (pick : Node → Option Name) (of_name : (d : Node) (c : Name) → pick
   all_numbered seen (Then d rest) m k xs n e a =
       let p = both (is_declaration d) (are_declarations rest) a in
       let h = head seen d rest p.0 e in
-      all_numbered (h.name ∷ seen) rest (next_map (pick d) m k) (next_count (pick d) k) (xs ++ name_row (pick d)) (next_numbers seen d rest m k xs h n) h.others p.1
+      all_numbered (h.name ∷ seen) rest (next_map (pick d) m k) (next_count (pick d) k) (xs ++ name_row (pick d))
+      (next_numbers seen d rest m k xs h n) h.others p.1
   all_numbered seen _ m k xs n e a = record { numbers = n.numbered; back = n.back; listed = n.names }
 
 pub no_numbers : Numbers [] [] 0 []

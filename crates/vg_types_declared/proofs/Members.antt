@@ -1,6 +1,8 @@
--- What is found under the name of a member. Members are added one by one: the first of a name is found, by the map and by the definition; and what stands in the lists of
+-- What is found under the name of a member. Members are added one by one: the first of a name is found, by the map and by the definition; and what
+-- stands in the lists of
 -- fields and methods stays there as others come behind it.
-use Rattle.std.proofs.Common.{◌≡◌, ℕ, zero, suc, ◌+◌, ◌<◌, Bool, true, false, List, [], ◌∷◌, ◌++◌, length, map, Option, Some, None, is_some, slice_get, bytes_eq}
+use Rattle.std.proofs.Common.{◌≡◌, ℕ, zero, suc, ◌+◌, ◌<◌, Bool, true, false, List}
+use Rattle.std.proofs.Common.{[], ◌∷◌, ◌++◌, length, map, Option, Some, None, is_some, slice_get, bytes_eq}
 use Rattle.std.proofs.Common.{if◌then◌else◌, Decides, refl, sym, ap, ◌∙◌, subst, arith}
 use Rattle.std.proofs.lemmas.Slice.Eq.{bytes_eq-Decides}
 use Rattle.vg_syntax.specs.Tree.{Param, Node, Then, FieldDecl, MethodDecl}
@@ -33,7 +35,7 @@ or_assoc : {A : Type 0} (a b c : Option A) → or_else (or_else a b) c ≡ or_el
 or_assoc None b c = refl
 or_assoc (Some a) b c = refl
 
-row_written : (ps : List Param) → row_of ps ≡ row_from (written_params ps)
+pub row_written : (ps : List Param) → row_of ps ≡ row_from (written_params ps)
 row_written [] = refl
 row_written (p ∷ ps) = ap (MoreTypes (written_type p.type)) (row_written ps)
 
@@ -41,7 +43,8 @@ row_written (p ∷ ps) = ap (MoreTypes (written_type p.type)) (row_written ps)
 abbrev pub Stays : {A : Type 0} → List A → List A → Type 0
 Stays {A} xs ys = (i : ℕ) (a : A) → slice_get xs i ≡ Some a → slice_get ys i ≡ Some a
 
-pub shows_stay : (fs gs : List FieldView) (ms ns : List MethodView) (o : Owner) (x y : Name) (k : Option MemberNumber) (r : Option Member) → Stays fs gs → Stays ms ns
+pub shows_stay : (fs gs : List FieldView) (ms ns : List MethodView) (o : Owner) (x y : Name) (k : Option MemberNumber) (r : Option Member)
+    → Stays fs gs → Stays ms ns
     → Shows fs ms o x y k r → Shows gs ns o x y k r
 shows_stay fs gs ms ns o x y None r f m h = h
 shows_stay fs gs ms ns o x y (Some (Field i)) r f m h = (h.0, f i h.0 h.1, h.2, h.3, h.4)

@@ -1,6 +1,8 @@
--- The members of classes and components are found by their names, in the tables as in the definitions. The names of numbers are those of the passes; so what a type, a field or a
+-- The members of classes and components are found by their names, in the tables as in the definitions. The names of numbers are those of the passes;
+-- so what a type, a field or a
 -- method of the tables stands for is what was read of it.
-use Rattle.std.proofs.Common.{◌≡◌, ℕ, ◌+◌, ◌<◌, Bool, true, false, List, [], ◌∷◌, ◌++◌, length, map, Option, Some, None, slice_get, get_or, refl, sym, ap, ◌∙◌, subst, arith}
+use Rattle.std.proofs.Common.{◌≡◌, ℕ, ◌+◌, ◌<◌, Bool, true, false, List, [], ◌∷◌, ◌++◌, length}
+use Rattle.std.proofs.Common.{map, Option, Some, None, slice_get, get_or, refl, sym, ap, ◌∙◌, subst, arith}
 use Rattle.std.specs.Option.{option_map, option_and_then}
 use Rattle.std.proofs.lemmas.Option.{slice_get-map, slice_get_within, slice_get-get_or}
 use Rattle.std.proofs.lemmas.List.{length-map}
@@ -158,7 +160,7 @@ module _ (texts : List (List ℕ)) (ds : Node) (types : Types) (heads : Heads) (
       ∙ ap (λ z. named_type_in (naming texts d) z t) (types_same (naming texts d) (class_names types.classes) all_named [] types.numbers.keys)
       ∙ type_same (naming texts d) (class_names types.classes) all_named (named_types (class_names types.classes) [] types.numbers.keys) t
 
-  row_same : (ts : List CoreType) → row_view texts d ts ≡ row_from (map (view_of texts types) ts)
+  pub row_same : (ts : List CoreType) → row_view texts d ts ≡ row_from (map (view_of texts types) ts)
   row_same [] = refl
   row_same (t ∷ ts) =
       ap (λ z. source.MoreTypes z (row_view texts d ts)) (view_same t) ∙ ap (source.MoreTypes (view_of texts types t)) (row_same ts)
@@ -166,7 +168,8 @@ module _ (texts : List (List ℕ)) (ds : Node) (types : Types) (heads : Heads) (
   field_shown : (f : ℕ) (y : Field) (x : Name) → slice_get homes.making.fields f ≡ Some y → owner_name texts d.tables y.owner ≡ x
       → member_view texts d (FieldNumber f) ≡ Some (AField x (view_of texts types y.type_))
   field_shown f y x e o =
-      let g = field_there texts types homes (length_of ds) heads.class_names (map (above_number texts heads.classes) heads.above) d.tables left.built close f y e in
+      let g = field_there texts types homes (length_of ds) heads.class_names (map
+      (above_number texts heads.classes) heads.above) d.tables left.built close f y e in
       ap (field_seen texts d f) g
       ∙ ap (λ z. Some (AField z (type_view texts d y.type_))) (ap (λ q. (field_key texts d.tables q).owner) g ∙ o)
       ∙ ap (λ z. Some (AField x z)) (view_same y.type_)
@@ -212,7 +215,8 @@ module _ (texts : List (List ℕ)) (ds : Node) (types : Types) (heads : Heads) (
       (inherited.members ((naming texts d).class c) x c (of_class c within))
     where
       within : c < length heads.class_names
-      within = class_within texts types homes (length_of ds) heads.class_names (map (above_number texts heads.classes) heads.above) d.tables left.built close c k e
+      within =
+          class_within texts types homes (length_of ds) heads.class_names (map (above_number texts heads.classes) heads.above) d.tables left.built close c k e
 
       wide : c < length (numbers (heads_view texts heads))
       wide = let h = within in let q = count_above in omega (arith, h, q)

@@ -1,6 +1,8 @@
--- What is found under the name of a member is there, and has the name. The methods of one name have one selector, and those of another name another: so the first method of a
+-- What is found under the name of a member is there, and has the name. The methods of one name have one selector, and those of another name another:
+-- so the first method of a
 -- selector along a chain is the first of the name.
-use Rattle.std.proofs.Common.{◌≡◌, ℕ, zero, suc, ◌+◌, ◌<◌, ◌==◌, Bool, true, false, ◌||◌, List, [], ◌∷◌, ◌++◌, length, map, Option, Some, None, slice_get, bytes_eq}
+use Rattle.std.proofs.Common.{◌≡◌, ℕ, zero, suc, ◌+◌, ◌<◌, ◌==◌, Bool, true, false, ◌||◌}
+use Rattle.std.proofs.Common.{List, [], ◌∷◌, ◌++◌, length, map, Option, Some, None, slice_get, bytes_eq}
 use Rattle.std.proofs.Common.{if◌then◌else◌, Decides, refl, sym, ap, ◌∙◌, subst, arith}
 use Rattle.std.specs.List.{AllByRecursion}
 use Rattle.std.specs.Option.{option_map}

@@ -1,6 +1,8 @@
--- The names of each sort of declarations: what is found by them is what the definitions find, declaration by declaration. The pass over the names makes, for each
+-- The names of each sort of declarations: what is found by them is what the definitions find, declaration by declaration. The pass over the names
+-- makes, for each
 -- sort, the map of the names of that sort; and the registers of a device stand at its number.
-use Rattle.std.proofs.Common.{◌≡◌, ℕ, zero, suc, ◌+◌, ◌<◌, Bool, true, false, ◌||◌, List, [], ◌∷◌, ◌++◌, length, map, Option, Some, None, is_some, slice_get, bytes_eq}
+use Rattle.std.proofs.Common.{◌≡◌, ℕ, zero, suc, ◌+◌, ◌<◌, Bool, true, false, ◌||◌, List}
+use Rattle.std.proofs.Common.{[], ◌∷◌, ◌++◌, length, map, Option, Some, None, is_some, slice_get, bytes_eq}
 use Rattle.std.proofs.Common.{if◌then◌else◌, refl, sym, ap, ◌∙◌, subst, arith}
 use Rattle.std.proofs.lemmas.List.{length_push}
 use Rattle.vg_syntax.specs.Tree.{Node, Then, ClassDecl, ComponentDecl, DeviceDecl, RegisterDecl}

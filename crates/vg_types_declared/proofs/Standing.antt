@@ -1,4 +1,5 @@
--- The fields of objects along a chain: those of the class stand behind those of the chain above it, which ends by itself. So what a class inherits is as long in each chain that
+-- The fields of objects along a chain: those of the class stand behind those of the chain above it, which ends by itself. So what a class inherits is
+-- as long in each chain that
 -- has the class.
 use Rattle.std.proofs.Common.{◌≡◌, ℕ, zero, suc, ◌+◌, ◌-◌, ◌<◌, ◌==◌, Bool, true, false, ◌||◌, List, [], ◌∷◌, ◌++◌, length, Option, Some, None, slice_get}
 use Rattle.std.proofs.Common.{refl, sym, ap, ◌∙◌, subst, arith}

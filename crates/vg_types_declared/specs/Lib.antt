@@ -8,4 +8,5 @@ pub mod Slots
 pub mod Placing
 pub mod Built
 pub mod Named
+pub mod Numbers
 pub mod Picks

@@ -5,6 +5,7 @@ use Rattle.vg_syntax.specs.Tree.{Node}
 use Rattle.vg_syntax.specs.Classes.{class_named}
 use Rattle.vg_source.specs.Resolved.{register_of}
 use Rattle.vg_rules.specs.Fits.{is_below}
+use Rattle.vg_rules.specs.Inherited.{params_of_class}
 use Rattle.vg_core.specs.Tables as tables
 use Rattle.vg_types_views.specs.ByText.{found}
 use Rattle.vg_source.specs.Names.{Name}
@@ -20,7 +21,7 @@ use Rattle.vg_types_homes.specs.declared.homes.Homes.{Homes}
 use Rattle.vg_types_homes.specs.Homes.{AreHomes, homes_view, no_view, with_declarations}
 use Rattle.vg_types_tables.specs.declared.declared.Declared.{Declared}
 use Rattle.vg_types_tables.specs.declared.declared.MemberNumber.{MemberNumber}
-use Rattle.vg_types_tables.specs.Views.{naming, member_view}
+use Rattle.vg_types_tables.specs.Views.{naming, row_view, member_view}
 use Rattle.vg_types_tables.specs.Declares.{IsClass, IsComponent, IsMemberOf, IsMemberOfComponent, found_in, member_of, register_at}
 use Rattle.vg_types_declared.specs.Built.{IsBuilt}
 
@@ -64,9 +65,15 @@ pub record Names (texts : List (List ℕ)) (ds : Node) (d : Declared) : Type 0 w
   pub below : (c e : ℕ) (k l : Class) → slice_get d.tables.classes c ≡ Some k → slice_get d.tables.classes e ≡ Some l
       → tables.is_below d.tables c e ≡ is_below ds ((naming texts d).class c) ((naming texts d).class e)
 
--- What is found under a name is there, and has the name: a field of the class or of one above it, or the method that its objects have for the selector of the name.
+-- What is found under a name is there, and has the name: a field of the class or of one above it, or the method that its objects have for the
+-- selector of the name.
 pub record Owned (texts : List (List ℕ)) (d : Declared) : Type 0 where
   pub of_class : (c : ℕ) (k : Class) (x : Name) (m : MemberNumber) → slice_get d.tables.classes c ≡ Some k → member_of d k.above x ≡ Some m
       → IsMemberOf texts d c x m
   pub of_component : (k y : ℕ) (x : Name) (m : MemberNumber) → slice_get d.tables.components k ≡ Some y
       → found_in x (slice_get d.component_members k) ≡ Some m → IsMemberOfComponent texts d k x m
+
+-- The parameters of the construction of each class are those that are written.
+abbrev pub Params : (texts : List (List ℕ)) → Node → Declared → Type 0
+Params texts ds d =
+    (c : ℕ) (k : Class) → slice_get d.tables.classes c ≡ Some k → row_view texts d k.params ≡ params_of_class ds ((naming texts d).class c)

@@ -17,7 +17,8 @@ ghost use Rattle.vg_types_declared.specs.Members.{Found};
 ghost use Rattle.vg_types_declared.specs.Slots.{Slotted};
 ghost use Rattle.vg_types_declared.specs.Placing.{Stands};
 ghost use Rattle.vg_types_declared.specs.Built.{BuiltFormed};
-ghost use Rattle.vg_types_declared.specs.Named.{Keeps, IsLeft, Members, Names, Owned};
+ghost use Rattle.vg_types_declared.specs.Numbers.{Unnumbered};
+ghost use Rattle.vg_types_declared.specs.Named.{Keeps, IsLeft, Members, Names, Owned, Params};
 ghost use Rattle.vg_types_declared.specs.Dispatch.{Dispatches};
 ghost use Rattle.vg_types_declared.specs.Inherits.{Inherits};
 
@@ -71,4 +72,11 @@ pub fn tables_find()
         → IsLeft texts ds types heads homes d → Members texts ds d }
     ensures owned { (texts : List (List ℕ)) (ds : Node) (types : Types) (heads : Heads) (homes : Homes) (d : Declared) → Keeps ds
         → IsLeft texts ds types heads homes d → Owned texts d }
+    ensures params { (texts : List (List ℕ)) (ds : Node) (types : Types) (heads : Heads) (homes : Homes) (d : Declared) → Keeps ds
+        → IsLeft texts ds types heads homes d → Params texts ds d }
+{}
+
+/// The numbers of nodes say nothing of names and members.
+pub fn numbers_aside()
+    ensures { (ds : Node) → Unnumbered ds }
 {}

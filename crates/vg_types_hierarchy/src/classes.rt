@@ -50,7 +50,8 @@ pub struct Parts<'a> {
 
 /// The classes, whose chains have at most so many classes.
 pub fn classes_of(alloc: Global, most: usize, parts: Parts<'_>) -> Result<Row<Class>, NoMemory>
-    ensures { IfOk result (λ row. row ≡ first_of (the_class most parts.entry.names.now parts.entry.above.now parts.entry.fields.now parts.entry.methods.now parts.entry.params.now)
+    ensures { IfOk result (λ row. row
+        ≡ first_of (the_class most parts.entry.names.now parts.entry.above.now parts.entry.fields.now parts.entry.methods.now parts.entry.params.now)
         (length parts.entry.names.now)) }
 {
     let mut row = Row::new(alloc);
@@ -63,7 +64,8 @@ pub fn classes_of(alloc: Global, most: usize, parts: Parts<'_>) -> Result<Row<Cl
 // The class of this number.
 fn class_of(alloc: Global, most: usize, parts: Parts<'_>, class: usize) -> Result<Class, NoMemory>
     requires { class < length parts.names.now }
-    ensures { IfOk result (λ k. k ≡ the_class most parts.entry.names.now parts.entry.above.now parts.entry.fields.now parts.entry.methods.now parts.entry.params.now class) }
+    ensures { IfOk result (λ k. k
+        ≡ the_class most parts.entry.names.now parts.entry.above.now parts.entry.fields.now parts.entry.methods.now parts.entry.params.now class) }
 {
     let above = match u16::try_from(class) {
         Ok(class) => chain(alloc, parts.above, most, class)?,

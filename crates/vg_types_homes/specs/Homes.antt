@@ -11,7 +11,8 @@ use Rattle.vg_core.specs.declared.program.Target.{Target}
 use Rattle.vg_core.specs.declared.program.Target.TheVariants.{Run, Construct, Start}
 use Rattle.vg_types_tables.specs.declared.declared.MemberNumber.{MemberNumber}
 use Rattle.vg_types_interned.specs.declared.table.Types.{Types}
-use Rattle.vg_types_members.specs.Members.{FieldView, MethodView, HomeView, IsMade, IsMaking, field_view, method_view, view_of, no_own, with_members, written_params}
+use Rattle.vg_types_members.specs.Members.{FieldView, MethodView, HomeView, IsMade, IsMaking}
+use Rattle.vg_types_members.specs.Members.{field_view, method_view, view_of, no_own, with_members, written_params}
 use Rattle.vg_types_homes.specs.declared.homes.Homes.{Homes}
 
 -- The fields and methods; what each class declares; what each component declares; and all that can be called.

@@ -3,7 +3,8 @@ use Rattle.std.proofs.Common.{◌≡◌, ℕ, zero, suc, ◌<◌, Bool, true, fa
 use Rattle.std.proofs.Common.{if◌then◌else◌, refl, sym, ap, ◌∙◌, subst, arith}
 use Rattle.std.specs.List.{list_any}
 use Rattle.vg_core.specs.declared.types.CoreType.{CoreType}
-use Rattle.vg_core.specs.declared.types.CoreType.TheVariants.{IntType, BoolType, CharType, RawType, NullType, ClassType, ArrayType, FunctionType, NoType, MoreTypes}
+use Rattle.vg_core.specs.declared.types.CoreType.TheVariants.{IntType, BoolType, CharType, RawType, NullType}
+use Rattle.vg_core.specs.declared.types.CoreType.TheVariants.{ClassType, ArrayType, FunctionType, NoType, MoreTypes}
 use Rattle.std.proofs.lemmas.Bool.{eq-eqb}
 use Rattle.vg_core.specs.contracts.types.CoreTypePartialEq.TheImpl as type_eq
 use Rattle.vg_types_interned.specs.Types.{is_made_of, AreTypes}
@@ -58,7 +59,8 @@ module _ (eq : CoreType → CoreType → Bool) (itself : (t : CoreType) → eq t
       by true h = refl
       by false h = h
 
-  with_new : (k : ℕ) (ts : List CoreType) (t : CoreType) → list_any (eq t) ts ≡ false → AreTypes k ts → is_made_of k (length ts) t ≡ true → AreTypes k (ts ++ t ∷ [])
+  with_new : (k : ℕ) (ts : List CoreType) (t : CoreType) → list_any (eq t) ts ≡ false → AreTypes k ts → is_made_of k (length ts) t ≡ true
+      → AreTypes k (ts ++ t ∷ [])
   with_new k ts t new a m = record {
     one_number = λ i j u e f. one i j u (at_last ts t i u e) (at_last ts t j u f);
     made_of = λ n u e. made n u (at_last ts t n u e);

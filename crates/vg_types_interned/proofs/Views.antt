@@ -15,7 +15,8 @@ use Rattle.vg_source.specs.Types.{StaticType}
 use Rattle.vg_source.specs.Names.{Name}
 use Rattle.vg_core.specs.Naming.{Naming, found_type, named_number, named_type_in, named_types}
 use Rattle.vg_core.specs.declared.types.CoreType.{CoreType}
-use Rattle.vg_core.specs.declared.types.CoreType.TheVariants.{IntType, BoolType, CharType, RawType, NullType, ClassType, ArrayType, FunctionType, NoType, MoreTypes}
+use Rattle.vg_core.specs.declared.types.CoreType.TheVariants.{IntType, BoolType, CharType, RawType, NullType}
+use Rattle.vg_core.specs.declared.types.CoreType.TheVariants.{ClassType, ArrayType, FunctionType, NoType, MoreTypes}
 use Rattle.vg_core.specs.contracts.types.CoreTypePartialEq.TheImpl as type_eq
 use Rattle.vg_types_interned.specs.Types.{is_made_of, AreTypes, AreNumbered, class_names, views, type_view}
 use Rattle.vg_types_views.specs.ByText.{found}
@@ -80,7 +81,8 @@ module _ (n : Naming) (k : ℕ) where
       let s : length done + suc j ≡ length (done ++ named_type_in n done u ∷ []) + j = omega (arith, l) in
       ap (slice_get (named_types n (done ++ named_type_in n done u ∷ []) ts)) s
       ∙ entry (done ++ named_type_in n done u ∷ []) ts j t
-      (λ i x f. let q : length (done ++ named_type_in n done u ∷ []) + i ≡ length done + suc i = omega (arith, l) in ap (λ z. is_made_of k z x) q ∙ m (suc i) x f) e
+      (λ i x f. let q : length (done ++ named_type_in n done u ∷ []) + i ≡ length done + suc i = omega (arith, l) in ap (λ z. is_made_of k z x) q
+      ∙ m (suc i) x f) e
 
 -- the type of a number
 pub numbered_view : (m : List (Name × ℕ)) (ts : List CoreType) (i : ℕ) (t : CoreType) → AreTypes (length m) ts → slice_get ts i ≡ Some t

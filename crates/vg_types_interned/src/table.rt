@@ -49,7 +49,8 @@ impl Types {
     pub fn number(&self, type_: CoreType) -> Option<u32>
         ensures number { IfSome result (λ n. slice_get self.now.numbers.keys n ≡ Some type_) }
         ensures within { IfSome result (λ n. nat_lt n (length self.now.numbers.keys) ≡ true) }
-        ensures view { IfSome result (λ n. named_number (views self.now.classes self.now.numbers.keys) n ≡ type_view self.now.classes self.now.numbers.keys type_) }
+        ensures view { IfSome result (λ n. named_number (views self.now.classes self.now.numbers.keys) n
+            ≡ type_view self.now.classes self.now.numbers.keys type_) }
     {
         let index = self.numbers.get_index_of(&type_)?;
         match u32::try_from(index) {

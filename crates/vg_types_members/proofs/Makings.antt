@@ -1,4 +1,5 @@
--- Fields and methods that are made, one by one; and what members that are no fields and methods, or no constructors, leave as it was: that a held node stands for no
+-- Fields and methods that are made, one by one; and what members that are no fields and methods, or no constructors, leave as it was: that a held
+-- node stands for no
 -- such member is said by cases on the node, where rows and pairs are taken apart.
 use Rattle.std.proofs.Common.{◌≡◌, ℕ, false, List, [], ◌∷◌, ◌++◌, map, Result, Ok, Err, OnOk, refl, sym, ap, subst}
 use Rattle.std.specs.List.{AllByRecursion}

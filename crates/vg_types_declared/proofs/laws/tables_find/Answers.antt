@@ -1,6 +1,7 @@
 use Rattle.vg_types_declared.proofs.Naming.{members}
 use Rattle.vg_types_declared.proofs.Looking.{names}
 use Rattle.vg_types_declared.proofs.Owning.{owned}
+use Rattle.vg_types_declared.proofs.Making.{params}
 use Rattle.vg_types_declared.proofs.laws.tables_find.Goals as goal
 
 pub returns-clause-names : goal.returns-clause-names
@@ -11,3 +12,6 @@ returns-clause-members c = members
 
 pub returns-clause-owned : goal.returns-clause-owned
 returns-clause-owned c = owned
+
+pub returns-clause-params : goal.returns-clause-params
+returns-clause-params c = params
