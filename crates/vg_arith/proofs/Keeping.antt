@@ -1,4 +1,5 @@
--- That routines keep what every procedure of linear code keeps, by a test over their instructions.
+-- That routines keep what every procedure of linear code keeps. A test over their instructions says so, which computes; what it says of
+-- each instruction is proved once, by cases.
 use Rattle.std.specs.Prelude.{ℕ, zero, suc, ◌+◌, ◌<◌, ◌≤◌, Bool, true, false, not, ◌==◌, ◌&&◌, nat_lt, nat_le, List, [], ◌∷◌, length, Some, None, slice_get}
 use Rattle.std.specs.List.{AllByRecursion}
 use Rattle.std.proofs.Common.{◌≡◌, refl, sym, subst, arith}
@@ -14,6 +15,7 @@ use Rattle.vg_lin.specs.Program.{Procedure}
 use Rattle.vg_lin.specs.Sound.{IsWidth, IsLocal, IsOperand, IsTest, IsPlain, AreOperands, PlainWaits, Waits, IsSound}
 use Rattle.vg_arith.specs.Shifts.{shift}
 use Rattle.vg_arith.specs.Product.{mul}
+use Rattle.vg_arith.specs.Division.{divide}
 use Rattle.vg_arith.proofs.ShiftRoutines.{some_is}
 
 abbrev is_local : Procedure → ℕ → Bool
@@ -30,6 +32,7 @@ abbrev is_plain : Procedure → PlainInstr → Bool
 is_plain m (Copy to a) = is_local m to && is_operand m a
 is_plain m (Compute c) = is_width c.width && (is_local m c.to && (is_operand m c.left && is_operand m c.right))
 is_plain m (Product to a b) = is_local m to && (is_operand m a && is_operand m b)
+is_plain m (DivideStep r d a) = is_local m r && (is_local m d && (not (r == d) && is_operand m a))
 is_plain m _ = false
 
 abbrev is_test : Procedure → Test → Bool
@@ -66,6 +69,9 @@ kept_at m (x ∷ xs) at (suc k) i e h =
     let n : suc at + k ≡ at + suc k = omega arith in
     subst (λ z. is_kept m z i ≡ true) n (kept_at m xs (suc at) k i (second_of _ _ e) h)
 
+not_same : (a b : ℕ) → not (a == b) ≡ true → a ≡ b → ⊥
+not_same a b e h = grind arith
+
 a_local : (m : Procedure) (i : ℕ) → is_local m i ≡ true → IsLocal m i
 a_local m i e = grind arith
 
@@ -73,7 +79,7 @@ an_operand : (m : Procedure) (a : Operand) → is_operand m a ≡ true → IsOpe
 an_operand m (Local i) e = a_local m i e
 an_operand m (Known v) e = tt {0}
 
-a_width : (w : ℕ) → is_width w ≡ true → IsWidth w
+pub a_width : (w : ℕ) → is_width w ≡ true → IsWidth w
 a_width w e = (at_least w (first_of _ _ e), at_most w (second_of _ _ e))
   where
     at_least : (w : ℕ) → nat_le 1 w ≡ true → 1 ≤ w
@@ -98,7 +104,10 @@ a_plain m (Product to a b) e = (
   an_operand m b
       (second_of _ _ (second_of _ _ e)),
 )
-a_plain m (DivideStep r d a) e = absurd (grind arith)
+a_plain m (DivideStep r d a) e =
+    let f : (is_local m d && (not (r == d) && is_operand m a)) ≡ true = second_of _ _ e in
+    let g : (not (r == d) && is_operand m a) ≡ true = second_of _ _ f in
+    (a_local m r (first_of _ _ e), a_local m d (first_of _ _ f), not_same r d (first_of _ _ g), an_operand m a (second_of _ _ g))
 a_plain m (Load x w to a) e = absurd (grind arith)
 a_plain m (Store w a from) e = absurd (grind arith)
 a_plain m (ReadDevice to a) e = absurd (grind arith)
@@ -124,9 +133,6 @@ operands_kept m at Idle e = absurd (grind arith)
 
 below : (a b : ℕ) → nat_lt a b ≡ true → a < b
 below a b e = grind arith
-
-not_same : (a b : ℕ) → not (a == b) ≡ true → a ≡ b → ⊥
-not_same a b e h = grind arith
 
 plain_waits : (m : Procedure) (at : ℕ) (p : PlainInstr) → is_plain m p ≡ true → suc at < length m.code → PlainWaits m nothing_waits at p
 plain_waits m at (Copy to a) e h = (h, refl)
@@ -164,7 +170,7 @@ waits_kept m at (Return a) e = refl
 waits_kept m at Idle e = absurd (grind arith)
 
 -- a procedure that passes the test keeps it all
-sound : (m : Procedure) → length m.widths ≤ 252 → m.params ≤ length m.widths → AllByRecursion IsWidth m.widths → 0 < length m.code
+pub sound : (m : Procedure) → length m.widths ≤ 252 → m.params ≤ length m.widths → AllByRecursion IsWidth m.widths → 0 < length m.code
     → are_kept m 0 m.code ≡ true → IsSound m
 sound m few params widths some e =
     record {
@@ -178,13 +184,13 @@ sound m few params widths some e =
     }
 
 pub shift_sound : (op : Operator) → IsSound (shift op)
-shift_sound op = sound (shift op) (omega arith) (omega arith) (a_width 4 refl, (a_width 4 refl, tt {0})) (omega arith) refl
+shift_sound op = sound (shift op) (omega arith) (omega arith) (a_width 4 refl, (a_width 4 refl, (a_width 4 refl, tt {0}))) (omega arith) refl
 
 pub shift_sound_as : (op : Operator) (ws : List ℕ) (code : List Instr) → ws ≡ (shift op).widths → code ≡ (shift op).code
-    → IsSound (record { method = None; params = 2; widths = ws; code = code })
+    → IsSound (record { method = None; params = 3; widths = ws; code = code })
 shift_sound_as op ws code e h =
-    subst (λ z. IsSound (record { method = None; params = 2; widths = z; code = code })) (sym e)
-    (subst (λ z. IsSound (record { method = None; params = 2; widths = (shift op).widths; code = z })) (sym h) (shift_sound op))
+    subst (λ z. IsSound (record { method = None; params = 3; widths = z; code = code })) (sym e)
+    (subst (λ z. IsSound (record { method = None; params = 3; widths = (shift op).widths; code = z })) (sym h) (shift_sound op))
 
 pub mul_sound : IsSound mul
 mul_sound =
@@ -196,3 +202,13 @@ pub mul_sound_as : (ws : List ℕ) (code : List Instr) → ws ≡ mul.widths →
 mul_sound_as ws code e h =
     subst (λ z. IsSound (record { method = None; params = 2; widths = z; code = code })) (sym e)
     (subst (λ z. IsSound (record { method = None; params = 2; widths = mul.widths; code = z })) (sym h) mul_sound)
+
+pub divide_sound : IsSound divide
+divide_sound =
+    sound divide (omega arith) (omega arith) (a_width 4 refl, (a_width 4 refl, (a_width 1 refl, (a_width 4 refl, (a_width 1 refl, tt {0}))))) (omega arith) refl
+
+pub divide_sound_as : (ws : List ℕ) (code : List Instr) → ws ≡ divide.widths → code ≡ divide.code
+    → IsSound (record { method = None; params = 3; widths = ws; code = code })
+divide_sound_as ws code e h =
+    subst (λ z. IsSound (record { method = None; params = 3; widths = z; code = code })) (sym e)
+    (subst (λ z. IsSound (record { method = None; params = 3; widths = divide.widths; code = z })) (sym h) divide_sound)

@@ -1,9 +1,10 @@
--- That the routine of the product computes the product.
+-- That the routine of the product computes the product. One part is four instructions, which add a product of two bytes at its place;
+-- the ten parts follow one another, and their sum is the product, but for what is cut away.
 use Rattle.std.specs.Prelude.{ℕ, suc, ◌+◌, ◌*◌, ◌/◌, ◌^◌, ◌<◌, Bool, true, false, nat_lt, List, [], ◌∷◌, Option, Some, None}
 use Rattle.std.specs.Prelude.{slice_get, if◌then◌else◌}
 use Rattle.std.proofs.Common.{◌≡◌, refl, sym, ap, ◌∙◌, subst, arith}
 use Rattle.std.proofs.lemmas.Nat.{mul-mod_first}
-use Rattle.std.proofs.Math.Nat.{add-mul-mod_self_right}
+use Rattle.std.proofs.Math.Nat.{add-mul-mod_self_right, mul_comm}
 use Rattle.vg_meaning.specs.History.{History}
 use Rattle.vg_meaning.specs.World.{World}
 use Rattle.vg_lin.specs.declared.instr.Operator.TheVariants.{Times}
@@ -15,9 +16,9 @@ use Rattle.vg_lin.specs.Meaning.{begun, resume, language, codes_in}
 use Rattle.vg_lin.specs.Steps.{Frame, Config, fetch}
 use Rattle.vg_lin.specs.Follows.{Leads, conf}
 use Rattle.vg_lin.proofs.Followed.{leads_then, free}
-use Rattle.vg_arith.specs.Routines.{with_locals, IsRoutineOf}
+use Rattle.vg_arith.specs.Routines.{with_locals, Gives, IsRoutineOf}
 use Rattle.vg_arith.specs.Product.{first_byte, second_byte, byte_product, moved, added, mul}
-use Rattle.vg_arith.proofs.ShiftRoutines.{some_is, fetch_of}
+use Rattle.vg_arith.proofs.ShiftRoutines.{some_is, fetch_of, low_low, gives_low}
 
 -- The byte above so many bits.
 abbrev pub byte : (x bits : ℕ) → ℕ
@@ -210,20 +211,35 @@ four_bytes : (x : ℕ) → x < 2 ^ 32 → x ≡ byte x 0 + byte x 8 * 256 + byte
 four_bytes x h = omega (arith, h)
 
 pub mul_is : IsRoutineOf Times mul
-mul_is x y v hx hy e p q has f fs ram w =
-    subst (λ z. (left : List LocalState) × Leads (language p) (codes_in p.procedures) 0
-    (conf q 0 (f ∷ fs) (with_locals ram (begun mul.widths (x ∷ y ∷ []))) w) (conf f.proc (suc f.pc) fs (resume f.awaits f.kept (with_locals ram left) z) w))
-    (sym product ∙ some_is _ v e) (given p q has f fs ram w x y)
+mul_is w x y v hw ha e = (
+  low 4 (x * y),
+  low_low w (x * y) hw ∙ some_is _ v e,
+  subst (Gives mul (x ∷ y ∷ [])) (of_low x y)
+      (gives_low mul (4 ∷ 1 ∷ 1 ∷ 4 ∷ []) [] x y (low 4 (low 4 x * low 4 y)) refl (gives (low 4 x) (low 4 y) (small x) (small y))),
+)
   where
-    rest : ℕ
-    rest =
-        byte x 8 * byte y 24 + byte x 16 * byte y 16 + byte x 24 * byte y 8 + (byte x 16 * byte y 24 + byte x 24 * byte y 16) * 256
-        + byte x 24 * byte y 24 * 65536
+    of_low : (x y : ℕ) → low 4 (low 4 x * low 4 y) ≡ low 4 (x * y)
+    of_low x y = mul-mod_first x (low 4 y) (256 ^ 4) ∙ ap (low 4) (mul_comm x (low 4 y)) ∙ mul-mod_first y x (256 ^ 4) ∙ ap (low 4) (mul_comm y x)
 
-    whole : x * y ≡ sum_of_parts p q has f fs ram w x y + rest * 4294967296
-    whole =
-        ap (λ z. z * y) (four_bytes x hx) ∙ ap (λ z. (byte x 0 + byte x 8 * 256 + byte x 16 * 65536 + byte x 24 * 16777216) * z) (four_bytes y hy)
-        ∙ multiplied (byte x 0) (byte x 8) (byte x 16) (byte x 24) (byte y 0) (byte y 8) (byte y 16) (byte y 24)
+    small : (x : ℕ) → low 4 x < 2 ^ 32
+    small x = omega arith
 
-    product : low 4 (x * y) ≡ low 4 (sum_of_parts p q has f fs ram w x y)
-    product = ap (low 4) whole ∙ add-mul-mod_self_right (sum_of_parts p q has f fs ram w x y) rest 4294967296
+    gives : (x y : ℕ) → x < 2 ^ 32 → y < 2 ^ 32 → Gives mul (x ∷ y ∷ []) (low 4 (x * y))
+    gives x y hx hy p q has f fs ram world =
+        subst (λ z. (left : List LocalState) × Leads (language p) (codes_in p.procedures) 0
+        (conf q 0 (f ∷ fs) (with_locals ram (begun mul.widths (x ∷ y ∷ []))) world)
+        (conf f.proc (suc f.pc) fs (resume f.awaits f.kept (with_locals ram left) z) world))
+        (sym product) (given p q has f fs ram world x y)
+      where
+        rest : ℕ
+        rest =
+            byte x 8 * byte y 24 + byte x 16 * byte y 16 + byte x 24 * byte y 8 + (byte x 16 * byte y 24 + byte x 24 * byte y 16) * 256
+            + byte x 24 * byte y 24 * 65536
+
+        whole : x * y ≡ sum_of_parts p q has f fs ram world x y + rest * 4294967296
+        whole =
+            ap (λ z. z * y) (four_bytes x hx) ∙ ap (λ z. (byte x 0 + byte x 8 * 256 + byte x 16 * 65536 + byte x 24 * 16777216) * z) (four_bytes y hy)
+            ∙ multiplied (byte x 0) (byte x 8) (byte x 16) (byte x 24) (byte y 0) (byte y 8) (byte y 16) (byte y 24)
+
+        product : low 4 (x * y) ≡ low 4 (sum_of_parts p q has f fs ram world x y)
+        product = ap (low 4) whole ∙ add-mul-mod_self_right (sum_of_parts p q has f fs ram world x y) rest 4294967296

@@ -1,3 +1,5 @@
+pub mod Simple
 pub mod Routines
 pub mod Shifts
 pub mod Product
+pub mod Division

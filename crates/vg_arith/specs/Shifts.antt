@@ -2,7 +2,7 @@
 use Rattle.std.specs.Prelude.{ℕ, ◌+◌, List, [], ◌∷◌, ◌++◌, None}
 use Rattle.vg_lin.specs.declared.instr.Operand.TheVariants.{Local, Known}
 use Rattle.vg_lin.specs.declared.instr.Operator.{Operator}
-use Rattle.vg_lin.specs.declared.instr.Operator.TheVariants.{Minus, ShiftLeft, ShiftRight}
+use Rattle.vg_lin.specs.declared.instr.Operator.TheVariants.{Minus, And, ShiftLeft, ShiftRight}
 use Rattle.vg_lin.specs.declared.instr.Comparison.TheVariants.{Below}
 use Rattle.vg_lin.specs.declared.instr.Plain.TheVariants.{Compute}
 use Rattle.vg_lin.specs.declared.instr.Instr.{Instr}
@@ -16,17 +16,18 @@ stage op at k =
     ∷ Plain (Compute (record { operator = op; width = 4; to = 0; left = Local 0; right = Known k }))
     ∷ Plain (Compute (record { operator = Minus; width = 1; to = 1; left = Local 1; right = Known k })) ∷ []
 
--- The value is the first local, the amount the second. An amount of 32 or more leaves nothing; else its binary digits are taken from
--- the highest to the lowest.
+-- The value is the first local, the amount the second, and the third has the bits of the value that the shift sees. An amount of 32 or
+-- more leaves nothing; else its binary digits are taken from the highest to the lowest.
 abbrev pub shift : Operator → Procedure
 shift op =
     record {
       method = None;
-      params = 2;
-      widths = 4 ∷ 4 ∷ [];
+      params = 3;
+      widths = 4 ∷ 4 ∷ 4 ∷ [];
       code =
-          Unless (record { comparison = Below; width = 4; left = Local 1; right = Known 32 }) 17
-          ∷ stage op 1 16 ++ (stage op 4 8 ++ (stage op 7 4 ++ (stage op 10 2 ++ (stage op 13 1 ++ (Return (Local 0) ∷ Return (Known 0) ∷ [])))));
+          Plain (Compute (record { operator = And; width = 4; to = 0; left = Local 0; right = Local 2 }))
+          ∷ Unless (record { comparison = Below; width = 4; left = Local 1; right = Known 32 }) 18
+          ∷ stage op 2 16 ++ (stage op 5 8 ++ (stage op 8 4 ++ (stage op 11 2 ++ (stage op 14 1 ++ (Return (Local 0) ∷ Return (Known 0) ∷ [])))));
     }
 
 abbrev pub shl : Procedure

@@ -11,7 +11,7 @@ use std::alloc::Global;
 use vg_base::{NoMemory, Row};
 use vg_lin::{Comparison, Computation, Instr, LinProc, Operand, Operator, Plain, Test};
 
-/// The routine of a shift, of either operator.
+/// The routine of a shift, of either operator. A third argument has the bits of the value that the shift sees.
 pub fn shift_routine(alloc: Global, operator: Operator) -> Result<LinProc, NoMemory>
     ensures { IfOk result (λ p. p ≡ shift operator) }
 {
@@ -19,19 +19,27 @@ pub fn shift_routine(alloc: Global, operator: Operator) -> Result<LinProc, NoMem
     let mut widths = Row::new(alloc);
     widths.push(4)?;
     widths.push(4)?;
-    Ok(LinProc::new(None, 2, widths, code))
+    widths.push(4)?;
+    Ok(LinProc::new(None, 3, widths, code))
 }
 
 fn shift_code(alloc: Global, operator: Operator) -> Result<Row<Instr>, NoMemory>
     ensures { IfOk result (λ code. code ≡ (shift operator).code) }
 {
     let mut code = Row::new(alloc);
-    code.push(Instr::Unless(amount_below(4, 32), 17))?;
-    push_stage(&mut code, operator, 1, 16)?;
-    push_stage(&mut code, operator, 4, 8)?;
-    push_stage(&mut code, operator, 7, 4)?;
-    push_stage(&mut code, operator, 10, 2)?;
-    push_stage(&mut code, operator, 13, 1)?;
+    code.push(Instr::Plain(Plain::Compute(Computation {
+        operator: Operator::And,
+        width: 4,
+        to: 0,
+        left: Operand::Local(0),
+        right: Operand::Local(2),
+    })))?;
+    code.push(Instr::Unless(amount_below(4, 32), 18))?;
+    push_stage(&mut code, operator, 2, 16)?;
+    push_stage(&mut code, operator, 5, 8)?;
+    push_stage(&mut code, operator, 8, 4)?;
+    push_stage(&mut code, operator, 11, 2)?;
+    push_stage(&mut code, operator, 14, 1)?;
     code.push(Instr::Return(Operand::Local(0)))?;
     code.push(Instr::Return(Operand::Known(0)))?;
     Ok(code)
@@ -75,7 +83,8 @@ fn push_stage(
     Ok(())
 }
 
-/// The routines of both shifts give what the operators compute, of all values and all amounts. They are small, and have no jump back.
+/// The routines of both shifts give what the operators compute, of all widths, values and amounts. They are small, and have no jump
+/// back.
 pub fn shifts_are_right()
     ensures left { IsRoutineOf ShiftLeft shl }
     ensures right { IsRoutineOf ShiftRight shr }

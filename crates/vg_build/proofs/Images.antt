@@ -5,6 +5,8 @@ use Rattle.vg_syntax.specs.Tree.{Node}
 use Rattle.vg_first_text.specs.declared.device_write.DeviceWrite.{DeviceWrite}
 use Rattle.vg_first_text.specs.FirstSession.{first_session}
 use Rattle.vg_first_text.specs.FirstText.{IsFirst}
+use Rattle.vg_first_laws.specs.Trees.{empty_heap}
+use Rattle.vg_first_laws.proofs.Means.{text_is_legal, text_starts, text_sessions}
 use Rattle.avr_isa.specs.Agrees.{Agrees, NeverReaches}
 use Rattle.vg_hex.specs.HexImage.{HexImage}
 use Rattle.vg_hex.specs.HexText.{hex_text}
@@ -22,13 +24,16 @@ image_of_text bytes image layout writes tree same reads first agrees never spell
     (record {
       tree = tree;
       reads = reads;
+      legal = text_is_legal bytes writes tree first reads;
+      heap = empty_heap;
+      starts = text_starts bytes writes tree first reads;
       writes = writes;
       first = first;
       static_is = refl;
       stack_is = refl;
       fits = omega arith;
       floor_is = refl;
-      agrees = agrees;
+      agrees = subst (λ s. Agrees s image 0x0100 4096) (sym (text_sessions bytes writes tree first reads)) agrees;
       never = never;
       spelled = spelled;
       only = λ other h. one_image _ _ _ h spelled;

@@ -3,12 +3,13 @@ use Rattle.std.specs.Prelude.{ℕ, ◌≡◌, List, Option, Some, None, Result, 
 use Rattle.vg_base.specs.declared.place.Place.{Place}
 use Rattle.vg_base.specs.declared.refusal.Refusal.{Refusal}
 use Rattle.vg_base.specs.declared.refusal.Refusal.TheVariants as refusal
-use Rattle.vg_syntax.specs.Faults.{IsText, NoTreeIn, TooDeepIn}
+use Rattle.vg_syntax.specs.Faults.{NoTreeIn, TooDeepIn}
 use Rattle.vg_first_text.specs.declared.device_write.DeviceWrite.{DeviceWrite}
 use Rattle.vg_first_text.specs.FirstText.{IsFirst}
 use Rattle.vg_build.specs.declared.building.Built.{Built}
 use Rattle.vg_build.specs.declared.fault.Fault.{Fault}
-use Rattle.vg_build.specs.declared.fault.Fault.TheVariants.{NoTree, TooDeep, NotBuilt}
+use Rattle.vg_build.specs.declared.fault.Fault.TheVariants.{NoTree, TooDeep, TooMany, Broken, NotBuilt}
+use Rattle.vg_build.specs.Judged.{RefusedIn, KeptIn}
 use Rattle.vg_build.specs.Image.{IsBuiltOf}
 
 -- an image with its texts, or why there is none
@@ -31,9 +32,9 @@ fault_in (Err refusal.NoMemory) = None
 abbrev pub IsNoFirst : List ℕ → Type 0
 IsNoFirst bytes = (writes : List DeviceWrite) → IsFirst bytes writes → ⊥
 
--- the bytes are a text of the language, of a form that is not built yet
+-- the bytes are a text of the language that is refused for nothing that is asked, of a form that is not built yet
 abbrev pub IsNotBuilt : List ℕ → Type 0
-IsNotBuilt bytes = IsText bytes × IsNoFirst bytes
+IsNotBuilt bytes = KeptIn bytes × IsNoFirst bytes
 
 -- the first place of a text
 abbrev pub first_place : Place
@@ -43,6 +44,8 @@ first_place = record { line = 1; col = 1 }
 abbrev pub HasFault : Fault → List ℕ → Type 0
 HasFault (NoTree place) bytes = NoTreeIn bytes place
 HasFault (TooDeep place) bytes = TooDeepIn bytes place
+HasFault (TooMany what limit place) bytes = RefusedIn bytes (TooMany what limit place)
+HasFault (Broken rule place) bytes = RefusedIn bytes (Broken rule place)
 HasFault (NotBuilt place) bytes = IsNotBuilt bytes × (place ≡ first_place)
 
 -- why nothing was built of the bytes: they have a fault, or memory was wanting

@@ -1,9 +1,13 @@
 -- What it means that an image does what the bytes of a source text say.
-use Rattle.std.specs.Prelude.{ℕ, ◌≡◌, ◌+◌, ◌≤◌, List, Option, None}
+use Rattle.std.specs.Prelude.{ℕ, suc, ◌≡◌, ◌+◌, ◌≤◌, List, Option, None}
 use Rattle.vg_syntax.specs.Tree.{Node}
 use Rattle.vg_syntax.specs.Reads.{Reads}
+use Rattle.vg_source.specs.Values.{Heap}
+use Rattle.vg_source.specs.Program.{source_of}
+use Rattle.vg_source.specs.Session.{Started, started}
+use Rattle.vg_source.specs.Peak.{sessions}
+use Rattle.vg_rules.specs.Refusal.{refusal_of}
 use Rattle.vg_first_text.specs.declared.device_write.DeviceWrite.{DeviceWrite}
-use Rattle.vg_first_text.specs.FirstSession.{first_session}
 use Rattle.vg_first_text.specs.FirstText.{IsFirst}
 use Rattle.avr_isa.specs.Agrees.{Agrees, NeverReaches}
 use Rattle.vg_hex.specs.HexText.{hex_text}
@@ -18,9 +22,12 @@ static_of writes = 0
 
 -- The image does what the bytes say, where this stack is asked for, or none.
 pub record IsImageOf (bytes : List ℕ) (asked : Option ℕ) (image : List ℕ) (layout : Layout) : Type 0 where
-  -- the bytes are a text of the language with this tree, and a program of constants with these writes
+  -- the bytes are a text of the language with this tree, which keeps all rules and is initialised to this heap; and a program of constants with these writes
   pub tree : Node
   pub reads : Reads bytes tree
+  pub legal : refusal_of tree ≡ None
+  pub heap : Heap
+  pub starts : (clock : ℕ) → started (source_of tree) (suc clock) ≡ Started heap
   pub writes : List DeviceWrite
   pub first : IsFirst bytes writes
   -- the static area is the program's, the stack is the stated one, both fit into SRAM, and the stack ends where SRAM does
@@ -28,8 +35,8 @@ pub record IsImageOf (bytes : List ℕ) (asked : Option ℕ) (image : List ℕ) 
   pub stack_is : layout.stack ≡ stated asked layout.static_bytes
   pub fits : layout.static_bytes + layout.stack ≤ 4096
   pub floor_is : layout.floor + layout.stack ≡ 0x1100
-  -- on this flash the machine does what the program does, with its stack at or above the floor
-  pub agrees : Agrees (first_session writes) image layout.floor layout.stack
+  -- on this flash the machine does what the text does from its heap, with its stack at or above the floor
+  pub agrees : Agrees (sessions tree heap) image layout.floor layout.stack
   pub never : NeverReaches image layout.floor
   -- the HEX text spells this image, and no other
   pub spelled : HexImage (hex_text image) image

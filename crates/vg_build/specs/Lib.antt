@@ -1,4 +1,5 @@
 pub mod Layout
 pub mod Image
+pub mod Judged
 pub mod Answer
 pub mod Mirrors

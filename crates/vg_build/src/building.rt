@@ -8,10 +8,13 @@ ghost use Rattle.vg_first_text.specs.FirstSession.{AreDevices};
 ghost use Rattle.vg_first_text.specs.FirstText.{IsFirst};
 ghost use Rattle.vg_build.specs.Answer.{Answers, IsCause, IsNotBuilt, IsSettled, fault_in, first_place};
 ghost use Rattle.vg_build.specs.Image.{IsBuiltOf};
+ghost use Rattle.vg_build.specs.Judged.{RefusedIn};
+ghost use Rattle.vg_rules.specs.declared.what.What.{What};
 ghost use Rattle.vg_build.specs.Mirrors.{IsMadeOf, ReadBy};
 ghost use Rattle.vg_build.specs.declared.fault.Fault as fault;
 
 use crate::fault::Fault;
+use crate::judging::judged;
 use crate::layout::{Layout, layout_text};
 use avr_isa::Image;
 use std::alloc::Global;
@@ -47,6 +50,10 @@ pub fn build(alloc: Global, text: &[u8]) -> Result<Built, Refusal<Fault>>
     // Exactly which texts are refused, and which are built.
     ensures no_tree { IsSettled result → (place : Place) → (fault_in result ≡ Some (fault.Fault.NoTree place)) ↔ NoTreeIn text.now place }
     ensures too_deep { IsSettled result → (place : Place) → (fault_in result ≡ Some (fault.Fault.TooDeep place)) ↔ TooDeepIn text.now place }
+    ensures too_many { IsSettled result → (what : What) (limit : ℕ) (place : Place)
+        → (fault_in result ≡ Some (fault.Fault.TooMany what limit place)) ↔ RefusedIn text.now (fault.Fault.TooMany what limit place) }
+    ensures broken { IsSettled result → (rule : ℕ) (place : Place)
+        → (fault_in result ≡ Some (fault.Fault.Broken rule place)) ↔ RefusedIn text.now (fault.Fault.Broken rule place) }
     ensures not_built { IsSettled result → (fault_in result ≡ Some (fault.Fault.NotBuilt first_place)) ↔ IsNotBuilt text.now }
     ensures not_built_first { (place : Place) → fault_in result ≡ Some (fault.Fault.NotBuilt place) → place ≡ first_place }
     ensures complete { (writes : List Write) → IsFirst text.now writes → IsOk result ⊎ (result ≡ Err Refusal.NoMemory) }
@@ -76,13 +83,14 @@ fn answer_to(alloc: Global, text: &[u8]) -> Result<Built, Refusal<Fault>>
     }
 }
 
-// Whether the bytes are a text of the language.
+// Whether the bytes are a text of the language that is refused for nothing that is asked.
 fn check_text(alloc: Global, text: &[u8]) -> Result<(), Refusal<Fault>>
     requires { length text.now ≤ text_limit }
     ensures { ReadBy text.now result }
 {
-    match read(alloc, text, &mut Names::new(alloc)) {
-        Ok(_) => Ok(()),
+    let mut names = Names::new(alloc);
+    match read(alloc, text, &mut names) {
+        Ok(tree) => judged(alloc, &names, &tree),
         Err(Refusal::Fault(ReadFault::NoTree(place))) => Err(Refusal::Fault(Fault::NoTree(place))),
         Err(Refusal::Fault(ReadFault::TooDeep(place))) => {
             Err(Refusal::Fault(Fault::TooDeep(place)))

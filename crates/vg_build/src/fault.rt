@@ -1,5 +1,6 @@
 // Why a source text is refused.
 use vg_base::Place;
+use vg_rules::what::What;
 
 /// Why a source text was refused.
 #[derive(Clone, Copy, Debug, PartialEq, Eq)]
@@ -8,6 +9,17 @@ pub enum Fault {
     NoTree(Place),
     /// The bracket at this place is the first that is a 65th open one, in a text that could still go on.
     TooDeep(Place),
+    /// There are more of these than the limit. The declaration at the place is the first that passes it, or whose own number does.
+    TooMany {
+        what: What,
+        limit: u32,
+        place: Place,
+    },
+    /// The node at this place breaks the rule of this number, from 1 to 25, and is the first that breaks one.
+    Broken {
+        rule: u8,
+        place: Place,
+    },
     /// The text is one of the language, and a form that is not built yet stands at this place.
     NotBuilt(Place),
 }

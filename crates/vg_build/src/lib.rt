@@ -3,6 +3,7 @@
 
 mod building;
 mod fault;
+mod judging;
 mod layout;
 
 pub use building::{Built, build};

@@ -1,7 +1,7 @@
 // Types.
 
 /// A type. What it is made of has a number in the program's table of types, where equal types have one number.
-#[derive(Clone, Copy, Debug, PartialEq, Eq)]
+#[derive(Clone, Copy, Debug, PartialEq, Eq, Hash)]
 pub enum CoreType {
     IntType,
     BoolType,

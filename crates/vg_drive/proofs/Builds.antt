@@ -16,15 +16,17 @@ use Rattle.vg_first_text.specs.declared.device_write.DeviceWrite.{DeviceWrite}
 use Rattle.vg_first_text.specs.FirstText.{IsFirst}
 use Rattle.vg_syntax.specs.Faults.{NoTreeIn, TooDeepIn}
 use Rattle.vg_hex.specs.HexText.{hex_text}
+use Rattle.vg_rules.specs.declared.what.What.{What}
+use Rattle.vg_build.specs.Judged.{RefusedIn}
 use Rattle.vg_build.specs.Answer as of_bytes
 use Rattle.vg_build.specs.Answer.{Answer, Answers, IsNotBuilt, fault_in, first_place}
 use Rattle.vg_build.specs.Image.{IsBuiltOf, IsImageOf}
 use Rattle.vg_build.specs.Layout.{layout_text, stated}
 use Rattle.vg_build.specs.declared.building.Built.{Built}
 use Rattle.vg_build.specs.declared.fault.Fault.{Fault}
-use Rattle.vg_build.specs.declared.fault.Fault.TheVariants.{NoTree, TooDeep, NotBuilt}
+use Rattle.vg_build.specs.declared.fault.Fault.TheVariants.{NoTree, TooDeep, TooMany, Broken, NotBuilt}
 use Rattle.vg_build.specs.declared.layout.Layout.{Layout}
-use Rattle.vg_build.proofs.Faults.{complete_of, first_of, no_tree_of, not_built_of, too_deep_of}
+use Rattle.vg_build.proofs.Faults.{broken_of, complete_of, first_of, no_tree_of, not_built_of, too_deep_of, too_many_of}
 use Rattle.vg_drive.specs.declared.status.Status.{Status}
 use Rattle.vg_drive.specs.declared.status.Status.TheVariants.{Done, Refused, ReadFault, WriteFault, NoMemory}
 use Rattle.vg_drive.specs.Answers.{AppendsBegun, ForImage}
@@ -112,6 +114,23 @@ too_deep_by s told file out note (inr h) settled =
     of_file told file h.bytes (λ bytes. (place : Place) → (s ≡ Refused (TooDeep place)) ↔ TooDeepIn bytes place) h.whole
     (λ place. chain _ _ _ (refused_iff h.answer s out note h.puts (TooDeep place))
     (too_deep_of h.bytes h.answer h.says (settled_answer h.answer s out note h.puts settled) place))
+
+pub too_many_by : (s : Status) (told : Option (List File)) (file : List ℕ) (out note : Change) → BuildBy s told file out note → IsSettled s
+    → ForFile told file (λ bytes. (what : What) (limit : ℕ) (place : Place) → (s ≡ Refused (TooMany what limit place)) ↔ RefusedIn bytes (TooMany what limit place))
+too_many_by s told file out note (inl h) settled = absurd (missing_unsettled h.0.reason (subst IsSettled h.0.tells settled))
+too_many_by s told file out note (inr h) settled =
+    of_file told file h.bytes
+    (λ bytes. (what : What) (limit : ℕ) (place : Place) → (s ≡ Refused (TooMany what limit place)) ↔ RefusedIn bytes (TooMany what limit place)) h.whole
+    (λ what limit place. chain _ _ _ (refused_iff h.answer s out note h.puts (TooMany what limit place))
+    (too_many_of h.bytes h.answer h.says (settled_answer h.answer s out note h.puts settled) what limit place))
+
+pub broken_by : (s : Status) (told : Option (List File)) (file : List ℕ) (out note : Change) → BuildBy s told file out note → IsSettled s
+    → ForFile told file (λ bytes. (rule : ℕ) (place : Place) → (s ≡ Refused (Broken rule place)) ↔ RefusedIn bytes (Broken rule place))
+broken_by s told file out note (inl h) settled = absurd (missing_unsettled h.0.reason (subst IsSettled h.0.tells settled))
+broken_by s told file out note (inr h) settled =
+    of_file told file h.bytes (λ bytes. (rule : ℕ) (place : Place) → (s ≡ Refused (Broken rule place)) ↔ RefusedIn bytes (Broken rule place)) h.whole
+    (λ rule place. chain _ _ _ (refused_iff h.answer s out note h.puts (Broken rule place))
+    (broken_of h.bytes h.answer h.says (settled_answer h.answer s out note h.puts settled) rule place))
 
 pub not_built_by : (s : Status) (told : Option (List File)) (file : List ℕ) (out note : Change) → BuildBy s told file out note → IsSettled s
     → ForFile told file (λ bytes. (s ≡ Refused (NotBuilt first_place)) ↔ IsNotBuilt bytes)

@@ -3,8 +3,10 @@ use Rattle.std.specs.Prelude.{ℕ, List, [], ◌++◌, codes, decimal}
 use Rattle.vg_base.specs.declared.place.Place.{Place}
 use Rattle.vg_hex.specs.declared.fault.HexFault.{HexFault}
 use Rattle.vg_hex.specs.declared.fault.HexFault.TheVariants.{Form, Sum, Twice, Beyond, NoEnd}
+use Rattle.vg_rules.specs.declared.what.What.{What}
+use Rattle.vg_rules.specs.declared.what.What.TheVariants.{Classes, Methods, Locals, Height}
 use Rattle.vg_build.specs.declared.fault.Fault.{Fault}
-use Rattle.vg_build.specs.declared.fault.Fault.TheVariants.{NoTree, TooDeep, NotBuilt}
+use Rattle.vg_build.specs.declared.fault.Fault.TheVariants.{NoTree, TooDeep, TooMany, Broken, NotBuilt}
 use Rattle.vg_drive.specs.declared.status.Status.{Status}
 use Rattle.vg_drive.specs.declared.status.Status.TheVariants.{Refused, Usage, ReadFault, WriteFault, NoMemory, TooLong, HexRefused, ScriptRefused}
 
@@ -12,9 +14,18 @@ use Rattle.vg_drive.specs.declared.status.Status.TheVariants.{Refused, Usage, Re
 abbrev pub place_text : Place → List ℕ
 place_text place = decimal place.line ++ codes ":" ++ decimal place.col
 
+-- what there are too many of
+abbrev pub what_text : What → List ℕ
+what_text Classes = codes "classes"
+what_text Methods = codes "methods"
+what_text Locals = codes "locals"
+what_text Height = codes "height"
+
 abbrev pub refusal_line : Fault → List ℕ
 refusal_line (NoTree place) = codes "no tree at " ++ place_text place ++ codes "\n"
 refusal_line (TooDeep place) = codes "too deep at " ++ place_text place ++ codes "\n"
+refusal_line (TooMany what limit place) = codes "too many " ++ what_text what ++ codes "\n"
+refusal_line (Broken rule place) = codes "rule " ++ decimal rule ++ codes " broken at " ++ place_text place ++ codes "\n"
 refusal_line (NotBuilt place) = codes "not built at " ++ place_text place ++ codes "\n"
 
 -- the line of a fault of a HEX text: the number of its line, or a byte address, in decimal

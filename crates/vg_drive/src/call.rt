@@ -11,6 +11,8 @@ ghost use Rattle.vg_fetch.specs.Told.{ForFile, ForFiles};
 ghost use Rattle.vg_first_text.specs.declared.device_write.DeviceWrite.{DeviceWrite};
 ghost use Rattle.vg_syntax.specs.Faults.{NoTreeIn, TooDeepIn};
 ghost use Rattle.vg_first_text.specs.FirstText.{IsFirst};
+ghost use Rattle.vg_rules.specs.declared.what.What.{What};
+ghost use Rattle.vg_build.specs.Judged.{RefusedIn};
 ghost use Rattle.vg_build.specs.Answer.{IsNotBuilt, first_place};
 ghost use Rattle.vg_build.specs.Layout.{layout_text};
 ghost use Rattle.vg_build.specs.declared.fault.Fault as fault;
@@ -63,6 +65,11 @@ pub fn run<S: Shelf, O: Sink, N: Sink>(
         (place : Place) → (result ≡ Status.Refused (fault.Fault.NoTree place)) ↔ NoTreeIn bytes place)) }
     ensures too_deep { IsSettled result → OnBuild (command_of (words_in words.now)) (λ file. ForFile (S.told shelf.old) file (λ bytes.
         (place : Place) → (result ≡ Status.Refused (fault.Fault.TooDeep place)) ↔ TooDeepIn bytes place)) }
+    ensures too_many { IsSettled result → OnBuild (command_of (words_in words.now)) (λ file. ForFile (S.told shelf.old) file (λ bytes.
+        (what : What) (limit : ℕ) (place : Place) → (result ≡ Status.Refused (fault.Fault.TooMany what limit place))
+        ↔ RefusedIn bytes (fault.Fault.TooMany what limit place))) }
+    ensures broken { IsSettled result → OnBuild (command_of (words_in words.now)) (λ file. ForFile (S.told shelf.old) file (λ bytes.
+        (rule : ℕ) (place : Place) → (result ≡ Status.Refused (fault.Fault.Broken rule place)) ↔ RefusedIn bytes (fault.Fault.Broken rule place))) }
     ensures not_built { IsSettled result → OnBuild (command_of (words_in words.now)) (λ file. ForFile (S.told shelf.old) file (λ bytes.
         (result ≡ Status.Refused (fault.Fault.NotBuilt first_place)) ↔ IsNotBuilt bytes)) }
     ensures not_built_first { (place : Place) → result ≡ Status.Refused (fault.Fault.NotBuilt place) → place ≡ first_place }

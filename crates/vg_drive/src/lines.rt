@@ -1,6 +1,6 @@
 // The line that says why nothing was built or run.
 ghost use Rattle.std.specs.Prelude.{◌≡◌, ◌++◌, ℕ, decimal, codes, length, ◌≤◌};
-ghost use Rattle.vg_drive.specs.Lines.{fault_line, hex_line, refusal_line, place_text};
+ghost use Rattle.vg_drive.specs.Lines.{fault_line, hex_line, refusal_line, place_text, what_text};
 
 use crate::status::Status;
 use arrayvec::ArrayString;
@@ -8,9 +8,10 @@ use itoa::Buffer;
 use vg_base::Place;
 use vg_build::Fault;
 use vg_hex::HexFault;
+use vg_rules::what::What;
 
-/// The bytes of the longest fault line: a place has two numbers of at most ten digits.
-pub const LONGEST_LINE: usize = 40;
+/// The bytes of the longest fault line, or more: a place has two numbers of at most ten digits, and a rule's number at most three.
+pub const LONGEST_LINE: usize = 48;
 
 /// The fault line of an answer, with its line end. It takes no memory.
 pub fn fault_line(status: &Status) -> ArrayString<LONGEST_LINE>
@@ -41,8 +42,39 @@ fn refusal_line(fault: &Fault) -> ArrayString<LONGEST_LINE>
     match fault {
         Fault::NoTree(place) => placed_line("no tree at ", *place),
         Fault::TooDeep(place) => placed_line("too deep at ", *place),
+        Fault::TooMany { what, .. } => too_many_line(*what),
+        Fault::Broken { rule, place } => broken_line(*rule, *place),
         Fault::NotBuilt(place) => placed_line("not built at ", *place),
     }
+}
+
+fn too_many_line(what: What) -> ArrayString<LONGEST_LINE>
+    ensures { result.bytes ≡ codes "too many " ++ what_text what ++ codes "\n" }
+{
+    let mut line = ArrayString::new();
+    line.push_str("too many ");
+    line.push_str(match what {
+        What::Classes => "classes",
+        What::Methods => "methods",
+        What::Locals => "locals",
+        What::Height => "height",
+    });
+    line.push_str("\n");
+    line
+}
+
+fn broken_line(rule: u8, place: Place) -> ArrayString<LONGEST_LINE>
+    ensures { result.bytes ≡ codes "rule " ++ decimal rule ++ codes " broken at " ++ place_text place ++ codes "\n" }
+{
+    let mut line = ArrayString::new();
+    line.push_str("rule ");
+    line.push_str(Buffer::new().format(rule));
+    line.push_str(" broken at ");
+    line.push_str(Buffer::new().format(place.line));
+    line.push_str(":");
+    line.push_str(Buffer::new().format(place.col));
+    line.push_str("\n");
+    line
 }
 
 fn hex_line(fault: &HexFault) -> ArrayString<LONGEST_LINE>

@@ -1,6 +1,10 @@
 mod Runs
 mod Names
-pub mod Depth
-pub mod Parts
 pub mod Spelled
+mod Nodes
+mod Parts
+mod Depth
 pub mod Texts
+mod Placed
+mod Legal
+pub mod Means

@@ -35,30 +35,30 @@ use Rattle.vg_first_laws.proofs.Runs.{write_code, writes_code, IsConstants, sess
 
 -- ---- names
 
-same_itself : (x : Name) → bytes_eq x x ≡ true
+pub same_itself : (x : Name) → bytes_eq x x ≡ true
 same_itself x = (bytes_eq-Decides x x).1 refl
 
 not_true : (b : Bool) → (b ≡ true → ⊥) → b ≡ false
 not_true true h = absurd (h refl)
 not_true false h = refl
 
-not_same : (x y : Name) → x ≢ y → bytes_eq x y ≡ false
+pub not_same : (x y : Name) → x ≢ y → bytes_eq x y ≡ false
 not_same x y h = not_true (bytes_eq x y) (λ e. h ((bytes_eq-Decides x y).0 e))
 
-some_of : (o : Option ℕ) → o ≢ None → (n : ℕ) × (o ≡ Some n)
+pub some_of : (o : Option ℕ) → o ≢ None → (n : ℕ) × (o ≡ Some n)
 some_of (Some n) h = (n, refl)
 some_of None h = absurd (h refl)
 
 -- ---- registers
 
-number_is : (digits : List ℕ) → is_hexadecimal digits ≡ true → number_of digits ≡ hex_value digits
+pub number_is : (digits : List ℕ) → is_hexadecimal digits ≡ true → number_of digits ≡ hex_value digits
 number_is digits e = ap (λ b. if b then hex_value digits else decimal_behind 0 digits) e
 
 found_register : (b : Bool) (m n : ℕ) (o p : Option ℕ) → m ≡ n → o ≡ p → or_else (if b then Some m else None) o ≡ (if b then Some n else p)
 found_register true m n o p e h = ap Some e
 found_register false m n o p e h = h
 
-registers_in : (at : ℕ → Spot) (k : ℕ) (rs : List FirstRegister) (x : Name) → AreRegisters rs → register_in (register_row at k rs) x ≡ register_address rs x
+pub registers_in : (at : ℕ → Spot) (k : ℕ) (rs : List FirstRegister) (x : Name) → AreRegisters rs → register_in (register_row at k rs) x ≡ register_address rs x
 registers_in at k [] x h = refl
 registers_in at k (r ∷ rs) x (number, once, h) =
     found_register (bytes_eq r.name x) (number_of r.digits) (hex_value r.digits) (register_in (register_row at (k + 1) rs) x) (register_address rs x)
@@ -74,7 +74,7 @@ byte_is digits h =
 module _ (at : ℕ → Spot) (ds : Node) (c d : Name) (k : ℕ) (rs : List FirstRegister)
     (no_member : component_member ds c d ≡ None) (no_component : component_named ds d ≡ None) (device : device_named ds d ≡ Some (register_row at k rs))
     (registers : AreRegisters rs) where
-  assignment_is : (n : ℕ) (a : FirstAssignment) → IsAssignment d rs a
+  pub assignment_is : (n : ℕ) (a : FirstAssignment) → IsAssignment d rs a
       → resolved ds (InComponent c) (assignment_node at n a) Fresh no_names ≡ doing (write_code (write_of rs a)) NoHead no_names
   assignment_is n a h =
       let some : (m : ℕ) × (register_address rs a.register ≡ Some m) = some_of (register_address rs a.register) h.register in
@@ -110,7 +110,7 @@ quiet_registers at n (r ∷ rs) = quiet_registers at (n + 1) rs
 
 -- ---- what the call of main costs
 
-no_locals : (at : ℕ → Spot) (n : ℕ) (rows : List FirstAssignment) → flat_map local_node (nodes (assignment_row at n rows)) ≡ []
+pub no_locals : (at : ℕ → Spot) (n : ℕ) (rows : List FirstAssignment) → flat_map local_node (nodes (assignment_row at n rows)) ≡ []
 no_locals at n [] = refl
 no_locals at n (a ∷ rows) = no_locals at (n + 5) rows
 
@@ -137,18 +137,18 @@ module _ (at : ℕ → Spot) (device program : ℕ) (f : First) (fits : FirstFit
   abbrev members : Node
   members = Then (tree.MethodDecl (at 2) f.method [] tree.NoType (tree.Block (at 3) (assignment_row at 4 f.assignments))) tree.Nothing
 
-  component_is : component_named ds f.component ≡ Some members
+  pub component_is : component_named ds f.component ≡ Some members
   component_is = ap (λ b. or_else (if b then Some members else None) None) (same_itself f.component)
 
-  no_component : component_named ds f.device ≡ None
+  pub no_component : component_named ds f.device ≡ None
   no_component = ap (λ b. or_else (if b then Some members else None) None) (not_same f.component f.device (λ e. fits.names.device_component (sym e)))
 
-  no_member : component_member ds f.component f.device ≡ None
+  pub no_member : component_member ds f.component f.device ≡ None
   no_member =
       ap (λ o. member_among f.component o f.device) component_is
       ∙ ap (λ b. or_else (if b then Some (AMethod NoType NoType) else None) None) (not_same f.method f.device (λ e. fits.names.device_method (sym e)))
 
-  device_is : device_named ds f.device ≡ Some (register_row at (device + 1) f.registers)
+  pub device_is : device_named ds f.device ≡ Some (register_row at (device + 1) f.registers)
   device_is = ap (λ b. or_else (if b then Some (register_row at (device + 1) f.registers) else None) None) (same_itself f.device)
 
   abbrev start : Routine

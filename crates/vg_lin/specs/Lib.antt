@@ -8,3 +8,4 @@ pub mod Stands
 pub mod Follows
 pub mod Sound
 pub mod Sessions
+pub mod Onward

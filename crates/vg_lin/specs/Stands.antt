@@ -13,7 +13,7 @@ use Rattle.vg_lin.specs.Structured.{Step, Here, Pick, Decide, Flip, Give, To, Re
 -- tick, so its test makes at least one step on each way.
 pub data Goal : Type 0 where
   Next : (to : ℕ) → Goal
-  Either : (met no : ℕ) (paid : Bool) → Goal
+  Either : (met unmet : ℕ) (paid : Bool) → Goal
 
 -- The same places, with no step asked for.
 abbrev pub at_ease : Goal → Goal

@@ -78,7 +78,8 @@ pub enum Plain {
     /// The value goes to a local.
     Copy(u8, Operand),
     Compute(Computation),
-    /// The product of the low bytes of two values, in two bytes, goes to a local. Only routines use it.
+    /// The product of the low bytes of two values, in two bytes, goes to a local. Only routines use it, and what stands in place of
+    /// the product of two bytes.
     Product(u8, Operand, Operand),
     /// One step of a division of four bytes. Only routines use it.
     ///

@@ -5,7 +5,9 @@ use Rattle.vg_lin.specs.declared.instr.Operand.TheVariants.{Known}
 use Rattle.vg_lin.specs.declared.instr.Instr.{Instr}
 use Rattle.vg_lin.specs.declared.instr.Instr.TheVariants.{Return}
 use Rattle.vg_lin.specs.Sound.{AreOperands, Waits, IsSound}
+use Rattle.vg_arith.proofs.Keeping.{sound, a_width}
 use Rattle.vg_lin_rows.specs.Smallest.{smallest}
+use Rattle.vg_lin_rows.specs.Sample.{sample}
 
 abbrev waits : ℕ → List ℕ
 waits at = []
@@ -35,3 +37,12 @@ pub sound_as : (ws : List ℕ) (code : List Instr) → ws ≡ [] → code ≡ Re
 sound_as ws code e h =
     subst (λ z. IsSound (record { method = None; params = 0; widths = z; code = code })) (sym e)
     (subst (λ z. IsSound (record { method = None; params = 0; widths = []; code = z })) (sym h) smallest_sound)
+
+pub sample_sound : IsSound sample
+sample_sound = sound sample (omega arith) (omega arith) (a_width 4 refl, (a_width 4 refl, (a_width 2 refl, tt {0}))) (omega arith) refl
+
+pub sample_sound_as : (ws : List ℕ) (code : List Instr) → ws ≡ sample.widths → code ≡ sample.code
+    → IsSound (record { method = None; params = 2; widths = ws; code = code })
+sample_sound_as ws code e h =
+    subst (λ z. IsSound (record { method = None; params = 2; widths = z; code = code })) (sym e)
+    (subst (λ z. IsSound (record { method = None; params = 2; widths = sample.widths; code = z })) (sym h) sample_sound)

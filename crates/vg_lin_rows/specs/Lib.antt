@@ -4,3 +4,6 @@ pub mod Linear
 pub mod Steps
 pub mod Standing
 pub mod Smallest
+pub mod Edges
+pub mod Arithmetic
+pub mod Sample

@@ -2,6 +2,7 @@
 #![tactic(auto)]
 
 pub mod example;
+pub mod sample;
 pub mod smallest;
 #[cfg(test)]
 mod tests;

@@ -6,6 +6,8 @@ use vg_base::{NoMemory, Place, Row};
 use vg_build::Fault;
 use vg_drive::{Status, fault_line};
 use vg_hex::HexFault;
+use vg_rules::what::What;
+use vg_types_counts::{CLASS_LIMIT, HEIGHT_LIMIT, LOCAL_LIMIT, METHOD_LIMIT};
 
 /// `status NAME NUMBER NUMBER`: the number of a status, and its fault line. A name that needs fewer numbers ignores the others.
 pub fn status_told(alloc: Global, words: &str) -> Result<Option<Row<u8>>, NoMemory> {
@@ -57,12 +59,26 @@ fn refused(name: &str, first: u32, second: u32) -> Option<Status> {
     match name {
         "no-tree" => Some(Status::Refused(Fault::NoTree(place))),
         "too-deep" => Some(Status::Refused(Fault::TooDeep(place))),
+        "too-many-classes" => Some(too_many(What::Classes, CLASS_LIMIT, place)),
+        "too-many-methods" => Some(too_many(What::Methods, METHOD_LIMIT, place)),
+        "too-many-locals" => Some(too_many(What::Locals, LOCAL_LIMIT, place)),
+        "too-many-height" => Some(too_many(What::Height, HEIGHT_LIMIT, place)),
         "not-built" => Some(Status::Refused(Fault::NotBuilt(place))),
         "hex-form" => Some(Status::HexRefused(HexFault::Form(first))),
         "hex-sum" => Some(Status::HexRefused(HexFault::Sum(first))),
         "hex-twice" => Some(Status::HexRefused(HexFault::Twice(first))),
         "hex-beyond" => Some(Status::HexRefused(HexFault::Beyond(first))),
         "hex-no-end" => Some(Status::HexRefused(HexFault::NoEnd)),
-        _ => None,
+        _ => broken(name, place),
     }
+}
+
+fn too_many(what: What, limit: u32, place: Place) -> Status {
+    Status::Refused(Fault::TooMany { what, limit, place })
+}
+
+// A rule that is broken, by its name `broken-` and the number of the rule.
+fn broken(name: &str, place: Place) -> Option<Status> {
+    let rule = name.strip_prefix("broken-")?.parse::<u8>().ok()?;
+    Some(Status::Refused(Fault::Broken { rule, place }))
 }

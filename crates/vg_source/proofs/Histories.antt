@@ -25,6 +25,7 @@ module _ {H K : Type 0} (f : H → K) (r : Recorder H) (q : Recorder K) (tells :
       on_step (λ w1. Unit {0}) (λ c. c) f (λ w1 x y. Told f x y)
       (λ s1 w1 h. gives)
       (λ why e s1 w1 h. ends)
+      (λ most s1 w1 e h. ends)
       (λ w1 x y go go' h e l more. told_then f x y go go' e (λ s2 w2. l s2 w2 tt))
       (λ address go go' h s1 w1 u. told_read f address go go' (λ v s2 w2. h v s2 w2 tt) s1 w1)
       (λ address value s1 w1 h. told_write f address value s1 w1)

@@ -30,6 +30,7 @@ module _ {H : Type 0} (d : ℕ) where
       on_step (λ w. Unit {0}) (λ c. c + d) (λ h. h) (λ w a b. Longer d a b)
       (λ s w h. gives)
       (λ why e s w h. ends)
+      (λ most s w e h. ends)
       (λ w a b f go h e k more. longer_then d a b f go e (λ s1 w1. k s1 w1 tt) more)
       (λ address f go h s w u. longer_read d address f go (λ v s1 w1. h v s1 w1 tt) s w)
       (λ address value s w h. longer_write d address value s w)

@@ -14,7 +14,7 @@ use Rattle.vg_source.specs.State.{State, find_called, handler_of, entered, left}
 use Rattle.vg_source.specs.Meaning.{Caller, put, take_from, taking, with_found, step, truth, meaning}
 use Rattle.vg_source.specs.Session.{activity, back_in, run_routine, called, call_alone, first_heap, start_all, with_heap, starting_world, starting, handled}
 use Rattle.vg_source.specs.Session.{handle, running_world, running}
-use Rattle.vg_source.proofs.Steps.{on_step}
+use Rattle.vg_source.proofs.Steps.{own_is_no_clock, on_step}
 
 module _ {H : Type 0} where
   -- all calls that begin with at most n ticks spend right
@@ -25,7 +25,8 @@ module _ {H : Type 0} where
   spent_step n p call k a s w le =
       on_step (λ w1. w1.clock ≤ n) (λ c. c) (λ h. h) (λ w1 x y. Spent w1.clock y)
       (λ s1 w1 h. gives (omega arith))
-      (λ why e s1 w1 h. ends (omega arith) (other (Over why) _ e))
+      (λ why e s1 w1 h. ends (omega arith) (other (Over why) _ (own_is_no_clock why e)))
+      (λ most s1 w1 e h. ends (omega arith) (other (Over OutOfRoom) _ refl))
       (λ w1 x y go go' h e l more. spent_then n w1.clock y go' h e l)
       (λ address go go' h s1 w1 u. spent_read n address go' h s1 w1 u)
       (λ address value s1 w1 h. spent_write n address value s1 w1 h)

@@ -26,6 +26,15 @@ abbrev pub changed : {H K : Type 0} → (ℕ → ℕ) → (H → K) → World H 
 changed g f w =
     record { phase = w.phase; deepest = w.deepest; largest = w.largest; clock = g w.clock; outside = w.outside; history = f w.history }
 
+-- a step ends the run by itself by an exception, or where it is Wrong; all other ends come from limits and devices
+pub data IsOwn : End → Type 0 where
+  by_stop : {code : ℕ} {at : Option ℕ} → IsOwn (Stops code at)
+  by_wrong : IsOwn Wrong
+
+pub own_is_no_clock : (why : End) → IsOwn why → is_clock (Over why) ≡ false
+own_is_no_clock why by_stop = refl
+own_is_no_clock why by_wrong = refl
+
 -- two pieces are related from the worlds that are in question, the second with another clock and another history
 abbrev pub Related : {H K : Type 0} → (World H → Type 0) → (ℕ → ℕ) → (H → K) → (World H → Answer State H → Answer State K → Type 0)
     → Piece State H → Piece State K → Type 0
@@ -44,7 +53,8 @@ grows_taking p k s w = grows_take_from s.values p k s w
 
 module _ {H K : Type 0} (Ok : World H → Type 0) (g : ℕ → ℕ) (f : H → K) (A : World H → Answer State H → Answer State K → Type 0)
     (a_gives : (s : State) (w : World H) → Ok w → A w (Gives s w) (Gives s (changed g f w)))
-    (a_over : (why : End) → is_clock (Over why) ≡ false → (s : State) (w : World H) → Ok w → A w (over why s w) (over why s (changed g f w)))
+    (a_over : (why : End) → IsOwn why → (s : State) (w : World H) → Ok w → A w (over why s w) (over why s (changed g f w)))
+    (a_room : (most : ℕ) (s : State) (w : World H) → w.largest ≡ Some most → Ok w → A w (over OutOfRoom s w) (over OutOfRoom s (changed g f w)))
     (a_then : (w : World H) (a : Answer State H) (b : Answer State K) (p : Piece State H) (q : Piece State K)
     → Ok w → A w a b → Related Ok g f A p q → Grows q → A w (and_then a p) (and_then b q))
     (a_read : (address : ℕ) (p : ℕ → Piece State H) (q : ℕ → Piece State K)
@@ -54,10 +64,10 @@ module _ {H K : Type 0} (Ok : World H → Type 0) (g : ℕ → ℕ) (f : H → K
   R p q = Related Ok g f A p q
 
   on_stops : (code at : ℕ) → R (stops code at) (stops code at)
-  on_stops code at s w h = a_over (Stops code (kept w.phase at)) refl s w h
+  on_stops code at s w h = a_over (Stops code (kept w.phase at)) by_stop s w h
 
   on_wrong : R (over Wrong) (over Wrong)
-  on_wrong s w h = a_over Wrong refl s w h
+  on_wrong s w h = a_over Wrong by_wrong s w h
 
   on_put : (v : Value) → R (put v) (put v)
   on_put v s w h = a_gives (record s { values = v ∷ s.values }) w h
@@ -137,12 +147,17 @@ module _ {H K : Type 0} (Ok : World H → Type 0) (g : ℕ → ℕ) (f : H → K
   on_phase Starting at p q k = k
   on_phase Running at p q k = on_stops 5 at
 
-  on_room : (b : Bool) (p : Piece State H) (q : Piece State K) → R p q → R (unless b OutOfRoom p) (unless b OutOfRoom q)
-  on_room true p q k s w h = a_over OutOfRoom refl s w h
-  on_room false p q k s w h = k s w h
+  on_room : (limit : Option ℕ) (n : ℕ) (p : Piece State H) (q : Piece State K) → R p q → (s : State) (w : World H) → w.largest ≡ limit → Ok w
+      → A w (unless (passes limit n) OutOfRoom p s w) (unless (passes limit n) OutOfRoom q s (changed g f w))
+  on_room None n p q k s w e h = k s w h
+  on_room (Some most) n p q k s w e h = by_test (nat_lt most n)
+    where
+      by_test : (b : Bool) → A w (unless b OutOfRoom p s w) (unless b OutOfRoom q s (changed g f w))
+      by_test true = a_room most s w e h
+      by_test false = k s w h
 
   on_adding : (size : ℕ) (cell : Cell) (p : ℕ → Piece State H) (q : ℕ → Piece State K) → ((k : ℕ) → R (p k) (q k)) → R (adding size cell p) (adding size cell q)
-  on_adding size cell p q k s w h = on_room (passes w.largest (stored_values s.heap + 1 + size)) _ _ (λ s1. k (length s1.heap.cells) _) s w h
+  on_adding size cell p q k s w h = on_room w.largest (stored_values s.heap + 1 + size) _ _ (λ s1. k (length s1.heap.cells) _) s w refl h
 
   -- callers are related where all their calls are
   abbrev Callers : Caller H → Caller K → Type 0

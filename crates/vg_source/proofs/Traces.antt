@@ -23,6 +23,7 @@ module _ {H : Type 0} where
       on_step (λ w. Unit {0}) (λ c. c) (λ h. h) (λ w a b. Extends w.outside.trace (trace_of b))
       (λ s w h. extends_itself w.outside.trace)
       (λ why e s w h. extends_itself w.outside.trace)
+      (λ most s w e h. extends_itself w.outside.trace)
       (λ w a b f go h e k more. grows_then w.outside.trace b go e more)
       (λ address f go h s w u. grows_read address go (λ v s1 w1. h v s1 w1 tt) s w)
       (λ address value s w h. grows_write address value s w)

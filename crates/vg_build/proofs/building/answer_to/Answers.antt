@@ -4,7 +4,7 @@ use Rattle.vg_build.proofs.building.answer_to.Goals as goal
 
 pub returns-in-Err-Fault : goal.returns-in-Err-Fault
 returns-in-Err-Fault c =
-    ((c.in-Ok.ensures.text, c.in-Err-Fault.ensures.not c.in-Err-Fault.field-0-0 (ap Err c.in-Err-Fault.field-0-is)), refl)
+    (((c.in-Ok.ensures.text, c.in-Ok.ensures.tree, c.in-Ok.ensures.reads, c.in-Ok.ensures.kept), c.in-Err-Fault.ensures.not c.in-Err-Fault.field-0-0 (ap Err c.in-Err-Fault.field-0-is)), refl)
 
 pub returns-in-Ok-made_of : goal.returns-in-Ok-made_of
 returns-in-Ok-made_of c =

@@ -33,6 +33,14 @@ pub returns-clause-too_deep : goal.returns-clause-too_deep
 returns-clause-too_deep g c =
     λ settled. on_build _ _ _ _ _ _ c.answer-status.ensures.holds (λ file h. builds.too_deep_by _ _ file _ _ h settled)
 
+pub returns-clause-too_many : goal.returns-clause-too_many
+returns-clause-too_many g c =
+    λ settled. on_build _ _ _ _ _ _ c.answer-status.ensures.holds (λ file h. builds.too_many_by _ _ file _ _ h settled)
+
+pub returns-clause-broken : goal.returns-clause-broken
+returns-clause-broken g c =
+    λ settled. on_build _ _ _ _ _ _ c.answer-status.ensures.holds (λ file h. builds.broken_by _ _ file _ _ h settled)
+
 pub returns-clause-not_built : goal.returns-clause-not_built
 returns-clause-not_built g c =
     λ settled. on_build _ _ _ _ _ _ c.answer-status.ensures.holds (λ file h. builds.not_built_by _ _ file _ _ h settled)

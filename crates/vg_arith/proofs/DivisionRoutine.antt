@@ -1,0 +1,253 @@
+-- That the routine of division computes quotient and remainder. The run is in four parts: the signs are taken off, by cases; the steps
+-- follow one another, by induction over those to come; and the result that is wanted gets its sign.
+use Rattle.std.specs.Prelude.{ℕ, zero, suc, ◌+◌, ◌-◌, ◌*◌, ◌/◌, ◌%◌, ◌^◌, ◌<◌, ◌≤◌, Bool, true, false, List, [], ◌∷◌, ◌++◌, length, replicate}
+use Rattle.std.specs.Prelude.{ℤ, int_rem, Option, Some, None, slice_get}
+use Rattle.std.specs.Int.{w32, cast_unsigned, int_wrapping_div}
+use Rattle.std.proofs.Common.{◌≡◌, refl, ap, ◌∙◌, subst, arith}
+use Rattle.std.proofs.Math.Nat.{pow-succ', mod-le}
+use Rattle.vg_meaning.specs.History.{History}
+use Rattle.vg_meaning.specs.World.{World}
+use Rattle.vg_lin.specs.declared.instr.Operator.TheVariants.{Divide, Remainder}
+use Rattle.vg_lin.specs.declared.instr.Instr.{Instr}
+use Rattle.vg_lin.specs.Values.{low, signed, divided as divided_by, computed, next_remainder, next_dividend}
+use Rattle.vg_lin.specs.Sound.{IsWidth}
+use Rattle.vg_lin.specs.Program.{Program}
+use Rattle.vg_lin.specs.State.{LocalState, State}
+use Rattle.vg_lin.specs.Meaning.{begun, resume, language, codes_in}
+use Rattle.vg_lin.specs.Steps.{Frame, Config, branched, performed}
+use Rattle.vg_lin.specs.Follows.{Leads, conf}
+use Rattle.vg_lin.proofs.Followed.{leads_then, free}
+use Rattle.vg_arith.specs.Routines.{with_locals, Gives, IsRoutineOf}
+use Rattle.vg_arith.specs.Division.{divide, divide_step, of_dividend, of_divisor, of_result}
+use Rattle.vg_arith.proofs.ShiftRoutines.{some_is, fetch_of, low_same, low_low, gives_low}
+use Rattle.vg_arith.proofs.DivisionLaws.{Divides, divides_on, divides_fits, divides_first, divides_last, is_positive, magnitude, turned, with_sign, same}
+use Rattle.vg_arith.proofs.DivisionLaws.{turned_is, magnitude_small, magnitude_below, magnitude_some, negative_some}
+use Rattle.vg_arith.proofs.DivisionLaws.{sign_test, divides, leaves, divide_low, leave_low}
+
+-- ---- the code
+
+repeated : {A : Type 0} (a : A) (rest : List A) (n k : ℕ) → k < n → slice_get (replicate n a ++ rest) k ≡ Some a
+repeated a rest zero k h = absurd (omega arith)
+repeated a rest (suc n) zero h = refl
+repeated a rest (suc n) (suc k) h = repeated a rest n k (omega arith)
+
+behind : {A : Type 0} (front rest : List A) (k : ℕ) → slice_get (front ++ rest) (k + length front) ≡ slice_get rest k
+behind [] rest k = ap (slice_get rest) (omega arith)
+behind (a ∷ front) rest k =
+    let e : k + suc (length front) ≡ suc (k + length front) = omega arith in ap (slice_get (a ∷ front ++ rest)) e ∙ behind front rest k
+
+step_at : (pc : ℕ) → 9 ≤ pc → pc < 41 → slice_get divide.code pc ≡ Some divide_step
+step_at pc h g =
+    let e : pc - 9 + 9 ≡ pc = omega arith in
+    subst (λ z. slice_get divide.code z ≡ Some divide_step) e
+    (behind (of_dividend ++ of_divisor) (replicate 32 divide_step ++ of_result) (pc - 9) ∙ repeated divide_step of_result 32 (pc - 9) (omega arith))
+
+module _ (p : Program) (q : ℕ) (has : slice_get p.procedures q ≡ Some divide) (f : Frame State) (fs : List (Frame State)) (ram : List ℕ)
+    (w : World History) where
+  -- the locals: dividend, divisor, what is wanted, remainder and sign
+  abbrev pub held : (x y c : ℕ) → (r n : Option ℕ) → State
+  held x y c r n =
+      with_locals ram
+      (record { width = 4; value = Some x } ∷ record { width = 4; value = Some y } ∷ record { width = 1; value = Some c }
+      ∷ record { width = 4; value = r } ∷ record { width = 1; value = n } ∷ [])
+
+  abbrev pub at : (pc x y c : ℕ) → (r n : Option ℕ) → Config State
+  at pc x y c r n = conf q pc (f ∷ fs) (held x y c r n) w
+
+  abbrev pub To : Config State → Config State → Type 0
+  To c d = Leads (language p) (codes_in p.procedures) 0 c d
+
+  then : (c d e : Config State) → To c d → To d e → To c e
+  then c d e g h = leads_then (language p) (codes_in p.procedures) 0 0 c d e g h
+
+  -- one instruction
+  one : (pc x y c : ℕ) (r n : Option ℕ) (i : Instr) (d : Config State) → slice_get divide.code pc ≡ Some i
+      → performed (language p) (at pc x y c r n) (Some i) ≡ d → To (at pc x y c r n) d
+  one pc x y c r n i d e g = free (language p) (codes_in p.procedures) q pc (f ∷ fs) (held x y c r n) w i d (fetch_of p.procedures q divide has pc ∙ e) g
+
+  -- whether a result is negative, as a number
+  abbrev pub bit : Bool → ℕ
+  bit true = 0
+  bit false = 1
+
+  dividend : (b : Bool) (x y c : ℕ) → x < 2 ^ 32 → is_positive x ≡ b → To (at 2 x y c (Some 0) (Some 0)) (at 5 (magnitude b x) y c (Some 0) (Some (bit b)))
+  dividend true x y c h e = one 2 x y c (Some 0) (Some 0) _ _ refl (ap (λ t. branched (at 2 x y c (Some 0) (Some 0)) false 5 (Some t)) (sign_test true x h e))
+  dividend false x y c h e =
+      then (at 2 x y c (Some 0) (Some 0)) (at 3 x y c (Some 0) (Some 0)) _
+      (one 2 x y c (Some 0) (Some 0) _ _ refl (ap (λ t. branched (at 2 x y c (Some 0) (Some 0)) false 5 (Some t)) (sign_test false x h e)))
+      (then (at 3 x y c (Some 0) (Some 0)) (at 4 (2 ^ 32 - x) y c (Some 0) (Some 0)) _
+      (one 3 x y c (Some 0) (Some 0) _ _ refl (ap (λ z. at 4 z y c (Some 0) (Some 0)) (turned_is x h (negative_some x e))))
+      (one 4 (2 ^ 32 - x) y c (Some 0) (Some 0) _ _ refl refl))
+
+  -- the sign of the quotient; that of the remainder does not ask for the divisor's
+  divisor_false : (b : Bool) (x y : ℕ) → y < 2 ^ 32 → is_positive y ≡ b → (a : Bool)
+      → To (at 5 x y 0 (Some 0) (Some (bit a))) (at 9 x (magnitude b y) 0 (Some 0) (Some (bit (same a b))))
+  divisor_false true x y h e a =
+      subst (λ z. To (at 5 x y 0 (Some 0) (Some (bit a))) (at 9 x y 0 (Some 0) (Some (bit z)))) (kept a)
+      (one 5 x y 0 (Some 0) (Some (bit a)) _ _ refl (ap (λ t. branched (at 5 x y 0 (Some 0) (Some (bit a))) false 9 (Some t)) (sign_test true y h e)))
+    where
+      kept : (a : Bool) → a ≡ same a true
+      kept true = refl
+      kept false = refl
+  divisor_false false x y h e a =
+      then (at 5 x y 0 (Some 0) (Some (bit a))) (at 6 x y 0 (Some 0) (Some (bit a))) _
+      (one 5 x y 0 (Some 0) (Some (bit a)) _ _ refl (ap (λ t. branched (at 5 x y 0 (Some 0) (Some (bit a))) false 9 (Some t)) (sign_test false y h e)))
+      (then (at 6 x y 0 (Some 0) (Some (bit a))) (at 7 x (2 ^ 32 - y) 0 (Some 0) (Some (bit a))) _
+      (one 6 x y 0 (Some 0) (Some (bit a)) _ _ refl (ap (λ z. at 7 x z 0 (Some 0) (Some (bit a))) (turned_is y h (negative_some y e))))
+      (then (at 7 x (2 ^ 32 - y) 0 (Some 0) (Some (bit a))) (at 8 x (2 ^ 32 - y) 0 (Some 0) (Some (bit a))) _
+      (one 7 x (2 ^ 32 - y) 0 (Some 0) (Some (bit a)) _ _ refl refl)
+      (turns a)))
+    where
+      turns : (a : Bool) → To (at 8 x (2 ^ 32 - y) 0 (Some 0) (Some (bit a))) (at 9 x (2 ^ 32 - y) 0 (Some 0) (Some (bit (same a false))))
+      turns true = one 8 x (2 ^ 32 - y) 0 (Some 0) (Some 0) _ _ refl refl
+      turns false = one 8 x (2 ^ 32 - y) 0 (Some 0) (Some 1) _ _ refl refl
+
+  divisor_true : (b : Bool) (x y : ℕ) (n : Option ℕ) → y < 2 ^ 32 → is_positive y ≡ b
+      → To (at 5 x y 1 (Some 0) n) (at 9 x (magnitude b y) 1 (Some 0) n)
+  divisor_true true x y n h e =
+      one 5 x y 1 (Some 0) n _ _ refl (ap (λ t. branched (at 5 x y 1 (Some 0) n) false 9 (Some t)) (sign_test true y h e))
+  divisor_true false x y n h e =
+      then (at 5 x y 1 (Some 0) n) (at 6 x y 1 (Some 0) n) _
+      (one 5 x y 1 (Some 0) n _ _ refl (ap (λ t. branched (at 5 x y 1 (Some 0) n) false 9 (Some t)) (sign_test false y h e)))
+      (then (at 6 x y 1 (Some 0) n) (at 7 x (2 ^ 32 - y) 1 (Some 0) n) _
+      (one 6 x y 1 (Some 0) n _ _ refl (ap (λ z. at 7 x z 1 (Some 0) n) (turned_is y h (negative_some y e))))
+      (one 7 x (2 ^ 32 - y) 1 (Some 0) n _ _ refl refl))
+
+  -- the steps, so many of which are to come
+  pub record Divided (d0 v c : ℕ) (n : Option ℕ) (from : Config State) : Type 0 where
+    pub by : To from (at 41 (d0 / v) v c (Some (d0 % v)) n)
+
+  by_steps : (d0 v c : ℕ) (n : Option ℕ) (from : Config State) → v ≤ 2 ^ 31 → (left pc P r d : ℕ) → 9 ≤ pc → pc + left ≡ 41
+      → Divides d0 v P (2 ^ left) r d → To from (at pc d v c (Some r) n) → Divided d0 v c n from
+  by_steps d0 v c n from small zero pc P r d h e g t =
+      let last : (d ≡ d0 / v) × (r ≡ d0 % v) = divides_last d0 v P r d g in
+      let here : pc ≡ 41 = omega (arith, e) in
+      record {
+        by = subst (λ z. To from (at z (d0 / v) v c (Some (d0 % v)) n)) here
+            (subst (λ z. To from (at pc z v c (Some (d0 % v)) n)) (last.0) (subst (λ z. To from (at pc d v c (Some z) n)) (last.1) t));
+      }
+  by_steps d0 v c n from small (suc left) pc P r d h e g t =
+      let next : Divides d0 v (2 * P) (2 ^ left) (next_remainder r d v) (next_dividend r d v) =
+      divides_on d0 v P (2 ^ left) r d small (subst (λ z. Divides d0 v P z r d) (pow-succ' 2 left) g) in
+      let fit : (low 4 (next_remainder r d v) ≡ next_remainder r d v) × (low 4 (next_dividend r d v) ≡ next_dividend r d v) =
+      divides_fits d0 v (2 * P) (2 ^ left) (next_remainder r d v) (next_dividend r d v) small next in
+      by_steps d0 v c n from small left (suc pc) (2 * P) (next_remainder r d v) (next_dividend r d v) (omega (arith, h)) (omega (arith, e)) next
+      (then from (at pc d v c (Some r) n) (at (suc pc) (next_dividend r d v) v c (Some (next_remainder r d v)) n) t
+      (one pc d v c (Some r) n divide_step _ (step_at pc h (omega (arith, e)))
+      (ap (λ z. at (suc pc) (low 4 (next_dividend r d v)) v c (Some z) n) (fit.0)
+      ∙ ap (λ z. at (suc pc) z v c (Some (next_remainder r d v)) n) (fit.1))))
+
+  divided : (d0 v c : ℕ) (n : Option ℕ) (from : Config State) → d0 < 2 ^ 32 → 0 < v → v ≤ 2 ^ 31 → To from (at 9 d0 v c (Some 0) n) → Divided d0 v c n from
+  divided d0 v c n from h some small t = by_steps d0 v c n from small 32 9 1 0 d0 (omega arith) (omega arith) (divides_first d0 v h some) t
+
+  -- the configuration in which the routine begins
+  abbrev pub begins : (x y c : ℕ) → Config State
+  begins x y c = conf q 0 (f ∷ fs) (with_locals ram (begun divide.widths (x ∷ y ∷ c ∷ []))) w
+
+  opens : (x y c : ℕ) → x < 2 ^ 32 → y < 2 ^ 32 → c < 256 → To (begins x y c) (at 2 x y c (Some 0) (Some 0))
+  opens x y c hx hy hc =
+      subst (λ z. To (begins x y c) (at 2 z y c (Some 0) (Some 0))) (low_same x hx)
+      (subst (λ z. To (begins x y c) (at 2 (low 4 x) z c (Some 0) (Some 0))) (low_same y hy)
+      (subst (λ z. To (begins x y c) (at 2 (low 4 x) (low 4 y) z (Some 0) (Some 0))) (one_byte c hc)
+      (then (begins x y c) (at 1 (low 4 x) (low 4 y) (low 1 c) (Some 0) None) _
+      (one 0 (low 4 x) (low 4 y) (low 1 c) None None _ _ refl refl)
+      (one 1 (low 4 x) (low 4 y) (low 1 c) (Some 0) None _ _ refl refl))))
+    where
+      one_byte : (c : ℕ) → c < 256 → low 1 c ≡ c
+      one_byte c h = omega (arith, h)
+
+  -- the end of the routine, which gives this result
+  abbrev pub Back : ℕ → Config State → Type 0
+  Back v c = (left : List LocalState) × To c (conf f.proc (suc f.pc) fs (resume f.awaits f.kept (with_locals ram left) v) w)
+
+  signed_result : (a : Bool) (x y c : ℕ) (r : Option ℕ) (from : Config State) → To from (at 43 x y c r (Some (bit a))) → Back (with_sign a x) from
+  signed_result true x y c r from t = (
+    _,
+    then from (at 43 x y c r (Some 0)) _ t
+        (then (at 43 x y c r (Some 0)) (at 45 x y c r (Some 0)) _ (one 43 x y c r (Some 0) _ _ refl refl) (one 45 x y c r (Some 0) _ _ refl refl)),
+  )
+  signed_result false x y c r from t = (
+    _,
+    then from (at 43 x y c r (Some 1)) _ t
+        (then (at 43 x y c r (Some 1)) (at 44 x y c r (Some 1)) _ (one 43 x y c r (Some 1) _ _ refl refl)
+        (then (at 44 x y c r (Some 1)) (at 45 (turned x) y c r (Some 1)) _ (one 44 x y c r (Some 1) _ _ refl refl)
+        (one 45 (turned x) y c r (Some 1) _ _ refl refl))),
+  )
+
+  -- the whole routine
+  gives_quotient : (a b : Bool) (x y : ℕ) → x < 2 ^ 32 → y < 2 ^ 32 → 0 < y → is_positive x ≡ a → is_positive y ≡ b
+      → Back (with_sign (same a b) (magnitude a x / magnitude b y)) (begins x y 0)
+  gives_quotient a b x y hx hy some ea eb =
+      let s : Divided (magnitude a x) (magnitude b y) 0 (Some (bit (same a b))) (begins x y 0) =
+      divided (magnitude a x) (magnitude b y) 0 (Some (bit (same a b))) (begins x y 0) (magnitude_below a x hx ea) (magnitude_some b y hy some)
+      (magnitude_small b y hy eb)
+      (then (begins x y 0) (at 5 (magnitude a x) y 0 (Some 0) (Some (bit a))) _
+      (then (begins x y 0) (at 2 x y 0 (Some 0) (Some 0)) _ (opens x y 0 hx hy (omega arith)) (dividend a x y 0 hx ea))
+      (divisor_false b (magnitude a x) y hy eb a)) in
+      signed_result (same a b) (magnitude a x / magnitude b y) (magnitude b y) 0 (Some (magnitude a x % magnitude b y)) (begins x y 0)
+      (then (begins x y 0) (at 41 (magnitude a x / magnitude b y) (magnitude b y) 0 (Some (magnitude a x % magnitude b y)) (Some (bit (same a b)))) _ s.by
+      (one 41 (magnitude a x / magnitude b y) (magnitude b y) 0 (Some (magnitude a x % magnitude b y)) (Some (bit (same a b))) _ _ refl refl))
+
+  gives_remainder : (a b : Bool) (x y : ℕ) → x < 2 ^ 32 → y < 2 ^ 32 → 0 < y → is_positive x ≡ a → is_positive y ≡ b
+      → Back (with_sign a (magnitude a x % magnitude b y)) (begins x y 1)
+  gives_remainder a b x y hx hy some ea eb =
+      let s : Divided (magnitude a x) (magnitude b y) 1 (Some (bit a)) (begins x y 1) =
+      divided (magnitude a x) (magnitude b y) 1 (Some (bit a)) (begins x y 1) (magnitude_below a x hx ea) (magnitude_some b y hy some)
+      (magnitude_small b y hy eb)
+      (then (begins x y 1) (at 5 (magnitude a x) y 1 (Some 0) (Some (bit a))) _
+      (then (begins x y 1) (at 2 x y 1 (Some 0) (Some 0)) _ (opens x y 1 hx hy (omega arith)) (dividend a x y 1 hx ea))
+      (divisor_true b (magnitude a x) y (Some (bit a)) hy eb)) in
+      let rest : magnitude a x % magnitude b y < 2 ^ 32 = let e = mod-le (magnitude a x) (magnitude b y) in omega (arith, e, magnitude_below a x hx ea) in
+      signed_result a (magnitude a x % magnitude b y) (magnitude b y) 1 (Some (magnitude a x % magnitude b y)) (begins x y 1)
+      (then (begins x y 1) (at 41 (magnitude a x / magnitude b y) (magnitude b y) 1 (Some (magnitude a x % magnitude b y)) (Some (bit a))) _ s.by
+      (then (at 41 (magnitude a x / magnitude b y) (magnitude b y) 1 (Some (magnitude a x % magnitude b y)) (Some (bit a)))
+      (at 42 (magnitude a x / magnitude b y) (magnitude b y) 1 (Some (magnitude a x % magnitude b y)) (Some (bit a))) _
+      (one 41 (magnitude a x / magnitude b y) (magnitude b y) 1 (Some (magnitude a x % magnitude b y)) (Some (bit a)) _ _ refl refl)
+      (one 42 (magnitude a x / magnitude b y) (magnitude b y) 1 (Some (magnitude a x % magnitude b y)) (Some (bit a)) _ _ refl
+      (ap (λ z. at 43 z (magnitude b y) 1 (Some (magnitude a x % magnitude b y)) (Some (bit a))) (low_same _ rest)))))
+
+-- at the width of four bytes
+gives_divide : (x y v : ℕ) → x < 2 ^ 32 → y < 2 ^ 32 → computed Divide 4 x y ≡ Some v → Gives divide (x ∷ y ∷ 0 ∷ []) v
+gives_divide x y v hx hy e p q has f fs ram w =
+    let h : (0 < y) × (with_sign (same (is_positive x) (is_positive y)) (magnitude (is_positive x) x / magnitude (is_positive y) y) ≡ v) =
+    divides (is_positive x) (is_positive y) x y v hx hy refl refl e in
+    subst (λ z. Back p q has f fs ram w z (begins p q has f fs ram w x y 0)) (h.1)
+    (gives_quotient p q has f fs ram w (is_positive x) (is_positive y) x y hx hy (h.0) refl refl)
+
+gives_leave : (x y v : ℕ) → x < 2 ^ 32 → y < 2 ^ 32 → computed Remainder 4 x y ≡ Some v → Gives divide (x ∷ y ∷ 1 ∷ []) v
+gives_leave x y v hx hy e p q has f fs ram w =
+    let h : (0 < y) × (with_sign (is_positive x) (magnitude (is_positive x) x % magnitude (is_positive y) y) ≡ v) =
+    leaves (is_positive x) (is_positive y) x y v hx hy refl refl e in
+    subst (λ z. Back p q has f fs ram w z (begins p q has f fs ram w x y 1)) (h.1)
+    (gives_remainder p q has f fs ram w (is_positive x) (is_positive y) x y hx hy (h.0) refl refl)
+
+small : (x : ℕ) → low 4 x < 2 ^ 32
+small x = omega arith
+
+-- a division at a width is the low bytes of that at four
+at_width : (w d v : ℕ) (z : ℤ) → IsWidth w → divided_by w d z ≡ Some v
+    → (v4 : ℕ) × (low w v4 ≡ v) × (divided_by 4 d z ≡ Some v4)
+at_width w zero v z hw e = absurd (grind arith)
+at_width w (suc d) v z hw e = (low 4 (cast_unsigned w32 z), low_low w (cast_unsigned w32 z) hw ∙ some_is _ v e, refl)
+
+pub divides_is : IsRoutineOf Divide divide
+divides_is w x y v hw ha e = given (at_width w (low 4 y) v (int_wrapping_div w32 (signed 4 x) (signed 4 y)) hw e)
+  where
+    given : (v4 : ℕ) × (low w v4 ≡ v) × (computed Divide 4 x y ≡ Some v4) → (z : ℕ) × (low w z ≡ v) × Gives divide (x ∷ y ∷ 0 ∷ []) z
+    given (v4, l, g) = (
+      v4,
+      l,
+      gives_low divide (1 ∷ 4 ∷ 1 ∷ []) (0 ∷ []) x y v4 refl (gives_divide (low 4 x) (low 4 y) v4 (small x) (small y)
+          (divide_low x y ∙ g)),
+    )
+
+pub leaves_is : IsRoutineOf Remainder divide
+leaves_is w x y v hw ha e = given (at_width w (low 4 y) v (int_rem (signed 4 x) (signed 4 y)) hw e)
+  where
+    given : (v4 : ℕ) × (low w v4 ≡ v) × (computed Remainder 4 x y ≡ Some v4) → (z : ℕ) × (low w z ≡ v) × Gives divide (x ∷ y ∷ 1 ∷ []) z
+    given (v4, l, g) = (
+      v4,
+      l,
+      gives_low divide (1 ∷ 4 ∷ 1 ∷ []) (1 ∷ []) x y v4 refl (gives_leave (low 4 x) (low 4 y) v4 (small x) (small y)
+          (leave_low x y ∙ g)),
+    )

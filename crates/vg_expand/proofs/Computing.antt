@@ -1,0 +1,287 @@
+-- That the code in place of a computation does it. A call of a routine enters it with the operands, the routine gives the result in at
+-- least one step, and the result is cut where the computation is narrow.
+use Rattle.std.specs.Prelude.{ℕ, zero, suc, ◌+◌, ◌-◌, ◌<◌, ◌^◌, Bool, true, false, ◌==◌, ◌&&◌, nat_lt, List, [], ◌∷◌, length}
+use Rattle.std.specs.Prelude.{Option, Some, None, slice_get, if◌then◌else◌}
+use Rattle.std.specs.List.{AllByRecursion}
+use Rattle.std.proofs.Common.{◌≡◌, refl, sym, ap, ◌∙◌, subst, arith}
+use Rattle.vg_meaning.specs.History.{History}
+use Rattle.vg_meaning.specs.World.{World}
+use Rattle.vg_lin.specs.declared.instr.Operand.{Operand}
+use Rattle.vg_lin.specs.declared.instr.Operand.TheVariants.{Local, Known}
+use Rattle.vg_lin.specs.declared.instr.Operator.{Operator}
+use Rattle.vg_lin.specs.declared.instr.Operator.TheVariants.{Plus, Times}
+use Rattle.vg_lin.specs.declared.instr.Computation.{Computation}
+use Rattle.vg_lin.specs.declared.instr.Plain.TheVariants.{Compute}
+use Rattle.vg_lin.specs.declared.instr.Callee.TheVariants.{Procedure as ByNumber}
+use Rattle.vg_lin.specs.declared.instr.Registers.{Registers}
+use Rattle.vg_lin.specs.declared.instr.Registers.TheVariants.{Two, Three}
+use Rattle.vg_lin.specs.declared.instr.Call.{Call as Calling}
+use Rattle.vg_lin.specs.declared.instr.Instr.{Instr}
+use Rattle.vg_lin.specs.declared.instr.Instr.TheVariants.{Plain, Call}
+use Rattle.vg_lin.specs.Values.{low, computed}
+use Rattle.vg_lin.specs.Sound.{IsWidth}
+use Rattle.vg_lin.specs.Program.{Procedure, Program}
+use Rattle.vg_lin.specs.State.{Waiting}
+use Rattle.vg_lin.specs.State.{LocalState, State, value, value_in, using, with_local, sets, computes}
+use Rattle.vg_lin.specs.Meaning.{begun, both_values, same_widths, entry_with, entry_of, enter, operands, values, call_of, name_of, language, codes_in}
+use Rattle.vg_lin.specs.Steps.{Result, Frame, Goes, Entry, Config, open_below, noted, went, calls, performed}
+use Rattle.vg_lin.specs.Follows.{Leads, conf}
+use Rattle.vg_lin.proofs.Followed.{leads_then, leads_step, free}
+use Rattle.vg_arith.specs.Routines.{with_locals, Gives, IsAmount, others, routine_of, IsRoutine}
+use Rattle.vg_arith.proofs.ShiftRoutines.{fetch_of, by_width, low_low}
+use Rattle.vg_expand.specs.Expansion.{HasRoutines, IsHeld, Holds, Does}
+use Rattle.vg_expand.specs.Code.{calling, mask, shifting}
+
+-- these instructions stand in code, from a place on
+abbrev pub StandAt : List Instr → ℕ → List Instr → Type 0
+StandAt code at [] = Unit {0}
+StandAt code at (i ∷ is) = (slice_get code at ≡ Some i) × StandAt code (suc at) is
+
+-- ---- a local that is set
+
+-- what a local holds that was set to a number
+pub record Set (ls : List LocalState) (to x : ℕ) : Type 0 where
+  pub width : ℕ
+  pub is_width : IsWidth width
+  pub holds : value_in (slice_get (with_local ls to x) to) ≡ Some (low width x)
+  pub again : (u : ℕ) → with_local (with_local ls to x) to u ≡ with_local ls to u
+  pub same : (u v : ℕ) → low width u ≡ low width v → with_local ls to u ≡ with_local ls to v
+
+pub set_is : (ws : List ℕ) (ls : List LocalState) (to x : ℕ) → Holds ws ls → AllByRecursion IsWidth ws → to < length ws → Set ls to x
+set_is [] [] to x h a b = absurd (omega arith)
+set_is [] (l ∷ ls) to x h a b = absurd h
+set_is (w ∷ ws) [] to x h a b = absurd h
+set_is (w ∷ ws) (l ∷ ls) zero x (e, v, h) (a, more) b =
+    record {
+      width = l.width;
+      is_width = subst IsWidth (sym e) a;
+      holds = refl;
+      again = λ u. refl;
+      same = λ u v g. ap (λ z. record l { value = Some z } ∷ ls) g;
+    }
+set_is (w ∷ ws) (l ∷ ls) (suc to) x (e, v, h) (a, more) b =
+    let r : Set ls to x = set_is ws ls to x h more (omega (arith, b)) in
+    record { width = r.width; is_width = r.is_width; holds = r.holds; again = λ u. ap (λ z. l ∷ z) (r.again u); same = λ u v g. ap (λ z. l ∷ z) (r.same u v g) }
+
+-- the value of a local has four bytes
+held_small : (w : ℕ) → IsWidth w → (v : Option ℕ) (x : ℕ) → IsHeld w v → v ≡ Some x → x < 2 ^ 32
+held_small w h v x a e = by_width (λ w. IsHeld w (Some x) → x < 2 ^ 32) w h (λ g. omega (arith, g)) (λ g. omega (arith, g)) (λ g. omega (arith, g)) (λ g. g)
+    (subst (IsHeld w) e a)
+
+pub local_small : (ws : List ℕ) (ls : List LocalState) (i x : ℕ) → Holds ws ls → AllByRecursion IsWidth ws → value_in (slice_get ls i) ≡ Some x → x < 2 ^ 32
+local_small [] [] i x h a e = absurd (grind arith)
+local_small [] (l ∷ ls) i x h a e = absurd h
+local_small (w ∷ ws) [] i x h a e = absurd h
+local_small (w ∷ ws) (l ∷ ls) zero x (g, v, h) (a, more) e = held_small w a l.value x v e
+local_small (w ∷ ws) (l ∷ ls) (suc i) x (g, v, h) (a, more) e = local_small ws ls i x h more e
+
+-- a number that is cut twice
+pub cut_twice : (w t x : ℕ) → IsWidth w → IsWidth t → low t (low w (low t x + 0)) ≡ low t (low w x)
+cut_twice w t x hw ht =
+    by_width (λ w. low t (low w (low t x + 0)) ≡ low t (low w x)) w hw (by_width (λ t. low t (low 1 (low t x + 0)) ≡ low t (low 1 x)) t ht (omega arith)
+    (omega arith) (omega arith) (omega arith))
+    (by_width (λ t. low t (low 2 (low t x + 0)) ≡ low t (low 2 x)) t ht (omega arith) (omega arith) (omega arith) (omega arith))
+    (by_width (λ t. low t (low 3 (low t x + 0)) ≡ low t (low 3 x)) t ht (omega arith) (omega arith) (omega arith) (omega arith))
+    (by_width (λ t. low t (low 4 (low t x + 0)) ≡ low t (low 4 x)) t ht (omega arith) (omega arith) (omega arith) (omega arith))
+
+same_number : (n : ℕ) → (n == n) ≡ true
+same_number n = grind arith
+
+-- how many instructions stand behind a call
+abbrev pub cuts : Bool → ℕ
+cuts true = 1
+cuts false = 0
+
+module _ (first : ℕ) (m : Procedure) (c : Computation) (p : Program) (q : ℕ) (has : slice_get p.procedures q ≡ Some m) (routines : HasRoutines first p)
+    (fs : List (Frame State)) (s : State) (w : World History) where
+  abbrev pub at : ℕ → State → Config State
+  at pc t = conf q pc fs t w
+
+  abbrev pub To : ℕ → Config State → Config State → Type 0
+  To n d e = Leads (language p) (codes_in p.procedures) n d e
+
+  step_at : (pc : ℕ) (t : State) (i : Instr) → slice_get m.code pc ≡ Some i → To 1 (at pc t) (performed (language p) (at pc t) (Some i))
+  step_at pc t i e = leads_step (language p) (codes_in p.procedures) (at pc t) _ (ap (performed (language p) (at pc t)) (fetch_of p.procedures q m has pc ∙ e))
+
+  -- the call of a routine
+  abbrev pub the_call : ℕ → Registers → Calling
+  the_call r rs = record { callee = ByNumber r; pushed = 0; registers = rs; to = Some c.to }
+
+  -- the routine is entered, and its name is no active call
+  enters : (pc r : ℕ) (rs : Registers) (k : Procedure) (xs : List ℕ) → slice_get p.procedures r ≡ Some k → k.params ≡ length xs → k.method ≡ None
+      → values (operands rs) s ≡ Some xs → slice_get m.code pc ≡ Some (Call (the_call r rs))
+      → To 1 (at pc s) (conf r 0 (record { proc = q; pc = pc; kept = s; awaits = Result (the_call r rs) } ∷ fs) (with_locals s.ram (begun k.widths xs)) w)
+  enters pc r rs k xs e params unnamed vs f =
+      subst (λ a. To 1 (at pc s) (record (conf r 0 (frame ∷ fs) begins_in w) {
+        openings = noted a (open_below (language p) (frame
+            ∷ fs)) w.history.at_openings;
+      }))
+      (ap name_of e ∙ ap call_of unnamed)
+      (subst (λ z. To 1 (at pc s) (calls (language p) (at pc s) (the_call r rs) z)) entry (step_at pc s (Call (the_call r rs)) f))
+    where
+      frame : Frame State
+      frame = record { proc = q; pc = pc; kept = s; awaits = Result (the_call r rs) }
+
+      begins_in : State
+      begins_in = with_locals s.ram (begun k.widths xs)
+
+      some_if : (a b : Bool) → Option (Entry State)
+      some_if a b = if a && b then Some (record { proc = r; state = begins_in; kept = s }) else None
+
+      as_many : (length {A = Waiting} [] + length xs == k.params) ≡ true
+      as_many = ap (λ n. n == k.params) (omega arith) ∙ ap (λ n. length xs == n) params ∙ same_number (length xs)
+
+      no_widths : (ws : List ℕ) → same_widths ws [] ≡ true
+      no_widths [] = refl
+      no_widths (a ∷ ws) = refl
+
+      entry : enter p (the_call r rs) s ≡ Some (record { proc = r; state = begins_in; kept = s })
+      entry =
+          ap (λ z. entry_of r z (the_call r rs) s) e ∙ ap (λ z. entry_with r k [] s z) vs
+          ∙ ap (λ a. some_if a (same_widths k.widths [])) as_many ∙ ap (some_if true) (no_widths k.widths)
+
+  -- the whole call
+  pub record Called (pc v : ℕ) : Type 0 where
+    pub result : ℕ
+    pub low_is : low c.width result ≡ v
+    pub by : To 1 (at pc s) (at (suc pc) (sets c.to result s))
+
+  called : (pc which x y v : ℕ) (rs : Registers) (op : Operator) → which < 4 → routine_of op ≡ Some which → IsWidth c.width → IsAmount op y
+      → computed op c.width x y ≡ Some v → values (operands rs) s ≡ Some (x ∷ y ∷ others op c.width)
+      → slice_get m.code pc ≡ Some (Call (the_call (first + which) rs)) → Called pc v
+  called pc which x y v rs op hk ro hw ha e vs f = from (routines which hk)
+    where
+      xs : List ℕ
+      xs = x ∷ y ∷ others op c.width
+
+      frame : Frame State
+      frame = record { proc = q; pc = pc; kept = s; awaits = Result (the_call (first + which) rs) }
+
+      from : (k : Procedure) × (slice_get p.procedures (first + which) ≡ Some k) × IsRoutine which k → Called pc v
+      from (k, g, is) = given (is.gives op ro c.width x y v hw ha e)
+        where
+          given : (z : ℕ) × (low c.width z ≡ v) × Gives k xs z → Called pc v
+          given (z, l, gives) = ends (gives p (first + which) g frame fs s.ram w)
+            where
+              ends : (left : List LocalState) × To 0 (conf (first + which) 0 (frame
+                  ∷ fs) (with_locals s.ram (begun k.widths xs)) w) (at (suc pc) (sets c.to z s))
+                  → Called pc v
+              ends (left, t) =
+                  record {
+                    result = z;
+                    low_is = l;
+                    by = leads_then (language p) (codes_in p.procedures) 1 0 (at pc s) _ _
+                        (enters pc (first + which) rs k xs g (is.takes op c.width ro) is.unnamed vs f) t;
+                  }
+
+  -- the result is cut where the computation is narrow
+  pub cut : (pc z v : ℕ) → IsWidth c.width → low c.width z ≡ v → Set s.locals c.to z → (b : Bool) → nat_lt c.width 4 ≡ b
+      → StandAt m.code (suc pc)
+      (if b then Plain (Compute (record { operator = Plus; width = c.width; to = c.to; left = Local c.to; right = Known 0 })) ∷ [] else [])
+      → To 1 (at pc s) (at (suc pc) (sets c.to z s)) → To 1 (at pc s) (at (suc pc + cuts b) (sets c.to v s))
+  cut pc z v hw l r true e (f, g) t =
+      subst (λ k. To 1 (at pc s) (at k (sets c.to v s))) (next pc)
+      (leads_then (language p) (codes_in p.procedures) 1 0 (at pc s) (at (suc pc) (sets c.to z s)) _ t
+      (free (language p) (codes_in p.procedures) q (suc pc) fs (sets c.to z s) w _ (at (suc (suc pc)) (sets c.to v s)) (fetch_of p.procedures q m has
+      (suc pc) ∙ f)
+      (ap (λ a. went (at (suc pc) (sets c.to z s)) (using a (λ x. computes narrow (sets c.to z s) w.outside x 0))) r.holds
+      ∙ ap (λ ls. at (suc (suc pc)) (record s { locals = ls }))
+      (r.again (low c.width (low r.width z + 0)) ∙ r.same (low c.width (low r.width z + 0)) v (cut_twice c.width r.width z hw r.is_width
+      ∙ ap (low r.width) l)))))
+    where
+      narrow : Computation
+      narrow = record { operator = Plus; width = c.width; to = c.to; left = Local c.to; right = Known 0 }
+
+      next : (pc : ℕ) → suc (suc pc) ≡ suc pc + 1
+      next pc = omega arith
+  cut pc z v hw l r false e g t =
+      subst (λ k. To 1 (at pc s) (at k (sets c.to v s))) (next pc)
+      (subst (λ ls. To 1 (at pc s) (at (suc pc) (record s { locals = ls })))
+      (r.same z v (sym (low_low r.width z r.is_width) ∙ ap (low r.width) (whole c.width hw e l))) t)
+    where
+      next : (pc : ℕ) → suc pc ≡ suc pc + 0
+      next pc = omega arith
+
+      whole : (k : ℕ) → IsWidth k → nat_lt k 4 ≡ false → low k z ≡ v → low 4 z ≡ v
+      whole k h = by_width (λ k. nat_lt k 4 ≡ false → low k z ≡ v → low 4 z ≡ v) k h (λ e g. absurd (grind arith)) (λ e g. absurd (grind arith))
+          (λ e g. absurd (grind arith)) (λ e g. g)
+
+-- ---- what stands for a computation
+
+length_calling : (r : ℕ) (rs : Registers) (c : Computation) (from : ℕ) → suc from + cuts (nat_lt c.width 4) ≡ from + length (calling r rs c)
+length_calling r rs c from = by_test (nat_lt c.width 4)
+  where
+    by_test : (b : Bool) → suc from + cuts b ≡ from + suc (length (if b then Plain (Compute
+        (record { operator = Plus; width = c.width; to = c.to; left = Local c.to; right = Known 0 })) ∷ [] else []))
+    by_test true = omega arith
+    by_test false = omega arith
+
+-- a call of a routine does the computation, where its registers have the operands and what else the routine takes
+pub calling_does : (first : ℕ) (m : Procedure) (from : ℕ) (c : Computation) (which : ℕ) (rs : Registers) → AllByRecursion IsWidth m.widths → IsWidth c.width
+    → c.to < length m.widths → which < 4 → routine_of c.operator ≡ Some which
+    → ((s : State) (x y : ℕ) → value c.left s ≡ Some x → value c.right s ≡ Some y → values (operands rs) s ≡ Some (x ∷ y ∷ others c.operator c.width))
+    → ((s : State) (y : ℕ) → Holds m.widths s.locals → value c.right s ≡ Some y → IsAmount c.operator y)
+    → StandAt m.code from (calling (first + which) rs c) → Does first m from (from + length (calling (first + which) rs c)) c
+calling_does first m from c which rs ws hw to hk ro vs amount (f, g) p q has routines fs s w x y z held e h r =
+    subst (λ k. Leads (language p) (codes_in p.procedures) 1 (conf q from fs s w) (conf q k fs (sets c.to z s) w)) (length_calling (first + which) rs c from)
+    (cut first m c p q has routines fs s w from done.result z hw done.low_is (set_is m.widths s.locals c.to done.result held ws to)
+    (nat_lt c.width 4) refl g done.by)
+  where
+    done : Called first m c p q has routines fs s w from z
+    done = called first m c p q has routines fs s w from which x y z rs c.operator hk ro hw (amount s y held h) r (vs s x y e h) f
+
+-- the computation itself
+pub kept_does : (first : ℕ) (m : Procedure) (from : ℕ) (c : Computation) → StandAt m.code from (Plain (Compute c) ∷ []) → Does first m from (from + 1) c
+kept_does first m from c (f, g) p q has routines fs s w x y z held e h r =
+    subst (λ k. Leads (language p) (codes_in p.procedures) 1 (conf q from fs s w) (conf q k fs (sets c.to z s) w)) (next from)
+    (leads_step (language p) (codes_in p.procedures) (conf q from fs s w) (conf q (suc from) fs (sets c.to z s) w)
+    (ap (performed (language p) (conf q from fs s w)) (fetch_of p.procedures q m has from ∙ f)
+    ∙ ap (λ a. went (conf q from fs s w) (using a (λ x. using (value c.right s) (computes c s w.outside x)))) e
+    ∙ ap (λ b. went (conf q from fs s w) (using b (computes c s w.outside x))) h
+    ∙ ap (λ v. went (conf q from fs s w) (using v (λ z. Goes (sets c.to z s) w.outside))) r))
+  where
+    next : (from : ℕ) → suc from ≡ from + 1
+    next from = omega arith
+
+-- the operands in registers
+pub two_values : (a b : Operand) (s : State) (x y : ℕ) → value a s ≡ Some x → value b s ≡ Some y → values (operands (Two a b)) s ≡ Some (x ∷ y ∷ [])
+two_values a b s x y e h = ap (λ v. both_values v (both_values (value b s) (Some []))) e ∙ ap (λ v. both_values (Some x) (both_values v (Some []))) h
+
+three_values : (a b : Operand) (k : ℕ) (s : State) (x y : ℕ) → value a s ≡ Some x → value b s ≡ Some y
+    → values (operands (Three a b (Known k))) s ≡ Some (x ∷ y ∷ k ∷ [])
+three_values a b k s x y e h =
+    ap (λ v. both_values v (both_values (value b s) (Some (k ∷ [])))) e ∙ ap (λ v. both_values (Some x) (both_values v (Some (k ∷ [])))) h
+
+module _ (first : ℕ) (m : Procedure) (from width to : ℕ) (left right : Operand) (ws : AllByRecursion IsWidth m.widths) (hw : IsWidth width)
+    (within : to < length m.widths) where
+  abbrev pub of : Operator → Computation
+  of op = record { operator = op; width = width; to = to; left = left; right = right }
+
+  pub shifting_does : (op : Operator) (which : ℕ) (a : Operand) → a ≡ right → which < 4 → routine_of op ≡ Some which
+      → ((k : ℕ) → others op k ≡ (256 ^ k - 1) ∷ []) → ((y : ℕ) → y < 2 ^ 32 → IsAmount op y)
+      → StandAt m.code from (shifting (first + which) (of op) a) → Does first m from (from + length (shifting (first + which) (of op) a)) (of op)
+  shifting_does op which (Known n) e hk ro ot am st = kept_does first m from (of op) st
+  shifting_does op which (Local i) e hk ro ot am st =
+      calling_does first m from (of op) which (Three left (Local i) (mask width)) ws hw within hk ro
+      (λ s x y g h. three_values left (Local i) _ s x y g (ap (λ b. value b s) e ∙ h)
+      ∙ ap (λ k. Some (x ∷ y ∷ k ∷ [])) (by_width (λ w. (if nat_lt w 4 then 256 ^ w - 1 else 0xFFFFFFFF) ≡ 256 ^ w - 1) width hw refl refl refl refl)
+      ∙ ap (λ more. Some (x ∷ y ∷ more)) (sym (ot width)))
+      (λ s y held h. am y (local_small m.widths s.locals i y held ws (ap (λ b. value b s) e ∙ h))) st
+
+  pub division_does : (op : Operator) (wanted : ℕ) → routine_of op ≡ Some 1 → ((k : ℕ) → others op k ≡ wanted ∷ []) → ((y : ℕ) → IsAmount op y)
+      → StandAt m.code from (calling (first + 1) (Three left right (Known wanted)) (of op))
+      → Does first m from (from + length (calling (first + 1) (Three left right (Known wanted)) (of op))) (of op)
+  division_does op wanted ro ot am st =
+      calling_does first m from (of op) 1 (Three left right (Known wanted)) ws hw within (omega arith) ro
+      (λ s x y g h. three_values left right wanted s x y g h ∙ ap (λ more. Some (x ∷ y ∷ more)) (sym (ot width))) (λ s y held h. am y) st
+
+  pub call_of_product : (a b : Operand) → StandAt m.code from (calling first (Two a b) (of Times))
+      → Does first m from (from + length (calling first (Two a b) (of Times))) (record { operator = Times; width = width; to = to; left = a; right = b })
+  call_of_product a b st =
+      subst (λ r. StandAt m.code from (calling r (Two a b) (of Times)) → Does first m from (from + length (calling r (Two a b) (of Times)))
+      (record { operator = Times; width = width; to = to; left = a; right = b })) none
+      (calling_does first m from (record { operator = Times; width = width; to = to; left = a; right = b }) 0 (Two a b) ws hw within (omega arith) refl
+      (λ s x y g h. two_values a b s x y g h) (λ s y held h. tt {0})) st
+    where
+      none : first + 0 ≡ first
+      none = omega arith

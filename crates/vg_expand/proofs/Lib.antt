@@ -1,0 +1,11 @@
+pub mod Holding
+pub mod Simulated
+pub mod Computing
+pub mod Multiplying
+pub mod Placed
+pub mod Expanded
+pub mod Kept
+pub mod Powers
+pub mod Walked
+pub mod Flowing
+pub mod Sessions

@@ -1,0 +1,4 @@
+pub mod Expansion
+pub mod Runs
+pub mod Flow
+pub mod Code

@@ -1,0 +1,149 @@
+// The code in place of one instruction.
+ghost use Rattle.std.specs.Prelude.{◌≡◌, ◌<◌, ◌++◌, [], ◌∷◌, get_or, OnOk};
+ghost use Rattle.vg_lin.specs.declared.instr.Operand.TheVariants.{Known as IsKnown};
+ghost use Rattle.vg_lin.specs.declared.instr.Registers.TheVariants.{Three};
+ghost use Rattle.vg_expand.specs.Code.{cut_to, calling, mask as mask_of, shifting, computing, plain_at, expanded_at};
+
+use crate::places::place_at;
+use crate::products::push_product;
+use vg_base::{NoMemory, Row};
+use vg_lin::{Call, Callee, Computation, Instr, Operand, Operator, Plain, Registers};
+
+/// Puts what stands for an instruction behind the code, where the first routine has this number and locals have these widths.
+pub fn push_instr(
+    code: &mut Row<Instr>,
+    instr: Instr,
+    places: &[u16],
+    first: u16,
+    widths: &[u8],
+) -> Result<(), NoMemory>
+    requires { first < 65533 }
+    ensures { OnOk result (code.new ≡ code.old ++ expanded_at (record { first = first; widths = widths.now }) (λ to. get_or places.now to 0) instr) }
+{
+    match instr {
+        Instr::Plain(plain) => push_plain(code, plain, first, widths),
+        Instr::When(test, to) => code.push(Instr::When(test, place_at(places, to))),
+        Instr::Unless(test, to) => code.push(Instr::Unless(test, place_at(places, to))),
+        Instr::Jump(to) => code.push(Instr::Jump(place_at(places, to))),
+        Instr::Call(call) => code.push(Instr::Call(call)),
+        Instr::Return(value) => code.push(Instr::Return(value)),
+        Instr::Idle => code.push(Instr::Idle),
+    }
+}
+
+fn push_plain(
+    code: &mut Row<Instr>,
+    plain: Plain,
+    first: u16,
+    widths: &[u8],
+) -> Result<(), NoMemory>
+    requires { first < 65533 }
+    ensures { OnOk result (code.new ≡ code.old ++ plain_at (record { first = first; widths = widths.now }) plain) }
+{
+    match plain {
+        Plain::Compute(c) => push_computation(code, c, first, widths),
+        _ => code.push(Instr::Plain(plain)),
+    }
+}
+
+fn push_computation(
+    code: &mut Row<Instr>,
+    c: Computation,
+    first: u16,
+    widths: &[u8],
+) -> Result<(), NoMemory>
+    requires { first < 65533 }
+    ensures { OnOk result (code.new ≡ code.old ++ computing (record { first = first; widths = widths.now }) c c.operator) }
+{
+    match c.operator {
+        Operator::Times => push_product(code, c, first, widths),
+        Operator::Divide => push_division(code, first + 1, c, 0),
+        Operator::Remainder => push_division(code, first + 1, c, 1),
+        Operator::ShiftLeft => push_shift(code, first + 2, c),
+        Operator::ShiftRight => push_shift(code, first + 3, c),
+        _ => code.push(Instr::Plain(Plain::Compute(c))),
+    }
+}
+
+// Of the results of a division the quotient is wanted by 0, the remainder by 1.
+fn push_division(
+    code: &mut Row<Instr>,
+    routine: u16,
+    c: Computation,
+    wanted: u32,
+) -> Result<(), NoMemory>
+    ensures { OnOk result (code.new ≡ code.old ++ calling routine (Three c.left c.right (IsKnown wanted)) c) }
+{
+    push_call(
+        code,
+        routine,
+        Registers::Three(c.left, c.right, Operand::Known(wanted)),
+        c,
+    )
+}
+
+fn push_shift(code: &mut Row<Instr>, routine: u16, c: Computation) -> Result<(), NoMemory>
+    ensures { OnOk result (code.new ≡ code.old ++ shifting routine c c.right) }
+{
+    match c.right {
+        Operand::Known(_) => code.push(Instr::Plain(Plain::Compute(c))),
+        Operand::Local(_) => push_call(
+            code,
+            routine,
+            Registers::Three(c.left, c.right, mask(c.width)),
+            c,
+        ),
+    }
+}
+
+// The bits of a width.
+fn mask(width: u8) -> Operand
+    ensures { result ≡ mask_of width }
+{
+    let bits = if width == 0 {
+        0
+    } else if width == 1 {
+        0xFF
+    } else if width == 2 {
+        0xFFFF
+    } else if width == 3 {
+        0xFF_FFFF
+    } else {
+        0xFFFF_FFFF
+    };
+    Operand::Known(bits)
+}
+
+/// Puts the call of a routine behind the code, whose result is cut to the width of the computation.
+pub fn push_call(
+    code: &mut Row<Instr>,
+    routine: u16,
+    registers: Registers,
+    c: Computation,
+) -> Result<(), NoMemory>
+    ensures { OnOk result (code.new ≡ code.old ++ calling routine registers c) }
+{
+    code.push(Instr::Call(Call {
+        callee: Callee::Procedure(routine),
+        pushed: 0,
+        registers,
+        to: Some(c.to),
+    }))?;
+    push_cut(code, c.width, c.to)
+}
+
+/// Cuts what a local has to a width.
+pub fn push_cut(code: &mut Row<Instr>, width: u8, to: u8) -> Result<(), NoMemory>
+    ensures { OnOk result (code.new ≡ code.old ++ cut_to width to) }
+{
+    if width < 4 {
+        code.push(Instr::Plain(Plain::Compute(Computation {
+            operator: Operator::Plus,
+            width,
+            to,
+            left: Operand::Local(to),
+            right: Operand::Known(0),
+        })))?;
+    }
+    Ok(())
+}

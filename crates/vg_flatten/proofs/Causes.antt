@@ -1,0 +1,43 @@
+-- The causes of refusals.
+use Rattle.std.specs.Prelude.{◌≡◌, ℕ, true, false, List, length, if◌then◌else◌}
+use Rattle.std.proofs.Common.{inl, inr, refl, sym, ap, ◌∙◌, subst}
+use Rattle.vg_base.specs.declared.refusal.Refusal.{Refusal}
+use Rattle.vg_base.specs.declared.refusal.Refusal.TheVariants.{Fault as Faulty, NoMemory as Memory}
+use Rattle.vg_firm.specs.Program.{Procedure}
+use Rattle.vg_flatten.specs.declared.fault.Fault.{Fault}
+use Rattle.vg_flatten.specs.declared.fault.Fault.TheVariants.{NotTaken, TooHigh, TooLong}
+use Rattle.vg_flatten.specs.declared.open.Open.{Open}
+use Rattle.vg_flatten.specs.declared.shape.Room.{Room}
+use Rattle.vg_flatten.specs.Shapes.{empty}
+use Rattle.vg_flatten.specs.Flat.{Made, Gives, Refused, flat}
+use Rattle.vg_flatten.specs.Fitting.{AllFit, AllSet}
+use Rattle.vg_flatten.specs.Laying.{IsNotTaken, WholeFails, IsWhole}
+use Rattle.vg_flatten.specs.Refusals.{temps_for, room_for, made_of, IsNotTakenAs, IsCause}
+
+module _ (params : List ℕ) (m : Procedure) (r : Room) (locals : r.locals ≡ length m.widths) (temps : r.temps ≡ temps_for r.locals) where
+  room_is : r ≡ room_for m
+  room_is =
+      ap (λ z. record { locals = r.locals; temps = z }) temps ∙ ap (λ z. record { locals = z; temps = temps_for z }) locals
+
+  made_is : flat r m.body empty ≡ made_of m
+  made_is = ap (λ z. flat z m.body empty) room_is
+
+  not_taken : (made : Made) → IsNotTaken made → IsNotTakenAs params m made
+  not_taken (Gives b s) h = inl h
+  not_taken (Refused why) h = h
+
+  cause_by : (e : Refusal Fault) → WholeFails e (made_of m) → IsCause e params m
+  cause_by Memory h = tt
+  cause_by (Faulty TooLong) h = tt
+  cause_by (Faulty TooHigh) h = inr h
+  cause_by (Faulty NotTaken) h = not_taken (made_of m) h
+
+  pub failed : (e : Refusal Fault) → WholeFails e (flat r m.body empty) → IsCause e params m
+  failed e h = cause_by e (subst (WholeFails e) made_is h)
+
+  unfit_in : (made : Made) (code : List Open) → IsWhole code made m → (AllFit params code → AllSet code → ⊥) → IsNotTakenAs params m made
+  unfit_in (Refused why) code h no' = absurd h
+  unfit_in (Gives b s) code h no' = inr (λ both. no' (subst (AllFit params) (sym h.1) both.0) (subst AllSet (sym h.1) both.1))
+
+  pub unfit : (code : List Open) → IsWhole code (flat r m.body empty) m → (AllFit params code → AllSet code → ⊥) → IsCause (Faulty NotTaken) params m
+  unfit code h no' = unfit_in (made_of m) code (subst (λ z. IsWhole code z m) made_is h) no'

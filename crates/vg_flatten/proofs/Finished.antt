@@ -1,0 +1,130 @@
+-- That what the code makes of a procedure is the flattened procedure.
+use Rattle.std.specs.Prelude.{◌≡◌, ℕ, zero, suc, ◌+◌, ◌-◌, ◌<◌, ◌≤◌, true, false, List, [], ◌∷◌, ◌++◌, length, map, replicate, Option, Some}
+use Rattle.std.specs.List.{AllByRecursion}
+use Rattle.std.proofs.lemmas.List.{append_assoc}
+use Rattle.std.proofs.Common.{refl, sym, ap, ◌∙◌, subst, arith}
+use Rattle.vg_firm.specs.Program.{Procedure as FirmProcedure}
+use Rattle.vg_lin.specs.declared.instr.Instr.{Instr}
+use Rattle.vg_lin.specs.Program.{Procedure}
+use Rattle.vg_lin.specs.Sound.{IsWidth, IsSound}
+use Rattle.vg_lin.specs.declared.instr.Operand.TheVariants.{Known}
+use Rattle.vg_lin.specs.declared.instr.Plain.TheVariants.{Copy}
+use Rattle.vg_lin.specs.declared.instr.Instr.TheVariants.{Plain, Return}
+use Rattle.vg_flatten.specs.declared.open.Open.{Open}
+use Rattle.vg_flatten.specs.declared.open.Open.TheVariants.{Set}
+use Rattle.vg_flatten.specs.declared.piece.Piece.{Piece}
+use Rattle.vg_flatten.specs.declared.shape.Room.{Room}
+use Rattle.vg_flatten.specs.Shapes.{Shape, empty, is_empty}
+use Rattle.vg_flatten.specs.Blocks.{Block, open_code}
+use Rattle.vg_flatten.specs.Flat.{Made, Gives, Refused, flat}
+use Rattle.vg_flatten.specs.Fitting.{CallsFit, AllFit, AllSet}
+use Rattle.vg_flatten.specs.Blocks.{set_in}
+use Rattle.vg_flatten.specs.Flattened.{zeroes, zero_list, whole, IsFlat}
+use Rattle.vg_flatten.specs.Laying.{IsPiece, IsWhole}
+use Rattle.vg_flatten.proofs.Sound.{MadeIn, BlockIn, in_flat}
+use Rattle.vg_flatten.proofs.Whole.{whole_sound, fit_block, in_zeroes}
+use Rattle.vg_flatten.proofs.Onward.{leads_onward}
+use Rattle.vg_flatten.specs.Loops.{has_loop}
+use Rattle.vg_lin.specs.Onward.{all_lead_on}
+
+pub zero_code : (c i at : ℕ) → open_code (zeroes c i) at ≡ zero_list c i
+zero_code zero i at = refl
+zero_code (suc c) i at = ap (λ z. Set (Plain (Copy i (Known 0))) ∷ z) (zero_code c (suc i) (at + 1))
+
+-- one more of the list
+pub wide_on : (row ws : List ℕ) (n t x : ℕ) → t < n → row ++ replicate (n - t) x ≡ ws → (row ++ x ∷ []) ++ replicate (n - (t + 1)) x ≡ ws
+wide_on row ws n t x lt h =
+    append_assoc row (x ∷ []) (replicate (n - (t + 1)) x) ∙ ap (λ c. row ++ replicate c x) (one_less n t lt) ∙ h
+  where
+    one_less : (a b : ℕ) → b < a → suc (a - (b + 1)) ≡ a - b
+    one_less a b l = omega (arith, l)
+
+pub zero_on : (code all : List Open) (f n i : ℕ) → i < f + n → code ++ zero_list (f + n - i) i ≡ all
+    → (code ++ Set (Plain (Copy i (Known 0))) ∷ []) ++ zero_list (f + n - (i + 1)) (i + 1) ≡ all
+zero_on code all f n i lt h =
+    append_assoc code (Set (Plain (Copy i (Known 0))) ∷ []) (zero_list (f + n - (i + 1)) (i + 1))
+    ∙ ap (λ z. code ++ Set (Plain (Copy i (Known 0))) ∷ zero_list (f + n - (i + 1)) z) (onward i)
+    ∙ ap (λ c. code ++ zero_list c i) (one_less (f + n) i lt) ∙ h
+  where
+    onward : (a : ℕ) → a + 1 ≡ suc a
+    onward a = omega arith
+
+    one_less : (a b : ℕ) → b < a → suc (a - (b + 1)) ≡ a - b
+    one_less a b l = omega (arith, l)
+
+-- the instructions of a whole procedure, of its parts
+pub whole_laid : (m : FirmProcedure) (made : Made) (body : Piece) (first rest code : List Open) (at : ℕ)
+    → first ≡ zero_list (length m.widths - m.params) m.params
+    → at ≡ 0 + length first → IsPiece body at made → is_empty body.homes ≡ true → rest ≡ body.code ++ Set (Return (Known 0)) ∷ [] → code ≡ first ++ rest
+    → IsWhole code made m
+whole_laid m (Refused why) body first rest code at hf ha hp he hr hc = absurd hp
+whole_laid m (Gives b s) body first rest code at hf ha hp he hr hc = (
+  ap is_empty (sym hp.1) ∙ he,
+  hc ∙ ap (λ z. z ++ rest) zs ∙ ap (λ z. open_code (zeroes (length m.widths - m.params) m.params) 0 ++ z) (hr
+      ∙ ap (λ z. z ++ Set (Return (Known 0)) ∷ []) (hp.0 ∙ ap (open_code b) place)),
+)
+  where
+    zs : first ≡ open_code (zeroes (length m.widths - m.params) m.params) 0
+    zs = hf ∙ sym (zero_code (length m.widths - m.params) m.params 0)
+
+    place : at ≡ 0 + length (open_code (zeroes (length m.widths - m.params) m.params) 0)
+    place = ha ∙ ap (λ z. 0 + length z) zs
+
+module _ (m : FirmProcedure) (r : Room) (params : List ℕ) (locals : r.locals ≡ length m.widths) (few : r.locals + r.temps ≤ 252)
+    (hp : m.params ≤ length m.widths)
+    (hw : AllByRecursion IsWidth m.widths) (open' : List Open) (code : List Instr) (widths : List ℕ) (is : IsWhole open' (flat r m.body empty) m)
+    (sealed : code ≡ map (set_in 0 0) open') (set : AllSet open') (ws : widths ≡ m.widths ++ replicate r.temps 4) where
+  abbrev pub procedure : Procedure
+  procedure = record { method = Some m.method; params = m.params; widths = widths; code = code }
+
+  block_in : (b : Block) (s : Shape) → flat r m.body empty ≡ Gives b s → BlockIn (Unit {0}) (length m.widths + r.temps) b
+  block_in b s e =
+      subst (λ z. BlockIn (Unit {0}) (z + r.temps) b) locals (subst (λ z. MadeIn (Unit {0}) (r.locals + r.temps) z) e (in_flat (Unit {0}) r m.body empty (λ l. tt) (tt, tt))).0
+
+  code_is : (b : Block) → open' ≡ open_code (whole m b) 0 → code ≡ map (set_in 0 0) (open_code (whole m b) 0)
+  code_is b e = sealed ∙ ap (map (set_in 0 0)) e
+
+  sound_by : (x : Made) → flat r m.body empty ≡ x → IsWhole open' x m → IsSound procedure
+  sound_by (Refused why) e h = absurd h
+  sound_by (Gives b s) e h =
+      subst (λ z. IsSound (record { method = Some m.method; params = m.params; widths = z; code = code })) (sym ws)
+      (whole_sound m b r.temps (Some m.method) code hp hw (omega (arith, few, locals)) (block_in b s e) (subst AllSet h.1 set) (code_is b h.1))
+
+  pub procedure_sound : IsSound procedure
+  procedure_sound = sound_by (flat r m.body empty) refl is
+
+  flat_by : (x : Made) → flat r m.body empty ≡ x → IsWhole open' x m → AllFit params open' → IsFlat params m procedure
+  flat_by (Refused why) e h fit = absurd h
+  flat_by (Gives b s) e h fit =
+      record {
+        room = r;
+        block = b;
+        shape = s;
+        made = e;
+        done = h.0;
+        locals = locals;
+        fits = (fit_block params (whole m b) 0 (subst (AllFit params) h.1 fit)).1.0;
+        method = refl;
+        parameters = refl;
+        widths = ws;
+        code = code_is b h.1;
+      }
+
+  pub procedure_flat : AllFit params open' → IsFlat params m procedure
+  procedure_flat fit = flat_by (flat r m.body empty) refl is fit
+
+  onward_by : (x : Made) → flat r m.body empty ≡ x → IsWhole open' x m → has_loop m.body ≡ false → all_lead_on 0 code ≡ true
+  onward_by (Refused why) e h none = absurd h
+  onward_by (Gives b s) e h none =
+      ap (all_lead_on 0) (code_is b h.1)
+      ∙ leads_onward (r.locals + r.temps) (whole m b) (
+        in_zeroes ⊥ (r.locals + r.temps) (length m.widths - m.params) m.params (omega (arith, hp, locals)),
+        ((subst (λ z. MadeIn ⊥ (r.locals + r.temps) z) e (in_flat ⊥ r m.body empty (λ l. not_both (sym none ∙ l)) (tt, tt))).0, tt),
+      ) (subst AllSet h.1 set)
+    where
+      not_both : false ≡ true → ⊥
+      not_both l = grind arith
+
+  -- no jump leads back where the body has no loop
+  pub procedure_onward : has_loop m.body ≡ false → all_lead_on 0 code ≡ true
+  procedure_onward none = onward_by (flat r m.body empty) refl is none

@@ -1,0 +1,80 @@
+-- That code without a loop has no jump back: each jump of a block without one leads on.
+use Rattle.std.specs.Prelude.{ℕ, zero, suc, ◌+◌, ◌<◌, ◌≤◌, Bool, true, false, ◌&&◌, nat_lt, List, [], ◌∷◌, ◌++◌, length, map}
+use Rattle.std.proofs.Common.{◌≡◌, refl, sym, ap, ◌∙◌, subst, arith}
+use Rattle.std.proofs.lemmas.List.{length-append}
+use Rattle.vg_lin.specs.declared.instr.Instr.{Instr}
+use Rattle.vg_lin.specs.declared.instr.Instr.TheVariants.{Plain, When, Unless, Jump, Call, Return, Idle}
+use Rattle.vg_lin.specs.Onward.{leads_on, all_lead_on}
+use Rattle.vg_flatten.specs.declared.open.Truth.{Truth}
+use Rattle.vg_flatten.specs.declared.open.Truth.TheVariants.{Holds, Fails}
+use Rattle.vg_flatten.specs.declared.open.Open.{Open}
+use Rattle.vg_flatten.specs.declared.open.Open.TheVariants.{Set, Break, Continue}
+use Rattle.vg_flatten.proofs.Choices.{alone, with_jump, choice_cases}
+use Rattle.vg_flatten.specs.Blocks.{Block, Skip, One, CallTo, TakeInterrupt, GiveBack, BreakOut, GoOn, Both, Choice, Repeat, branch, set_in, open_code}
+use Rattle.vg_flatten.specs.Fitting.{AllSet}
+use Rattle.vg_flatten.proofs.Sound.{BlockIn}
+
+-- A jump at a place leads on; one out of a loop is not asked for.
+abbrev GoesOn : (at : ℕ) → Open → Type 0
+GoesOn at (Set i) = leads_on at i ≡ true
+GoesOn at _ = Unit {0}
+
+abbrev AllOn : List Open → (at : ℕ) → Type 0
+AllOn [] at = Unit {0}
+AllOn (o ∷ os) at = GoesOn at o × AllOn os (suc at)
+
+lt_is : (a b : ℕ) → a < b → nat_lt a b ≡ true
+lt_is a b h = grind arith
+
+on_at : (os : List Open) (a b : ℕ) → a ≡ b → AllOn os a → AllOn os b
+on_at os a b e h = subst (λ z. AllOn os z) e h
+
+on_both : (os qs : List Open) (at : ℕ) → AllOn os at → AllOn qs (at + length os) → AllOn (os ++ qs) at
+on_both [] qs at h g = on_at qs (at + 0) at (omega arith) g
+on_both (o ∷ os) qs at h g = (h.0, on_both os qs (suc at) h.1 (on_at qs (at + suc (length os)) (suc at + length os) (omega arith) g))
+
+on_branch : (t : Truth) (at to : ℕ) → at < to → leads_on at (branch t to) ≡ true
+on_branch (Holds t) at to h = lt_is at to h
+on_branch (Fails t) at to h = lt_is at to h
+
+both_ways : (t : Truth) (at : ℕ) (as' bs : List Open) → AllOn as' (at + 1) → AllOn bs (at + 1 + length as' + 1) → AllOn (with_jump t at as' bs) at
+both_ways t at as' bs ha hb = (
+  on_branch t at v (omega arith),
+  on_both as' (Set (Jump end) ∷ bs) (suc at) (on_at as' (at + 1) (suc at) (omega arith) ha)
+      (lt_is (suc at + length as') end (omega arith), on_at bs v (suc (suc at + length as')) (omega arith) hb),
+)
+  where
+    v : ℕ
+    v = at + 1 + length as' + 1
+
+    end : ℕ
+    end = at + 1 + length as' + 1 + length bs
+
+one_way : (t : Truth) (at : ℕ) (as' : List Open) → AllOn as' (at + 1) → AllOn (alone t at as') at
+one_way t at as' ha = (on_branch t at (at + 1 + length as') (omega arith), on_at as' (at + 1) (suc at) (omega arith) ha)
+
+on_block : (size : ℕ) (b : Block) (at : ℕ) → BlockIn ⊥ size b → AllOn (open_code b at) at
+on_block size Skip at h = tt
+on_block size (One p) at h = (refl, tt)
+on_block size (CallTo c) at h = (refl, tt)
+on_block size TakeInterrupt at h = (refl, tt)
+on_block size (GiveBack a) at h = (refl, tt)
+on_block size BreakOut at h = (tt, tt)
+on_block size GoOn at h = (tt, tt)
+on_block size (Both a b) at h =
+    on_both (open_code a at) (open_code b (at + length (open_code a at))) at (on_block size a at h.0) (on_block size b (at + length (open_code a at)) h.1)
+on_block size (Choice t a b) at h =
+    choice_cases (λ z. AllOn z at) t at (open_code a (at + 1)) (open_code b (at + 1 + length (open_code a (at + 1)) + 1))
+    (λ e. one_way t at (open_code a (at + 1)) (on_block size a (at + 1) h.1))
+    (both_ways t at (open_code a (at + 1)) (open_code b (at + 1 + length (open_code a (at + 1)) + 1)) (on_block size a (at + 1) h.1)
+    (on_block size b (at + 1 + length (open_code a (at + 1)) + 1) h.2))
+on_block size (Repeat p t body next) at h = absurd h.4
+
+on_list : (x y : ℕ) (os : List Open) (at : ℕ) → AllSet os → AllOn os at → all_lead_on at (map (set_in x y) os) ≡ true
+on_list x y [] at s h = refl
+on_list x y (Set i ∷ os) at s h = ap (λ z. z && all_lead_on (suc at) (map (set_in x y) os)) h.0 ∙ on_list x y os (suc at) s.1 h.1
+on_list x y (Break ∷ os) at s h = absurd s.0
+on_list x y (Continue ∷ os) at s h = absurd s.0
+
+pub leads_onward : (size : ℕ) (b : Block) → BlockIn ⊥ size b → AllSet (open_code b 0) → all_lead_on 0 (map (set_in 0 0) (open_code b 0)) ≡ true
+leads_onward size b h s = on_list 0 0 (open_code b 0) 0 s (on_block size b 0 h)

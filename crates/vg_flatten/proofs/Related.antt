@@ -1,0 +1,86 @@
+-- How a state of linear code stands for one of the packed program.
+use Rattle.std.specs.Prelude.{◌≡◌, ◌⊎◌, ℕ, ◌+◌, ◌<◌, ◌^◌, Bool, not, List, [], ◌∷◌, length, Option, Some, None, slice_get}
+use Rattle.std.specs.Option.{option_map}
+use Rattle.vg_meaning.specs.Answer.{Signal, Breaks, Continues, Returns, Over}
+use Rattle.vg_firm.specs.Meaning.{State as Firm}
+use Rattle.vg_firm.specs.Operators.{as_number}
+use Rattle.vg_lin.specs.declared.instr.Operand.{Operand}
+use Rattle.vg_lin.specs.declared.instr.Operand.TheVariants.{Local, Known}
+use Rattle.vg_lin.specs.State.{LocalState, State, value_in, holds}
+use Rattle.vg_lin.specs.Structured.{Deciding}
+use Rattle.vg_flatten.specs.declared.open.Truth.{Truth}
+use Rattle.vg_flatten.specs.declared.open.Truth.TheVariants.{Holds, Fails}
+use Rattle.vg_flatten.specs.declared.shape.Room.{Room}
+use Rattle.vg_flatten.specs.Shapes.{Shape, only, empty}
+
+-- ---- homes
+
+-- A home at a height: a known value, a local, or the temporary of that height.
+abbrev pub IsPlaced : (locals height : ℕ) → Operand → Type 0
+IsPlaced n k (Local i) = (i < n) ⊎ (i ≡ n + k)
+IsPlaced n k (Known v) = Unit {0}
+
+abbrev pub ArePlaced : (locals : ℕ) → List Operand → Type 0
+ArePlaced n [] = Unit {0}
+ArePlaced n (h ∷ hs) = IsPlaced n (length hs) h × ArePlaced n hs
+
+-- The value is at its home.
+abbrev pub IsAt : Operand → ℕ → List LocalState → Type 0
+IsAt (Local i) v ls = value_in (slice_get ls i) ≡ Some v
+IsAt (Known k) v ls = k ≡ v
+
+abbrev pub AreAt : List Operand → List ℕ → List LocalState → Type 0
+AreAt [] [] ls = Unit {0}
+AreAt (h ∷ hs) (v ∷ vs) ls = (IsAt h v ls × (v < 2 ^ 32)) × AreAt hs vs ls
+AreAt _ _ ls = ⊥
+
+-- ---- locals
+
+-- The widths of the locals of linear code: those of the procedure, and four bytes for each temporary.
+pub record AreWidths (r : Room) (widths ws : List ℕ) : Type 0 where
+  pub locals : (i w : ℕ) → slice_get widths i ≡ Some w → slice_get ws i ≡ Some w
+  pub temps : (k : ℕ) → k < r.temps → slice_get ws (r.locals + k) ≡ Some 4
+
+-- The locals have the values of the procedure's, and the widths that they were given.
+pub record AreKept (r : Room) (ws vs : List ℕ) (ls : List LocalState) : Type 0 where
+  pub there : (i w : ℕ) → slice_get ws i ≡ Some w → (o : Option ℕ) × (slice_get ls i ≡ Some (record { width = w; value = o }))
+  pub locals : (i v : ℕ) → i < r.locals → slice_get vs i ≡ Some v → (value_in (slice_get ls i) ≡ Some v) × (v < 2 ^ 32)
+
+-- ---- states
+
+-- The states where no test waits.
+pub record AreSame (r : Room) (ws : List ℕ) (hs : List Operand) (s : Firm) (t : State) : Type 0 where
+  pub waits : AreAt hs s.values t.locals
+  pub kept : AreKept r ws s.locals t.locals
+  pub none : t.waiting ≡ []
+
+-- What a test that waits says.
+abbrev pub said : Truth → State → Option Bool
+said (Holds t) s = holds t s
+said (Fails t) s = option_map not (holds t s)
+
+-- Where a test waits, it says what the newest value is.
+pub record IsSaid (r : Room) (ws : List ℕ) (x : Truth) (hs : List Operand) (s : Firm) (t : State) : Type 0 where
+  pub b : Bool
+  pub vs : List ℕ
+  pub newest : s.values ≡ as_number b ∷ vs
+  pub says : said x t ≡ Some b
+  pub rest : AreSame r ws hs (record s { values = vs }) t
+
+abbrev pub AreSameBy : Room → (ws : List ℕ) → Option Truth → List Operand → Firm → State → Type 0
+AreSameBy r ws None hs s t = AreSame r ws hs s t
+AreSameBy r ws (Some x) hs s t = IsSaid r ws x hs s t
+
+abbrev pub Held : Room → (ws : List ℕ) → Shape → Firm → Deciding State → Type 0
+Held r ws shape s d = AreSameBy r ws shape.truth shape.homes s d.state
+
+-- A value that is returned waits on one side, and is the result on the other.
+abbrev pub IsResult : Firm → Deciding State → Type 0
+IsResult s d = (v : ℕ) × (vs : List ℕ) × (s.values ≡ v ∷ vs) × (d.result ≡ v) × (v < 2 ^ 32)
+
+-- How the states are where code leaves.
+abbrev pub Leaves : Room → (ws : List ℕ) → Signal → Firm → Deciding State → Type 0
+Leaves r ws Breaks s d = Held r ws empty s d
+Leaves r ws Continues s d = Held r ws empty s d
+Leaves r ws Returns s d = IsResult s d
+Leaves r ws (Over why) s d = ⊥

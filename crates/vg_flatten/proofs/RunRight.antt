@@ -1,0 +1,236 @@
+-- That a flattened program does what the packed one does: its bodies stand, and its calls and its whole runs are alike.
+use Rattle.std.specs.Prelude.{ℕ, zero, suc, ◌+◌, ◌<◌, ◌≤◌, ◌^◌, Bool, true, false, ◌==◌, ◌&&◌, List, [], ◌∷◌, ◌++◌, length, map, replicate, Option, Some, None, slice_get}
+use Rattle.std.specs.Prelude.{if◌then◌else◌}
+use Rattle.std.proofs.Common.{◌≡◌, refl, sym, ap, ◌∙◌, subst, arith}
+use Rattle.vg_meaning.specs.History.{Active, Calling, History, full}
+use Rattle.vg_meaning.specs.World.{World}
+use Rattle.vg_meaning.specs.Outside.{AreReads}
+use Rattle.vg_meaning.specs.Answer.{End, OutOfClock, Wrong, Signal, Over, Answer, Gives, Ends, Piece, go_on, over, and_then}
+use Rattle.vg_meaning.specs.Calls.{opened}
+use Rattle.vg_meaning.specs.Interrupts.{idles}
+use Rattle.vg_meaning.specs.Code.{Code}
+use Rattle.vg_codes.specs.Codes.{Codes}
+use Rattle.vg_firm.specs.Program.{Procedure as FirmProcedure, Program as FirmProgram}
+use Rattle.vg_firm.specs.Meaning.{State as Firm, with_found as firm_found, checked, taking, take_from}
+use Rattle.vg_firm.specs.Session.{arguments, run_procedure, may_enter, handled as firm_handled, called as firm_called, running as firm_running, first_state as firm_first}
+use Rattle.vg_lin.specs.declared.instr.Instr.{Instr}
+use Rattle.vg_lin.specs.Program.{Procedure as LinProcedure, Program as LinProgram}
+use Rattle.vg_lin.specs.Steps.{Entry, Result, fetch}
+use Rattle.vg_lin.specs.State.{State}
+use Rattle.vg_lin.specs.Meaning.{language, begun, widths_of, name_of, call_of, codes_in, enter, entry_of, entry_with, first_state}
+use Rattle.vg_lin.specs.Structured.{Step, Deciding, fresh, with_found, entered, resumed, handle as lin_handle, body as lin_body, called as lin_called, running as lin_running, To, step as lin_step}
+use Rattle.vg_lin.specs.Stands.{Stands, Next, nothing, AllStand, StandsFirst}
+use Rattle.vg_lin.specs.Follows.{IsLegal}
+use Rattle.vg_lin.specs.Sessions.{world}
+use Rattle.vg_lin.proofs.Followed.{follows_sessions}
+use Rattle.vg_flatten.specs.declared.open.Open.{Open}
+use Rattle.vg_flatten.specs.declared.shape.Room.{Room}
+use Rattle.vg_flatten.specs.Shapes.{only}
+use Rattle.vg_flatten.specs.Blocks.{Block, Skip, structured, open_code}
+use Rattle.vg_flatten.proofs.Alike.{IsFair, Alike, gives, leaves, overs, wrong, AlikePiece}
+use Rattle.vg_flatten.proofs.AlikeLaws.{alike_then, alike_opened, alike_idles}
+use Rattle.vg_flatten.proofs.Related.{AreSame, Held, Leaves}
+use Rattle.vg_flatten.proofs.Locals.{some_is, none_is_not}
+use Rattle.vg_flatten.proofs.CallRight.{Never, Returned, begins, alike_behind_both, AlikeCalls, AreParams}
+use Rattle.vg_flatten.specs.Blocks.{set_in}
+use Rattle.vg_flatten.proofs.Standing.{Lies, stands}
+use Rattle.vg_flatten.specs.Flattened.{whole, calls_main, start_of, IsFlat, IsFit, AreFlat}
+use Rattle.vg_flatten.proofs.BodyRight.{alike_handling, alike_body}
+use Rattle.vg_flatten.specs.Runs.{FollowsPacked}
+
+-- ---- where instructions stand
+
+fetch_of : (ps : List LinProcedure) (q : ℕ) (m : LinProcedure) → slice_get ps q ≡ Some m → (at : ℕ) → fetch (codes_in ps) q at ≡ slice_get m.code at
+fetch_of [] q m e at = none_is_not m e
+fetch_of (a ∷ ps) zero m e at = ap (λ x. slice_get x.code at) (some_is a m e)
+fetch_of (a ∷ ps) (suc q) m e at = fetch_of ps q m e at
+
+lies_from : (g : ℕ → Option Instr) (x y : ℕ) (os : List Open) (at : ℕ) → ((i : ℕ) (z : Instr) → slice_get (map (set_in x y) os) i ≡ Some z
+    → g (at + i) ≡ Some z)
+    → Lies g x y os at
+lies_from g x y [] at h = tt
+lies_from g x y (o ∷ os) at h = (
+  ap g (omega arith) ∙ h zero (set_in x y o) refl,
+  lies_from g x y os (suc at) (λ i z e. ap g (omega arith) ∙ h (suc i) z e),
+)
+
+-- ---- answers
+
+abbrev world_of : {S : Type 0} → Answer S History → World History
+world_of (Gives s w) = w
+world_of (Ends why s w) = w
+
+abbrev signal_of : {S : Type 0} → Answer S History → Option Signal
+signal_of (Gives s w) = None
+signal_of (Ends why s w) = Some why
+
+abbrev reason_of : Signal → Option End
+reason_of (Over why) = Some why
+reason_of _ = None
+
+-- where the one run is over for a legal reason, so is the other
+over_same : {G : Firm → Deciding State → Type 0} {L : Signal → Firm → Deciding State → Type 0} (a : Answer Firm History) (b : Answer (Deciding State) History)
+    (t : Firm) (v : World History) (why : End) → ((x : End) (s1 : Firm) (d1 : Deciding State) → L (Over x) s1 d1 → ⊥) → IsLegal why → Alike G L a b
+    → a ≡ Ends (Over why) t v → (d : Deciding State) × (b ≡ Ends (Over why) d v)
+over_same _ _ t v why no' legal (gives i q) e = none_is_not (Over why) (ap signal_of e)
+over_same {L = L} _ _ t v why no' legal (leaves {why = y} {s = s1} {t = d1} i q) e =
+    absurd (no' why s1 d1 (subst (λ z. L z s1 d1) (some_is y (Over why) (ap signal_of e)) q))
+over_same _ _ t v why no' legal (overs {why = y} {s = s1} {t = d1} {w = w1}) e = (
+  d1,
+  ap (λ z. Ends z d1 w1) (some_is (Over y) (Over why) (ap signal_of e)) ∙ ap (λ z. Ends (Over why) d1 z) (ap world_of e),
+)
+over_same _ _ t v why no' legal (wrong {s = s1} {w = w1}) e =
+    absurd (subst IsLegal (sym (some_is Wrong why (ap reason_in (ap signal_of e)))) legal)
+  where
+    reason_in : Option Signal → Option End
+    reason_in (Some x) = reason_of x
+    reason_in None = None
+
+module _ (k : Codes) (f : FirmProgram) (params : List ℕ) (p : LinProgram) (flat : AreFlat k f params p) where
+  -- the block of each procedure
+  abbrev pub block_at : (q : ℕ) (o : Option FirmProcedure) → slice_get f.procedures q ≡ o → Block
+  block_at q (Some m) e = whole m (flat.flats q m e).3.block
+  block_at q None e = Skip
+
+  abbrev pub bodies : ℕ → Code Step
+  bodies q = structured (block_at q (slice_get f.procedures q) refl)
+
+  known : AreParams params p
+  known q n h =
+      let (m, e, en) = flat.known q n h in
+      let (lp, has, fit, is) = flat.flats q m e in
+      (lp, has, is.parameters ∙ en)
+
+  all_stand : AllStand (fetch (codes_in p.procedures)) bodies
+  all_stand q = by_found (slice_get f.procedures q) refl
+    where
+      by_found : (o : Option FirmProcedure) (e : slice_get f.procedures q ≡ o)
+          → (end : ℕ) × Stands (fetch (codes_in p.procedures) q) 0 0 (structured (block_at q o e)) 0 (Next end)
+      by_found None e = (0, nothing)
+      by_found (Some m) e = (
+        _,
+        stands (fetch (codes_in p.procedures) q) (whole m (flat.flats q m e).3.block) 0 0 0
+            (lies_from (fetch (codes_in p.procedures) q) 0 0 (open_code (whole m (flat.flats q m e).3.block) 0) 0
+            (λ i z h. fetch_of p.procedures q (flat.flats q m e).0 (flat.flats q m e).1 (0 + i)
+            ∙ ap (λ c. slice_get c (0 + i)) (flat.flats q m e).3.code
+            ∙ ap (slice_get (map (set_in 0 0) (open_code (whole m (flat.flats q m e).3.block) 0))) (omega arith) ∙ h)),
+      )
+
+  start_fetch : (at : ℕ) → fetch (codes_in p.procedures) p.start at ≡ slice_get (start_of f.main).code at
+  start_fetch at = fetch_of p.procedures p.start (start_of f.main) flat.start at
+
+  first : StandsFirst (fetch (codes_in p.procedures) p.start) (calls_main f.main)
+  first = record { first = start_fetch 0; idle = start_fetch 1; again = start_fetch 2 }
+
+  -- ---- calls
+
+  calls : (n : ℕ) → AlikeCalls p (firm_called full k f n) (lin_called (language p) bodies n)
+  calls zero q count s w ram i = overs
+  calls (suc n) q count s w ram i = by_found (calls n) (slice_get f.procedures q) refl
+    where
+      start : Deciding State
+      start = fresh (begins p q (arguments count s) ram)
+
+      Start : Firm → Deciding State → Type 0
+      Start s1 d1 = (s1 ≡ s) × (d1 ≡ start)
+
+      by_enter : AlikeCalls p (firm_called full k f n) (lin_called (language p) bodies n)
+          → (m : FirmProcedure) (e : slice_get f.procedures q ≡ Some m) (b : Bool)
+          → may_enter m count s ≡ b
+          → Alike (Returned count s) Never
+          (checked b (opened full (Calling m.method) (run_procedure full k f (firm_called full k f n) (λ vector. firm_handled (firm_called full k f n)
+          (f.handler vector)) m count 0)) s w)
+          (with_found ((language p).named q) (λ a. opened full a (lin_body (language p) (lin_called (language p) bodies n) (structured (block_at q
+          (Some m) e)))) start w)
+      by_enter hn m e false enters = wrong
+      by_enter hn m e true enters =
+          subst (λ z. Alike (Returned count s) Never
+          (opened full (Calling m.method) (run_procedure full k f (firm_called full k f n) (λ vector. firm_handled (firm_called full k f n)
+          (f.handler vector)) m count 0) s w)
+          (with_found z (λ a. opened full a (lin_body (language p) (lin_called (language p) bodies n) (structured (block_at q (Some m) e)))) start w))
+          (sym (ap name_of (flat.flats q m e).1 ∙ ap call_of (flat.flats q m e).3.method))
+          (alike_opened {G = Start} {J = Returned count s} {L = Never} (Calling m.method)
+          (run_procedure full k f (firm_called full k f n) (λ vector. firm_handled (firm_called full k f n) (f.handler vector)) m count 0)
+          (lin_body (language p) (lin_called (language p) bodies n) (structured (block_at q (Some m) e)))
+          (λ s1 d1 w1 i1 st. subst (λ z. Alike (Returned count s) Never
+          (run_procedure full k f (firm_called full k f n) (λ vector. firm_handled (firm_called full k f n) (f.handler vector)) m count 0 z w1)
+          (lin_body (language p) (lin_called (language p) bodies n) (structured (block_at q (Some m) e)) d1 w1)) (sym st.0)
+          (alike_body k f p params known (firm_called full k f n) (lin_called (language p) bodies n) hn flat.handler m (flat.flats q m e).0
+          (flat.flats q m e).2
+          (flat.flats q m e).3 count s ram w1 i1 enters d1
+          (st.1 ∙ ap (λ z. fresh (record { locals = begun (widths_of z) (arguments count s); waiting = []; ram = ram })) (flat.flats q m e).1
+          ∙ ap (λ z. fresh (record { locals = begun z (arguments count s); waiting = []; ram = ram })) (flat.flats q m e).3.widths)))
+          s start w i (refl, refl))
+
+      by_found : AlikeCalls p (firm_called full k f n) (lin_called (language p) bodies n) → (o : Option FirmProcedure) (e : slice_get f.procedures q ≡ o)
+          → Alike (Returned count s) Never
+          (firm_found o (λ m. checked (may_enter m count s) (opened full (Calling m.method)
+          (run_procedure full k f (firm_called full k f n) (λ vector. firm_handled (firm_called full k f n) (f.handler vector)) m count 0))) s w)
+          (with_found ((language p).named q) (λ a. opened full a (lin_body (language p) (lin_called (language p) bodies n) (structured
+          (block_at q o e)))) start w)
+      by_found hn None e = wrong
+      by_found hn (Some m) e = by_enter hn m e (may_enter m count s) refl
+
+  -- ---- whole runs
+
+  -- the procedure with which a run begins has no locals
+  abbrev bare : Room
+  bare = record { locals = 0; temps = 0 }
+
+  abbrev Top : Firm → Deciding State → Type 0
+  Top = Held bare [] (only [])
+
+  enters_main : (t : State) → enter p (calls_main f.main) t ≡ Some (record { proc = f.main; state = begins p f.main [] t.ram; kept = t })
+  enters_main t =
+      let (lp, has, many) = known f.main 0 flat.main in
+      ap (λ z. entry_of f.main z (calls_main f.main) t) has ∙ ap (λ b. if b then Some (entry lp.widths) else None) (fits lp.params many)
+      ∙ ap (λ z. Some (entry (widths_of z))) (sym has)
+    where
+      entry : List ℕ → Entry State
+      entry widths = record { proc = f.main; state = record { locals = begun widths []; waiting = []; ram = t.ram }; kept = t }
+
+      fits : (l : ℕ) → l ≡ 0 → (0 + 0 == l) && true ≡ true
+      fits l e = grind arith
+
+  alike_main : (n : ℕ) → AlikePiece Top Top (Leaves bare []) (firm_handled (firm_called full k f n) (Some f.main))
+      (lin_step (language p) (lin_called (language p) bodies n) (To (calls_main f.main)))
+  alike_main n s d w i q =
+      subst (λ z. Alike Top (Leaves bare []) (firm_handled (firm_called full k f n) (Some f.main) s w)
+      (with_found z (entered (language p) (lin_called (language p) bodies n) (calls_main f.main)) d w)) (sym (enters_main d.state))
+      (alike_behind_both (taking (λ v. go_on)) (resumed (language p) (Result (calls_main f.main)) d.state d) (calls n f.main 0 s w d.state.ram i) behind)
+    where
+      behind : (s1 : Firm) (d1 : Deciding State) (w1 : World History) → IsFair w1 → Returned 0 s s1 d1
+          → Alike Top (Leaves bare []) (taking (λ v. go_on) s1 w1) (resumed (language p) (Result (calls_main f.main)) d.state d d1 w1)
+      behind s1 d1 w1 i1 (v, e1, e2, e3, small) =
+          subst (λ z. Alike Top (Leaves bare []) (take_from z (λ v. go_on) s1 w1) (resumed (language p) (Result (calls_main f.main)) d.state d d1 w1))
+          (sym e1)
+          (gives i1 (record {
+            waits = q.waits;
+            kept = record {
+              there = λ j u h. none_is_not u h;
+              locals = λ j u lt h. absurd (omega
+                  (arith, lt));
+            };
+            none = q.none;
+          }))
+
+  alike_run : (n : ℕ) (s : Firm) (d : Deciding State) (w : World History) → IsFair w → Top s d
+      → Alike Top (Leaves bare []) (firm_running full k f n s w) (lin_running (language p) bodies (calls_main f.main) n d w)
+  alike_run n s d w i q =
+      alike_then {G = Top} {J = Top} {L = Leaves bare []} (idles n (λ vector s1 w1. firm_handled (firm_called full k f w1.clock) (f.handler vector) s1 w1))
+      (λ d1 w1. idles n (λ v d2 w2. lin_handle (language p) (lin_called (language p) bodies w2.clock) ((language p).handler v) d2 w2) d1 w1)
+      (alike_main w.clock s d w i q)
+      (λ s1 d1 w1 i1 q1. alike_idles {G = Top} {L = Leaves bare []} n (λ vector s2 w2. firm_handled (firm_called full k f w2.clock) (f.handler vector) s2 w2)
+      (λ v d2 w2. lin_handle (language p) (lin_called (language p) bodies w2.clock) ((language p).handler v) d2 w2)
+      (λ vector s2 d2 w2 i2 q2. alike_handling p f (firm_called full k f w2.clock) (lin_called (language p) bodies w2.clock)
+      (calls w2.clock) flat.handler bare [] [] vector
+      s2 d2 w2 i2 q2) s1 d1 w1 i1 q1)
+
+  pub follows : FollowsPacked k f p
+  follows clock deepest reads interrupts t v why are legal is =
+      let (d, e) = over_same (firm_running full k f (length interrupts) (firm_first f) (world clock deepest reads interrupts))
+      (lin_running (language p) bodies (calls_main f.main) (length interrupts) (fresh (first_state p)) (world clock deepest reads interrupts)) t v why
+      (λ x s1 d1 z. z) legal
+      (alike_run (length interrupts) (firm_first f) (fresh (first_state p)) (world clock deepest reads interrupts) (record { running = refl; reads = are })
+      (record { waits = tt; kept = record { there = λ j u h. none_is_not u h; locals = λ j u lt h. absurd (omega (arith, lt)) }; none = refl })) is in
+      follows_sessions p bodies (calls_main f.main) all_stand first (ap name_of flat.start) clock deepest reads interrupts d v why legal e

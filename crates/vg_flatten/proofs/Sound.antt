@@ -1,0 +1,364 @@
+-- That the instructions of what was made keep what every procedure of linear code keeps: operands in range, and jumps that lead to no
+-- place behind the code nor to themselves.
+use Rattle.std.specs.Prelude.{ℕ, zero, suc, ◌+◌, ◌-◌, ◌<◌, ◌≤◌, ◌^◌, Bool, true, false, ◌==◌, ◌&&◌, ◌||◌, nat_lt, List, [], ◌∷◌, ◌++◌, length, map, reverse, Option, Some, None, if◌then◌else◌, slice_get}
+use Rattle.std.specs.List.{AllByRecursion}
+use Rattle.std.proofs.Common.{◌≡◌, ◌≢◌, refl, sym, ap, ◌∙◌, subst, arith}
+use Rattle.std.proofs.lemmas.List.{length-append, length-map}
+use Rattle.vg_meaning.specs.Code.{Code, Nothing, Then, Do, If, Loop, Break, Continue, Return}
+use Rattle.vg_firm.specs.declared.step.Operator.{Operator}
+use Rattle.vg_firm.specs.declared.step.Operator.TheVariants.{Plus, Minus, Times, Divide, Remainder, Less, AtMost, Greater, AtLeast, Equal, Unequal}
+use Rattle.vg_firm.specs.declared.step.Operator.TheVariants.{And, Or, Xor, ShiftLeft, ShiftRight, Concat}
+use Rattle.vg_firm.specs.declared.step.Prefix.{Prefix}
+use Rattle.vg_firm.specs.declared.step.Prefix.TheVariants.{Negative, Not, Complement, Cut}
+use Rattle.vg_firm.specs.declared.step.Step.{Step}
+use Rattle.vg_firm.specs.declared.step.Step.TheVariants.{Number, This, Local as GetLocal, SetLocal, Forget, Operate, Apply, ReadDevice, WriteDevice, Load, Store}
+use Rattle.vg_firm.specs.declared.step.Step.TheVariants.{LoadAt, StoreAt, LoadNothing, StoreNothing, LoadItem, StoreItem, Length, IsWithin}
+use Rattle.vg_firm.specs.declared.step.Step.TheVariants.{StopUnlessWithin, Bind, BindFor, Call, CallFor, CallValue, Idle}
+use Rattle.vg_lin.specs.declared.instr.Operand.{Operand}
+use Rattle.vg_lin.specs.declared.instr.Operand.TheVariants.{Local, Known}
+use Rattle.vg_lin.specs.declared.instr.Operator.{Operator as LinOperator}
+use Rattle.vg_lin.specs.declared.instr.Operator.TheVariants.{Plus as Sum, Minus as Difference}
+use Rattle.vg_lin.specs.declared.instr.Comparison.TheVariants.{Same}
+use Rattle.vg_lin.specs.declared.instr.Test.{Test}
+use Rattle.vg_lin.specs.declared.instr.Plain.{Plain as PlainInstr}
+use Rattle.vg_lin.specs.declared.instr.Plain.TheVariants.{Copy, Compute, ReadDevice as ReadsDevice, WriteDevice as WritesDevice}
+use Rattle.vg_lin.specs.declared.instr.Callee.{Callee}
+use Rattle.vg_lin.specs.declared.instr.Callee.TheVariants.{Procedure as ByNumber, Code as ByCode}
+use Rattle.vg_lin.specs.declared.instr.Registers.{Registers}
+use Rattle.vg_lin.specs.declared.instr.Registers.TheVariants.{Empty, One as One', Two, Three, Four}
+use Rattle.vg_lin.specs.Meaning.{operands}
+use Rattle.vg_flatten.specs.declared.fault.Fault.TheVariants.{NotTaken}
+use Rattle.vg_flatten.specs.declared.open.Truth.{Truth}
+use Rattle.vg_flatten.specs.declared.open.Truth.TheVariants.{Holds, Fails}
+use Rattle.vg_flatten.specs.declared.shape.Room.{Room}
+use Rattle.vg_flatten.specs.Shapes.{Shape, only, empty, is_empty, is_free, same_operand, same_homes, temp}
+use Rattle.vg_flatten.specs.Blocks.{Block, Skip, One, CallTo, TakeInterrupt, GiveBack, BreakOut, GoOn, Both, Choice, Repeat}
+use Rattle.vg_flatten.specs.Flat.{Made, Gives, Refused, behind, after, by_temp, settled, settled_as, Tested, tested, tested_as, is_zero, computing, comparing, by_order, test_of}
+use Rattle.vg_flatten.specs.Flat.{computed, compared, operated, operated_as, bytes_of, cut, applied, put_number, get_local, set_local, forgotten, read, written}
+use Rattle.vg_flatten.specs.Flat.{called_with, with_one, with_two, with_three, with_four, called, stepped, landed_as, landed, joined, chosen, where_empty, repeated, repeated_test}
+use Rattle.vg_flatten.specs.Loops.{has_loop}
+use Rattle.vg_flatten.specs.Flat.{repeated_body, repeated_next, given_back, flat}
+use Rattle.vg_flatten.proofs.Locals.{some_is, none_is_not, temp_is}
+
+-- ---- operands in range
+
+-- A local below this size, or a known value.
+abbrev pub IsIn : (size : ℕ) → Operand → Type 0
+IsIn size (Local i) = i < size
+IsIn size (Known v) = Unit {0}
+
+abbrev pub AreIn : (size : ℕ) → List Operand → Type 0
+AreIn size [] = Unit {0}
+AreIn size (h ∷ hs) = IsIn size h × AreIn size hs
+
+abbrev pub IsTestIn : (size : ℕ) → Test → Type 0
+IsTestIn size t = (1 ≤ t.width) × (t.width ≤ 4) × IsIn size t.left × IsIn size t.right
+
+abbrev pub IsTruthIn : (size : ℕ) → Truth → Type 0
+IsTruthIn size (Holds t) = IsTestIn size t
+IsTruthIn size (Fails t) = IsTestIn size t
+
+abbrev pub MayBeIn : (size : ℕ) → Option Truth → Type 0
+MayBeIn size (Some t) = IsTruthIn size t
+MayBeIn size None = Unit {0}
+
+abbrev pub IsPlainIn : (size : ℕ) → PlainInstr → Type 0
+IsPlainIn size (Copy to a) = (to < size) × IsIn size a
+IsPlainIn size (Compute c) = (1 ≤ c.width) × (c.width ≤ 4) × (c.to < size) × IsIn size c.left × IsIn size c.right
+IsPlainIn size (ReadsDevice to address) = to < size
+IsPlainIn size (WritesDevice address a) = IsIn size a
+IsPlainIn size _ = ⊥
+
+abbrev pub IsToIn : (size : ℕ) → Option ℕ → Type 0
+IsToIn size (Some to) = to < size
+IsToIn size None = Unit {0}
+
+abbrev pub IsCalleeIn : (size : ℕ) → Callee → Type 0
+IsCalleeIn size (ByNumber q) = Unit {0}
+IsCalleeIn size (ByCode a) = IsIn size a
+
+-- L is what must hold where there is a loop.
+abbrev pub BlockIn : (L : Type 0) → (size : ℕ) → Block → Type 0
+BlockIn L size (One p) = IsPlainIn size p
+BlockIn L size (CallTo c) = (c.pushed ≡ 0) × IsCalleeIn size c.callee × AreIn size (operands c.registers) × IsToIn size c.to
+BlockIn L size (GiveBack a) = IsIn size a
+BlockIn L size (Both a b) = BlockIn L size a × BlockIn L size b
+BlockIn L size (Choice t a b) = IsTruthIn size t × BlockIn L size a × BlockIn L size b
+BlockIn L size (Repeat p t a b) = IsTruthIn size t × BlockIn L size p × BlockIn L size a × BlockIn L size b × L
+BlockIn L size _ = Unit {0}
+
+abbrev pub ShapeIn : (size : ℕ) → Shape → Type 0
+ShapeIn size s = AreIn size s.homes × MayBeIn size s.truth
+
+-- What was made is in range, and so is the shape behind it.
+abbrev pub MadeIn : (L : Type 0) → (size : ℕ) → Made → Type 0
+MadeIn L size (Gives b s) = BlockIn L size b × ShapeIn size s
+MadeIn L size (Refused why) = Unit {0}
+
+-- ---- what was made is in range
+
+module _ (L : Type 0) (r : Room) where
+  abbrev size : ℕ
+  size = r.locals + r.temps
+
+  temp_in : (hs : List Operand) (to : ℕ) → temp r hs ≡ Some to → to < size
+  temp_in hs to e =
+      let is = (temp_is r hs to e).0 in
+      let lt = (temp_is r hs to e).1 in
+      omega (arith, is, lt)
+
+  in_behind : (a : Block) (made : Made) → BlockIn L size a → MadeIn L size made → MadeIn L size (behind a made)
+  in_behind a (Gives b s) ha hm = ((ha, hm.0), hm.1)
+  in_behind a (Refused why) ha hm = tt
+
+  in_after : (made : Made) (more : Shape → Made) → MadeIn L size made → ((s : Shape) → ShapeIn size s → MadeIn L size (more s)) → MadeIn L size (after made more)
+  in_after (Gives a s) more hm h = in_behind a (more s) hm.0 (h s hm.1)
+  in_after (Refused why) more hm h = tt
+
+  in_by_temp : (hs : List Operand) (go : ℕ → Made) → ((to : ℕ) → to < size → MadeIn L size (go to)) → MadeIn L size (by_temp (temp r hs) go)
+  in_by_temp hs go h = by_room (temp r hs) refl
+    where
+      by_room : (o : Option ℕ) → temp r hs ≡ o → MadeIn L size (by_temp o go)
+      by_room (Some to) e = h to (temp_in hs to e)
+      by_room None e = tt
+
+  in_settled : (s : Shape) → ShapeIn size s → MadeIn L size (settled r s)
+  in_settled s h = by_truth s.truth h.1
+    where
+      by_truth : (o : Option Truth) → MayBeIn size o → MadeIn L size (settled_as r o s.homes)
+      by_truth None t = (tt, (h.0, tt))
+      by_truth (Some x) t = in_by_temp s.homes _ (λ to lt. ((t, (lt, tt), (lt, tt)), ((lt, h.0), tt)))
+
+  in_if : (b : Bool) (x y : Made) → MadeIn L size x → MadeIn L size y → MadeIn L size (if b then x else y)
+  in_if true x y hx hy = hx
+  in_if false x y hx hy = hy
+
+  in_computed : (op : LinOperator) (width : ℕ) (x y : Operand) (hs : List Operand) → 1 ≤ width → width ≤ 4 → IsIn size x → IsIn size y → AreIn size hs
+      → MadeIn L size (computed r op width x y hs)
+  in_computed op width x y hs low high hx hy h = in_by_temp hs _ (λ to lt. ((low, high, lt, hx, hy), ((lt, h), tt)))
+
+  in_test : (x y : Operand) → IsIn size x → IsIn size y → (c : _) → IsTestIn size (test_of c x y)
+  in_test x y hx hy c = (omega arith, omega arith, hx, hy)
+
+  in_comparing : (op : Operator) (x y : Operand) → IsIn size x → IsIn size y → MayBeIn size (comparing op x y)
+  in_comparing (Less o) x y hx hy = in_test x y hx hy (by_order o)
+  in_comparing (AtMost o) x y hx hy = in_test y x hy hx (by_order o)
+  in_comparing (Greater o) x y hx hy = in_test y x hy hx (by_order o)
+  in_comparing (AtLeast o) x y hx hy = in_test x y hx hy (by_order o)
+  in_comparing Equal x y hx hy = in_test x y hx hy Same
+  in_comparing Unequal x y hx hy = in_test x y hx hy Same
+  in_comparing Plus x y hx hy = tt
+  in_comparing Minus x y hx hy = tt
+  in_comparing Times x y hx hy = tt
+  in_comparing Divide x y hx hy = tt
+  in_comparing Remainder x y hx hy = tt
+  in_comparing And x y hx hy = tt
+  in_comparing Or x y hx hy = tt
+  in_comparing Xor x y hx hy = tt
+  in_comparing (ShiftLeft k) x y hx hy = tt
+  in_comparing (ShiftRight k) x y hx hy = tt
+  in_comparing (Concat k) x y hx hy = tt
+
+  in_operated : (op : Operator) (hs : List Operand) → AreIn size hs → MadeIn L size (operated r op hs)
+  in_operated op [] h = tt
+  in_operated op (y ∷ []) h = tt
+  in_operated op (y ∷ x ∷ hs) h = by_kind (computing op) (comparing op x y) (in_comparing op x y h.1.0 h.0)
+    where
+      by_kind : (o : Option LinOperator) (t : Option Truth) → MayBeIn size t → MadeIn L size (operated_as r o t x y hs)
+      by_kind (Some lop) t ht = in_computed lop 4 x y hs (omega arith) (omega arith) h.1.0 h.0 h.1.1
+      by_kind None (Some t) ht = (tt, (h.1.1, ht))
+      by_kind None None ht = tt
+
+  in_cut : (bits : ℕ) (h : Operand) (hs : List Operand) → IsIn size h → AreIn size hs → (o : Option ℕ) → bytes_of bits ≡ o → MadeIn L size (cut r o h hs)
+  in_cut bits h hs hh hhs None e = tt
+  in_cut bits h hs hh hhs (Some width) e = in_computed Sum width h (Known 0) hs (above bits width e) (below bits width e) hh tt hhs
+    where
+      above : (n v : ℕ) → bytes_of n ≡ Some v → 1 ≤ v
+      above n v e1 = grind arith
+
+      below : (n v : ℕ) → bytes_of n ≡ Some v → v ≤ 4
+      below n v e1 = grind arith
+
+  in_applied : (op : Prefix) (hs : List Operand) → AreIn size hs → MadeIn L size (applied r op hs)
+  in_applied Not [] h = tt
+  in_applied Negative [] h = tt
+  in_applied (Cut bits) [] h = tt
+  in_applied (Complement bits) [] h = tt
+  in_applied Not (a ∷ hs) h = (tt, (h.1, in_test a (Known 0) h.0 tt Same))
+  in_applied Negative (a ∷ hs) h = in_computed Difference 4 (Known 0) a hs (omega arith) (omega arith) tt h.0 h.1
+  in_applied (Cut bits) (a ∷ hs) h = in_cut bits a hs h.0 h.1 (bytes_of bits) refl
+  in_applied (Complement bits) (a ∷ hs) h = tt
+
+  in_local : (i : ℕ) (hs : List Operand) → AreIn size hs → MadeIn L size (get_local r i hs)
+  in_local i hs h = by_size (nat_lt i r.locals) refl
+    where
+      by_size : (b : Bool) → nat_lt i r.locals ≡ b → MadeIn L size (if b then Gives Skip (only (Local i ∷ hs)) else Refused NotTaken)
+      by_size true e = let lt : i < r.locals = grind arith in (tt, ((omega (arith, lt), h), tt))
+      by_size false e = tt
+
+  in_set : (i : ℕ) (hs : List Operand) → AreIn size hs → MadeIn L size (set_local r i hs)
+  in_set i [] h = tt
+  in_set i (a ∷ hs) h = by_size (nat_lt i r.locals) (is_free i (reverse hs)) refl
+    where
+      by_size : (b c : Bool) → nat_lt i r.locals ≡ b → MadeIn L size (if b && c then Gives (One (Copy i a)) (only hs) else Refused NotTaken)
+      by_size true true e = let lt : i < r.locals = grind arith in ((omega (arith, lt), h.0), (h.1, tt))
+      by_size true false e = tt
+      by_size false c e = tt
+
+  in_number : (v : ℕ) (hs : List Operand) → AreIn size hs → MadeIn L size (put_number v hs)
+  in_number v hs h = in_if (nat_lt v (2 ^ 32)) (Gives Skip (only (Known v ∷ hs))) (Refused NotTaken) (tt, ((tt, h), tt)) tt
+
+  in_called_with : (q : ℕ) (args : Registers) (hs : List Operand) → AreIn size (operands args) → AreIn size hs → MadeIn L size (called_with r q args hs)
+  in_called_with q args hs ha h = in_by_temp hs _ (λ to lt. ((refl, tt, ha, lt), ((lt, h), tt)))
+
+  in_one : (q : ℕ) (hs : List Operand) → AreIn size hs → MadeIn L size (with_one r q hs)
+  in_one q [] h = tt
+  in_one q (a ∷ hs) h = in_called_with q (One' a) hs (h.0, tt) h.1
+
+  in_two : (q : ℕ) (hs : List Operand) → AreIn size hs → MadeIn L size (with_two r q hs)
+  in_two q [] h = tt
+  in_two q (b ∷ []) h = tt
+  in_two q (b ∷ a ∷ hs) h = in_called_with q (Two a b) hs (h.1.0, (h.0, tt)) h.1.1
+
+  in_three : (q : ℕ) (hs : List Operand) → AreIn size hs → MadeIn L size (with_three r q hs)
+  in_three q [] h = tt
+  in_three q (c ∷ []) h = tt
+  in_three q (c ∷ b ∷ []) h = tt
+  in_three q (c ∷ b ∷ a ∷ hs) h = in_called_with q (Three a b c) hs (h.1.1.0, (h.1.0, (h.0, tt))) h.1.1.1
+
+  in_four : (q : ℕ) (hs : List Operand) → AreIn size hs → MadeIn L size (with_four r q hs)
+  in_four q [] h = tt
+  in_four q (d ∷ []) h = tt
+  in_four q (d ∷ c ∷ []) h = tt
+  in_four q (d ∷ c ∷ b ∷ []) h = tt
+  in_four q (d ∷ c ∷ b ∷ a ∷ hs) h = in_called_with q (Four a b c d) hs (h.1.1.1.0, (h.1.1.0, (h.1.0, (h.0, tt)))) h.1.1.1.1
+
+  in_called : (q count : ℕ) (hs : List Operand) → AreIn size hs → MadeIn L size (called r q count hs)
+  in_called q count hs h =
+      in_if (count == 0) _ _ (in_called_with q Empty hs tt h)
+      (in_if (count == 1) _ _ (in_one q hs h) (in_if (count == 2) _ _ (in_two q hs h)
+      (in_if (count == 3) _ _ (in_three q hs h) (in_if (count == 4) _ _ (in_four q hs h) tt))))
+
+  in_forgotten : (hs : List Operand) → AreIn size hs → MadeIn L size (forgotten hs)
+  in_forgotten [] h = tt
+  in_forgotten (a ∷ hs) h = (tt, (h.1, tt))
+
+  in_written : (address : ℕ) (hs : List Operand) → AreIn size hs → MadeIn L size (written address hs)
+  in_written address [] h = tt
+  in_written address (a ∷ hs) h = (h.0, (h.1, tt))
+
+  in_stepped : (q : Step) (hs : List Operand) → AreIn size hs → MadeIn L size (stepped r q hs)
+  in_stepped (Number v) hs h = in_number v hs h
+  in_stepped (GetLocal i) hs h = in_local i hs h
+  in_stepped (SetLocal i) hs h = in_set i hs h
+  in_stepped Forget hs h = in_forgotten hs h
+  in_stepped (Operate op) hs h = in_operated op hs h
+  in_stepped (Apply op) hs h = in_applied op hs h
+  in_stepped (ReadDevice address) hs h = in_by_temp hs _ (λ to lt. (lt, ((lt, h), tt)))
+  in_stepped (WriteDevice address) hs h = in_written address hs h
+  in_stepped (Call q count) hs h = in_called q count hs h
+  in_stepped Idle hs h = (tt, (h, tt))
+  in_stepped This hs h = tt
+  in_stepped (Load a c) hs h = tt
+  in_stepped (Store c w) hs h = tt
+  in_stepped (LoadAt a c o) hs h = tt
+  in_stepped (StoreAt c o w) hs h = tt
+  in_stepped LoadNothing hs h = tt
+  in_stepped StoreNothing hs h = tt
+  in_stepped (LoadItem e) hs h = tt
+  in_stepped (StoreItem e) hs h = tt
+  in_stepped (Length t) hs h = tt
+  in_stepped (IsWithin a b) hs h = tt
+  in_stepped (StopUnlessWithin a b) hs h = tt
+  in_stepped (Bind q) hs h = tt
+  in_stepped (BindFor d) hs h = tt
+  in_stepped (CallFor d c) hs h = tt
+  in_stepped (CallValue c) hs h = tt
+
+  -- ---- choices and loops
+
+  in_landed_as : (hs : List Operand) → AreIn size hs → MadeIn L size (landed_as r hs)
+  in_landed_as [] h = (tt, (tt, tt))
+  in_landed_as (a ∷ hs) h = in_by_temp hs _ (λ to lt. in_if (same_operand (Local to) a) (Gives Skip (only (a ∷ hs))) (Gives (One (Copy to a)) (only
+      (Local to ∷ hs))) (tt, (h, tt)) ((lt, h.0), ((lt, h.1), tt)))
+
+  in_landed : (made : Made) → MadeIn L size made → MadeIn L size (landed r made)
+  in_landed made h = in_after made _ h (λ s hs. in_after (settled r s) _ (in_settled s hs) (λ s1 h1. in_landed_as s1.homes h1.0))
+
+  in_joined : (t : Truth) (x y : Made) → IsTruthIn size t → MadeIn L size x → MadeIn L size y → MadeIn L size (joined t x y)
+  in_joined t (Refused why) y ht hx hy = tt
+  in_joined t (Gives a s) (Refused why) ht hx hy = tt
+  in_joined t (Gives a s) (Gives b s1) ht hx hy = in_if (same_homes (reverse s.homes) (reverse s1.homes)) (Gives (Choice t a b) s) (Refused NotTaken)
+      ((ht, hx.0, hy.0), hx.1) tt
+
+  -- the test that waits
+  in_tested : (s : Shape) (t : Tested) → ShapeIn size s → tested s ≡ Some t → IsTruthIn size t.truth × AreIn size t.homes
+  in_tested s t h e = by_shape s.truth s.homes h e
+    where
+      by_shape : (o : Option Truth) (hs : List Operand) → AreIn size hs × MayBeIn size o → tested_as o hs ≡ Some t
+          → IsTruthIn size t.truth × AreIn size t.homes
+      by_shape (Some x) hs h1 e1 = subst (λ z. IsTruthIn size z.truth × AreIn size z.homes) (some_is _ t e1) (h1.1, h1.0)
+      by_shape None (a ∷ hs) h1 e1 = subst (λ z. IsTruthIn size z.truth × AreIn size z.homes) (some_is _ t e1) (in_test a (Known 0) h1.0.0 tt Same, h1.0.1)
+      by_shape None [] h1 e1 = none_is_not t e1
+
+  in_chosen : (s : Shape) (x y : Shape → Made) → ShapeIn size s → ((z : Shape) → ShapeIn size z → MadeIn L size (x z)) → ((z : Shape) → ShapeIn size z
+      → MadeIn L size (y z))
+      → MadeIn L size (chosen r (tested s) x y)
+  in_chosen s x y h hx hy = by_test (tested s) refl
+    where
+      by_test : (o : Option Tested) → tested s ≡ o → MadeIn L size (chosen r o x y)
+      by_test None e = tt
+      by_test (Some t) e =
+          let ht = in_tested s t h e in
+          in_joined t.truth (landed r (x (only t.homes))) (landed r (y (only t.homes))) ht.0 (in_landed _ (hx (only t.homes) (ht.1, tt)))
+          (in_landed _ (hy (only t.homes) (ht.1, tt)))
+
+  in_next : L → (p : Block) (t : Truth) (b : Block) (z : Made) → BlockIn L size p → IsTruthIn size t → BlockIn L size b → MadeIn L size z
+      → MadeIn L size (repeated_next p t b z)
+  in_next l p t b (Refused why) hp ht hb hz = tt
+  in_next l p t b (Gives n s) hp ht hb hz = in_if (is_empty s) (Gives (Repeat p t b n) empty) (Refused NotTaken) ((ht, hp, hb, hz.0, l), (tt, tt)) tt
+
+  in_body : L → (p : Block) (t : Truth) (y z : Made) → BlockIn L size p → IsTruthIn size t → MadeIn L size y → MadeIn L size z → MadeIn L size (repeated_body p t y z)
+  in_body l p t (Refused why) z hp ht hy hz = tt
+  in_body l p t (Gives b s) z hp ht hy hz = in_if (is_empty s) (repeated_next p t b z) (Refused NotTaken) (in_next l p t b z hp ht hy.0 hz) tt
+
+  in_repeated : L → (x y z : Made) → MadeIn L size x → MadeIn L size y → MadeIn L size z → MadeIn L size (repeated x y z)
+  in_repeated l (Refused why) y z hx hy hz = tt
+  in_repeated l (Gives p s) y z hx hy hz = by_test (tested s) refl
+    where
+      by_test : (o : Option Tested) → tested s ≡ o → MadeIn L size (repeated_test p o y z)
+      by_test None e = tt
+      by_test (Some t) e = in_if (is_empty (only t.homes)) (repeated_body p t.truth y z) (Refused NotTaken) (in_body l p t.truth y z hx.0
+          (in_tested s t hx.1 e).0 hy hz) tt
+
+  in_given_back : (hs : List Operand) → AreIn size hs → MadeIn L size (given_back hs)
+  in_given_back [] h = tt
+  in_given_back (a ∷ []) h = (h.0, (tt, tt))
+  in_given_back (a ∷ b ∷ hs) h = tt
+
+  first_of : (x y : Bool) → ((x || y) ≡ true → L) → x ≡ true → L
+  first_of true y h e = h refl
+  first_of false y h e = absurd (false_is e)
+    where
+      false_is : false ≡ true → ⊥
+      false_is e1 = grind arith
+
+  rest_of : (x y : Bool) → ((x || y) ≡ true → L) → y ≡ true → L
+  rest_of true y h e = h refl
+  rest_of false y h e = h e
+
+  pub in_flat : (c : Code Step) (s : Shape) → (has_loop c ≡ true → L) → ShapeIn size s → MadeIn L size (flat r c s)
+  in_flat Nothing s l h = (tt, h)
+  in_flat (Then a b) s l h =
+      in_after (flat r a s) (flat r b) (in_flat a s (first_of (has_loop a) (has_loop b) l) h)
+      (λ s1 h1. in_flat b s1 (rest_of (has_loop a) (has_loop b) l) h1)
+  in_flat (Do q) s l h = in_after (settled r s) _ (in_settled s h) (λ s1 h1. in_stepped q s1.homes h1.0)
+  in_flat (If a b) s l h =
+      in_chosen s (flat r a) (flat r b) h (λ z hz. in_flat a z (first_of (has_loop a) (has_loop b) l) hz)
+      (λ z hz. in_flat b z (rest_of (has_loop a) (has_loop b) l) hz)
+  in_flat (Loop c body next) s l h =
+      in_if (is_empty s) _ _ (in_repeated (l refl) (flat r c empty) (flat r body empty) (flat r next empty)
+      (in_flat c empty (λ e. l refl) (tt, tt)) (in_flat body empty (λ e. l refl) (tt, tt)) (in_flat next empty (λ e. l refl) (tt, tt))) tt
+  in_flat Break s l h = in_if (is_empty s) (Gives BreakOut empty) (Refused NotTaken) (tt, (tt, tt)) tt
+  in_flat Continue s l h = in_if (is_empty s) (Gives GoOn empty) (Refused NotTaken) (tt, (tt, tt)) tt
+  in_flat Return s l h = in_after (settled r s) _ (in_settled s h) (λ s1 h1. in_given_back s1.homes h1.0)

@@ -1,0 +1,399 @@
+-- That each step becomes a block that does the same.
+use Rattle.std.specs.Prelude.{ℕ, zero, suc, ◌+◌, ◌-◌, ◌<◌, ◌≤◌, ◌^◌, ◌%◌, Bool, true, false, not, ◌==◌, ◌&&◌, nat_lt, List, [], ◌∷◌, ◌++◌, length, reverse, take, drop, Option, Some, None}
+use Rattle.std.specs.Prelude.{slice_get, slice_set, if◌then◌else◌}
+use Rattle.std.proofs.Common.{◌≡◌, ◌≢◌, inl, inr, refl, sym, ap, ◌∙◌, subst, arith}
+use Rattle.vg_meaning.specs.declared.event.Event.TheVariants.{Read, Write}
+use Rattle.vg_meaning.specs.Outside.{Outside, IsRead, AreReads, with_event}
+use Rattle.vg_meaning.specs.History.{History, full}
+use Rattle.vg_meaning.specs.World.{World, Phase, Running}
+use Rattle.vg_meaning.specs.Answer.{Signal, Answer, Gives, Ends, Piece, go_on, and_then}
+use Rattle.vg_meaning.specs.Devices.{read_from, write_in, write_device}
+use Rattle.vg_meaning.specs.Interrupts.{take_interrupt}
+use Rattle.vg_codes.specs.Codes.{Codes}
+use Rattle.vg_firm.specs.declared.step.Operator.{Operator}
+use Rattle.vg_firm.specs.declared.step.Prefix.{Prefix}
+use Rattle.vg_firm.specs.declared.step.Prefix.TheVariants.{Negative, Not, Complement, Cut}
+use Rattle.vg_firm.specs.declared.step.Step.{Step}
+use Rattle.vg_firm.specs.declared.step.Step.TheVariants.{Number, Local as GetLocal, SetLocal, Forget, Operate, Apply, ReadDevice, WriteDevice, Call, Idle}
+use Rattle.vg_firm.specs.Program.{Procedure as FirmProcedure, Program as FirmProgram}
+use Rattle.vg_firm.specs.Meaning.{State as Firm, Caller as FirmCaller, step as firm_step, put, put_computed, taking, take_from, with_found, of_width, checked, set_local}
+use Rattle.vg_firm.specs.Operators.{as_number, computed as firm_computed, applied as firm_applied}
+use Rattle.vg_lin.specs.declared.instr.Operand.{Operand}
+use Rattle.vg_lin.specs.declared.instr.Operand.TheVariants.{Local, Known}
+use Rattle.vg_lin.specs.declared.instr.Operator.{Operator as LinOperator}
+use Rattle.vg_lin.specs.declared.instr.Operator.TheVariants.{Plus as Sum, Minus as Difference}
+use Rattle.vg_lin.specs.declared.instr.Computation.{Computation}
+use Rattle.vg_lin.specs.declared.instr.Plain.{Plain}
+use Rattle.vg_lin.specs.declared.instr.Plain.TheVariants.{Copy, Compute, ReadDevice as ReadsDevice, WriteDevice as WritesDevice}
+use Rattle.vg_lin.specs.declared.instr.Comparison.TheVariants.{Same}
+use Rattle.vg_lin.specs.Values.{low, computed as lin_computed}
+use Rattle.vg_lin.specs.Program.{Program as LinProgram}
+use Rattle.vg_lin.specs.Steps.{Went, Goes}
+use Rattle.vg_lin.specs.State.{State, value, using, sets, computes as lin_computes, plain, reads_from}
+use Rattle.vg_lin.specs.Structured.{Deciding, Caller as LinCaller, lifted}
+use Rattle.vg_flatten.specs.declared.fault.Fault.TheVariants.{NotTaken}
+use Rattle.vg_flatten.specs.declared.open.Truth.{Truth}
+use Rattle.vg_flatten.specs.declared.open.Truth.TheVariants.{Holds}
+use Rattle.vg_flatten.specs.declared.shape.Room.{Room}
+use Rattle.vg_flatten.specs.Shapes.{Shape, only, is_free, temp}
+use Rattle.vg_flatten.specs.Blocks.{Block, Skip, One}
+use Rattle.vg_flatten.specs.Flat.{Made, Gives as Makes, Refused, by_temp, computing, comparing, computed, compared, operated, operated_as, bytes_of, applied, is_zero}
+use Rattle.vg_flatten.specs.Flat.{put_number, get_local, set_local as sets_local, forgotten, read, written, cut}
+use Rattle.vg_flatten.specs.Fitting.{CallsFit}
+use Rattle.vg_flatten.proofs.Alike.{IsFair, Alike, gives, leaves, overs, wrong, AlikePiece}
+use Rattle.vg_flatten.proofs.Related.{IsAt, ArePlaced, AreAt, AreWidths, AreSame, IsSaid, said, Held, Leaves}
+use Rattle.vg_flatten.proofs.Numbers.{low_same, low_small, opposite_same, same_same}
+use Rattle.vg_flatten.proofs.Locals.{some_is, none_is_not, value_of_home, put_temp, placed_temp}
+use Rattle.vg_flatten.proofs.Free.{homes_beside, kept_behind_set}
+use Rattle.vg_flatten.proofs.Operating.{Computes, computes, Compares, compares, holds_of}
+use Rattle.vg_flatten.proofs.Right.{Right, Does, linear}
+
+module _ (k : Codes) (f : FirmProgram) (m : FirmProcedure) (call : FirmCaller History) (handle : ℕ → Piece Firm History)
+    (p : LinProgram) (go : LinCaller State) (params : List ℕ) (r : Room) (ws : List ℕ) (wide : AreWidths r m.widths ws) where
+  abbrev Right' : Shape → Made → Piece Firm History → Type 0
+  Right' = Right k f m call handle p go params r ws wide
+
+  abbrev linear' : Block → Piece (Deciding State) History
+  linear' = linear k f m call handle p go params r ws wide
+
+  abbrev step' : Step → Piece Firm History
+  step' = firm_step k f m call handle
+
+  -- behind a plain instruction that goes on
+  plain_goes : (i : Plain) (d : Deciding State) (w : World History) (t : State) → plain p i d.state w.outside ≡ Goes t w.outside
+      → linear' (One i) d w ≡ Gives (record d { state = t }) w
+  plain_goes i d w t e = ap (λ z. lifted z d w) e
+
+  -- a number goes to a temporary
+  into_temp : (hs : List Operand) (to z : ℕ) (i : Plain) (s : Firm) (d : Deciding State) (w : World History) → IsFair w → ArePlaced r.locals hs
+      → temp r hs ≡ Some to → z < 2 ^ 32 → AreSame r ws hs s d.state → plain p i d.state w.outside ≡ Goes (sets to z d.state) w.outside
+      → Alike (Held r ws (only (Local to ∷ hs))) (Leaves r ws) (put z s w) (linear' (One i) d w)
+  into_temp hs to z i s d w fair placed e small same goes =
+      subst (λ x. Alike (Held r ws (only (Local to ∷ hs))) (Leaves r ws) (put z s w) x) (sym (plain_goes i d w (sets to z d.state) goes))
+      (gives fair (put_temp r m.widths ws hs s d.state to z wide placed e small same))
+
+  computes_to : (op : LinOperator) (width to : ℕ) (a b : Operand) (x y z : ℕ) (t : State) (o : Outside) → value a t ≡ Some x → value b t ≡ Some y
+      → lin_computed op width x y ≡ Some z
+      → plain p (Compute (record { operator = op; width = width; to = to; left = a; right = b })) t o ≡ Goes (sets to z t) o
+  computes_to op width to a b x y z t o ha hb e =
+      ap (λ q. using q (λ x1. using (value b t) (lin_computes (record { operator = op; width = width; to = to; left = a; right = b }) t o x1))) ha
+      ∙ ap (λ q. using q (lin_computes (record { operator = op; width = width; to = to; left = a; right = b }) t o x)) hb
+      ∙ ap (λ q. using q (λ z1. Goes (sets to z1 t) o)) e
+
+  -- ---- numbers and locals
+
+  pub right_number : (v : ℕ) (hs : List Operand) → ArePlaced r.locals hs → Right' (only hs) (put_number v hs) (step' (Number v))
+  right_number v hs placed = by_size (nat_lt v (2 ^ 32)) refl
+    where
+      by_size : (b : Bool) → nat_lt v (2 ^ 32) ≡ b
+          → Right' (only hs) (if b then Makes Skip (only (Known v ∷ hs)) else Refused NotTaken) (step' (Number v))
+      by_size true e = (
+        (tt, placed),
+        λ fit s d w i q. gives i (record { waits = ((refl, grind arith), q.waits); kept = q.kept; none = q.none }),
+      )
+      by_size false e = tt
+
+  pub right_local : (j : ℕ) (hs : List Operand) → ArePlaced r.locals hs → Right' (only hs) (get_local r j hs) (step' (GetLocal j))
+  right_local j hs placed = by_size (nat_lt j r.locals) refl
+    where
+      by_value : (s : Firm) (d : Deciding State) (w : World History) → IsFair w → j < r.locals → AreSame r ws hs s d.state
+          → (o : Option ℕ) → slice_get s.locals j ≡ o
+          → Alike (Held r ws (only (Local j ∷ hs))) (Leaves r ws) (with_found o put s w) (Gives d w)
+      by_value s d w i lt q (Some v) e = gives i (record { waits = (q.kept.locals j v lt e, q.waits); kept = q.kept; none = q.none })
+      by_value s d w i lt q None e = wrong
+
+      by_size : (b : Bool) → nat_lt j r.locals ≡ b
+          → Right' (only hs) (if b then Makes Skip (only (Local j ∷ hs)) else Refused NotTaken) (step' (GetLocal j))
+      by_size true e = let lt : j < r.locals = grind arith in ((inl lt, placed), λ fit s d w i q. by_value s d w i lt q (slice_get s.locals j) refl)
+      by_size false e = tt
+
+  pub right_set : (j : ℕ) (hs : List Operand) → ArePlaced r.locals hs → Right' (only hs) (sets_local r j hs) (step' (SetLocal j))
+  right_set j [] placed = tt
+  right_set j (h ∷ hs) placed = by_size (nat_lt j r.locals && is_free j (reverse hs)) refl
+    where
+      by_fit : (s : Firm) (d : Deciding State) (w : World History) → IsFair w → is_free j (reverse hs) ≡ true → (v : ℕ) (vs : List ℕ)
+          → AreAt (h ∷ hs) (v ∷ vs) d.state.locals → AreSame r ws (h ∷ hs) s d.state → (width : ℕ) → slice_get m.widths j ≡ Some width
+          → (b : Bool) → nat_lt v (256 ^ width) ≡ b
+          → Alike (Held r ws (only hs)) (Leaves r ws) (checked b (set_local j v) (record s { values = vs }) w) (linear' (One (Copy j h)) d w)
+      by_fit s d w i free v vs at q width has true e =
+          subst (λ x. Alike (Held r ws (only hs)) (Leaves r ws) (set_local j v (record s { values = vs }) w) x)
+          (sym (plain_goes (Copy j h) d w (sets j v d.state) (ap (λ z. using z (λ x. Goes (sets j x d.state) w.outside)) (value_of_home h v d.state at.0.0))))
+          (gives i (record {
+            waits = homes_beside j v hs vs d.state.locals free at.1;
+            kept = kept_behind_set r ws s.locals d.state.locals j width v (wide.locals j width has) (fits width v e) at.0.1 q.kept;
+            none = q.none;
+          }))
+        where
+          fits : (n x : ℕ) → nat_lt x (256 ^ n) ≡ true → low n x ≡ x
+          fits n x lt = grind arith
+      by_fit s d w i free v vs at q width has false e = wrong
+
+      by_width : (s : Firm) (d : Deciding State) (w : World History) → IsFair w → is_free j (reverse hs) ≡ true → (v : ℕ) (vs : List ℕ)
+          → AreAt (h ∷ hs) (v ∷ vs) d.state.locals → AreSame r ws (h ∷ hs) s d.state → (o : Option ℕ) → slice_get m.widths j ≡ o
+          → Alike (Held r ws (only hs)) (Leaves r ws) (with_found o (λ width. of_width width (set_local j) v) (record s { values = vs }) w)
+          (linear' (One (Copy j h)) d w)
+      by_width s d w i free v vs at q (Some width) has = by_fit s d w i free v vs at q width has (nat_lt v (256 ^ width)) refl
+      by_width s d w i free v vs at q None has = wrong
+
+      by_values : (s : Firm) (d : Deciding State) (w : World History) → IsFair w → is_free j (reverse hs) ≡ true → AreSame r ws (h ∷ hs) s d.state
+          → (vs : List ℕ) → AreAt (h ∷ hs) vs d.state.locals
+          → Alike (Held r ws (only hs)) (Leaves r ws) (take_from vs (λ v. with_found (slice_get m.widths j) (λ width. of_width width (set_local j) v)) s w)
+          (linear' (One (Copy j h)) d w)
+      by_values s d w i free q [] at = absurd at
+      by_values s d w i free q (v ∷ vs) at = by_width s d w i free v vs at q (slice_get m.widths j) refl
+
+      by_size : (b : Bool) → (nat_lt j r.locals && is_free j (reverse hs)) ≡ b
+          → Right' (only (h ∷ hs)) (if b then Makes (One (Copy j h)) (only hs) else Refused NotTaken) (step' (SetLocal j))
+      by_size true e = let free : is_free j (reverse hs) ≡ true = grind arith in (placed.1, λ fit s d w i q. by_values s d w i free q s.values q.waits)
+      by_size false e = tt
+
+  pub right_forget : (hs : List Operand) → ArePlaced r.locals hs → Right' (only hs) (forgotten hs) (step' Forget)
+  right_forget [] placed = tt
+  right_forget (h ∷ hs) placed = (placed.1, λ fit s d w i q. by_values s d w i q s.values q.waits)
+    where
+      by_values : (s : Firm) (d : Deciding State) (w : World History) → IsFair w → AreSame r ws (h ∷ hs) s d.state → (vs : List ℕ)
+          → AreAt (h ∷ hs) vs d.state.locals → Alike (Held r ws (only hs)) (Leaves r ws) (take_from vs (λ v. go_on) s w) (Gives d w)
+      by_values s d w i q [] at = absurd at
+      by_values s d w i q (v ∷ vs) at = gives i (record { waits = at.1; kept = q.kept; none = q.none })
+
+  -- ---- operators
+
+  right_computed : (op : Operator) (lop : LinOperator) (x y : Operand) (hs : List Operand) → ArePlaced r.locals hs → computing op ≡ Some lop
+      → Right' (only (y ∷ x ∷ hs)) (computed r lop 4 x y hs) (step' (Operate op))
+  right_computed op lop x y hs placed e = by_room (temp r hs) refl
+    where
+      by_result : (to : ℕ) → temp r hs ≡ Some to → (s : Firm) (d : Deciding State) (w : World History) → IsFair w → AreSame r ws (y ∷ x ∷ hs) s d.state
+          → (b a : ℕ) (vs : List ℕ) → AreAt (y ∷ x ∷ hs) (b ∷ a ∷ vs) d.state.locals → Computes op lop a b
+          → Alike (Held r ws (only (Local to ∷ hs))) (Leaves r ws) (put_computed (firm_computed op a b) (record s { values = vs }) w)
+          (linear' (One (Compute (record { operator = lop; width = 4; to = to; left = x; right = y }))) d w)
+      by_result to has s d w i q b a vs at c =
+          subst (λ z. Alike (Held r ws (only (Local to ∷ hs))) (Leaves r ws) (put_computed z (record s { values = vs }) w)
+          (linear' (One (Compute (record { operator = lop; width = 4; to = to; left = x; right = y }))) d w)) (sym c.packed)
+          (into_temp hs to c.z (Compute (record { operator = lop; width = 4; to = to; left = x; right = y }))
+          (record s { values = vs }) d w i placed has c.small (record { waits = at.1.1; kept = q.kept; none = q.none })
+          (computes_to lop 4 to x y a b c.z d.state w.outside (value_of_home x a d.state at.1.0.0) (value_of_home y b d.state at.0.0) c.linear))
+
+      by_values : (to : ℕ) → temp r hs ≡ Some to → (s : Firm) (d : Deciding State) (w : World History) → IsFair w → AreSame r ws (y ∷ x ∷ hs) s d.state
+          → (vs : List ℕ) → AreAt (y ∷ x ∷ hs) vs d.state.locals
+          → Alike (Held r ws (only (Local to ∷ hs))) (Leaves r ws) (take_from vs (λ b. taking (λ a. put_computed (firm_computed op a b))) s w)
+          (linear' (One (Compute (record { operator = lop; width = 4; to = to; left = x; right = y }))) d w)
+      by_values to has s d w i q [] at = absurd at
+      by_values to has s d w i q (b ∷ []) at = absurd at.1
+      by_values to has s d w i q (b ∷ a ∷ vs) at = by_result to has s d w i q b a vs at (computes op lop a b at.1.0.1 at.0.1 e)
+
+      by_room : (o : Option ℕ) → temp r hs ≡ o
+          → Right' (only (y ∷ x ∷ hs))
+          (by_temp o (λ to. Makes (One (Compute (record { operator = lop; width = 4; to = to; left = x; right = y }))) (only (Local to ∷ hs)))) (step'
+          (Operate op))
+      by_room (Some to) has = (placed_temp r hs to has placed, λ fit s d w i q. by_values to has s d w i q s.values q.waits)
+      by_room None has = tt
+
+  right_compared : (op : Operator) (x y : Operand) (hs : List Operand) → ArePlaced r.locals hs → (o : Option Truth) → comparing op x y ≡ o
+      → Right' (only (y ∷ x ∷ hs)) (compared o hs) (step' (Operate op))
+  right_compared op x y hs placed None e = tt
+  right_compared op x y hs placed (Some t) e = (placed, λ fit s d w i q. by_values s d w i q s.values q.waits)
+    where
+      by_result : (s : Firm) (d : Deciding State) (w : World History) → IsFair w → (b a : ℕ) (vs : List ℕ)
+          → AreSame r ws hs (record s { values = vs }) d.state
+          → Compares op t a b d.state
+          → Alike (Held r ws (record { truth = Some t; homes = hs })) (Leaves r ws) (put_computed (firm_computed op a b) (record s { values = vs }) w)
+          (Gives d w)
+      by_result s d w i b a vs q c =
+          subst (λ z. Alike (Held r ws (record { truth = Some t; homes = hs })) (Leaves r ws) (put_computed z (record s { values = vs }) w) (Gives d w))
+          (sym c.packed)
+          (gives i (record { b = c.b; vs = vs; newest = refl; says = c.linear; rest = q }))
+
+      by_values : (s : Firm) (d : Deciding State) (w : World History) → IsFair w → AreSame r ws (y ∷ x ∷ hs) s d.state
+          → (vs : List ℕ) → AreAt (y ∷ x ∷ hs) vs d.state.locals
+          → Alike (Held r ws (record { truth = Some t; homes = hs })) (Leaves r ws) (take_from vs (λ b. taking (λ a. put_computed
+          (firm_computed op a b))) s w) (Gives d w)
+      by_values s d w i q [] at = absurd at
+      by_values s d w i q (b ∷ []) at = absurd at.1
+      by_values s d w i q (b ∷ a ∷ vs) at =
+          by_result s d w i b a vs (record { waits = at.1.1; kept = q.kept; none = q.none })
+          (compares x y a b d.state (value_of_home x a d.state at.1.0.0) (value_of_home y b d.state at.0.0) at.1.0.1 at.0.1 op t e)
+
+  pub right_operated : (op : Operator) (hs : List Operand) → ArePlaced r.locals hs → Right' (only hs) (operated r op hs) (step' (Operate op))
+  right_operated op [] placed = tt
+  right_operated op (y ∷ []) placed = tt
+  right_operated op (y ∷ x ∷ hs) placed = by_kind (computing op) refl
+    where
+      by_kind : (o : Option LinOperator) → computing op ≡ o → Right' (only (y ∷ x ∷ hs)) (operated_as r o (comparing op x y) x y hs) (step' (Operate op))
+      by_kind (Some lop) e = right_computed op lop x y hs placed.1.1 e
+      by_kind None e = right_compared op x y hs placed.1.1 (comparing op x y) refl
+
+  -- one number becomes another
+  right_unary : (op : LinOperator) (width : ℕ) (a b h : Operand) (g : ℕ → ℕ) (q' : Step) (hs : List Operand) → ArePlaced r.locals hs
+      → ((s : Firm) (w : World History) → step' q' s w ≡ taking (λ x. put (g x)) s w)
+      → ((x : ℕ) (t : State) → x < 2 ^ 32 → value h t ≡ Some x → (y z : ℕ) × (value a t ≡ Some y) × (value b t ≡ Some z) ×
+      (lin_computed op width y z ≡ Some (g x)) × (g x < 2 ^ 32))
+      → Right' (only (h ∷ hs)) (computed r op width a b hs) (step' q')
+  right_unary op width a b h g q' hs placed is law = by_room (temp r hs) refl
+    where
+      by_law : (to : ℕ) → temp r hs ≡ Some to → (s : Firm) (d : Deciding State) (w : World History) → IsFair w → (x : ℕ) (vs : List ℕ)
+          → AreSame r ws hs (record s { values = vs }) d.state
+          → (y z : ℕ) × (value a d.state ≡ Some y) × (value b d.state ≡ Some z) × (lin_computed op width y z ≡ Some (g x)) × (g x < 2 ^ 32)
+          → Alike (Held r ws (only (Local to ∷ hs))) (Leaves r ws) (put (g x) (record s { values = vs }) w)
+          (linear' (One (Compute (record { operator = op; width = width; to = to; left = a; right = b }))) d w)
+      by_law to has s d w i x vs same (y, z, ea, eb, e, small) =
+          into_temp hs to (g x) (Compute (record { operator = op; width = width; to = to; left = a; right = b }))
+          (record s { values = vs }) d w i placed has small same
+          (computes_to op width to a b y z (g x) d.state w.outside ea eb e)
+
+      by_values : (to : ℕ) → temp r hs ≡ Some to → (s : Firm) (d : Deciding State) (w : World History) → IsFair w → AreSame r ws (h ∷ hs) s d.state
+          → (vs : List ℕ) → AreAt (h ∷ hs) vs d.state.locals
+          → Alike (Held r ws (only (Local to ∷ hs))) (Leaves r ws) (take_from vs (λ x. put (g x)) s w)
+          (linear' (One (Compute (record { operator = op; width = width; to = to; left = a; right = b }))) d w)
+      by_values to has s d w i q [] at = absurd at
+      by_values to has s d w i q (x ∷ vs) at =
+          by_law to has s d w i x vs (record { waits = at.1; kept = q.kept; none = q.none }) (law x d.state at.0.1 (value_of_home h x d.state at.0.0))
+
+      by_room : (o : Option ℕ) → temp r hs ≡ o
+          → Right' (only (h ∷ hs))
+          (by_temp o (λ to. Makes (One (Compute (record { operator = op; width = width; to = to; left = a; right = b }))) (only (Local to ∷ hs)))) (step' q')
+      by_room (Some to) has = (
+        placed_temp r hs to has placed,
+        λ fit s d w i q. subst (λ z. Alike (Held r ws (only (Local to ∷ hs))) (Leaves r ws) z
+            (linear' (One (Compute (record { operator = op; width = width; to = to; left = a; right = b }))) d w)) (sym (is s w))
+            (by_values to has s d w i q s.values q.waits),
+      )
+      by_room None has = tt
+
+  right_cut : (bits : ℕ) (h : Operand) (hs : List Operand) → ArePlaced r.locals hs → (o : Option ℕ) → bytes_of bits ≡ o
+      → Right' (only (h ∷ hs)) (cut r o h hs) (step' (Apply (Cut bits)))
+  right_cut bits h hs placed None e = tt
+  right_cut bits h hs placed (Some width) e =
+      right_unary Sum width h (Known 0) h (λ x. x % 2 ^ bits) (Apply (Cut bits)) hs placed (λ s w. refl)
+      (λ x t small at. (x, 0, at, refl, ap Some (cuts bits width x e), below bits width x e))
+    where
+      cuts : (n v x : ℕ) → bytes_of n ≡ Some v → low v (x + 0) ≡ x % 2 ^ n
+      cuts n v x e1 = by_8 (n == 8) refl e1
+        where
+          same : (n1 v1 : ℕ) → n ≡ n1 → v1 ≡ v → low v1 (x + 0) ≡ x % 2 ^ n1 → low v (x + 0) ≡ x % 2 ^ n
+          same n1 v1 en ev eq = subst (λ z. low z (x + 0) ≡ x % 2 ^ n) ev (subst (λ z. low v1 (x + 0) ≡ x % 2 ^ z) (sym en) eq)
+
+          by_32 : (b : Bool) → (n == 32) ≡ b → (if b then Some 4 else None) ≡ Some v → low v (x + 0) ≡ x % 2 ^ n
+          by_32 true h1 e2 = same 32 4 (grind arith) (some_is 4 v e2) (omega arith)
+          by_32 false h1 e2 = none_is_not v e2
+
+          by_24 : (b : Bool) → (n == 24) ≡ b → (if b then Some 3 else if n == 32 then Some 4 else None) ≡ Some v → low v (x + 0) ≡ x % 2 ^ n
+          by_24 true h1 e2 = same 24 3 (grind arith) (some_is 3 v e2) (omega arith)
+          by_24 false h1 e2 = by_32 (n == 32) refl e2
+
+          by_16 : (b : Bool) → (n == 16) ≡ b → (if b then Some 2 else if n == 24 then Some 3 else if n == 32 then Some 4 else None) ≡ Some v
+              → low v (x + 0) ≡ x % 2 ^ n
+          by_16 true h1 e2 = same 16 2 (grind arith) (some_is 2 v e2) (omega arith)
+          by_16 false h1 e2 = by_24 (n == 24) refl e2
+
+          by_8 : (b : Bool) → (n == 8) ≡ b
+              → (if b then Some 1 else if n == 16 then Some 2 else if n == 24 then Some 3 else if n == 32 then Some 4 else None) ≡ Some v
+              → low v (x + 0) ≡ x % 2 ^ n
+          by_8 true h1 e2 = same 8 1 (grind arith) (some_is 1 v e2) (omega arith)
+          by_8 false h1 e2 = by_16 (n == 16) refl e2
+
+      widths : (n v : ℕ) → bytes_of n ≡ Some v → v ≤ 4
+      widths n v e1 = grind arith
+
+      below : (n v x : ℕ) → bytes_of n ≡ Some v → x % 2 ^ n < 2 ^ 32
+      below n v x e1 = subst (λ z. z < 2 ^ 32) (cuts n v x e1) (low_below v (x + 0) (widths n v e1))
+        where
+          low_below : (u y : ℕ) → u ≤ 4 → low u y < 2 ^ 32
+          low_below zero y le = omega arith
+          low_below (suc zero) y le = omega arith
+          low_below (suc (suc zero)) y le = omega arith
+          low_below (suc (suc (suc zero))) y le = omega arith
+          low_below (suc (suc (suc (suc zero)))) y le = omega arith
+          low_below (suc (suc (suc (suc (suc u))))) y le = absurd (omega arith)
+
+  right_not : (h : Operand) (hs : List Operand) → ArePlaced r.locals hs
+      → Right' (only (h ∷ hs)) (Makes Skip (record { truth = Some (Holds (is_zero h)); homes = hs })) (step' (Apply Not))
+  right_not h hs placed = (placed, λ fit s d w i q. by_values s d w i q s.values q.waits)
+    where
+      by_values : (s : Firm) (d : Deciding State) (w : World History) → IsFair w → AreSame r ws (h ∷ hs) s d.state → (vs : List ℕ)
+          → AreAt (h ∷ hs) vs d.state.locals
+          → Alike (Held r ws (record { truth = Some (Holds (is_zero h)); homes = hs })) (Leaves r ws) (take_from vs (λ x. put (firm_applied Not x)) s w)
+          (Gives d w)
+      by_values s d w i q [] at = absurd at
+      by_values s d w i q (x ∷ vs) at =
+          gives i (record {
+            b = x == 0;
+            vs = vs;
+            newest = refl;
+            says = holds_of Same h (Known 0) x 0 d.state (value_of_home h x d.state at.0.0) refl ∙ ap Some (same_same x 0 at.0.1 (omega arith));
+            rest = record { waits = at.1; kept = q.kept; none = q.none };
+          })
+
+  pub right_applied : (op : Prefix) (hs : List Operand) → ArePlaced r.locals hs → Right' (only hs) (applied r op hs) (step' (Apply op))
+  right_applied Not [] placed = tt
+  right_applied Negative [] placed = tt
+  right_applied (Cut bits) [] placed = tt
+  right_applied (Complement bits) [] placed = tt
+  right_applied Not (h ∷ hs) placed = right_not h hs placed.1
+  right_applied Negative (h ∷ hs) placed =
+      right_unary Difference 4 (Known 0) h h (firm_applied Negative) (Apply Negative) hs placed.1 (λ s w. refl)
+      (λ x t small at. (
+        0,
+        x,
+        refl,
+        at,
+        ap Some (sym (opposite_same x small)),
+        subst (λ z. z < 2 ^ 32) (sym (opposite_same x small)) (low_small (0 +
+            (256 ^ 4 - low 4 x))),
+      ))
+  right_applied (Cut bits) (h ∷ hs) placed = right_cut bits h hs placed.1 (bytes_of bits) refl
+  right_applied (Complement bits) (h ∷ hs) placed = tt
+
+  -- ---- devices
+
+  pub right_read : (address : ℕ) (hs : List Operand) → ArePlaced r.locals hs → Right' (only hs) (read r address hs) (step' (ReadDevice address))
+  right_read address hs placed = by_room (temp r hs) refl
+    where
+      by_reads : (to : ℕ) → temp r hs ≡ Some to → (s : Firm) (d : Deciding State) (w : World History) → w.phase ≡ Running → AreSame r ws hs s d.state
+          → (vs : List ℕ) → AreReads vs
+          → Alike (Held r ws (only (Local to ∷ hs))) (Leaves r ws) (read_from Running vs address put s w)
+          (lifted (reads_from vs to address d.state w.outside) d w)
+      by_reads to has s d w e q [] are = overs
+      by_reads to has s d w e q (v ∷ vs) are =
+          gives (record { running = e; reads = are.1 })
+          (put_temp r m.widths ws hs s d.state to v wide placed has (byte v are.0) q)
+        where
+          byte : (x : ℕ) → IsRead x → x < 2 ^ 32
+          byte x lt = omega arith
+
+      by_room : (o : Option ℕ) → temp r hs ≡ o
+          → Right' (only hs) (by_temp o (λ to. Makes (One (ReadsDevice to address)) (only (Local to ∷ hs)))) (step' (ReadDevice address))
+      by_room (Some to) has = (
+        placed_temp r hs to has placed,
+        λ fit s d w i q. subst (λ z. Alike (Held r ws (only (Local to ∷ hs))) (Leaves r ws) (read_from z w.outside.reads address put s w)
+            (linear' (One (ReadsDevice to address)) d w)) (sym i.running) (by_reads to has s d w i.running q w.outside.reads i.reads),
+      )
+      by_room None has = tt
+
+  pub right_written : (address : ℕ) (hs : List Operand) → ArePlaced r.locals hs → Right' (only hs) (written address hs) (step' (WriteDevice address))
+  right_written address [] placed = tt
+  right_written address (h ∷ hs) placed = (placed.1, λ fit s d w i q. by_values s d w i q s.values q.waits)
+    where
+      by_fit : (s : Firm) (d : Deciding State) (w : World History) → IsFair w → (v : ℕ) (vs : List ℕ) → AreAt (h ∷ hs) (v ∷ vs) d.state.locals
+          → AreSame r ws (h ∷ hs) s d.state → (b : Bool) → nat_lt v (256 ^ 1) ≡ b
+          → Alike (Held r ws (only hs)) (Leaves r ws) (checked b (write_device address v) (record s { values = vs }) w) (linear' (One
+          (WritesDevice address h)) d w)
+      by_fit s d w i v vs at q true e =
+          subst (λ z. Alike (Held r ws (only hs)) (Leaves r ws) (write_in z address v (record s { values = vs }) w) (linear' (One
+          (WritesDevice address h)) d w)) (sym i.running)
+          (subst (λ z. Alike (Held r ws (only hs)) (Leaves r ws) (write_in Running address v (record s { values = vs }) w) z) (sym goes)
+          (gives (record { running = i.running; reads = i.reads }) (record { waits = at.1; kept = q.kept; none = q.none })))
+        where
+          byte : low 1 v ≡ v
+          byte = grind arith
+
+          goes : linear' (One (WritesDevice address h)) d w ≡ Gives d (record w { outside = with_event w.outside (Write address v) })
+          goes =
+              ap (λ z. lifted (using z (λ x. Goes d.state (with_event w.outside (Write address (low 1 x))))) d w) (value_of_home h v d.state at.0.0)
+              ∙ ap (λ z. Gives d (record w { outside = with_event w.outside (Write address z) })) byte
+      by_fit s d w i v vs at q false e = wrong
+
+      by_values : (s : Firm) (d : Deciding State) (w : World History) → IsFair w → AreSame r ws (h ∷ hs) s d.state → (vs : List ℕ)
+          → AreAt (h ∷ hs) vs d.state.locals
+          → Alike (Held r ws (only hs)) (Leaves r ws) (take_from vs (of_width 1 (write_device address)) s w) (linear' (One (WritesDevice address h)) d w)
+      by_values s d w i q [] at = absurd at
+      by_values s d w i q (v ∷ vs) at = by_fit s d w i v vs at q (nat_lt v (256 ^ 1)) refl

@@ -1,0 +1,70 @@
+-- What it means that a procedure of linear code is a packed one, flattened.
+use Rattle.std.specs.Prelude.{◌≡◌, ℕ, zero, suc, ◌+◌, ◌-◌, ◌<◌, ◌≤◌, true, List, [], ◌∷◌, ◌++◌, length, map, replicate, Option, Some, None, slice_get}
+use Rattle.vg_firm.specs.Program.{Procedure as FirmProcedure, Program as FirmProgram}
+use Rattle.vg_codes.specs.Codes.{Codes}
+use Rattle.vg_lin.specs.declared.instr.Operand.TheVariants.{Known}
+use Rattle.vg_lin.specs.declared.instr.Plain.TheVariants.{Copy}
+use Rattle.vg_lin.specs.declared.instr.Callee.TheVariants.{Procedure as ByNumber}
+use Rattle.vg_lin.specs.declared.instr.Registers.TheVariants.{Empty}
+use Rattle.vg_lin.specs.declared.instr.Call.{Call}
+use Rattle.vg_lin.specs.declared.instr.Instr.TheVariants.{Plain, Jump, Call as Calls, Idle}
+use Rattle.vg_lin.specs.Program.{Procedure, Program}
+use Rattle.vg_flatten.specs.declared.open.Open.{Open}
+use Rattle.vg_flatten.specs.declared.open.Open.TheVariants.{Set}
+use Rattle.vg_flatten.specs.declared.shape.Room.{Room}
+use Rattle.vg_flatten.specs.Shapes.{Shape, empty, is_empty}
+use Rattle.vg_flatten.specs.Blocks.{Block, Skip, One, GiveBack, Both, open_code}
+use Rattle.vg_flatten.specs.Flat.{Gives, flat}
+use Rattle.vg_flatten.specs.Fitting.{CallsFit}
+use Rattle.vg_flatten.specs.Blocks.{set_in}
+
+-- So many locals from one on get the value 0.
+abbrev pub zeroes : (count from : ℕ) → Block
+zeroes zero i = Skip
+zeroes (suc c) i = Both (One (Copy i (Known 0))) (zeroes c (suc i))
+
+-- A procedure's block: the locals that are no parameters are 0 at first, and the end of the body gives 0 back.
+abbrev pub whole : FirmProcedure → Block → Block
+whole m b = Both (zeroes (length m.widths - m.params) m.params) (Both b (GiveBack (Known 0)))
+
+-- The procedure of linear code is the flattened one, where each number of a procedure has its parameters in the list.
+pub record IsFlat (params : List ℕ) (m : FirmProcedure) (p : Procedure) : Type 0 where
+  pub room : Room
+  pub block : Block
+  pub shape : Shape
+  pub made : flat room m.body empty ≡ Gives block shape
+  pub done : is_empty shape ≡ true
+  pub locals : room.locals ≡ length m.widths
+  pub fits : CallsFit params block
+  pub method : p.method ≡ Some m.method
+  pub parameters : p.params ≡ m.params
+  pub widths : p.widths ≡ m.widths ++ replicate room.temps 4
+  pub code : p.code ≡ map (set_in 0 0) (open_code (whole m block) 0)
+
+-- Main is called.
+abbrev pub calls_main : (main : ℕ) → Call
+calls_main main = record { callee = ByNumber main; pushed = 0; registers = Empty; to = None }
+
+-- The procedure with which a run begins calls main, and then idles for ever.
+abbrev pub start_of : (main : ℕ) → Procedure
+start_of main = record { method = None; params = 0; widths = []; code = Calls (calls_main main) ∷ Idle ∷ Jump 1 ∷ [] }
+
+-- What every packed procedure has: few widths, none above four bytes.
+pub record IsFit (m : FirmProcedure) : Type 0 where
+  pub params : m.params ≤ length m.widths
+  pub widths : (i w : ℕ) → slice_get m.widths i ≡ Some w → w ≤ 4
+  pub result : m.result ≤ 4
+
+-- The program of linear code is the packed one, flattened, with a start behind its procedures.
+pub record AreFlat (k : Codes) (f : FirmProgram) (params : List ℕ) (p : Program) : Type 0 where
+  pub flats : (q : ℕ) (m : FirmProcedure) → slice_get f.procedures q ≡ Some m
+      → (lp : Procedure) × (slice_get p.procedures q ≡ Some lp) × IsFit m × IsFlat params m lp
+  pub known : (q n : ℕ) → slice_get params q ≡ Some n → (m : FirmProcedure) × (slice_get f.procedures q ≡ Some m) × (m.params ≡ n)
+  pub handler : (vector : ℕ) → p.handler vector ≡ f.handler vector
+  pub start : slice_get p.procedures p.start ≡ Some (start_of f.main)
+  pub main : slice_get params f.main ≡ Some 0
+
+-- The instructions that set so many locals from one on to 0.
+abbrev pub zero_list : (count from : ℕ) → List Open
+zero_list zero i = []
+zero_list (suc c) i = Set (Plain (Copy i (Known 0))) ∷ zero_list c (suc i)

@@ -1,0 +1,11 @@
+pub mod Shapes
+pub mod Popped
+pub mod Blocks
+pub mod Flat
+pub mod Laying
+pub mod Weights
+pub mod Fitting
+pub mod Flattened
+pub mod Runs
+pub mod Refusals
+pub mod Loops

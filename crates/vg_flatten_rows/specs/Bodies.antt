@@ -1,0 +1,160 @@
+-- Small bodies and their flattened code, instruction by instruction. The code was worked by hand.
+use Rattle.std.specs.Prelude.{◌≡◌, refl, ℕ, zero, suc, ◌++◌, List, [], ◌∷◌, length, map, replicate, Option, Some, None}
+use Rattle.std.specs.Option.{option_map}
+use Rattle.vg_meaning.specs.Code.{Code, Nothing, Then, Do, If, Loop, Break, Continue, Return as Returning}
+use Rattle.vg_firm.specs.declared.step.Home.TheVariants.{Ram}
+use Rattle.vg_firm.specs.declared.step.Order.TheVariants.{Signed}
+use Rattle.vg_firm.specs.declared.step.Operator.TheVariants.{Plus, Less, Unequal}
+use Rattle.vg_firm.specs.declared.step.Prefix.TheVariants.{Cut}
+use Rattle.vg_firm.specs.declared.step.Elements.{Elements}
+use Rattle.vg_firm.specs.declared.step.Step.{Step}
+use Rattle.vg_firm.specs.declared.step.Step.TheVariants.{Number, Local as Get, SetLocal, Forget, Operate, Apply, ReadDevice, WriteDevice, LoadItem, StoreItem}
+use Rattle.vg_firm.specs.declared.step.Step.TheVariants.{Call as CallOf, CallValue}
+use Rattle.vg_firm.specs.Program.{Procedure}
+use Rattle.vg_lin.specs.declared.instr.Operand.{Operand}
+use Rattle.vg_lin.specs.declared.instr.Operand.TheVariants.{Local, Known}
+use Rattle.vg_lin.specs.declared.instr.Operator.TheVariants.{Plus as Sum}
+use Rattle.vg_lin.specs.declared.instr.Comparison.TheVariants.{Less as IsLess, Same}
+use Rattle.vg_lin.specs.declared.instr.Test.{Test}
+use Rattle.vg_lin.specs.declared.instr.Plain.TheVariants.{Copy, Compute, WriteDevice as Writes}
+use Rattle.vg_lin.specs.declared.instr.Callee.TheVariants.{Procedure as ByNumber}
+use Rattle.vg_lin.specs.declared.instr.Registers.{Registers}
+use Rattle.vg_lin.specs.declared.instr.Registers.TheVariants.{One, Two}
+use Rattle.vg_lin.specs.declared.instr.Instr.{Instr}
+use Rattle.vg_lin.specs.declared.instr.Instr.TheVariants.{Plain, When, Unless, Jump, Call, Return}
+use Rattle.vg_flatten.specs.Shapes.{empty}
+use Rattle.vg_flatten.specs.Blocks.{open_code, set_in}
+use Rattle.vg_flatten.specs.Flat.{Made, Gives, Refused, flat}
+use Rattle.vg_flatten.specs.Flattened.{whole}
+
+-- One step behind another, and then code.
+abbrev pub steps : List Step → Code Step → Code Step
+steps [] rest = rest
+steps (p ∷ ps) rest = Then (Do p) (steps ps rest)
+
+abbrev pub code_for : Procedure → Made → Option (List Instr)
+code_for m (Gives b s) = Some (map (set_in 0 0) (open_code (whole m b) 0))
+code_for m (Refused why) = None
+
+-- The code of a body with so many temporaries.
+abbrev pub flattened : (temps : ℕ) → Procedure → Option (List Instr)
+flattened temps m = code_for m (flat (record { locals = length m.widths; temps = temps }) m.body empty)
+
+-- A procedure whose locals have these widths, the first ones being its parameters.
+abbrev pub procedure : (params : ℕ) → (widths : List ℕ) → Code Step → Procedure
+procedure params widths body = record { method = 0; params = params; widths = widths; result = 0; calls = []; body = body }
+
+abbrev pub sum : (width to : ℕ) → (x y : Operand) → Instr
+sum width to x y = Plain (Compute (record { operator = Sum; width = width; to = to; left = x; right = y }))
+
+abbrev pub less : (x y : Operand) → Test
+less x y = record { comparison = IsLess; width = 4; left = x; right = y }
+
+abbrev pub is_zero : Operand → Test
+is_zero x = record { comparison = Same; width = 4; left = x; right = Known 0 }
+
+abbrev pub calls : (q : ℕ) → Registers → (to : ℕ) → Instr
+calls q args to = Call (record { callee = ByNumber q; pushed = 0; registers = args; to = Some to })
+
+-- x = 5; a local that is no parameter is 0 at first.
+constant : flattened 4 (procedure 0 (4 ∷ []) (steps (Number 5 ∷ SetLocal 0 ∷ []) Nothing))
+    ≡ Some (Plain (Copy 0 (Known 0)) ∷ Plain (Copy 0 (Known 5)) ∷ Return (Known 0) ∷ [])
+constant = refl
+
+-- x = x + 1; of an int
+increment : flattened 4 (procedure 1 (4 ∷ []) (steps (Get 0 ∷ Number 1 ∷ Operate Plus ∷ SetLocal 0 ∷ []) Nothing))
+    ≡ Some (sum 4 1 (Local 0) (Known 1) ∷ Plain (Copy 0 (Local 1)) ∷ Return (Known 0) ∷ [])
+increment = refl
+
+-- the same of a raw.8
+narrow_increment : flattened 4 (procedure 1 (1 ∷ []) (steps (Get 0 ∷ Number 1 ∷ Operate Plus ∷ Apply (Cut 8) ∷ SetLocal 0 ∷ []) Nothing))
+    ≡ Some (sum 4 1 (Local 0) (Known 1) ∷ sum 1 1 (Local 1) (Known 0) ∷ Plain (Copy 0 (Local 1)) ∷ Return (Known 0) ∷ [])
+narrow_increment = refl
+
+-- if (a < b && c != 0) x = 1; the conjunction becomes a number in the temporary 4.
+conjunction : flattened 4 (procedure 3 (4 ∷ 4 ∷ 4 ∷ 4 ∷ [])
+    (Then (steps (Get 0 ∷ Get 1 ∷ Operate (Less Signed) ∷ []) (If (steps (Get 2 ∷ Number 0 ∷ Operate Unequal ∷ []) Nothing) (Do (Number 0))))
+    (If (steps (Number 1 ∷ SetLocal 3 ∷ []) Nothing) Nothing)))
+    ≡ Some (
+    Plain (Copy 3 (Known 0)) ∷ Unless (less (Local 0) (Local 1)) 7 ∷ When (is_zero (Local 2)) 5 ∷ Plain (Copy 4 (Known 1)) ∷ Jump 6
+    ∷ Plain (Copy 4 (Known 0)) ∷ Jump 8 ∷ Plain (Copy 4 (Known 0)) ∷ When (is_zero (Local 4)) 10 ∷ Plain (Copy 3 (Known 1))
+    ∷ Return (Known 0) ∷ [])
+conjunction = refl
+
+-- if (x < 3) y = 1; else y = 2;
+either : flattened 4 (procedure 1 (4 ∷ 4 ∷ [])
+    (Then (steps (Get 0 ∷ Number 3 ∷ Operate (Less Signed) ∷ []) Nothing) (If (steps (Number 1 ∷ SetLocal 1 ∷ []) Nothing) (steps (Number 2 ∷ SetLocal 1 ∷ []) Nothing))))
+    ≡ Some (
+    Plain (Copy 1 (Known 0)) ∷ Unless (less (Local 0) (Known 3)) 4 ∷ Plain (Copy 1 (Known 1)) ∷ Jump 5 ∷ Plain (Copy 1 (Known 2))
+    ∷ Return (Known 0) ∷ [])
+either = refl
+
+-- for (i = 0; i < n; i = i + 1) write 1 to 0x38;
+counting : flattened 4 (procedure 1 (4 ∷ 4 ∷ [])
+    (steps (Number 0 ∷ SetLocal 1 ∷ []) (Loop (steps (Get 1 ∷ Get 0 ∷ Operate (Less Signed) ∷ []) Nothing)
+    (steps (Number 1 ∷ WriteDevice 0x38 ∷ []) Nothing) (steps (Get 1 ∷ Number 1 ∷ Operate Plus ∷ SetLocal 1 ∷ []) Nothing))))
+    ≡ Some (
+    Plain (Copy 1 (Known 0)) ∷ Plain (Copy 1 (Known 0)) ∷ Unless (less (Local 1) (Local 0)) 7 ∷ Plain (Writes 0x38 (Known 1))
+    ∷ sum 4 2 (Local 1) (Known 1) ∷ Plain (Copy 1 (Local 2)) ∷ Jump 2 ∷ Return (Known 0) ∷ [])
+counting = refl
+
+-- while (x < 9) { if (x < 3) continue; break; } with what a `for` does behind its body: x = 7
+leaving : flattened 4 (procedure 1 (4 ∷ [])
+    (Loop (steps (Get 0 ∷ Number 9 ∷ Operate (Less Signed) ∷ []) Nothing)
+    (Then (steps (Get 0 ∷ Number 3 ∷ Operate (Less Signed) ∷ []) (If Continue Nothing)) Break) (steps (Number 7 ∷ SetLocal 0 ∷ []) Nothing)))
+    ≡ Some (
+    Unless (less (Local 0) (Known 9)) 6 ∷ Unless (less (Local 0) (Known 3)) 3 ∷ Jump 4 ∷ Jump 6 ∷ Plain (Copy 0 (Known 7)) ∷ Jump 0
+    ∷ Return (Known 0) ∷ [])
+leaving = refl
+
+-- f(g(x), 2); f is procedure 4, g is 3
+chain : flattened 4 (procedure 1 (4 ∷ []) (steps (Get 0 ∷ CallOf 3 1 ∷ Number 2 ∷ CallOf 4 2 ∷ Forget ∷ []) Nothing))
+    ≡ Some (calls 3 (One (Local 0)) 1 ∷ calls 4 (Two (Local 1) (Known 2)) 1 ∷ Return (Known 0) ∷ [])
+chain = refl
+
+-- return f(x) + g(y); f is procedure 1, g is 2
+returned_sum : flattened 4 (procedure 2 (4 ∷ 4 ∷ []) (steps (Get 0 ∷ CallOf 1 1 ∷ Get 1 ∷ CallOf 2 1 ∷ Operate Plus ∷ []) Returning))
+    ≡ Some (calls 1 (One (Local 0)) 2 ∷ calls 2 (One (Local 1)) 3 ∷ sum 4 2 (Local 2) (Local 3) ∷ Return (Local 2) ∷ Return (Known 0) ∷ [])
+returned_sum = refl
+
+-- z = raw.8 of x + y
+cast : flattened 4 (procedure 2 (4 ∷ 4 ∷ 1 ∷ []) (steps (Get 0 ∷ Get 1 ∷ Operate Plus ∷ Apply (Cut 8) ∷ SetLocal 2 ∷ []) Nothing))
+    ≡ Some (
+    Plain (Copy 2 (Known 0)) ∷ sum 4 3 (Local 0) (Local 1) ∷ sum 1 3 (Local 3) (Known 0) ∷ Plain (Copy 2 (Local 3)) ∷ Return (Known 0) ∷ [])
+cast = refl
+
+-- while (true) {} keeps its test, so that no jump leads to itself.
+endless : flattened 4 (procedure 0 [] (Loop (Do (Number 1)) Nothing Nothing))
+    ≡ Some (When (is_zero (Known 1)) 2 ∷ Jump 0 ∷ Return (Known 0) ∷ [])
+endless = refl
+
+-- ---- what is not taken yet
+
+-- a delegate in a local, called with no argument
+delegate_call : flattened 4 (procedure 1 (4 ∷ []) (steps (Get 0 ∷ CallValue 0 ∷ Forget ∷ []) Nothing)) ≡ None
+delegate_call = refl
+
+abbrev bytes : Elements
+bytes = record { home = Ram; column = 0; address = 0x100; table = 0; width = 1 }
+
+-- a[i] = b[i];
+element : flattened 4 (procedure 3 (2 ∷ 2 ∷ 4 ∷ []) (steps (Get 0 ∷ Get 2 ∷ Get 1 ∷ Get 2 ∷ LoadItem bytes ∷ StoreItem bytes ∷ []) Nothing)) ≡ None
+element = refl
+
+-- ---- a high body
+
+abbrev reads : ℕ → List Step
+reads zero = []
+reads (suc n) = ReadDevice 0x36 ∷ reads n
+
+abbrev sums : ℕ → List Step
+sums zero = []
+sums (suc n) = Operate Plus ∷ sums n
+
+-- 60 locals, and 48 values that wait: 60 zeroes, 48 reads, 47 sums and the end.
+high : option_map length (flattened 48 (procedure 0 (replicate 60 4) (steps (reads 48 ++ (sums 47 ++ Forget ∷ [])) Nothing))) ≡ Some 156
+high = refl
+
+-- One more has no temporary.
+too_high : flattened 48 (procedure 0 (replicate 60 4) (steps (reads 49 ++ (sums 48 ++ Forget ∷ [])) Nothing)) ≡ None
+too_high = refl

@@ -1,0 +1,11 @@
+pub mod Heads
+pub mod Lists
+pub mod Chains
+pub mod Members
+pub mod Inherits
+pub mod Dispatch
+pub mod Slots
+pub mod Placing
+pub mod Built
+pub mod Named
+pub mod Picks

@@ -1,0 +1,4 @@
+mod Tests
+mod Finds
+mod Finding
+mod Keys

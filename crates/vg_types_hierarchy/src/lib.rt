@@ -1,0 +1,9 @@
+//! Classes with all that they inherit.
+#![tactic(auto)]
+
+mod classes;
+mod inherited;
+mod slots;
+
+pub use classes::{above_numbers, classes_of};
+pub use slots::with_slots;

@@ -1,0 +1,7 @@
+mod Tests
+mod Finds
+mod Made
+mod Rules
+mod Inheriting
+mod Kept
+mod Dispatching

@@ -1,0 +1,4 @@
+pub mod Nodes
+pub mod Judgements
+pub mod Reached
+pub mod Named

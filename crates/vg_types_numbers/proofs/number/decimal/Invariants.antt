@@ -1,0 +1,8 @@
+use Rattle.std.proofs.Common.{◌≡◌, ◌≤◌, min, drop}
+use Rattle.vg_source.specs.Literals.{decimal_behind}
+use Rattle.vg_types_numbers.proofs.number.decimal.Given as goal
+
+-- the value so far, and the digits of the rest, are those of all
+abbrev pub invariant-loop-digit : goal.invariant-loop-digit
+invariant-loop-digit l = (l.value ≤ 4294967295) × (min (decimal_behind l.value (drop l.digit-index l.digits)) 4294967295
+    ≡ min (decimal_behind 0 l.digits) 4294967295)

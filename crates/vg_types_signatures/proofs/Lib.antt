@@ -1,0 +1,5 @@
+mod Written
+mod Seen
+mod Registering
+mod Membering
+mod Declaring

@@ -1,0 +1,13 @@
+pub mod Entries
+pub mod Fitting
+pub mod Found
+pub mod Lists
+pub mod OneClass
+pub mod OneType
+pub mod Rowing
+pub mod Rows
+pub mod SameType
+pub mod Scopes
+pub mod Typed
+pub mod TypeViews
+pub mod WrittenTypes
