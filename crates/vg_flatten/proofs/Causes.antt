@@ -7,7 +7,7 @@ use Rattle.vg_firm.specs.Program.{Procedure}
 use Rattle.vg_flatten.specs.declared.fault.Fault.{Fault}
 use Rattle.vg_flatten.specs.declared.fault.Fault.TheVariants.{NotTaken, TooHigh, TooLong}
 use Rattle.vg_flatten.specs.declared.open.Open.{Open}
-use Rattle.vg_flatten.specs.declared.shape.Room.{Room}
+use Rattle.vg_flatten.specs.declared.room.Room.{Room}
 use Rattle.vg_flatten.specs.Shapes.{empty}
 use Rattle.vg_flatten.specs.Flat.{Made, Gives, Refused, flat}
 use Rattle.vg_flatten.specs.Fitting.{AllFit, AllSet}

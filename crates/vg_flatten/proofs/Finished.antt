@@ -13,7 +13,7 @@ use Rattle.vg_lin.specs.declared.instr.Instr.TheVariants.{Plain, Return}
 use Rattle.vg_flatten.specs.declared.open.Open.{Open}
 use Rattle.vg_flatten.specs.declared.open.Open.TheVariants.{Set}
 use Rattle.vg_flatten.specs.declared.piece.Piece.{Piece}
-use Rattle.vg_flatten.specs.declared.shape.Room.{Room}
+use Rattle.vg_flatten.specs.declared.room.Room.{Room}
 use Rattle.vg_flatten.specs.Shapes.{Shape, empty, is_empty}
 use Rattle.vg_flatten.specs.Blocks.{Block, open_code}
 use Rattle.vg_flatten.specs.Flat.{Made, Gives, Refused, flat}

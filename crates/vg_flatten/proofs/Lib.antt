@@ -1,20 +1,5 @@
 pub mod Rows
 pub mod LoopPieces
-pub mod Alike
-pub mod AlikeLaws
-pub mod Numbers
-pub mod Related
-pub mod Locals
-pub mod Free
-pub mod Operating
-pub mod Right
-pub mod StepRight
-pub mod CallRight
-pub mod CodeRight
-pub mod Standing
-pub mod BodyRight
-pub mod RunRight
-pub mod Begun
 pub mod Sound
 pub mod Jumps
 pub mod Whole
@@ -24,3 +9,4 @@ pub mod Along
 pub mod Causes
 pub mod Onward
 pub mod Choices
+pub mod Temps

@@ -27,7 +27,7 @@ use Rattle.vg_flatten.specs.Blocks.{set_in}
 use Rattle.vg_flatten.specs.Flattened.{zeroes, whole}
 use Rattle.vg_flatten.proofs.Sound.{IsIn, AreIn, IsTestIn, IsTruthIn, IsPlainIn, IsToIn, IsCalleeIn, BlockIn}
 use Rattle.vg_flatten.proofs.Jumps.{GoesWithin, JumpsWithin, AllWithin, within, within_both}
-use Rattle.vg_flatten.proofs.Locals.{some_is, none_is_not}
+use Rattle.vg_flatten.proofs.Temps.{some_is, none_is_not}
 
 -- ---- operands of a list of instructions
 
@@ -72,11 +72,35 @@ module _ (L : Type 0) (size : ℕ) where
       (λ e. (in_branch t _ h.0, in_code a (at + 1) h.1))
       (in_branch t _ h.0, in_both (open_code a (at + 1)) _ (in_code a (at + 1) h.1) (tt, in_code b _ h.2))
   in_code (Repeat p t body next) at h =
-      in_both (open_code p at) _ (in_code p at h.1) (
-        in_branch t _ h.0,
-        in_both (map (closed _ _) (open_code body _)) _ (in_closed _ _ (open_code body _) (in_code body _ h.2))
-            (in_both (open_code next _) _ (in_code next _ h.3) (tt, tt)),
+      in_both xs behind_test (in_code p at h.1) (
+        in_branch t e h.0,
+        in_both (map (closed e n) ys) behind_body (in_closed e n ys (in_code body u h.2))
+            (in_both zs (Set (Jump at) ∷ []) (in_code next n h.3) (tt, tt)),
       )
+    where
+      xs : List Open
+      xs = open_code p at
+
+      u : ℕ
+      u = at + length xs + 1
+
+      ys : List Open
+      ys = open_code body u
+
+      n : ℕ
+      n = u + length ys
+
+      zs : List Open
+      zs = open_code next n
+
+      e : ℕ
+      e = n + length zs + 1
+
+      behind_body : List Open
+      behind_body = zs ++ (Set (Jump at) ∷ [])
+
+      behind_test : List Open
+      behind_test = Set (branch t e) ∷ (map (closed e n) ys ++ behind_body)
 
 pub in_zeroes : (L : Type 0) (size c i : ℕ) → i + c ≤ size → BlockIn L size (zeroes c i)
 in_zeroes L size zero i h = tt
@@ -116,12 +140,38 @@ module _ (params : List ℕ) where
         fit_block a (at + 1) (fit_front (open_code a (at + 1)) _ g.1),
         fit_block b (at + 1 + length (open_code a (at + 1)) + 1) (fit_back (open_code a (at + 1)) _ g.1).1,
       )) h
-  fit_block (Repeat p t body next) at h =
-      let test = fit_back (open_code p at) _ h in (
-        fit_block p at (fit_front (open_code p at) _ h),
-        fit_block body _ (fit_closed _ _ (open_code body _) (fit_front (map (closed _ _) (open_code body _)) _ test.1)),
-        fit_block next _ (fit_front (open_code next _) _ (fit_back (map (closed _ _) (open_code body _)) _ test.1)),
-      )
+  fit_block (Repeat p t body next) at h = (
+    fit_block p at (fit_front xs behind_test h),
+    fit_block body u (fit_closed e n ys (fit_front (map (closed e n) ys) behind_body test.1)),
+    fit_block next n (fit_front zs (Set (Jump at) ∷ []) (fit_back (map (closed e n) ys) behind_body test.1)),
+  )
+    where
+      xs : List Open
+      xs = open_code p at
+
+      u : ℕ
+      u = at + length xs + 1
+
+      ys : List Open
+      ys = open_code body u
+
+      n : ℕ
+      n = u + length ys
+
+      zs : List Open
+      zs = open_code next n
+
+      e : ℕ
+      e = n + length zs + 1
+
+      behind_body : List Open
+      behind_body = zs ++ (Set (Jump at) ∷ [])
+
+      behind_test : List Open
+      behind_test = Set (branch t e) ∷ (map (closed e n) ys ++ behind_body)
+
+      test : AllFit params behind_test
+      test = fit_back xs behind_test h
 
 -- ---- by place
 

@@ -26,7 +26,7 @@ use Rattle.vg_lin.specs.declared.instr.Registers.TheVariants.{Empty, One as One'
 use Rattle.vg_flatten.specs.declared.fault.Fault.{Fault}
 use Rattle.vg_flatten.specs.declared.fault.Fault.TheVariants.{NotTaken, TooHigh}
 use Rattle.vg_flatten.specs.declared.open.Truth.{Truth}
-use Rattle.vg_flatten.specs.declared.shape.Room.{Room}
+use Rattle.vg_flatten.specs.declared.room.Room.{Room}
 use Rattle.vg_flatten.specs.declared.open.Truth.TheVariants.{Holds, Fails}
 use Rattle.vg_flatten.specs.Shapes.{Shape, only, empty, is_empty, same_operand, same_homes, is_free, temp}
 use Rattle.vg_flatten.specs.Blocks.{Block, Skip, One, CallTo, TakeInterrupt, GiveBack, BreakOut, GoOn, Both, Choice, Repeat}

@@ -11,7 +11,7 @@ use Rattle.vg_lin.specs.declared.instr.Instr.TheVariants.{Plain, Jump, Call as C
 use Rattle.vg_lin.specs.Program.{Procedure, Program}
 use Rattle.vg_flatten.specs.declared.open.Open.{Open}
 use Rattle.vg_flatten.specs.declared.open.Open.TheVariants.{Set}
-use Rattle.vg_flatten.specs.declared.shape.Room.{Room}
+use Rattle.vg_flatten.specs.declared.room.Room.{Room}
 use Rattle.vg_flatten.specs.Shapes.{Shape, empty, is_empty}
 use Rattle.vg_flatten.specs.Blocks.{Block, Skip, One, GiveBack, Both, open_code}
 use Rattle.vg_flatten.specs.Flat.{Gives, flat}

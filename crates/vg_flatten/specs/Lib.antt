@@ -6,6 +6,5 @@ pub mod Laying
 pub mod Weights
 pub mod Fitting
 pub mod Flattened
-pub mod Runs
 pub mod Refusals
 pub mod Loops

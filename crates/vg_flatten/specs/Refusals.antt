@@ -6,7 +6,7 @@ use Rattle.vg_firm.specs.Program.{Procedure}
 use Rattle.vg_lin.specs.Program.{Procedure as LinProcedure}
 use Rattle.vg_flatten.specs.declared.fault.Fault.{Fault}
 use Rattle.vg_flatten.specs.declared.fault.Fault.TheVariants.{NotTaken, TooHigh, TooLong}
-use Rattle.vg_flatten.specs.declared.shape.Room.{Room}
+use Rattle.vg_flatten.specs.declared.room.Room.{Room}
 use Rattle.vg_flatten.specs.Shapes.{empty, is_empty}
 use Rattle.vg_flatten.specs.Blocks.{open_code}
 use Rattle.vg_flatten.specs.Flat.{Made, Gives, Refused, flat}

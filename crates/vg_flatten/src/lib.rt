@@ -3,10 +3,10 @@
 
 pub mod fault;
 mod flat;
-pub mod following;
 pub mod open;
 mod piece;
 pub mod procedure;
+pub mod room;
 mod shape;
 mod steps;
 

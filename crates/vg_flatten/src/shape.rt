@@ -136,10 +136,3 @@ fn same_homes(first: &[Operand], second: &[Operand]) -> bool
         },
     }
 }
-
-/// How many locals a procedure has, and how many temporaries behind them.
-#[derive(Clone, Copy)]
-pub(crate) struct Room {
-    pub locals: u8,
-    pub temps: u8,
-}

@@ -1,6 +1,6 @@
 use Rattle.std.proofs.Common.{arith, true, false, length, map, ◌++◌, ◌≡◌, replicate, ap, sym, subst, ◌∙◌}
 use Rattle.vg_firm.specs.Held.{code_of, procedure_of}
-use Rattle.vg_flatten.specs.declared.shape.Room.{Room}
+use Rattle.vg_flatten.specs.declared.room.Room.{Room}
 use Rattle.vg_flatten.specs.Fitting.{AllFit, AllSet}
 use Rattle.vg_flatten.specs.Blocks.{set_in}
 use Rattle.vg_flatten.specs.Flattened.{IsFlat}

@@ -17,20 +17,20 @@ use Rattle.vg_lin.specs.Steps.{Interrupt}
 use Rattle.vg_lin.specs.State.{State}
 use Rattle.vg_lin.specs.Meaning.{language, begun, widths_of, name_of, result_of, call_of}
 use Rattle.vg_lin.specs.Structured.{Step, Deciding, fresh, Caller as LinCaller, with_found, handle as lin_handle, resumed, body as lin_body, called as lin_called, step as lin_step, truth as lin_truth}
-use Rattle.vg_flatten.specs.declared.shape.Room.{Room}
+use Rattle.vg_flatten.specs.declared.room.Room.{Room}
 use Rattle.vg_flatten.specs.Shapes.{Shape, only, empty, is_empty}
 use Rattle.vg_flatten.specs.Blocks.{Block, Skip, GiveBack, Both, structured}
 use Rattle.vg_flatten.specs.Flat.{Made, Gives as Makes, flat}
 use Rattle.vg_flatten.specs.Fitting.{CallsFit}
-use Rattle.vg_flatten.proofs.Alike.{IsFair, Alike, gives, leaves, overs, wrong, AlikePiece}
-use Rattle.vg_flatten.proofs.AlikeLaws.{alike_opened}
-use Rattle.vg_flatten.proofs.Related.{ArePlaced, AreAt, AreWidths, AreKept, AreSame, Held, Leaves}
-use Rattle.vg_flatten.proofs.Right.{Right, Does, linear, packed}
-use Rattle.vg_flatten.proofs.CallRight.{Never, Returned, begins, alike_behind_both, AlikeCalls, AlikeHandling, AreParams, alike_behind_call}
-use Rattle.vg_flatten.proofs.CodeRight.{right_code, empty_is}
-use Rattle.vg_flatten.proofs.Locals.{some_is}
+use Rattle.vg_flattened.proofs.Alike.{IsFair, Alike, gives, leaves, overs, wrong, AlikePiece}
+use Rattle.vg_flattened.proofs.AlikeLaws.{alike_opened}
+use Rattle.vg_flattened.proofs.Related.{ArePlaced, AreAt, AreWidths, AreKept, AreSame, Held, Leaves}
+use Rattle.vg_flattened.proofs.Right.{Right, Does, linear, packed}
+use Rattle.vg_flattened.proofs.CallRight.{Never, Returned, begins, alike_behind_both, AlikeCalls, AlikeHandling, AreParams, alike_behind_call}
+use Rattle.vg_flattened.proofs.CodeRight.{right_code, empty_is}
+use Rattle.vg_flatten.proofs.Temps.{some_is}
 use Rattle.vg_flatten.specs.Flattened.{zeroes, whole, IsFlat, IsFit, AreFlat}
-use Rattle.vg_flatten.proofs.Begun.{widths_are, zeroed, kept_at_entry}
+use Rattle.vg_flattened.proofs.Begun.{widths_are, zeroed, kept_at_entry}
 
 -- ---- interrupts
 

@@ -10,7 +10,7 @@ use Rattle.vg_lin.specs.State.{LocalState, State, value_in, holds}
 use Rattle.vg_lin.specs.Structured.{Deciding}
 use Rattle.vg_flatten.specs.declared.open.Truth.{Truth}
 use Rattle.vg_flatten.specs.declared.open.Truth.TheVariants.{Holds, Fails}
-use Rattle.vg_flatten.specs.declared.shape.Room.{Room}
+use Rattle.vg_flatten.specs.declared.room.Room.{Room}
 use Rattle.vg_flatten.specs.Shapes.{Shape, only, empty}
 
 -- ---- homes

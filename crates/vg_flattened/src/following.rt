@@ -4,7 +4,7 @@ ghost use Rattle.vg_codes.specs.Codes.{Codes};
 ghost use Rattle.vg_firm.specs.Program.{Program as FirmProgram};
 ghost use Rattle.vg_lin.specs.Program.{Program};
 ghost use Rattle.vg_flatten.specs.Flattened.{AreFlat};
-ghost use Rattle.vg_flatten.specs.Runs.{FollowsPacked};
+ghost use Rattle.vg_flattened.specs.Runs.{FollowsPacked};
 
 /// A program of linear code whose procedures are packed ones, flattened, does what the packed program does: where that is over for a
 /// legal reason, it comes to the same ending in the same outside, having opened the same calls, after at least one step for each tick.

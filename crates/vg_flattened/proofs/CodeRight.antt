@@ -23,20 +23,21 @@ use Rattle.vg_lin.specs.Meaning.{language, result_of}
 use Rattle.vg_lin.specs.Structured.{Deciding, Caller as LinCaller, with_found, handle as lin_handle, lifted, step as lin_step, truth as lin_truth}
 use Rattle.vg_flatten.specs.declared.fault.Fault.TheVariants.{NotTaken}
 use Rattle.vg_flatten.specs.declared.open.Truth.{Truth}
-use Rattle.vg_flatten.specs.declared.shape.Room.{Room}
+use Rattle.vg_flatten.specs.declared.room.Room.{Room}
 use Rattle.vg_flatten.specs.Shapes.{Shape, only, empty, is_empty, is_none, same_operand, same_homes, temp}
 use Rattle.vg_flatten.specs.Blocks.{Block, Skip, One, TakeInterrupt, GiveBack, BreakOut, GoOn, Both, Choice, Repeat, structured, picked}
 use Rattle.vg_flatten.specs.Flat.{Made, Gives as Makes, Refused, behind, after, by_temp, settled, settled_as, Tested, tested, stepped, landed_as, landed}
 use Rattle.vg_flatten.specs.Flat.{joined, chosen, where_empty, repeated, repeated_test, repeated_body, repeated_next, given_back, flat}
 use Rattle.vg_flatten.specs.Fitting.{CallsFit}
-use Rattle.vg_flatten.proofs.Alike.{IsFair, Alike, gives, leaves, overs, wrong, AlikePiece, Inside}
-use Rattle.vg_flatten.proofs.AlikeLaws.{alike_then, alike_turns, alike_interrupt}
-use Rattle.vg_flatten.proofs.Related.{ArePlaced, AreAt, AreWidths, AreSame, Held, Leaves}
-use Rattle.vg_flatten.proofs.Locals.{some_is, none_is_not, value_of_home, put_temp, placed_temp}
-use Rattle.vg_flatten.proofs.Free.{homes_same}
-use Rattle.vg_flatten.proofs.Right.{Right, Does, linear, packed, right_after, right_last, right_settled, IsTested, is_tested, picks, chooses, way}
-use Rattle.vg_flatten.proofs.StepRight.{right_number, right_local, right_set, right_forget, right_operated, right_applied, right_read, right_written}
-use Rattle.vg_flatten.proofs.CallRight.{AreParams, AlikeCalls, AlikeHandling, right_called}
+use Rattle.vg_flattened.proofs.Alike.{IsFair, Alike, gives, leaves, overs, wrong, AlikePiece, Inside}
+use Rattle.vg_flattened.proofs.AlikeLaws.{alike_then, alike_turns, alike_interrupt}
+use Rattle.vg_flattened.proofs.Related.{ArePlaced, AreAt, AreWidths, AreSame, Held, Leaves}
+use Rattle.vg_flatten.proofs.Temps.{some_is, none_is_not}
+use Rattle.vg_flattened.proofs.Locals.{value_of_home, put_temp, placed_temp}
+use Rattle.vg_flattened.proofs.Free.{homes_same}
+use Rattle.vg_flattened.proofs.Right.{Right, Does, linear, packed, right_after, right_last, right_settled, IsTested, is_tested, picks, chooses, way}
+use Rattle.vg_flattened.proofs.StepRight.{right_number, right_local, right_set, right_forget, right_operated, right_applied, right_read, right_written}
+use Rattle.vg_flattened.proofs.CallRight.{AreParams, AlikeCalls, AlikeHandling, right_called}
 
 and_then-and_then : {S : Type 0} (a : Answer S History) (g h : Piece S History) → and_then (and_then a g) h ≡ and_then a (λ s w. and_then (g s w) h)
 and_then-and_then (Gives s w) g h = refl

@@ -34,19 +34,20 @@ use Rattle.vg_lin.specs.Structured.{Deciding, Caller as LinCaller, lifted}
 use Rattle.vg_flatten.specs.declared.fault.Fault.TheVariants.{NotTaken}
 use Rattle.vg_flatten.specs.declared.open.Truth.{Truth}
 use Rattle.vg_flatten.specs.declared.open.Truth.TheVariants.{Holds}
-use Rattle.vg_flatten.specs.declared.shape.Room.{Room}
+use Rattle.vg_flatten.specs.declared.room.Room.{Room}
 use Rattle.vg_flatten.specs.Shapes.{Shape, only, is_free, temp}
 use Rattle.vg_flatten.specs.Blocks.{Block, Skip, One}
 use Rattle.vg_flatten.specs.Flat.{Made, Gives as Makes, Refused, by_temp, computing, comparing, computed, compared, operated, operated_as, bytes_of, applied, is_zero}
 use Rattle.vg_flatten.specs.Flat.{put_number, get_local, set_local as sets_local, forgotten, read, written, cut}
 use Rattle.vg_flatten.specs.Fitting.{CallsFit}
-use Rattle.vg_flatten.proofs.Alike.{IsFair, Alike, gives, leaves, overs, wrong, AlikePiece}
-use Rattle.vg_flatten.proofs.Related.{IsAt, ArePlaced, AreAt, AreWidths, AreSame, IsSaid, said, Held, Leaves}
-use Rattle.vg_flatten.proofs.Numbers.{low_same, low_small, opposite_same, same_same}
-use Rattle.vg_flatten.proofs.Locals.{some_is, none_is_not, value_of_home, put_temp, placed_temp}
-use Rattle.vg_flatten.proofs.Free.{homes_beside, kept_behind_set}
-use Rattle.vg_flatten.proofs.Operating.{Computes, computes, Compares, compares, holds_of}
-use Rattle.vg_flatten.proofs.Right.{Right, Does, linear}
+use Rattle.vg_flattened.proofs.Alike.{IsFair, Alike, gives, leaves, overs, wrong, AlikePiece}
+use Rattle.vg_flattened.proofs.Related.{IsAt, ArePlaced, AreAt, AreWidths, AreSame, IsSaid, said, Held, Leaves}
+use Rattle.vg_flattened.proofs.Numbers.{low_same, low_small, opposite_same, same_same}
+use Rattle.vg_flatten.proofs.Temps.{some_is, none_is_not}
+use Rattle.vg_flattened.proofs.Locals.{value_of_home, put_temp, placed_temp}
+use Rattle.vg_flattened.proofs.Free.{homes_beside, kept_behind_set}
+use Rattle.vg_flattened.proofs.Operating.{Computes, computes, Compares, compares, holds_of}
+use Rattle.vg_flattened.proofs.Right.{Right, Does, linear}
 
 module _ (k : Codes) (f : FirmProgram) (m : FirmProcedure) (call : FirmCaller History) (handle : ℕ → Piece Firm History)
     (p : LinProgram) (go : LinCaller State) (params : List ℕ) (r : Room) (ws : List ℕ) (wide : AreWidths r m.widths ws) where

@@ -22,16 +22,16 @@ use Rattle.vg_lin.specs.State.{State, value, sets}
 use Rattle.vg_lin.specs.Meaning.{language, operands, values, both_values, begun, widths_of, enter, entry_of, entry_with}
 use Rattle.vg_lin.specs.Structured.{Deciding, fresh, Caller as LinCaller, with_found, entered, resumed}
 use Rattle.vg_flatten.specs.declared.fault.Fault.TheVariants.{NotTaken}
-use Rattle.vg_flatten.specs.declared.shape.Room.{Room}
+use Rattle.vg_flatten.specs.declared.room.Room.{Room}
 use Rattle.vg_flatten.specs.Shapes.{Shape, only, temp}
 use Rattle.vg_flatten.specs.Blocks.{Block, CallTo, TakeInterrupt}
 use Rattle.vg_flatten.specs.Flat.{Made, Gives as Makes, Refused, by_temp, called, called_with, with_one, with_two, with_three, with_four}
 use Rattle.vg_flatten.specs.Fitting.{CallsFit}
-use Rattle.vg_flatten.proofs.Alike.{IsFair, Alike, gives, leaves, overs, wrong, AlikePiece}
-use Rattle.vg_flatten.proofs.AlikeLaws.{alike_interrupt}
-use Rattle.vg_flatten.proofs.Related.{ArePlaced, AreAt, AreWidths, AreKept, AreSame, Held, Leaves}
-use Rattle.vg_flatten.proofs.Locals.{value_of_home, put_temp, placed_temp}
-use Rattle.vg_flatten.proofs.Right.{Right, linear}
+use Rattle.vg_flattened.proofs.Alike.{IsFair, Alike, gives, leaves, overs, wrong, AlikePiece}
+use Rattle.vg_flattened.proofs.AlikeLaws.{alike_interrupt}
+use Rattle.vg_flattened.proofs.Related.{ArePlaced, AreAt, AreWidths, AreKept, AreSame, Held, Leaves}
+use Rattle.vg_flattened.proofs.Locals.{value_of_home, put_temp, placed_temp}
+use Rattle.vg_flattened.proofs.Right.{Right, linear}
 
 -- A call leaves in no other way than by the end of the whole run.
 abbrev pub Never : {S T : Type 0} → Signal → S → T → Type 0

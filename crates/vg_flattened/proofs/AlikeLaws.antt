@@ -8,7 +8,7 @@ use Rattle.vg_meaning.specs.Clock.{tick_at, ticked}
 use Rattle.vg_meaning.specs.Calls.{closed, closing, unless_deep, note_call, opened, returned}
 use Rattle.vg_meaning.specs.Loops.{turned, turns}
 use Rattle.vg_meaning.specs.Interrupts.{interrupt_from, take_interrupt, idles}
-use Rattle.vg_flatten.proofs.Alike.{IsFair, Alike, gives, leaves, overs, wrong, AlikePiece, Inside}
+use Rattle.vg_flattened.proofs.Alike.{IsFair, Alike, gives, leaves, overs, wrong, AlikePiece, Inside}
 
 pub alike_then : {S T : Type 0} {G J : S → T → Type 0} {L : Signal → S → T
     → Type 0} {a : Answer S History} {b : Answer T History} (f : Piece S History) (g : Piece T History)

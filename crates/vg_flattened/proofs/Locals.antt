@@ -7,24 +7,11 @@ use Rattle.vg_lin.specs.declared.instr.Operand.{Operand}
 use Rattle.vg_lin.specs.declared.instr.Operand.TheVariants.{Local, Known}
 use Rattle.vg_lin.specs.Values.{low}
 use Rattle.vg_lin.specs.State.{LocalState, State, value_in, value, with_local, sets}
-use Rattle.vg_flatten.specs.declared.shape.Room.{Room}
+use Rattle.vg_flatten.specs.declared.room.Room.{Room}
 use Rattle.vg_flatten.specs.Shapes.{temp}
-use Rattle.vg_flatten.proofs.Related.{IsPlaced, ArePlaced, IsAt, AreAt, AreWidths, AreKept, AreSame}
-use Rattle.vg_flatten.proofs.Numbers.{low_same}
-
-pub some_is : {A : Type 0} (a b : A) → Some a ≡ Some b → a ≡ b
-some_is {A} a b e = ap (λ o. or_else o) e
-  where
-    or_else : Option A → A
-    or_else (Some x) = x
-    or_else None = a
-
-pub none_is_not : {A : Type 0} {B : Type 0} (a : A) → None ≡ Some a → B
-none_is_not {A} {B} a e = absurd (subst (λ o. is_none o) e (tt {0}))
-  where
-    is_none : Option A → Type 0
-    is_none None = Unit {0}
-    is_none (Some x) = ⊥
+use Rattle.vg_flatten.proofs.Temps.{some_is, none_is_not, temp_is}
+use Rattle.vg_flattened.proofs.Related.{IsPlaced, ArePlaced, IsAt, AreAt, AreWidths, AreKept, AreSame}
+use Rattle.vg_flattened.proofs.Numbers.{low_same}
 
 -- the local that was written
 pub written_is : (ls : List LocalState) (i x : ℕ) (l : LocalState) → slice_get ls i ≡ Some l
@@ -90,14 +77,6 @@ kept_behind_temp r ws vs ls k x kept =
     }
 
 -- ---- temporaries
-
-pub temp_is : (r : Room) (hs : List Operand) (to : ℕ) → temp r hs ≡ Some to → (to ≡ r.locals + length hs) × (length hs < r.temps)
-temp_is r hs to e = by_room (nat_lt (length hs) r.temps) refl e
-  where
-    by_room : (b : Bool) → nat_lt (length hs) r.temps ≡ b → (if b then Some (r.locals + length hs) else None) ≡ Some to
-        → (to ≡ r.locals + length hs) × (length hs < r.temps)
-    by_room true lt e1 = (sym (some_is _ _ e1), grind arith)
-    by_room false lt e1 = none_is_not to e1
 
 -- A number of four bytes is put into the temporary above what waits.
 pub put_temp : (r : Room) (widths ws : List ℕ) (hs : List Operand) (s : Firm) (t : State) (to z : ℕ) → AreWidths r widths ws → ArePlaced r.locals hs

@@ -1,5 +1,0 @@
-use Rattle.vg_flatten.proofs.RunRight.{follows}
-use Rattle.vg_flatten.proofs.following.flattened_follows.Goals as goal
-
-pub returns : goal.returns
-returns c = λ k f params p flat. follows k f params p flat

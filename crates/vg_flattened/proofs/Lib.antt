@@ -1,0 +1,15 @@
+pub mod Alike
+pub mod AlikeLaws
+pub mod Numbers
+pub mod Related
+pub mod Locals
+pub mod Free
+pub mod Operating
+pub mod Right
+pub mod StepRight
+pub mod CallRight
+pub mod CodeRight
+pub mod Standing
+pub mod BodyRight
+pub mod RunRight
+pub mod Begun

@@ -1,0 +1,5 @@
+use Rattle.vg_flattened.proofs.RunRight.{follows}
+use Rattle.vg_flattened.proofs.following.flattened_follows.Goals as goal
+
+pub returns : goal.returns
+returns c = λ k f params p flat. follows k f params p flat
