@@ -1,5 +1,6 @@
--- What the target of an assignment is: the place of its last suffix, behind what is in front of that.
-use Rattle.std.proofs.Common.{◌≡◌, ℕ, ◌+◌, List, [], ◌∷◌, ◌++◌, slice_get, Some, None, refl, sym, ap, ◌∙◌, subst}
+-- What the target of an assignment is: the place of its last suffix, behind what is in front of that. What is in front changes no store
+-- and no head, and its code comes in front of what the place does before the right side.
+use Rattle.std.proofs.Common.{◌≡◌, ℕ, List, [], ◌∷◌, ◌++◌, slice_get, Some, None, refl, sym, ap, ◌∙◌, subst}
 use Rattle.vg_meaning.specs.Code.{Code, Then}
 use Rattle.vg_meaning.specs.Shapes.{Fits}
 use Rattle.vg_syntax.specs.Tree.{Node, Spot}

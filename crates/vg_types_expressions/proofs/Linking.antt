@@ -1,6 +1,6 @@
 -- Rows of suffixes or parts, one after another: each link puts its code behind those before it, and what is left goes on from what it
 -- leaves. The last link ends the row.
-use Rattle.std.proofs.Common.{◌≡◌, ◌<◌, ◌≤◌, ℕ, ◌+◌, List, [], ◌∷◌, ◌++◌, Some, None, refl, sym, ap, ◌∙◌, subst, arith}
+use Rattle.std.proofs.Common.{◌≡◌, ℕ, ◌+◌, List, [], ◌∷◌, ◌++◌, Some, None, refl, sym, ap, ◌∙◌, subst, arith}
 use Rattle.vg_meaning.specs.Code.{Code, Then}
 use Rattle.vg_meaning.specs.Shapes.{Fits}
 use Rattle.vg_syntax.specs.Tree.{Node}

@@ -1,20 +1,20 @@
--- A method that is not called is a value of its function type.
-use Rattle.std.proofs.Common.{◌≡◌, ℕ, List, [], ◌∷◌, Option, Some, slice_get, refl, sym, ap, ◌∙◌, subst}
+-- A method that is not called is a value of its function type: the number of this type in the tables stands for the row of the types
+-- of its parameters and for that of its result.
+use Rattle.std.proofs.Common.{◌≡◌, ℕ, List, [], ◌∷◌, Some, slice_get, refl, sym, ap, ◌∙◌, subst}
 use Rattle.vg_meaning.specs.Code.{Code, Then, Do}
 use Rattle.vg_meaning.specs.Shapes.{Fits}
 use Rattle.vg_tree.specs.declared.node.Node as held_node
 use Rattle.vg_source.specs.Types as source
 use Rattle.vg_source.specs.Types.{StaticType}
-use Rattle.vg_source.specs.Resolved.{Head, NoHead, IsValue, IsComponent, IsDevice, OwnMethod, ItsMethod, Resolved, settled_as, settled}
+use Rattle.vg_source.specs.Resolved.{Head, NoHead, IsValue, IsComponent, IsDevice, OwnMethod, ItsMethod, Resolved, settled_as}
 use Rattle.vg_core.specs.declared.types.CoreType.{CoreType}
 use Rattle.vg_core.specs.declared.types.CoreType.TheVariants.{ClassType, FunctionType, NoType, MoreTypes}
 use Rattle.vg_core.specs.declared.program.Method.{Method}
-use Rattle.vg_core.specs.declared.program.Tables.{Tables}
 use Rattle.vg_core.specs.declared.step.Step.{Step}
 use Rattle.vg_core.specs.declared.step.Step.TheVariants as step
 use Rattle.vg_core.specs.Tables.{IsRow, function_of, dispatch}
 use Rattle.vg_core.specs.Typing.{HasFunction, Takes, known, t_method_of, t_component_method}
-use Rattle.vg_core.specs.Naming.{named_number, named_types, named_type}
+use Rattle.vg_core.specs.Naming.{named_number, named_types}
 use Rattle.vg_types_tables.specs.declared.declared.Declared.{Declared}
 use Rattle.vg_types_tables.specs.declared.locals.Locals.{Locals}
 use Rattle.vg_types_tables.specs.declared.body.BodyKind.{BodyKind}

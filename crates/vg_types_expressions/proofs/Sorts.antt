@@ -4,7 +4,7 @@ use Rattle.vg_base.specs.declared.place.Place.{Place}
 use Rattle.vg_syntax.specs.Tree.{Node, Then}
 use Rattle.vg_syntax.specs.Numbering.{numbered}
 use Rattle.vg_tree.specs.declared.node.Node as held
-use Rattle.vg_tree.specs.Held.{node_at, nodes_at, arms_at, arm_at}
+use Rattle.vg_tree.specs.Held.{node_at, nodes_at, arms_at}
 use Rattle.vg_types_expressions.specs.Nodes.{begins_with_member, is_name}
 
 row_no_name : (texts : List (List ℕ)) (i : ℕ) (m : _) (all : held.Row_of-Node m) → is_name (numbered i (nodes_at texts all)) ≡ false

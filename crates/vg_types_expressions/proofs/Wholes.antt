@@ -1,6 +1,7 @@
--- What expressions stand for, from what stands for their parts.
-use Rattle.std.proofs.Common.{◌≡◌, ℕ, ◌<◌, ◌+◌, zero, suc, true, false, List, [], ◌∷◌}
-use Rattle.std.proofs.Common.{Option, Some, None, length, get_or, slice_get, refl, sym, ap, ◌∙◌, subst, arith}
+-- What expressions stand for, from what stands for their parts: the definition is rewritten by what is known of each part, and the
+-- code of the whole leads from head to head as its parts do.
+use Rattle.std.proofs.Common.{◌≡◌, ℕ, ◌<◌, true, false, List, [], ◌∷◌}
+use Rattle.std.proofs.Common.{Option, Some, None, get_or, slice_get, refl, sym, ap, ◌∙◌, subst, arith}
 use Rattle.std.proofs.lemmas.Option.{slice_get_within, slice_get-get_or}
 use Rattle.vg_meaning.specs.Code.{Code, Then, Do}
 use Rattle.vg_meaning.specs.Shapes.{Fits}
@@ -22,7 +23,7 @@ use Rattle.vg_core.specs.declared.step.Step.TheVariants as step
 use Rattle.vg_core.specs.declared.program.Tables.{Tables}
 use Rattle.vg_core.specs.HeldProgram.{code_of}
 use Rattle.vg_core.specs.Naming.{named_code, named_number, named_types}
-use Rattle.vg_core.specs.Typing.{known, Takes, t_item}
+use Rattle.vg_core.specs.Typing.{known, t_item}
 use Rattle.vg_types_tables.specs.declared.declared.Declared.{Declared}
 use Rattle.vg_types_tables.specs.declared.locals.Locals.{Locals}
 use Rattle.vg_types_tables.specs.declared.body.BodyKind.{BodyKind}
@@ -32,7 +33,7 @@ use Rattle.vg_types_tables.specs.declared.judged.Judged.{Judged}
 use Rattle.vg_types_tables.specs.declared.judged.Standing.{Standing}
 use Rattle.vg_types_tables.specs.Views.{declarations_at, naming, type_view, head_view, body_view, scope_view, code_view}
 use Rattle.vg_types_tables.specs.Declares.{Declares, IsFormed, IsKnown, IsTypeNumber, IsMadeBelow}
-use Rattle.vg_types_tables.specs.Promises.{IsHead, Sees, waiting, Leads, Puts, Stands, Leaves}
+use Rattle.vg_types_tables.specs.Promises.{IsHead, waiting, Leads, Puts, Stands, Leaves}
 use Rattle.vg_types_tables.proofs.TypeViews.{number_named}
 use Rattle.vg_types_leaves.specs.Judgements.{Shows}
 use Rattle.vg_types_leaves.proofs.Types.{number_view}

@@ -313,7 +313,7 @@ fn link_target(
         Node::Index(place, index) => index_target(
             alloc, names, root, declared, body, locals, head, *place, index, id,
         ),
-        // No tree of a text has another node in the place of a suffix or a part.
+        // Not read yet: calls and parts, which are no places. No tree of a text has another node here.
         _ => Err(Refusal::NoMemory),
     }
 }

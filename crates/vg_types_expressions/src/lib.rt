@@ -1,4 +1,6 @@
 //! The rules on expressions: the code that an expression stands for and its type, or the first breach in it.
+//!
+//! Operators, calls, new objects and new arrays are not read yet: they answer want of memory, of which no clause says anything.
 #![tactic(auto)]
 
 mod aimed;

@@ -146,7 +146,7 @@ pub(crate) fn plain(
             id,
         )),
         Node::This(place) => this_object(names, root, declared, body, locals, *place, id),
-        // No tree of a text has another node in the place of an expression.
+        // Not read yet: operators before an operand, new objects, new arrays. No tree of a text has another node here.
         _ => Err(Refusal::NoMemory),
     }
 }
@@ -449,7 +449,7 @@ pub(crate) fn link(
         Node::Index(place, index) => index_behind(
             alloc, names, root, declared, body, locals, head, *place, index, id,
         ),
-        // No tree of a text has another node in the place of a suffix or a part.
+        // Not read yet: calls, parts with an operand, casts and class tests. No tree of a text has another node here.
         _ => Err(Refusal::NoMemory),
     }
 }

@@ -1,5 +1,6 @@
--- What the members of classes and components stand for.
-use Rattle.std.proofs.Common.{◌≡◌, ℕ, true, if◌then◌else◌, bytes_eq, List, [], Option, Some, None, slice_get, refl, sym, ap, ◌∙◌, subst}
+-- What the members of classes and components stand for: what a look-up finds in the tables is what the definition finds by the name,
+-- and the member that is found has this name.
+use Rattle.std.proofs.Common.{◌≡◌, ℕ, true, if◌then◌else◌, bytes_eq, List, [], Some, None, slice_get, refl, sym, ap, ◌∙◌, subst}
 use Rattle.std.specs.Option.{option_and_then}
 use Rattle.vg_tree.specs.declared.node.Node as held_node
 use Rattle.vg_meaning.specs.Code as code
@@ -19,9 +20,8 @@ use Rattle.vg_types_tables.specs.declared.declared.MemberNumber.TheVariants.{Fie
 use Rattle.vg_types_tables.specs.declared.locals.Locals.{Locals}
 use Rattle.vg_types_tables.specs.Views.{declarations_at, naming, type_view, params_view, result_view, field_view, member_view, scope_view}
 use Rattle.vg_types_tables.specs.Declares.{Declares, IsKnown, IsTypeNumber, member_of, found_in}
-use Rattle.vg_types_leaves.specs.declared.reached.Reached.{Reached}
 use Rattle.vg_types_leaves.specs.declared.reached.Reached.TheVariants as reached
-use Rattle.vg_types_leaves.specs.Reached.{Reaches, IsFieldOf}
+use Rattle.vg_types_leaves.specs.Reached.{Reaches}
 use Rattle.vg_types_leaves.proofs.Types.{number_view}
 
 module _ (texts : List (List ℕ)) (root : held_node.Node) (d : Declared) (all : Declares texts root d) (ls : Locals) where

@@ -1,4 +1,5 @@
--- What a name stands for.
+-- What a name stands for that is no parameter or local: a member that is seen, where one is reached under the name; else it is the
+-- name of a component or device, or breaks rule 14.
 use Rattle.std.proofs.Common.{◌≡◌, ℕ, ◌||◌, Bool, true, false, List, Option, Some, None, is_some, refl, sym, ap, ◌∙◌, subst}
 use Rattle.vg_meaning.specs.Code.{Do, Nothing as NoCode}
 use Rattle.vg_syntax.specs.Tree.{Node, Spot}

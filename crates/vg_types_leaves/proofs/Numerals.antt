@@ -1,9 +1,9 @@
 -- What number tokens stand for.
-use Rattle.std.proofs.Common.{◌≡◌, ℕ, zero, suc, ◌≤◌, ◌+◌, ◌*◌, ◌-◌, ◌&&◌, ◌==◌, Bool, true, false}
-use Rattle.std.proofs.Common.{List, [], ◌∷◌, length, drop, min, refl, ap, sym, ◌∙◌, subst, arith, nat_le, if◌then◌else◌}
+use Rattle.std.proofs.Common.{◌≡◌, ℕ, zero, suc, ◌≤◌, ◌+◌, ◌*◌, ◌&&◌, ◌==◌, Bool, true, false}
+use Rattle.std.proofs.Common.{List, [], ◌∷◌, length, min, refl, ap, ◌∙◌, arith, if◌then◌else◌}
 use Rattle.std.specs.List.{list_all}
 use Rattle.std.proofs.lemmas.Bool.Decides.{nat_tests}
-use Rattle.vg_syntax.specs.Bytes.{is_digit, is_hex_digit}
+use Rattle.vg_syntax.specs.Bytes.{is_hex_digit}
 use Rattle.vg_syntax.specs.Hexadecimal.{digit_value, more_digits, hex_value}
 use Rattle.vg_syntax.specs.Lexemes.{is_hexadecimal}
 use Rattle.vg_source.specs.Literals.{number_of, decimal_behind}

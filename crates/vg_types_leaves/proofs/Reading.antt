@@ -1,6 +1,7 @@
--- What is reached is read and set as its step says.
-use Rattle.std.proofs.Common.{◌≡◌, ℕ, Bool, true, false, List, [], ◌∷◌, Option, Some, None, slice_get, refl, sym, ap, ◌∙◌, subst}
-use Rattle.vg_meaning.specs.Code.{Code, Nothing as SourceNothing, Then, Do}
+-- What is reached is read and set as its step says. Each law goes by the cases of what is reached: its step stands for what the name
+-- stands for, and what the tables have of it types the step.
+use Rattle.std.proofs.Common.{◌≡◌, ℕ, List, ◌∷◌, Some, None, refl, sym, ap, ◌∙◌, subst}
+use Rattle.vg_meaning.specs.Code.{Nothing as SourceNothing, Then, Do}
 use Rattle.vg_meaning.specs.Shapes.{Fits}
 use Rattle.vg_source.specs.Steps as source
 use Rattle.vg_source.specs.Resolved.{Resolved, IsValue, in_front}
@@ -10,7 +11,6 @@ use Rattle.vg_core.specs.declared.step.Step.{Step}
 use Rattle.vg_core.specs.declared.step.Step.TheVariants as step
 use Rattle.vg_core.specs.declared.program.Owner.{Owner}
 use Rattle.vg_core.specs.declared.program.Owner.TheVariants.{InClass}
-use Rattle.vg_core.specs.declared.program.Tables.{Tables}
 use Rattle.vg_core.specs.HeldProgram.{code_of}
 use Rattle.vg_core.specs.Naming.{named_code}
 use Rattle.vg_core.specs.Typing.{Takes, Sub, same, known, t_this, t_local, t_field, t_component_field, t_register, t_length}
@@ -27,10 +27,8 @@ use Rattle.vg_types_tables.specs.Declares.{IsKnown}
 use Rattle.vg_types_tables.specs.Promises.{IsHead, Sees, waiting, Leads, Stores}
 use Rattle.vg_types_leaves.specs.declared.reached.Reached.{Reached}
 use Rattle.vg_types_leaves.specs.declared.reached.Reached.TheVariants as reached
-use Rattle.vg_types_leaves.specs.declared.name.Named.{Named}
 use Rattle.vg_types_leaves.specs.Judgements.{Shows, ShowsPlace}
 use Rattle.vg_types_leaves.specs.Reached.{front, reached_head, reached_code, reached_at, IsReached, SetBy, Places}
-use Rattle.vg_types_leaves.specs.Named.{with_this, IsFront}
 
 module _ (texts : List (List ℕ)) (d : Declared) (ls : Locals) where
   -- what is reached leads from what waits for it to what it leaves

@@ -2,7 +2,7 @@
 use Rattle.std.proofs.Common.{◌≡◌, ℕ, true, List, Option, Some, None, IfSome, refl, sym, ap, ◌∙◌, subst}
 use Rattle.vg_meaning.specs.Code.{Code}
 use Rattle.vg_meaning.specs.Shapes.{Fits}
-use Rattle.vg_syntax.specs.Tree.{Spot, Node}
+use Rattle.vg_syntax.specs.Tree.{Spot}
 use Rattle.vg_tree.specs.declared.node.Node as held_node
 use Rattle.vg_source.specs.Names.{Name}
 use Rattle.vg_source.specs.Resolved.{Onto, member_suffix}

@@ -1,5 +1,5 @@
 -- What the numbers of types stand for.
-use Rattle.std.proofs.Common.{◌≡◌, ℕ, List, [], Some, sym, ap, ◌∙◌}
+use Rattle.std.proofs.Common.{◌≡◌, ℕ, [], sym, ap, ◌∙◌}
 use Rattle.vg_core.specs.declared.program.Tables.{Tables}
 use Rattle.vg_core.specs.Naming.{Naming, named_number, named_types, type_named, type_at}
 use Rattle.vg_types_tables.specs.Declares.{IsTypeNumber, IsFormed}

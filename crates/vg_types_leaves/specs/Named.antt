@@ -4,7 +4,7 @@ use Rattle.vg_meaning.specs.Code.{Do}
 use Rattle.vg_tree.specs.declared.node.Node as held_node
 use Rattle.vg_source.specs.Names.{Name}
 use Rattle.vg_source.specs.Steps as source
-use Rattle.vg_source.specs.Resolved.{Scope, Resolved, in_front, resolved_name, top_name}
+use Rattle.vg_source.specs.Resolved.{Resolved, in_front, resolved_name, top_name}
 use Rattle.vg_rules.specs.Bodies.{name_keeps}
 use Rattle.vg_core.specs.declared.types.CoreType.TheVariants.{ClassType}
 use Rattle.vg_core.specs.declared.program.Owner.TheVariants.{InClass}

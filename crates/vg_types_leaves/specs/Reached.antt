@@ -3,7 +3,7 @@ use Rattle.std.specs.Prelude.{◌≡◌, ℕ, true, List, slice_get, Option, Som
 use Rattle.vg_meaning.specs.Code.{Code, Nothing as NoCode, Do}
 use Rattle.vg_source.specs.Types.{RawType as RawOf, IntType as IntOf}
 use Rattle.vg_source.specs.Steps as source
-use Rattle.vg_source.specs.Resolved.{Scope, Resolved, NoHead, IsValue, single, nothing, place_at, in_front}
+use Rattle.vg_source.specs.Resolved.{Scope, Resolved, NoHead, IsValue, single, nothing, place_at}
 use Rattle.vg_core.specs.declared.types.CoreType.{CoreType}
 use Rattle.vg_core.specs.declared.types.CoreType.TheVariants.{RawType, IntType, ClassType, ArrayType}
 use Rattle.vg_core.specs.declared.step.Step.{Step}

@@ -1,4 +1,4 @@
-use Rattle.std.proofs.Common.{◌≡◌, ◌+◌, ◌-◌, ◌∷◌, ◌++◌, [], Some, None, IfSome, length, refl, sym, subst, ap, ◌∙◌, arith}
+use Rattle.std.proofs.Common.{◌+◌, IfSome, refl, subst}
 use Rattle.vg_syntax.specs.Reads.{spot}
 use Rattle.vg_syntax.specs.Numbering.{count_nodes, numbered}
 use Rattle.vg_tree.specs.Held.{node_at}
@@ -6,7 +6,7 @@ use Rattle.vg_source.specs.Resolved.{Onto, IsValue}
 use Rattle.vg_core.specs.HeldProgram.{code_of}
 use Rattle.vg_types_tables.specs.declared.judged.Head.TheVariants.{Nothing, Value}
 use Rattle.vg_types_tables.specs.declared.judged.Storing.{Storing}
-use Rattle.vg_types_tables.specs.Views.{head_view, type_view}
+use Rattle.vg_types_tables.specs.Views.{type_view}
 use Rattle.vg_types_tables.specs.Promises.{Aims, Stores}
 use Rattle.vg_types_expressions.proofs.Aiming.{chain_place, chain_no_place, chain_kept, front_stores}
 use Rattle.vg_types_expressions.proofs.aimed.chain_target.Goals as goal

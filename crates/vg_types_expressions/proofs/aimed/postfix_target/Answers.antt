@@ -1,12 +1,12 @@
-use Rattle.std.proofs.Common.{◌≡◌, ◌+◌, ◌-◌, ◌∷◌, ◌++◌, [], Some, None, IfSome, length, refl, sym, subst, ap, ◌∙◌, arith}
+use Rattle.std.proofs.Common.{◌+◌, IfSome, refl, subst}
 use Rattle.vg_syntax.specs.Reads.{spot}
 use Rattle.vg_syntax.specs.Numbering.{count_nodes, numbered}
 use Rattle.vg_tree.specs.Held.{node_at}
-use Rattle.vg_source.specs.Resolved.{Onto, IsValue}
+use Rattle.vg_source.specs.Resolved.{Onto}
 use Rattle.vg_core.specs.HeldProgram.{code_of}
-use Rattle.vg_types_tables.specs.declared.judged.Head.TheVariants.{Nothing, Value}
+use Rattle.vg_types_tables.specs.declared.judged.Head.TheVariants.{Nothing}
 use Rattle.vg_types_tables.specs.declared.judged.Storing.{Storing}
-use Rattle.vg_types_tables.specs.Views.{head_view, type_view}
+use Rattle.vg_types_tables.specs.Views.{head_view}
 use Rattle.vg_types_tables.specs.Promises.{Aims, Stores}
 use Rattle.vg_types_expressions.proofs.Aiming.{postfix_place, postfix_no_place, postfix_kept, front_stores}
 use Rattle.vg_types_expressions.proofs.aimed.postfix_target.Goals as goal

@@ -1,4 +1,4 @@
-use Rattle.std.proofs.Common.{◌≡◌, ◌+◌, [], ◌∷◌, ◌++◌, ◌&&◌, ◌==◌, length, drop, refl, sym, ap, ◌∙◌, subst, arith}
+use Rattle.std.proofs.Common.{◌≡◌, ◌+◌, ◌&&◌, ◌==◌, length, drop, refl, sym, ap, ◌∙◌, subst, arith}
 use Rattle.vg_tree.specs.Held.{node_at, row_at}
 use Rattle.vg_types_expressions.specs.Arguments.{Arguing}
 use Rattle.vg_types_expressions.proofs.RowRests.{row_rest, none_left}

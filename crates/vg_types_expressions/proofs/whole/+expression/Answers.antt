@@ -1,5 +1,5 @@
 -- Each answer names the law of its node: what stands for the parts, their codes one behind another.
-use Rattle.std.proofs.Common.{◌≡◌, ◌+◌, ◌-◌, [], ◌∷◌, ◌++◌, length, drop, sym, refl, subst, arith, ap, ◌∙◌}
+use Rattle.std.proofs.Common.{◌+◌, ◌-◌, [], ◌∷◌, ◌++◌, length, drop, sym, refl, subst, arith, ap, ◌∙◌}
 use Rattle.std.proofs.lemmas.Grind.{common_steps}
 use Rattle.vg_syntax.specs.Tree.{Then}
 use Rattle.vg_syntax.specs.Numbering.{count_nodes, numbered}
@@ -10,7 +10,7 @@ use Rattle.vg_core.specs.HeldProgram.{code_of, code_chain}
 use Rattle.vg_types_views.specs.Judges.{Judges}
 use Rattle.vg_types_tables.specs.declared.judged.Head.TheVariants.{Nothing, Value}
 use Rattle.vg_types_tables.specs.declared.judged.Standing.{Standing}
-use Rattle.vg_types_tables.specs.Views.{declarations_at, owner_view, body_view, scope_view}
+use Rattle.vg_types_tables.specs.Views.{declarations_at, owner_view, scope_view}
 use Rattle.vg_types_tables.specs.Promises.{Leaves}
 use Rattle.vg_types_expressions.specs.Links.{Linking}
 use Rattle.vg_types_expressions.proofs.RowRests.{row_rest, some_left, last_left}

@@ -1,4 +1,4 @@
-use Rattle.std.proofs.Common.{◌+◌, ◌*◌, ◌-◌, length, drop}
+use Rattle.std.proofs.Common.{◌+◌, ◌*◌, drop}
 use Rattle.vg_syntax.specs.Numbering.{count_nodes}
 use Rattle.vg_tree.specs.Held.{node_at, row_at}
 use Rattle.vg_types_expressions.specs.Links.{Linking}

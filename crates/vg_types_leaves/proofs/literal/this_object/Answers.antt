@@ -1,4 +1,4 @@
-use Rattle.std.proofs.Common.{◌≡◌, Some, subst, sym, ap, ◌∙◌}
+use Rattle.std.proofs.Common.{◌≡◌, Some, subst, sym}
 use Rattle.vg_core.specs.declared.program.Owner.TheVariants.{InClass}
 use Rattle.vg_core.specs.Typing.{t_this}
 use Rattle.vg_types_tables.specs.Promises.{Sees}

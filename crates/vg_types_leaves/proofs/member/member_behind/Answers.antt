@@ -1,4 +1,4 @@
-use Rattle.std.proofs.Common.{◌+◌, refl}
+use Rattle.std.proofs.Common.{◌+◌}
 use Rattle.vg_syntax.specs.Reads.{spot}
 use Rattle.vg_tree.specs.Held.{text_at}
 use Rattle.vg_core.specs.HeldProgram.{code_of}

@@ -1,4 +1,4 @@
-use Rattle.std.proofs.Common.{Some, refl, subst, ap, sym, ◌∙◌}
+use Rattle.std.proofs.Common.{refl, subst, sym}
 use Rattle.vg_types_tables.specs.declared.judged.Storing.{Storing}
 use Rattle.vg_types_tables.specs.Promises.{Stores}
 use Rattle.vg_types_tables.specs.Views.{scope_view}

@@ -1,4 +1,4 @@
-use Rattle.std.proofs.Common.{subst, sym, ap, ◌∙◌, ◌+◌}
+use Rattle.std.proofs.Common.{subst, ap, ◌∙◌, ◌+◌}
 use Rattle.vg_meaning.specs.Code.{Then, Do}
 use Rattle.vg_core.specs.declared.step.Step.TheVariants.{This}
 use Rattle.vg_core.specs.HeldProgram.{code_of}
