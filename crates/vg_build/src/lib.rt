@@ -4,6 +4,7 @@
 mod building;
 mod fault;
 mod judging;
+pub mod law;
 mod layout;
 
 pub use building::{Built, build};

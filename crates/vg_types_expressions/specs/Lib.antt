@@ -1,5 +1,0 @@
-pub mod Nodes
-pub mod Settled
-pub mod Links
-pub mod Arguments
-pub mod Judged

@@ -1,4 +1,0 @@
-pub mod Nodes
-pub mod Grows
-pub mod Asked
-pub mod Arms
