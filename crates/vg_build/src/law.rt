@@ -7,5 +7,5 @@ ghost use Rattle.vg_build.specs.Judged.{refused_today};
 /// What `build` refuses a tree for is what the tree is refused for by all that is asked of a legal program, and so are its node and
 /// its place. The body is empty: its contract is a law of the definitions.
 pub fn refused_today_is_refused()
-    ensures same { (tree : Node) (why : Refused) → refused_today tree ≡ Some why → refusal_of tree ≡ Some why }
+    ensures { (tree : Node) (why : Refused) → refused_today tree ≡ Some why → refusal_of tree ≡ Some why }
 {}
