@@ -1,15 +1,30 @@
+ghost use Rattle.std.specs.Prelude.{◌≤◌, ℕ, List, length, IfOk};
+ghost use Rattle.std.specs.List.{AllByRecursion};
+ghost use Rattle.vg_lin.specs.Sound.{IsWidth};
+
 use std::alloc::Global;
 use vg_base::{NoMemory, Refusal, Row};
 use vg_firm::{Code, Operator, Procedure, Step};
 use vg_flatten::{Fault, flatten};
 use vg_lin::LinProc;
 
-// A procedure of 60 locals, which reads a device so often and adds what it read.
-fn high(alloc: Global, count: u8) -> Result<Procedure, NoMemory> {
+// Sixty locals of four bytes.
+fn sixty(alloc: Global) -> Result<Row<u8>, NoMemory>
+    ensures { IfOk result (λ r. AllByRecursion IsWidth r) }
+{
     let mut widths = Row::new(alloc);
-    for _local in 0..60u8 {
+    for local in 0..60u8 {
         widths.push(4)?;
     }
+    Ok(widths)
+}
+
+// A procedure of 60 locals, which reads a device so often and adds what it read.
+fn high(alloc: Global, count: u8) -> Result<Procedure, NoMemory>
+    ensures params { IfOk result (λ p. p.params ≤ length p.widths) }
+    ensures widths { IfOk result (λ p. AllByRecursion IsWidth p.widths) }
+{
+    let widths = sixty(alloc)?;
     let mut steps = Vec::new(alloc);
     for _read in 0..count {
         steps.push(Code::Do(Step::ReadDevice(0x36)))?;
