@@ -4,14 +4,15 @@ use Rattle.std.proofs.Common.{inl, inr, refl, sym, ap, ◌∙◌, subst}
 use Rattle.vg_base.specs.declared.refusal.Refusal.{Refusal}
 use Rattle.vg_base.specs.declared.refusal.Refusal.TheVariants.{Fault as Faulty, NoMemory as Memory}
 use Rattle.vg_firm.specs.Program.{Procedure}
-use Rattle.vg_flatten.specs.declared.fault.Fault.{Fault}
-use Rattle.vg_flatten.specs.declared.fault.Fault.TheVariants.{NotTaken, TooHigh, TooLong}
-use Rattle.vg_flatten.specs.declared.open.Open.{Open}
-use Rattle.vg_flatten.specs.declared.room.Room.{Room}
-use Rattle.vg_flatten.specs.Shapes.{empty}
-use Rattle.vg_flatten.specs.Flat.{Made, Gives, Refused, flat}
+use Rattle.vg_flatten_shapes.specs.declared.fault.Fault.{Fault}
+use Rattle.vg_flatten_shapes.specs.declared.fault.Fault.TheVariants.{NotTaken, TooHigh, TooLong}
+use Rattle.vg_flatten_shapes.specs.declared.open.Open.{Open}
+use Rattle.vg_flatten_shapes.specs.declared.room.Room.{Room}
+use Rattle.vg_flatten_shapes.specs.Shapes.{empty}
+use Rattle.vg_flatten_shapes.specs.Made.{Made, Gives, Refused}
+use Rattle.vg_flatten_control.specs.Flat.{flat}
 use Rattle.vg_flatten.specs.Fitting.{AllFit, AllSet}
-use Rattle.vg_flatten.specs.Laying.{IsNotTaken, WholeFails, IsWhole}
+use Rattle.vg_flatten.specs.Sealing.{IsNotTaken, WholeFails, IsWhole}
 use Rattle.vg_flatten.specs.Refusals.{temps_for, room_for, made_of, IsNotTakenAs, IsCause}
 
 module _ (params : List ℕ) (m : Procedure) (r : Room) (locals : r.locals ≡ length m.widths) (temps : r.temps ≡ temps_for r.locals) where

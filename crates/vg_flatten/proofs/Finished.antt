@@ -10,17 +10,19 @@ use Rattle.vg_lin.specs.Sound.{IsWidth, IsSound}
 use Rattle.vg_lin.specs.declared.instr.Operand.TheVariants.{Known}
 use Rattle.vg_lin.specs.declared.instr.Plain.TheVariants.{Copy}
 use Rattle.vg_lin.specs.declared.instr.Instr.TheVariants.{Plain, Return}
-use Rattle.vg_flatten.specs.declared.open.Open.{Open}
-use Rattle.vg_flatten.specs.declared.open.Open.TheVariants.{Set}
-use Rattle.vg_flatten.specs.declared.piece.Piece.{Piece}
-use Rattle.vg_flatten.specs.declared.room.Room.{Room}
-use Rattle.vg_flatten.specs.Shapes.{Shape, empty, is_empty}
-use Rattle.vg_flatten.specs.Blocks.{Block, open_code}
-use Rattle.vg_flatten.specs.Flat.{Made, Gives, Refused, flat}
+use Rattle.vg_flatten_shapes.specs.declared.open.Open.{Open}
+use Rattle.vg_flatten_shapes.specs.declared.open.Open.TheVariants.{Set}
+use Rattle.vg_flatten_shapes.specs.declared.piece.Piece.{Piece}
+use Rattle.vg_flatten_shapes.specs.declared.room.Room.{Room}
+use Rattle.vg_flatten_shapes.specs.Shapes.{Shape, empty, is_empty}
+use Rattle.vg_flatten_shapes.specs.Blocks.{Block, open_code}
+use Rattle.vg_flatten_shapes.specs.Made.{Made, Gives, Refused}
+use Rattle.vg_flatten_control.specs.Flat.{flat}
 use Rattle.vg_flatten.specs.Fitting.{CallsFit, AllFit, AllSet}
-use Rattle.vg_flatten.specs.Blocks.{set_in}
+use Rattle.vg_flatten_shapes.specs.Blocks.{set_in}
 use Rattle.vg_flatten.specs.Flattened.{zeroes, zero_list, whole, IsFlat}
-use Rattle.vg_flatten.specs.Laying.{IsPiece, IsWhole}
+use Rattle.vg_flatten_shapes.specs.Laying.{IsPiece}
+use Rattle.vg_flatten.specs.Sealing.{IsWhole}
 use Rattle.vg_flatten.proofs.Sound.{MadeIn, BlockIn, in_flat}
 use Rattle.vg_flatten.proofs.Whole.{whole_sound, fit_block, in_zeroes}
 use Rattle.vg_flatten.proofs.Onward.{leads_onward}

@@ -1,12 +1,7 @@
-pub mod Rows
-pub mod LoopPieces
 pub mod Sound
 pub mod Jumps
 pub mod Whole
 pub mod Starting
 pub mod Finished
-pub mod Along
 pub mod Causes
 pub mod Onward
-pub mod Choices
-pub mod Temps

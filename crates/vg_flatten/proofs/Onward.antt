@@ -5,12 +5,12 @@ use Rattle.std.proofs.lemmas.List.{length-append}
 use Rattle.vg_lin.specs.declared.instr.Instr.{Instr}
 use Rattle.vg_lin.specs.declared.instr.Instr.TheVariants.{Plain, When, Unless, Jump, Call, Return, Idle}
 use Rattle.vg_lin.specs.Onward.{leads_on, all_lead_on}
-use Rattle.vg_flatten.specs.declared.open.Truth.{Truth}
-use Rattle.vg_flatten.specs.declared.open.Truth.TheVariants.{Holds, Fails}
-use Rattle.vg_flatten.specs.declared.open.Open.{Open}
-use Rattle.vg_flatten.specs.declared.open.Open.TheVariants.{Set, Break, Continue}
-use Rattle.vg_flatten.proofs.Choices.{alone, with_jump, choice_cases}
-use Rattle.vg_flatten.specs.Blocks.{Block, Skip, One, CallTo, TakeInterrupt, GiveBack, BreakOut, GoOn, Both, Choice, Repeat, branch, set_in, open_code}
+use Rattle.vg_flatten_shapes.specs.declared.open.Truth.{Truth}
+use Rattle.vg_flatten_shapes.specs.declared.open.Truth.TheVariants.{Holds, Fails}
+use Rattle.vg_flatten_shapes.specs.declared.open.Open.{Open}
+use Rattle.vg_flatten_shapes.specs.declared.open.Open.TheVariants.{Set, Break, Continue}
+use Rattle.vg_flatten_shapes.proofs.Choices.{alone, with_jump, choice_cases}
+use Rattle.vg_flatten_shapes.specs.Blocks.{Block, Skip, One, CallTo, TakeInterrupt, GiveBack, BreakOut, GoOn, Both, Choice, Repeat, branch, set_in, open_code}
 use Rattle.vg_flatten.specs.Fitting.{AllSet}
 use Rattle.vg_flatten.proofs.Sound.{BlockIn}
 

@@ -27,18 +27,21 @@ use Rattle.vg_lin.specs.declared.instr.Callee.TheVariants.{Procedure as ByNumber
 use Rattle.vg_lin.specs.declared.instr.Registers.{Registers}
 use Rattle.vg_lin.specs.declared.instr.Registers.TheVariants.{Empty, One as One', Two, Three, Four}
 use Rattle.vg_lin.specs.Meaning.{operands}
-use Rattle.vg_flatten.specs.declared.fault.Fault.TheVariants.{NotTaken}
-use Rattle.vg_flatten.specs.declared.open.Truth.{Truth}
-use Rattle.vg_flatten.specs.declared.open.Truth.TheVariants.{Holds, Fails}
-use Rattle.vg_flatten.specs.declared.room.Room.{Room}
-use Rattle.vg_flatten.specs.Shapes.{Shape, only, empty, is_empty, is_free, same_operand, same_homes, temp}
-use Rattle.vg_flatten.specs.Blocks.{Block, Skip, One, CallTo, TakeInterrupt, GiveBack, BreakOut, GoOn, Both, Choice, Repeat}
-use Rattle.vg_flatten.specs.Flat.{Made, Gives, Refused, behind, after, by_temp, settled, settled_as, Tested, tested, tested_as, is_zero, computing, comparing, by_order, test_of}
-use Rattle.vg_flatten.specs.Flat.{computed, compared, operated, operated_as, bytes_of, cut, applied, put_number, get_local, set_local, forgotten, read, written}
-use Rattle.vg_flatten.specs.Flat.{called_with, with_one, with_two, with_three, with_four, called, stepped, landed_as, landed, joined, chosen, where_empty, repeated, repeated_test}
+use Rattle.vg_flatten_shapes.specs.declared.fault.Fault.TheVariants.{NotTaken}
+use Rattle.vg_flatten_shapes.specs.declared.open.Truth.{Truth}
+use Rattle.vg_flatten_shapes.specs.declared.open.Truth.TheVariants.{Holds, Fails}
+use Rattle.vg_flatten_shapes.specs.declared.room.Room.{Room}
+use Rattle.vg_flatten_shapes.specs.Shapes.{Shape, only, empty, is_empty, is_free, same_operand, same_homes, temp}
+use Rattle.vg_flatten_shapes.specs.Blocks.{Block, Skip, One, CallTo, TakeInterrupt, GiveBack, BreakOut, GoOn, Both, Choice, Repeat}
+use Rattle.vg_flatten_shapes.specs.Made.{Made, Gives, Refused, behind, after, by_temp, settled, settled_as, Tested, tested, tested_as, is_zero}
+use Rattle.vg_flatten_steps.specs.Steps.{computing, comparing, by_order, test_of}
+use Rattle.vg_flatten_steps.specs.Steps.{computed, compared, operated, operated_as, bytes_of, cut, applied, put_number, get_local, set_local, forgotten, read}
+use Rattle.vg_flatten_steps.specs.Steps.{written}
+use Rattle.vg_flatten_steps.specs.Steps.{called_with, with_one, with_two, with_three, with_four, called, stepped}
+use Rattle.vg_flatten_control.specs.Flat.{landed_as, landed, joined, chosen, where_empty, repeated, repeated_test}
 use Rattle.vg_flatten.specs.Loops.{has_loop}
-use Rattle.vg_flatten.specs.Flat.{repeated_body, repeated_next, given_back, flat}
-use Rattle.vg_flatten.proofs.Temps.{some_is, none_is_not, temp_is}
+use Rattle.vg_flatten_control.specs.Flat.{repeated_body, repeated_next, given_back, flat}
+use Rattle.vg_flatten_shapes.proofs.Temps.{some_is, none_is_not, temp_is}
 
 -- ---- operands in range
 

@@ -5,7 +5,7 @@ use Rattle.vg_lin.specs.declared.instr.Instr.{Instr}
 use Rattle.vg_lin.specs.Program.{Procedure}
 use Rattle.vg_lin.specs.Sound.{AreOperands, Waits, IsSound}
 use Rattle.vg_flatten.specs.Flattened.{start_of}
-use Rattle.vg_flatten.proofs.Temps.{some_is, none_is_not}
+use Rattle.vg_flatten_shapes.proofs.Temps.{some_is, none_is_not}
 
 module _ (main : ℕ) where
   operands_in : (at : ℕ) (i : Instr) → slice_get (start_of main).code at ≡ Some i → AreOperands (start_of main) i

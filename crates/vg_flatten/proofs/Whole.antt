@@ -16,18 +16,18 @@ use Rattle.vg_lin.specs.declared.instr.Instr.TheVariants.{Plain, When, Unless, J
 use Rattle.vg_lin.specs.Meaning.{operands}
 use Rattle.vg_lin.specs.Program.{Procedure}
 use Rattle.vg_lin.specs.Sound.{IsWidth, IsOperand, IsTest, IsTo, IsCallee, AreOperands, Waits, IsSound}
-use Rattle.vg_flatten.specs.declared.open.Truth.{Truth}
-use Rattle.vg_flatten.specs.declared.open.Truth.TheVariants.{Holds, Fails}
-use Rattle.vg_flatten.specs.declared.open.Open.{Open}
-use Rattle.vg_flatten.specs.declared.open.Open.TheVariants.{Set, Break, Continue}
-use Rattle.vg_flatten.proofs.Choices.{choice_cases}
-use Rattle.vg_flatten.specs.Blocks.{Block, Skip, One, CallTo, TakeInterrupt, GiveBack, BreakOut, GoOn, Both, Choice, Repeat, branch, closed, open_code}
+use Rattle.vg_flatten_shapes.specs.declared.open.Truth.{Truth}
+use Rattle.vg_flatten_shapes.specs.declared.open.Truth.TheVariants.{Holds, Fails}
+use Rattle.vg_flatten_shapes.specs.declared.open.Open.{Open}
+use Rattle.vg_flatten_shapes.specs.declared.open.Open.TheVariants.{Set, Break, Continue}
+use Rattle.vg_flatten_shapes.proofs.Choices.{choice_cases}
+use Rattle.vg_flatten_shapes.specs.Blocks.{Block, Skip, One, CallTo, TakeInterrupt, GiveBack, BreakOut, GoOn, Both, Choice, Repeat, branch, closed, open_code}
 use Rattle.vg_flatten.specs.Fitting.{CallsFit, CallFits, OpenFits, AllFit, IsSet, AllSet}
-use Rattle.vg_flatten.specs.Blocks.{set_in}
+use Rattle.vg_flatten_shapes.specs.Blocks.{set_in}
 use Rattle.vg_flatten.specs.Flattened.{zeroes, whole}
 use Rattle.vg_flatten.proofs.Sound.{IsIn, AreIn, IsTestIn, IsTruthIn, IsPlainIn, IsToIn, IsCalleeIn, BlockIn}
 use Rattle.vg_flatten.proofs.Jumps.{GoesWithin, JumpsWithin, AllWithin, within, within_both}
-use Rattle.vg_flatten.proofs.Temps.{some_is, none_is_not}
+use Rattle.vg_flatten_shapes.proofs.Temps.{some_is, none_is_not}
 
 -- ---- operands of a list of instructions
 

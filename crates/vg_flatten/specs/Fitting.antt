@@ -5,9 +5,9 @@ use Rattle.vg_lin.specs.declared.instr.Callee.TheVariants.{Procedure, Code}
 use Rattle.vg_lin.specs.declared.instr.Call.{Call}
 use Rattle.vg_lin.specs.declared.instr.Instr.TheVariants.{Call as Calls}
 use Rattle.vg_lin.specs.Meaning.{operands}
-use Rattle.vg_flatten.specs.declared.open.Open.{Open}
-use Rattle.vg_flatten.specs.declared.open.Open.TheVariants.{Set, Break, Continue}
-use Rattle.vg_flatten.specs.Blocks.{Block, Skip, One, CallTo, TakeInterrupt, GiveBack, BreakOut, GoOn, Both, Choice, Repeat}
+use Rattle.vg_flatten_shapes.specs.declared.open.Open.{Open}
+use Rattle.vg_flatten_shapes.specs.declared.open.Open.TheVariants.{Set, Break, Continue}
+use Rattle.vg_flatten_shapes.specs.Blocks.{Block, Skip, One, CallTo, TakeInterrupt, GiveBack, BreakOut, GoOn, Both, Choice, Repeat}
 
 -- The procedure has so many parameters; each number of a procedure has its parameters in the list.
 abbrev pub HasParams : (params : List ℕ) → Callee → ℕ → Type 0

@@ -9,14 +9,15 @@ use Rattle.vg_lin.specs.declared.instr.Registers.TheVariants.{Empty}
 use Rattle.vg_lin.specs.declared.instr.Call.{Call}
 use Rattle.vg_lin.specs.declared.instr.Instr.TheVariants.{Plain, Jump, Call as Calls, Idle}
 use Rattle.vg_lin.specs.Program.{Procedure, Program}
-use Rattle.vg_flatten.specs.declared.open.Open.{Open}
-use Rattle.vg_flatten.specs.declared.open.Open.TheVariants.{Set}
-use Rattle.vg_flatten.specs.declared.room.Room.{Room}
-use Rattle.vg_flatten.specs.Shapes.{Shape, empty, is_empty}
-use Rattle.vg_flatten.specs.Blocks.{Block, Skip, One, GiveBack, Both, open_code}
-use Rattle.vg_flatten.specs.Flat.{Gives, flat}
+use Rattle.vg_flatten_shapes.specs.declared.open.Open.{Open}
+use Rattle.vg_flatten_shapes.specs.declared.open.Open.TheVariants.{Set}
+use Rattle.vg_flatten_shapes.specs.declared.room.Room.{Room}
+use Rattle.vg_flatten_shapes.specs.Shapes.{Shape, empty, is_empty}
+use Rattle.vg_flatten_shapes.specs.Blocks.{Block, Skip, One, GiveBack, Both, open_code}
+use Rattle.vg_flatten_shapes.specs.Made.{Gives}
+use Rattle.vg_flatten_control.specs.Flat.{flat}
 use Rattle.vg_flatten.specs.Fitting.{CallsFit}
-use Rattle.vg_flatten.specs.Blocks.{set_in}
+use Rattle.vg_flatten_shapes.specs.Blocks.{set_in}
 
 -- So many locals from one on get the value 0.
 abbrev pub zeroes : (count from : ℕ) → Block

@@ -1,10 +1,5 @@
-pub mod Shapes
-pub mod Popped
-pub mod Blocks
-pub mod Flat
-pub mod Laying
-pub mod Weights
 pub mod Fitting
 pub mod Flattened
 pub mod Refusals
 pub mod Loops
+pub mod Sealing

@@ -4,12 +4,13 @@ use Rattle.vg_base.specs.declared.refusal.Refusal.{Refusal}
 use Rattle.vg_base.specs.declared.refusal.Refusal.TheVariants.{Fault as Faulty, NoMemory as Memory}
 use Rattle.vg_firm.specs.Program.{Procedure}
 use Rattle.vg_lin.specs.Program.{Procedure as LinProcedure}
-use Rattle.vg_flatten.specs.declared.fault.Fault.{Fault}
-use Rattle.vg_flatten.specs.declared.fault.Fault.TheVariants.{NotTaken, TooHigh, TooLong}
-use Rattle.vg_flatten.specs.declared.room.Room.{Room}
-use Rattle.vg_flatten.specs.Shapes.{empty, is_empty}
-use Rattle.vg_flatten.specs.Blocks.{open_code}
-use Rattle.vg_flatten.specs.Flat.{Made, Gives, Refused, flat}
+use Rattle.vg_flatten_shapes.specs.declared.fault.Fault.{Fault}
+use Rattle.vg_flatten_shapes.specs.declared.fault.Fault.TheVariants.{NotTaken, TooHigh, TooLong}
+use Rattle.vg_flatten_shapes.specs.declared.room.Room.{Room}
+use Rattle.vg_flatten_shapes.specs.Shapes.{empty, is_empty}
+use Rattle.vg_flatten_shapes.specs.Blocks.{open_code}
+use Rattle.vg_flatten_shapes.specs.Made.{Made, Gives, Refused}
+use Rattle.vg_flatten_control.specs.Flat.{flat}
 use Rattle.vg_flatten.specs.Fitting.{AllFit, AllSet}
 use Rattle.vg_flatten.specs.Flattened.{whole}
 

@@ -3,27 +3,23 @@ ghost use Rattle.std.specs.Prelude.{◌↔◌, ◌≡◌, ◌+◌, ◌-◌, ◌�
 ghost use Rattle.std.specs.List.{AllByRecursion};
 ghost use Rattle.vg_firm.specs.Held.{procedure_of, code_of};
 ghost use Rattle.vg_lin.specs.Sound.{IsWidth};
-ghost use Rattle.vg_flatten.specs.Blocks.{Block, open_code};
+ghost use Rattle.vg_flatten_shapes.specs.Blocks.{Block, open_code};
 ghost use Rattle.vg_flatten.specs.Flattened.{IsFlat, zero_list, whole, start_of};
-ghost use Rattle.vg_flatten.specs.Blocks.{set_in};
-ghost use Rattle.vg_flatten.specs.Laying.{Seals, Wholes};
+ghost use Rattle.vg_flatten_shapes.specs.Blocks.{set_in};
+ghost use Rattle.vg_flatten.specs.Sealing.{Seals, Wholes};
 ghost use Rattle.vg_lin.specs.Onward.{all_lead_on};
 ghost use Rattle.vg_flatten.specs.Loops.{has_loop};
 ghost use Rattle.vg_flatten.specs.Refusals.{temps_for, IsRefusedFor};
 ghost use Rattle.vg_flatten.specs.Fitting.{OpenFits, AllFit};
-ghost use Rattle.vg_flatten.specs.Flat.{flat};
-ghost use Rattle.vg_flatten.specs.Shapes.{empty};
+ghost use Rattle.vg_flatten_control.specs.Flat.{flat};
+ghost use Rattle.vg_flatten_shapes.specs.Shapes.{empty};
 ghost use Rattle.vg_lin.specs.Meaning.{operands};
 
-use crate::fault::Fault;
-use crate::flat::flat;
-use crate::open::Open;
-use crate::piece::{append, place_behind};
-use crate::room::Room;
-use crate::shape::Homes;
 use std::alloc::Global;
 use vg_base::{NoMemory, Refusal, Row};
 use vg_firm::Procedure;
+use vg_flatten_control::flat::flat;
+use vg_flatten_shapes::{Fault, Homes, Open, Room, append, place_behind};
 use vg_lin::{Call, Callee, Instr, LinProc, Operand, Plain, Registers};
 
 /// The procedure with which a run begins: it calls main, and then idles for ever.

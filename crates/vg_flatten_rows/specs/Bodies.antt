@@ -22,9 +22,10 @@ use Rattle.vg_lin.specs.declared.instr.Registers.{Registers}
 use Rattle.vg_lin.specs.declared.instr.Registers.TheVariants.{One, Two}
 use Rattle.vg_lin.specs.declared.instr.Instr.{Instr}
 use Rattle.vg_lin.specs.declared.instr.Instr.TheVariants.{Plain, When, Unless, Jump, Call, Return}
-use Rattle.vg_flatten.specs.Shapes.{empty}
-use Rattle.vg_flatten.specs.Blocks.{open_code, set_in}
-use Rattle.vg_flatten.specs.Flat.{Made, Gives, Refused, flat}
+use Rattle.vg_flatten_shapes.specs.Shapes.{empty}
+use Rattle.vg_flatten_shapes.specs.Blocks.{open_code, set_in}
+use Rattle.vg_flatten_shapes.specs.Made.{Made, Gives, Refused}
+use Rattle.vg_flatten_control.specs.Flat.{flat}
 use Rattle.vg_flatten.specs.Flattened.{whole}
 
 -- One step behind another, and then code.

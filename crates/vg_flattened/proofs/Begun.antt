@@ -6,9 +6,9 @@ use Rattle.vg_firm.specs.Session.{all_fit}
 use Rattle.vg_lin.specs.Values.{low}
 use Rattle.vg_lin.specs.State.{LocalState, value_in, with_local}
 use Rattle.vg_lin.specs.Meaning.{begun}
-use Rattle.vg_flatten.specs.declared.room.Room.{Room}
+use Rattle.vg_flatten_shapes.specs.declared.room.Room.{Room}
 use Rattle.vg_flattened.proofs.Related.{AreWidths, AreKept}
-use Rattle.vg_flatten.proofs.Temps.{some_is, none_is_not}
+use Rattle.vg_flatten_shapes.proofs.Temps.{some_is, none_is_not}
 use Rattle.vg_flattened.proofs.Locals.{written_is, others_stay}
 
 -- ---- lists

@@ -17,10 +17,11 @@ use Rattle.vg_lin.specs.Steps.{Interrupt}
 use Rattle.vg_lin.specs.State.{State}
 use Rattle.vg_lin.specs.Meaning.{language, begun, widths_of, name_of, result_of, call_of}
 use Rattle.vg_lin.specs.Structured.{Step, Deciding, fresh, Caller as LinCaller, with_found, handle as lin_handle, resumed, body as lin_body, called as lin_called, step as lin_step, truth as lin_truth}
-use Rattle.vg_flatten.specs.declared.room.Room.{Room}
-use Rattle.vg_flatten.specs.Shapes.{Shape, only, empty, is_empty}
-use Rattle.vg_flatten.specs.Blocks.{Block, Skip, GiveBack, Both, structured}
-use Rattle.vg_flatten.specs.Flat.{Made, Gives as Makes, flat}
+use Rattle.vg_flatten_shapes.specs.declared.room.Room.{Room}
+use Rattle.vg_flatten_shapes.specs.Shapes.{Shape, only, empty, is_empty}
+use Rattle.vg_flatten_shapes.specs.Blocks.{Block, Skip, GiveBack, Both, structured}
+use Rattle.vg_flatten_shapes.specs.Made.{Made, Gives as Makes}
+use Rattle.vg_flatten_control.specs.Flat.{flat}
 use Rattle.vg_flatten.specs.Fitting.{CallsFit}
 use Rattle.vg_flattened.proofs.Alike.{IsFair, Alike, gives, leaves, overs, wrong, AlikePiece}
 use Rattle.vg_flattened.proofs.AlikeLaws.{alike_opened}
@@ -28,7 +29,7 @@ use Rattle.vg_flattened.proofs.Related.{ArePlaced, AreAt, AreWidths, AreKept, Ar
 use Rattle.vg_flattened.proofs.Right.{Right, Does, linear, packed}
 use Rattle.vg_flattened.proofs.CallRight.{Never, Returned, begins, alike_behind_both, AlikeCalls, AlikeHandling, AreParams, alike_behind_call}
 use Rattle.vg_flattened.proofs.CodeRight.{right_code, empty_is}
-use Rattle.vg_flatten.proofs.Temps.{some_is}
+use Rattle.vg_flatten_shapes.proofs.Temps.{some_is}
 use Rattle.vg_flatten.specs.Flattened.{zeroes, whole, IsFlat, IsFit, AreFlat}
 use Rattle.vg_flattened.proofs.Begun.{widths_are, zeroed, kept_at_entry}
 

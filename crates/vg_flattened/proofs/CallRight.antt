@@ -21,11 +21,12 @@ use Rattle.vg_lin.specs.Steps.{Entry, Result}
 use Rattle.vg_lin.specs.State.{State, value, sets}
 use Rattle.vg_lin.specs.Meaning.{language, operands, values, both_values, begun, widths_of, enter, entry_of, entry_with}
 use Rattle.vg_lin.specs.Structured.{Deciding, fresh, Caller as LinCaller, with_found, entered, resumed}
-use Rattle.vg_flatten.specs.declared.fault.Fault.TheVariants.{NotTaken}
-use Rattle.vg_flatten.specs.declared.room.Room.{Room}
-use Rattle.vg_flatten.specs.Shapes.{Shape, only, temp}
-use Rattle.vg_flatten.specs.Blocks.{Block, CallTo, TakeInterrupt}
-use Rattle.vg_flatten.specs.Flat.{Made, Gives as Makes, Refused, by_temp, called, called_with, with_one, with_two, with_three, with_four}
+use Rattle.vg_flatten_shapes.specs.declared.fault.Fault.TheVariants.{NotTaken}
+use Rattle.vg_flatten_shapes.specs.declared.room.Room.{Room}
+use Rattle.vg_flatten_shapes.specs.Shapes.{Shape, only, temp}
+use Rattle.vg_flatten_shapes.specs.Blocks.{Block, CallTo, TakeInterrupt}
+use Rattle.vg_flatten_shapes.specs.Made.{Made, Gives as Makes, Refused, by_temp}
+use Rattle.vg_flatten_steps.specs.Steps.{called, called_with, with_one, with_two, with_three, with_four}
 use Rattle.vg_flatten.specs.Fitting.{CallsFit}
 use Rattle.vg_flattened.proofs.Alike.{IsFair, Alike, gives, leaves, overs, wrong, AlikePiece}
 use Rattle.vg_flattened.proofs.AlikeLaws.{alike_interrupt}

@@ -21,18 +21,20 @@ use Rattle.vg_lin.specs.Steps.{Goes}
 use Rattle.vg_lin.specs.State.{State, value, using, sets}
 use Rattle.vg_lin.specs.Meaning.{language, result_of}
 use Rattle.vg_lin.specs.Structured.{Deciding, Caller as LinCaller, with_found, handle as lin_handle, lifted, step as lin_step, truth as lin_truth}
-use Rattle.vg_flatten.specs.declared.fault.Fault.TheVariants.{NotTaken}
-use Rattle.vg_flatten.specs.declared.open.Truth.{Truth}
-use Rattle.vg_flatten.specs.declared.room.Room.{Room}
-use Rattle.vg_flatten.specs.Shapes.{Shape, only, empty, is_empty, is_none, same_operand, same_homes, temp}
-use Rattle.vg_flatten.specs.Blocks.{Block, Skip, One, TakeInterrupt, GiveBack, BreakOut, GoOn, Both, Choice, Repeat, structured, picked}
-use Rattle.vg_flatten.specs.Flat.{Made, Gives as Makes, Refused, behind, after, by_temp, settled, settled_as, Tested, tested, stepped, landed_as, landed}
-use Rattle.vg_flatten.specs.Flat.{joined, chosen, where_empty, repeated, repeated_test, repeated_body, repeated_next, given_back, flat}
+use Rattle.vg_flatten_shapes.specs.declared.fault.Fault.TheVariants.{NotTaken}
+use Rattle.vg_flatten_shapes.specs.declared.open.Truth.{Truth}
+use Rattle.vg_flatten_shapes.specs.declared.room.Room.{Room}
+use Rattle.vg_flatten_shapes.specs.Shapes.{Shape, only, empty, is_empty, is_none, same_operand, same_homes, temp}
+use Rattle.vg_flatten_shapes.specs.Blocks.{Block, Skip, One, TakeInterrupt, GiveBack, BreakOut, GoOn, Both, Choice, Repeat, structured, picked}
+use Rattle.vg_flatten_shapes.specs.Made.{Made, Gives as Makes, Refused, behind, after, by_temp, settled, settled_as, Tested, tested}
+use Rattle.vg_flatten_steps.specs.Steps.{stepped}
+use Rattle.vg_flatten_control.specs.Flat.{landed_as, landed}
+use Rattle.vg_flatten_control.specs.Flat.{joined, chosen, where_empty, repeated, repeated_test, repeated_body, repeated_next, given_back, flat}
 use Rattle.vg_flatten.specs.Fitting.{CallsFit}
 use Rattle.vg_flattened.proofs.Alike.{IsFair, Alike, gives, leaves, overs, wrong, AlikePiece, Inside}
 use Rattle.vg_flattened.proofs.AlikeLaws.{alike_then, alike_turns, alike_interrupt}
 use Rattle.vg_flattened.proofs.Related.{ArePlaced, AreAt, AreWidths, AreSame, Held, Leaves}
-use Rattle.vg_flatten.proofs.Temps.{some_is, none_is_not}
+use Rattle.vg_flatten_shapes.proofs.Temps.{some_is, none_is_not}
 use Rattle.vg_flattened.proofs.Locals.{value_of_home, put_temp, placed_temp}
 use Rattle.vg_flattened.proofs.Free.{homes_same}
 use Rattle.vg_flattened.proofs.Right.{Right, Does, linear, packed, right_after, right_last, right_settled, IsTested, is_tested, picks, chooses, way}

@@ -7,10 +7,10 @@ use Rattle.vg_lin.specs.declared.instr.Operand.{Operand}
 use Rattle.vg_lin.specs.declared.instr.Operand.TheVariants.{Local, Known}
 use Rattle.vg_lin.specs.Values.{low}
 use Rattle.vg_lin.specs.State.{LocalState, value_in, with_local}
-use Rattle.vg_flatten.specs.declared.room.Room.{Room}
-use Rattle.vg_flatten.specs.Shapes.{same_operand, same_homes, is_free}
+use Rattle.vg_flatten_shapes.specs.declared.room.Room.{Room}
+use Rattle.vg_flatten_shapes.specs.Shapes.{same_operand, same_homes, is_free}
 use Rattle.vg_flattened.proofs.Related.{IsAt, AreAt, AreKept}
-use Rattle.vg_flatten.proofs.Temps.{some_is, none_is_not}
+use Rattle.vg_flatten_shapes.proofs.Temps.{some_is, none_is_not}
 use Rattle.vg_flattened.proofs.Locals.{written_is, others_stay, kept_there}
 
 -- ---- what a list of numbers has behind a write

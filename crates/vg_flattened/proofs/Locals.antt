@@ -7,9 +7,9 @@ use Rattle.vg_lin.specs.declared.instr.Operand.{Operand}
 use Rattle.vg_lin.specs.declared.instr.Operand.TheVariants.{Local, Known}
 use Rattle.vg_lin.specs.Values.{low}
 use Rattle.vg_lin.specs.State.{LocalState, State, value_in, value, with_local, sets}
-use Rattle.vg_flatten.specs.declared.room.Room.{Room}
-use Rattle.vg_flatten.specs.Shapes.{temp}
-use Rattle.vg_flatten.proofs.Temps.{some_is, none_is_not, temp_is}
+use Rattle.vg_flatten_shapes.specs.declared.room.Room.{Room}
+use Rattle.vg_flatten_shapes.specs.Shapes.{temp}
+use Rattle.vg_flatten_shapes.proofs.Temps.{some_is, none_is_not, temp_is}
 use Rattle.vg_flattened.proofs.Related.{IsPlaced, ArePlaced, IsAt, AreAt, AreWidths, AreKept, AreSame}
 use Rattle.vg_flattened.proofs.Numbers.{low_same}
 

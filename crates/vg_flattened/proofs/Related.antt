@@ -8,10 +8,10 @@ use Rattle.vg_lin.specs.declared.instr.Operand.{Operand}
 use Rattle.vg_lin.specs.declared.instr.Operand.TheVariants.{Local, Known}
 use Rattle.vg_lin.specs.State.{LocalState, State, value_in, holds}
 use Rattle.vg_lin.specs.Structured.{Deciding}
-use Rattle.vg_flatten.specs.declared.open.Truth.{Truth}
-use Rattle.vg_flatten.specs.declared.open.Truth.TheVariants.{Holds, Fails}
-use Rattle.vg_flatten.specs.declared.room.Room.{Room}
-use Rattle.vg_flatten.specs.Shapes.{Shape, only, empty}
+use Rattle.vg_flatten_shapes.specs.declared.open.Truth.{Truth}
+use Rattle.vg_flatten_shapes.specs.declared.open.Truth.TheVariants.{Holds, Fails}
+use Rattle.vg_flatten_shapes.specs.declared.room.Room.{Room}
+use Rattle.vg_flatten_shapes.specs.Shapes.{Shape, only, empty}
 
 -- ---- homes
 

@@ -23,18 +23,18 @@ use Rattle.vg_lin.specs.Program.{Program as LinProgram}
 use Rattle.vg_lin.specs.State.{State, value, holds, both, sets}
 use Rattle.vg_lin.specs.Meaning.{language}
 use Rattle.vg_lin.specs.Structured.{Deciding, Caller as LinCaller, with_found, with_truth, step as lin_step, truth as lin_truth}
-use Rattle.vg_flatten.specs.declared.open.Truth.{Truth}
-use Rattle.vg_flatten.specs.declared.open.Truth.TheVariants.{Holds, Fails}
-use Rattle.vg_flatten.specs.declared.room.Room.{Room}
-use Rattle.vg_flatten.specs.Shapes.{Shape, only, empty, is_empty, is_none, temp}
-use Rattle.vg_flatten.specs.Blocks.{Block, Skip, One, Both, Choice, structured, picked}
-use Rattle.vg_flatten.specs.Flat.{Made, Gives as Makes, Refused, behind, after, by_temp, settled, settled_as, Tested, tested, tested_as, is_zero}
+use Rattle.vg_flatten_shapes.specs.declared.open.Truth.{Truth}
+use Rattle.vg_flatten_shapes.specs.declared.open.Truth.TheVariants.{Holds, Fails}
+use Rattle.vg_flatten_shapes.specs.declared.room.Room.{Room}
+use Rattle.vg_flatten_shapes.specs.Shapes.{Shape, only, empty, is_empty, is_none, temp}
+use Rattle.vg_flatten_shapes.specs.Blocks.{Block, Skip, One, Both, Choice, structured, picked}
+use Rattle.vg_flatten_shapes.specs.Made.{Made, Gives as Makes, Refused, behind, after, by_temp, settled, settled_as, Tested, tested, tested_as, is_zero}
 use Rattle.vg_flatten.specs.Fitting.{CallsFit}
 use Rattle.vg_flattened.proofs.Alike.{IsFair, Alike, gives, leaves, overs, wrong, AlikePiece}
 use Rattle.vg_flattened.proofs.AlikeLaws.{alike_then}
 use Rattle.vg_flattened.proofs.Related.{ArePlaced, AreAt, AreWidths, AreSame, IsSaid, said, Held, Leaves}
 use Rattle.vg_flattened.proofs.Numbers.{low_same, same_same}
-use Rattle.vg_flatten.proofs.Temps.{some_is, none_is_not}
+use Rattle.vg_flatten_shapes.proofs.Temps.{some_is, none_is_not}
 use Rattle.vg_flattened.proofs.Locals.{value_of_home, put_temp, placed_temp}
 
 pub unit_behind : {S : Type 0} (a : Answer S History) → and_then a go_on ≡ a

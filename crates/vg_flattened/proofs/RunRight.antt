@@ -23,16 +23,16 @@ use Rattle.vg_lin.specs.Stands.{Stands, Next, nothing, AllStand, StandsFirst}
 use Rattle.vg_lin.specs.Follows.{IsLegal}
 use Rattle.vg_lin.specs.Sessions.{world}
 use Rattle.vg_lin.proofs.Followed.{follows_sessions}
-use Rattle.vg_flatten.specs.declared.open.Open.{Open}
-use Rattle.vg_flatten.specs.declared.room.Room.{Room}
-use Rattle.vg_flatten.specs.Shapes.{only}
-use Rattle.vg_flatten.specs.Blocks.{Block, Skip, structured, open_code}
+use Rattle.vg_flatten_shapes.specs.declared.open.Open.{Open}
+use Rattle.vg_flatten_shapes.specs.declared.room.Room.{Room}
+use Rattle.vg_flatten_shapes.specs.Shapes.{only}
+use Rattle.vg_flatten_shapes.specs.Blocks.{Block, Skip, structured, open_code}
 use Rattle.vg_flattened.proofs.Alike.{IsFair, Alike, gives, leaves, overs, wrong, AlikePiece}
 use Rattle.vg_flattened.proofs.AlikeLaws.{alike_then, alike_opened, alike_idles}
 use Rattle.vg_flattened.proofs.Related.{AreSame, Held, Leaves}
-use Rattle.vg_flatten.proofs.Temps.{some_is, none_is_not}
+use Rattle.vg_flatten_shapes.proofs.Temps.{some_is, none_is_not}
 use Rattle.vg_flattened.proofs.CallRight.{Never, Returned, begins, alike_behind_both, AlikeCalls, AreParams}
-use Rattle.vg_flatten.specs.Blocks.{set_in}
+use Rattle.vg_flatten_shapes.specs.Blocks.{set_in}
 use Rattle.vg_flattened.proofs.Standing.{Lies, stands}
 use Rattle.vg_flatten.specs.Flattened.{whole, calls_main, start_of, IsFlat, IsFit, AreFlat}
 use Rattle.vg_flattened.proofs.BodyRight.{alike_handling, alike_body}

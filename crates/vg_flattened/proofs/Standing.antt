@@ -5,14 +5,14 @@ use Rattle.std.proofs.lemmas.List.{length-append, length-map}
 use Rattle.vg_meaning.specs.Code.{Code}
 use Rattle.vg_lin.specs.declared.instr.Instr.{Instr}
 use Rattle.vg_lin.specs.declared.instr.Instr.TheVariants.{Plain, When, Unless, Jump, Call, Return, Idle}
-use Rattle.vg_flatten.proofs.Choices.{alone, with_jump, choice_cases, nothing_anywhere}
+use Rattle.vg_flatten_shapes.proofs.Choices.{alone, with_jump, choice_cases, nothing_anywhere}
 use Rattle.vg_lin.specs.Structured.{Step}
 use Rattle.vg_lin.specs.Stands.{Next, Either, Stands, nothing, sequence, plain, call, idle, when, unless, flip, choice, loop, break', continue', return, before, behind}
-use Rattle.vg_flatten.specs.declared.open.Truth.{Truth}
-use Rattle.vg_flatten.specs.declared.open.Truth.TheVariants.{Holds, Fails}
-use Rattle.vg_flatten.specs.declared.open.Open.{Open}
-use Rattle.vg_flatten.specs.declared.open.Open.TheVariants.{Set, Break, Continue}
-use Rattle.vg_flatten.specs.Blocks.{Block, Skip, One, CallTo, TakeInterrupt, GiveBack, BreakOut, GoOn, Both, Choice, Repeat, structured, picked, branch, closed, set_in, choice_code, loop_code, open_code}
+use Rattle.vg_flatten_shapes.specs.declared.open.Truth.{Truth}
+use Rattle.vg_flatten_shapes.specs.declared.open.Truth.TheVariants.{Holds, Fails}
+use Rattle.vg_flatten_shapes.specs.declared.open.Open.{Open}
+use Rattle.vg_flatten_shapes.specs.declared.open.Open.TheVariants.{Set, Break, Continue}
+use Rattle.vg_flatten_shapes.specs.Blocks.{Block, Skip, One, CallTo, TakeInterrupt, GiveBack, BreakOut, GoOn, Both, Choice, Repeat, structured, picked, branch, closed, set_in, choice_code, loop_code, open_code}
 
 -- The instructions stand from a place on.
 abbrev pub Lies : (fetch : ℕ → Option Instr) → (behind' again : ℕ) → List Open → (at : ℕ) → Type 0

@@ -31,19 +31,20 @@ use Rattle.vg_lin.specs.Program.{Program as LinProgram}
 use Rattle.vg_lin.specs.Steps.{Went, Goes}
 use Rattle.vg_lin.specs.State.{State, value, using, sets, computes as lin_computes, plain, reads_from}
 use Rattle.vg_lin.specs.Structured.{Deciding, Caller as LinCaller, lifted}
-use Rattle.vg_flatten.specs.declared.fault.Fault.TheVariants.{NotTaken}
-use Rattle.vg_flatten.specs.declared.open.Truth.{Truth}
-use Rattle.vg_flatten.specs.declared.open.Truth.TheVariants.{Holds}
-use Rattle.vg_flatten.specs.declared.room.Room.{Room}
-use Rattle.vg_flatten.specs.Shapes.{Shape, only, is_free, temp}
-use Rattle.vg_flatten.specs.Blocks.{Block, Skip, One}
-use Rattle.vg_flatten.specs.Flat.{Made, Gives as Makes, Refused, by_temp, computing, comparing, computed, compared, operated, operated_as, bytes_of, applied, is_zero}
-use Rattle.vg_flatten.specs.Flat.{put_number, get_local, set_local as sets_local, forgotten, read, written, cut}
+use Rattle.vg_flatten_shapes.specs.declared.fault.Fault.TheVariants.{NotTaken}
+use Rattle.vg_flatten_shapes.specs.declared.open.Truth.{Truth}
+use Rattle.vg_flatten_shapes.specs.declared.open.Truth.TheVariants.{Holds}
+use Rattle.vg_flatten_shapes.specs.declared.room.Room.{Room}
+use Rattle.vg_flatten_shapes.specs.Shapes.{Shape, only, is_free, temp}
+use Rattle.vg_flatten_shapes.specs.Blocks.{Block, Skip, One}
+use Rattle.vg_flatten_shapes.specs.Made.{Made, Gives as Makes, Refused, by_temp, is_zero}
+use Rattle.vg_flatten_steps.specs.Steps.{computing, comparing, computed, compared, operated, operated_as, bytes_of, applied}
+use Rattle.vg_flatten_steps.specs.Steps.{put_number, get_local, set_local as sets_local, forgotten, read, written, cut}
 use Rattle.vg_flatten.specs.Fitting.{CallsFit}
 use Rattle.vg_flattened.proofs.Alike.{IsFair, Alike, gives, leaves, overs, wrong, AlikePiece}
 use Rattle.vg_flattened.proofs.Related.{IsAt, ArePlaced, AreAt, AreWidths, AreSame, IsSaid, said, Held, Leaves}
 use Rattle.vg_flattened.proofs.Numbers.{low_same, low_small, opposite_same, same_same}
-use Rattle.vg_flatten.proofs.Temps.{some_is, none_is_not}
+use Rattle.vg_flatten_shapes.proofs.Temps.{some_is, none_is_not}
 use Rattle.vg_flattened.proofs.Locals.{value_of_home, put_temp, placed_temp}
 use Rattle.vg_flattened.proofs.Free.{homes_beside, kept_behind_set}
 use Rattle.vg_flattened.proofs.Operating.{Computes, computes, Compares, compares, holds_of}

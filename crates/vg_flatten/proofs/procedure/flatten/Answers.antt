@@ -1,8 +1,8 @@
 use Rattle.std.proofs.Common.{arith, true, false, length, map, ◌++◌, ◌≡◌, replicate, ap, sym, subst, ◌∙◌}
 use Rattle.vg_firm.specs.Held.{code_of, procedure_of}
-use Rattle.vg_flatten.specs.declared.room.Room.{Room}
+use Rattle.vg_flatten_shapes.specs.declared.room.Room.{Room}
 use Rattle.vg_flatten.specs.Fitting.{AllFit, AllSet}
-use Rattle.vg_flatten.specs.Blocks.{set_in}
+use Rattle.vg_flatten_shapes.specs.Blocks.{set_in}
 use Rattle.vg_flatten.specs.Flattened.{IsFlat}
 use Rattle.vg_flatten.proofs.Finished.{procedure_sound, procedure_flat, procedure_onward}
 use Rattle.vg_lin.specs.Onward.{all_lead_on}

@@ -1,6 +1,6 @@
 use Rattle.std.proofs.Common.{◌≡◌, ◌++◌, drop, map}
 use Rattle.vg_flatten.specs.Fitting.{AllSet}
-use Rattle.vg_flatten.specs.Blocks.{set_in}
+use Rattle.vg_flatten_shapes.specs.Blocks.{set_in}
 use Rattle.vg_flatten.proofs.procedure.sealed.Given as goal
 
 abbrev pub invariant-loop-instr : goal.invariant-loop-instr

@@ -1,9 +1,9 @@
 use Rattle.std.proofs.Common.{◌++◌, ◌+◌, ◌-◌, ◌≡◌, length, arith, subst, sym, ap, ◌∙◌}
 use Rattle.vg_firm.specs.Held.{code_of, procedure_of}
-use Rattle.vg_flatten.specs.Shapes.{empty}
-use Rattle.vg_flatten.specs.Flat.{flat}
+use Rattle.vg_flatten_shapes.specs.Shapes.{empty}
+use Rattle.vg_flatten_control.specs.Flat.{flat}
 use Rattle.vg_flatten.specs.Flattened.{zero_list}
-use Rattle.vg_flatten.specs.Laying.{IsPiece}
+use Rattle.vg_flatten_shapes.specs.Laying.{IsPiece}
 use Rattle.vg_flatten.proofs.Finished.{whole_laid}
 use Rattle.vg_flatten.proofs.procedure.whole_code.Goals as goal
 

@@ -1,5 +1,0 @@
-use Rattle.std.proofs.Common.{length}
-use Rattle.vg_flatten.proofs.shape.+same_homes.Given as goal
-
-abbrev pub decreases-same_homes : goal.decreases-same_homes
-decreases-same_homes l = length l.first.now

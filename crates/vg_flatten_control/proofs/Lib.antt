@@ -1,0 +1,3 @@
+pub mod Rows
+pub mod LoopPieces
+pub mod Along

@@ -1,0 +1,3 @@
+pub mod Flat
+pub mod Joining
+pub mod Weights

@@ -1,0 +1,2 @@
+pub mod Temps
+pub mod Choices

@@ -1,0 +1,5 @@
+pub mod Shapes
+pub mod Popped
+pub mod Blocks
+pub mod Made
+pub mod Laying

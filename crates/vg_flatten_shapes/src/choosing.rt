@@ -1,0 +1,60 @@
+// The code of choices.
+ghost use Rattle.std.specs.Prelude.{◌≡◌, ◌∷◌};
+ghost use Rattle.vg_flatten_shapes.specs.declared.open.Open.TheVariants.{Set};
+ghost use Rattle.vg_flatten_shapes.specs.Blocks.{branch, choice_code};
+ghost use Rattle.vg_flatten_shapes.specs.Laying.{LaysCode};
+
+use crate::fault::Fault;
+use crate::open::{Open, Truth};
+use crate::piece::{append, place_behind};
+use std::alloc::Global;
+use vg_base::{Refusal, Row};
+use vg_lin::Instr;
+
+/// The branch to a place where the truth value is false.
+pub fn branch(truth: Truth, to: u16) -> Instr
+    ensures { result ≡ branch truth to }
+{
+    match truth {
+        Truth::Holds(test) => Instr::Unless(test, to),
+        Truth::Fails(test) => Instr::When(test, to),
+    }
+}
+
+/// The code of a choice, from a place on, of the codes of both ways; the second way needs a jump before it where it has code.
+pub fn choice(
+    alloc: Global,
+    at: u16,
+    truth: Truth,
+    first: &[Open],
+    rest: &[Open],
+) -> Result<Row<Open>, Refusal<Fault>>
+    ensures { LaysCode result (choice_code truth at first.now rest.now) }
+{
+    let first_at = place_behind(at, 1)?;
+    let jump_at = place_behind(first_at, first.len())?;
+    if rest.len() == 0 {
+        return choice_alone(alloc, truth, jump_at, first);
+    }
+    let rest_at = place_behind(jump_at, 1)?;
+    let end = place_behind(rest_at, rest.len())?;
+    let mut code = Row::new(alloc);
+    code.push(Open::Set(branch(truth, rest_at)))?;
+    let mut code = append(code, first)?;
+    code.push(Open::Set(Instr::Jump(end)))?;
+    Ok(append(code, rest)?)
+}
+
+/// The code of a choice of which one way has no code, with the place behind it.
+fn choice_alone(
+    alloc: Global,
+    truth: Truth,
+    end: u16,
+    first: &[Open],
+) -> Result<Row<Open>, Refusal<Fault>>
+    ensures { LaysCode result (Set (branch truth end) ∷ first.now) }
+{
+    let mut code = Row::new(alloc);
+    code.push(Open::Set(branch(truth, end)))?;
+    Ok(append(code, first)?)
+}

@@ -1,0 +1,195 @@
+// What operators become.
+ghost use Rattle.std.specs.Prelude.{◌≡◌, ◌+◌, ◌≤◌, None};
+ghost use Rattle.vg_flatten_steps.specs.Steps.{operated, applied, computed, computing, comparing, operated_as, bytes_of, test_of, by_order};
+ghost use Rattle.vg_flatten_shapes.specs.Made.{is_zero};
+ghost use Rattle.vg_flatten_shapes.specs.Laying.{Lays};
+
+use crate::put::{put_into, put_truth, temp};
+use std::alloc::Global;
+use vg_base::Refusal;
+use vg_firm::{Operator as FirmOperator, Order, Prefix};
+use vg_flatten_shapes::{Fault, Homes, Piece, Room, Truth};
+use vg_lin::{Comparison, Computation, Instr, Operand, Operator, Plain, Test};
+
+fn computed(
+    alloc: Global,
+    room: Room,
+    at: u16,
+    operator: Operator,
+    width: u8,
+    left: Operand,
+    right: Operand,
+    homes: Homes,
+) -> Result<Piece, Refusal<Fault>>
+    requires room { room.locals + room.temps ≤ 252 }
+    requires settled { homes.truth ≡ None }
+    ensures { Lays result at (computed room operator width left right homes.homes) }
+{
+    let to = temp(room, &homes)?;
+    let computation = Computation {
+        operator,
+        width,
+        to,
+        left,
+        right,
+    };
+    Ok(put_into(alloc, to, Instr::Plain(Plain::Compute(computation)), homes)?)
+}
+
+pub(crate) fn operated(
+    alloc: Global,
+    room: Room,
+    at: u16,
+    op: FirmOperator,
+    homes: Homes,
+) -> Result<Piece, Refusal<Fault>>
+    requires room { room.locals + room.temps ≤ 252 }
+    requires settled { homes.truth ≡ None }
+    ensures { Lays result at (operated room op homes.homes) }
+{
+    let mut homes = homes;
+    match homes.pop() {
+        Some(right) => match homes.pop() {
+            Some(left) => operated_as(alloc, room, at, op, left, right, homes),
+            None => Err(Refusal::Fault(Fault::NotTaken)),
+        },
+        None => Err(Refusal::Fault(Fault::NotTaken)),
+    }
+}
+
+fn operated_as(
+    alloc: Global,
+    room: Room,
+    at: u16,
+    op: FirmOperator,
+    left: Operand,
+    right: Operand,
+    homes: Homes,
+) -> Result<Piece, Refusal<Fault>>
+    requires room { room.locals + room.temps ≤ 252 }
+    requires settled { homes.truth ≡ None }
+    ensures { Lays result at (operated_as room (computing op) (comparing op left right) left right homes.homes) }
+{
+    match computing(op) {
+        Some(operator) => computed(alloc, room, at, operator, 4, left, right, homes),
+        None => match comparing(op, left, right) {
+            Some(truth) => Ok(put_truth(alloc, truth, homes)),
+            None => Err(Refusal::Fault(Fault::NotTaken)),
+        },
+    }
+}
+
+fn computing(op: FirmOperator) -> Option<Operator>
+    ensures { result ≡ computing op }
+{
+    match op {
+        FirmOperator::Plus => Some(Operator::Plus),
+        FirmOperator::Minus => Some(Operator::Minus),
+        FirmOperator::Times => Some(Operator::Times),
+        FirmOperator::And => Some(Operator::And),
+        FirmOperator::Or => Some(Operator::Or),
+        FirmOperator::Xor => Some(Operator::Xor),
+        _ => None,
+    }
+}
+
+fn by_order(order: Order) -> Comparison
+    ensures { result ≡ by_order order }
+{
+    match order {
+        Order::Signed => Comparison::Less,
+        Order::Unsigned => Comparison::Below,
+    }
+}
+
+fn test_of(comparison: Comparison, left: Operand, right: Operand) -> Test
+    ensures { result ≡ test_of comparison left right }
+{
+    Test {
+        comparison,
+        width: 4,
+        left,
+        right,
+    }
+}
+
+fn comparing(op: FirmOperator, left: Operand, right: Operand) -> Option<Truth>
+    ensures { result ≡ comparing op left right }
+{
+    match op {
+        FirmOperator::Less(o) => Some(Truth::Holds(test_of(by_order(o), left, right))),
+        FirmOperator::AtMost(o) => Some(Truth::Fails(test_of(by_order(o), right, left))),
+        FirmOperator::Greater(o) => Some(Truth::Holds(test_of(by_order(o), right, left))),
+        FirmOperator::AtLeast(o) => Some(Truth::Fails(test_of(by_order(o), left, right))),
+        FirmOperator::Equal => Some(Truth::Holds(test_of(Comparison::Same, left, right))),
+        FirmOperator::Unequal => Some(Truth::Fails(test_of(Comparison::Same, left, right))),
+        _ => None,
+    }
+}
+
+fn bytes_of(bits: u8) -> Option<u8>
+    ensures { result ≡ bytes_of bits }
+{
+    if bits == 8 {
+        Some(1)
+    } else if bits == 16 {
+        Some(2)
+    } else if bits == 24 {
+        Some(3)
+    } else if bits == 32 {
+        Some(4)
+    } else {
+        None
+    }
+}
+
+pub(crate) fn applied(
+    alloc: Global,
+    room: Room,
+    at: u16,
+    op: Prefix,
+    homes: Homes,
+) -> Result<Piece, Refusal<Fault>>
+    requires room { room.locals + room.temps ≤ 252 }
+    requires settled { homes.truth ≡ None }
+    ensures { Lays result at (applied room op homes.homes) }
+{
+    let mut homes = homes;
+    match homes.pop() {
+        Some(home) => match op {
+            Prefix::Not => Ok(put_truth(alloc, Truth::Holds(is_zero(home)), homes)),
+            Prefix::Negative => computed(
+                alloc,
+                room,
+                at,
+                Operator::Minus,
+                4,
+                Operand::Known(0),
+                home,
+                homes,
+            ),
+            Prefix::Cut(bits) => match bytes_of(bits) {
+                Some(width) => computed(
+                    alloc,
+                    room,
+                    at,
+                    Operator::Plus,
+                    width,
+                    home,
+                    Operand::Known(0),
+                    homes,
+                ),
+                None => Err(Refusal::Fault(Fault::NotTaken)),
+            },
+            Prefix::Complement(_) => Err(Refusal::Fault(Fault::NotTaken)),
+        },
+        None => Err(Refusal::Fault(Fault::NotTaken)),
+    }
+}
+
+/// The test that a number is 0.
+pub fn is_zero(home: Operand) -> Test
+    ensures { result ≡ is_zero home }
+{
+    test_of(Comparison::Same, home, Operand::Known(0))
+}
