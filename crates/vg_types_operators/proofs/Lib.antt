@@ -1,0 +1,5 @@
+pub mod Giving
+pub mod Comparing
+pub mod Leading
+pub mod Casting
+pub mod Prefixing
