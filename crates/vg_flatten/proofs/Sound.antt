@@ -17,11 +17,11 @@ use Rattle.vg_firm.specs.declared.step.Step.TheVariants.{StopUnlessWithin, Bind,
 use Rattle.vg_lin.specs.declared.instr.Operand.{Operand}
 use Rattle.vg_lin.specs.declared.instr.Operand.TheVariants.{Local, Known}
 use Rattle.vg_lin.specs.declared.instr.Operator.{Operator as LinOperator}
-use Rattle.vg_lin.specs.declared.instr.Operator.TheVariants.{Plus as Sum, Minus as Difference}
-use Rattle.vg_lin.specs.declared.instr.Comparison.TheVariants.{Same}
+use Rattle.vg_lin.specs.declared.instr.Operator.TheVariants.{Plus as Sum, Minus as Difference, Divide as Quotient, Remainder as Rest, ShiftLeft as ShiftsLeft, ShiftRight as ShiftsRight}
+use Rattle.vg_lin.specs.declared.instr.Comparison.TheVariants.{Below, Same}
 use Rattle.vg_lin.specs.declared.instr.Test.{Test}
 use Rattle.vg_lin.specs.declared.instr.Plain.{Plain as PlainInstr}
-use Rattle.vg_lin.specs.declared.instr.Plain.TheVariants.{Copy, Compute, ReadDevice as ReadsDevice, WriteDevice as WritesDevice}
+use Rattle.vg_lin.specs.declared.instr.Plain.TheVariants.{Copy, Compute, ReadDevice as ReadsDevice, WriteDevice as WritesDevice, Stop}
 use Rattle.vg_lin.specs.declared.instr.Callee.{Callee}
 use Rattle.vg_lin.specs.declared.instr.Callee.TheVariants.{Procedure as ByNumber, Code as ByCode}
 use Rattle.vg_lin.specs.declared.instr.Registers.{Registers}
@@ -32,15 +32,17 @@ use Rattle.vg_flatten_shapes.specs.declared.open.Truth.{Truth}
 use Rattle.vg_flatten_shapes.specs.declared.open.Truth.TheVariants.{Holds, Fails}
 use Rattle.vg_flatten_shapes.specs.declared.room.Room.{Room}
 use Rattle.vg_flatten_shapes.specs.Shapes.{Shape, only, empty, is_empty, is_free, same_operand, same_homes, temp}
-use Rattle.vg_flatten_shapes.specs.Blocks.{Block, Skip, One, CallTo, TakeInterrupt, GiveBack, BreakOut, GoOn, Both, Choice, Repeat}
+use Rattle.vg_flatten_shapes.specs.Blocks.{stop_where, Block, Skip, One, CallTo, TakeInterrupt, GiveBack, BreakOut, GoOn, Both, Choice, Repeat}
 use Rattle.vg_flatten_shapes.specs.Made.{Made, Gives, Refused, behind, after, by_temp, settled, settled_as, Tested, tested, tested_as, is_zero}
 use Rattle.vg_flatten_steps.specs.Steps.{computing, comparing, by_order, test_of}
-use Rattle.vg_flatten_steps.specs.Steps.{computed, compared, operated, operated_as, bytes_of, cut, applied, put_number, get_local, set_local, forgotten, read}
+use Rattle.vg_flatten_steps.specs.Steps.{computed, operated, operated_as, bytes_of, cut, applied, put_number, get_local, set_local, forgotten, read}
 use Rattle.vg_flatten_steps.specs.Steps.{written}
 use Rattle.vg_flatten_steps.specs.Steps.{called_with, with_one, with_two, with_three, with_four, called, stepped}
 use Rattle.vg_flatten_control.specs.Flat.{landed_as, landed, joined, chosen, where_empty, repeated, repeated_test}
 use Rattle.vg_flatten.specs.Loops.{has_loop}
 use Rattle.vg_flatten_control.specs.Flat.{repeated_body, repeated_next, given_back, flat}
+use Rattle.vg_flatten_steps.specs.Steps.{bytes_around, may_be_zero, divisor_checked, divided, masked, shifted_left, shifted_where, shifted_by, shifted_right, combined}
+use Rattle.vg_flatten_steps.specs.Steps.{load_nothing, store_nothing, is_near, is_one_of, cast_to}
 use Rattle.vg_flatten_shapes.proofs.Temps.{some_is, none_is_not, temp_is}
 
 -- ---- operands in range
@@ -70,6 +72,7 @@ IsPlainIn size (Copy to a) = (to < size) × IsIn size a
 IsPlainIn size (Compute c) = (1 ≤ c.width) × (c.width ≤ 4) × (c.to < size) × IsIn size c.left × IsIn size c.right
 IsPlainIn size (ReadsDevice to address) = to < size
 IsPlainIn size (WritesDevice address a) = IsIn size a
+IsPlainIn size (Stop code) = Unit {0}
 IsPlainIn size _ = ⊥
 
 abbrev pub IsToIn : (size : ℕ) → Option ℕ → Type 0
@@ -162,15 +165,86 @@ module _ (L : Type 0) (r : Room) where
   in_comparing (ShiftRight k) x y hx hy = tt
   in_comparing (Concat k) x y hx hy = tt
 
+  -- ---- divisions and shifts
+
+  in_stop : (code : ℕ) (t : Truth) → IsTruthIn size t → BlockIn L size (stop_where code t)
+  in_stop code t h = (h, tt, tt)
+
+  in_divisor : (y : Operand) → IsIn size y → BlockIn L size (divisor_checked y)
+  in_divisor y hy = by_zero (may_be_zero y)
+    where
+      by_zero : (b : Bool) → BlockIn L size (if b then stop_where 3 (Holds (is_zero y)) else Skip)
+      by_zero true = in_stop 3 (Holds (is_zero y)) (in_test y (Known 0) hy tt Same)
+      by_zero false = tt
+
+  in_divided : (op : LinOperator) (x y : Operand) (hs : List Operand) → IsIn size x → IsIn size y → AreIn size hs → MadeIn L size (divided r op x y hs)
+  in_divided op x y hs hx hy h = in_by_temp hs _ (λ to lt. ((in_divisor y hy, (omega arith, omega arith, lt, hx, hy)), ((lt, h), tt)))
+
+  in_masked : (bits : ℕ) (x y : Operand) (hs : List Operand) → IsIn size x → IsIn size y → AreIn size hs → (o : Option ℕ) → bytes_around bits ≡ o
+      → MadeIn L size (masked r bits o x y hs)
+  in_masked bits x y hs hx hy h None e = tt
+  in_masked bits x y hs hx hy h (Some width) e =
+      in_by_temp hs _ (λ to lt. (((above bits width e, below bits width e, lt, hx, hy), (above bits width e, below bits width e, lt, lt, tt)), ((lt, h), tt)))
+    where
+      above : (n v : ℕ) → bytes_around n ≡ Some v → 1 ≤ v
+      above n v e1 = grind arith
+
+      below : (n v : ℕ) → bytes_around n ≡ Some v → v ≤ 4
+      below n v e1 = grind arith
+
+  in_shifted_left : (bits : ℕ) (x y : Operand) (hs : List Operand) → IsIn size x → IsIn size y → AreIn size hs → (o : Option ℕ) → bytes_of bits ≡ o
+      → MadeIn L size (shifted_left r bits o x y hs)
+  in_shifted_left bits x y hs hx hy h None e = in_masked bits x y hs hx hy h (bytes_around bits) refl
+  in_shifted_left bits x y hs hx hy h (Some width) e = in_computed ShiftsLeft width x y hs (above bits width e) (below bits width e) hx hy h
+    where
+      above : (n v : ℕ) → bytes_of n ≡ Some v → 1 ≤ v
+      above n v e1 = grind arith
+
+      below : (n v : ℕ) → bytes_of n ≡ Some v → v ≤ 4
+      below n v e1 = grind arith
+
+  in_shifted_by : (bits : ℕ) (x y : Operand) (hs : List Operand) → IsIn size x → IsIn size y → AreIn size hs → MadeIn L size (shifted_by r bits x y hs)
+  in_shifted_by bits x y hs hx hy h =
+      in_if (bits == 32) _ _ (in_computed ShiftsRight 4 x y hs (omega arith) (omega arith) hx hy h)
+      (in_if (nat_lt bits 32) (shifted_where r bits x y hs) _ (in_by_temp hs _ (λ to lt. (
+        (in_test y (Known bits) hy tt Below, (omega arith, omega arith, lt, hx, hy), (lt, tt)),
+        ((lt, h), tt),
+      ))) tt)
+
+  in_shifted_right : (bits : ℕ) (x y : Operand) (hs : List Operand) → IsIn size x → IsIn size y → AreIn size hs → MadeIn L size (shifted_right r bits x y hs)
+  in_shifted_right bits x (Known n) hs hx hy h =
+      in_if (nat_lt 32 bits) _ _ tt
+      (in_if (nat_lt n bits) _ _ (in_computed ShiftsRight 4 x (Known n) hs (omega arith) (omega arith) hx hy h) (tt, ((tt, h), tt)))
+  in_shifted_right bits x (Local i) hs hx hy h = in_shifted_by bits x (Local i) hs hx hy h
+
+  in_combined : (op : Operator) (x y : Operand) (hs : List Operand) → IsIn size x → IsIn size y → AreIn size hs → MadeIn L size (combined r op x y hs)
+  in_combined Divide x y hs hx hy h = in_divided Quotient x y hs hx hy h
+  in_combined Remainder x y hs hx hy h = in_divided Rest x y hs hx hy h
+  in_combined (ShiftLeft bits) x y hs hx hy h = in_shifted_left bits x y hs hx hy h (bytes_of bits) refl
+  in_combined (ShiftRight bits) x y hs hx hy h = in_shifted_right bits x y hs hx hy h
+  in_combined Plus x y hs hx hy h = tt
+  in_combined Minus x y hs hx hy h = tt
+  in_combined Times x y hs hx hy h = tt
+  in_combined (Less o) x y hs hx hy h = tt
+  in_combined (AtMost o) x y hs hx hy h = tt
+  in_combined (Greater o) x y hs hx hy h = tt
+  in_combined (AtLeast o) x y hs hx hy h = tt
+  in_combined Equal x y hs hx hy h = tt
+  in_combined Unequal x y hs hx hy h = tt
+  in_combined And x y hs hx hy h = tt
+  in_combined Or x y hs hx hy h = tt
+  in_combined Xor x y hs hx hy h = tt
+  in_combined (Concat k) x y hs hx hy h = tt
+
   in_operated : (op : Operator) (hs : List Operand) → AreIn size hs → MadeIn L size (operated r op hs)
   in_operated op [] h = tt
   in_operated op (y ∷ []) h = tt
   in_operated op (y ∷ x ∷ hs) h = by_kind (computing op) (comparing op x y) (in_comparing op x y h.1.0 h.0)
     where
-      by_kind : (o : Option LinOperator) (t : Option Truth) → MayBeIn size t → MadeIn L size (operated_as r o t x y hs)
+      by_kind : (o : Option LinOperator) (t : Option Truth) → MayBeIn size t → MadeIn L size (operated_as r op o t x y hs)
       by_kind (Some lop) t ht = in_computed lop 4 x y hs (omega arith) (omega arith) h.1.0 h.0 h.1.1
       by_kind None (Some t) ht = (tt, (h.1.1, ht))
-      by_kind None None ht = tt
+      by_kind None None ht = in_combined op x y hs h.1.0 h.0 h.1.1
 
   in_cut : (bits : ℕ) (h : Operand) (hs : List Operand) → IsIn size h → AreIn size hs → (o : Option ℕ) → bytes_of bits ≡ o → MadeIn L size (cut r o h hs)
   in_cut bits h hs hh hhs None e = tt
@@ -190,7 +264,8 @@ module _ (L : Type 0) (r : Room) where
   in_applied Not (a ∷ hs) h = (tt, (h.1, in_test a (Known 0) h.0 tt Same))
   in_applied Negative (a ∷ hs) h = in_computed Difference 4 (Known 0) a hs (omega arith) (omega arith) tt h.0 h.1
   in_applied (Cut bits) (a ∷ hs) h = in_cut bits a hs h.0 h.1 (bytes_of bits) refl
-  in_applied (Complement bits) (a ∷ hs) h = tt
+  in_applied (Complement bits) (a ∷ hs) h =
+      in_if (bits == 32) _ _ (in_computed Difference 4 (Known (2 ^ 32 - 1)) a hs (omega arith) (omega arith) tt h.0 h.1) tt
 
   in_local : (i : ℕ) (hs : List Operand) → AreIn size hs → MadeIn L size (get_local r i hs)
   in_local i hs h = by_size (nat_lt i r.locals) refl
@@ -250,6 +325,34 @@ module _ (L : Type 0) (r : Room) where
   in_written address [] h = tt
   in_written address (a ∷ hs) h = (h.0, (h.1, tt))
 
+  in_load_nothing : (hs : List Operand) → AreIn size hs → MadeIn L size (load_nothing hs)
+  in_load_nothing [] h = tt
+  in_load_nothing (a ∷ hs) h = (in_stop 1 (Holds (is_zero a)) (in_test a (Known 0) h.0 tt Same), ((tt, h.1), tt))
+
+  in_store_nothing : (hs : List Operand) → AreIn size hs → MadeIn L size (store_nothing hs)
+  in_store_nothing [] h = tt
+  in_store_nothing (v ∷ []) h = tt
+  in_store_nothing (v ∷ a ∷ hs) h = (in_stop 1 (Holds (is_zero a)) (in_test a (Known 0) h.1.0 tt Same), (h.1.1, tt))
+
+  in_one_of : (first count : ℕ) (hs : List Operand) → AreIn size hs → MadeIn L size (is_one_of r first count hs)
+  in_one_of first count [] h = tt
+  in_one_of first count (a ∷ hs) h =
+      in_if (nat_lt (first + count) (2 ^ 32)) _ _
+      (in_by_temp hs _ (λ to lt. ((omega arith, omega arith, lt, h.0, tt), (h.1, in_test (Local to) (Known count) lt tt Below)))) tt
+
+  in_cast : (first count : ℕ) (hs : List Operand) → AreIn size hs → MadeIn L size (cast_to r first count hs)
+  in_cast first count [] h = tt
+  in_cast first count (a ∷ hs) h =
+      in_if (nat_lt (first + count) (2 ^ 32)) _ _
+      (in_by_temp (a ∷ hs) _ (λ to lt. (
+        (
+          in_test a (Known 0) h.0 tt Same,
+          ((omega arith, omega arith, lt, h.0, tt), in_stop 4 (Fails (is_near to count)) (in_test (Local to) (Known count) lt tt Below)),
+          tt,
+        ),
+        (h, tt),
+      ))) tt
+
   in_stepped : (q : Step) (hs : List Operand) → AreIn size hs → MadeIn L size (stepped r q hs)
   in_stepped (Number v) hs h = in_number v hs h
   in_stepped (GetLocal i) hs h = in_local i hs h
@@ -266,13 +369,13 @@ module _ (L : Type 0) (r : Room) where
   in_stepped (Store c w) hs h = tt
   in_stepped (LoadAt a c o) hs h = tt
   in_stepped (StoreAt c o w) hs h = tt
-  in_stepped LoadNothing hs h = tt
-  in_stepped StoreNothing hs h = tt
+  in_stepped LoadNothing hs h = in_load_nothing hs h
+  in_stepped StoreNothing hs h = in_store_nothing hs h
   in_stepped (LoadItem e) hs h = tt
   in_stepped (StoreItem e) hs h = tt
   in_stepped (Length t) hs h = tt
-  in_stepped (IsWithin a b) hs h = tt
-  in_stepped (StopUnlessWithin a b) hs h = tt
+  in_stepped (IsWithin a b) hs h = in_one_of a b hs h
+  in_stepped (StopUnlessWithin a b) hs h = in_cast a b hs h
   in_stepped (Bind q) hs h = tt
   in_stepped (BindFor d) hs h = tt
   in_stepped (CallFor d c) hs h = tt

@@ -240,7 +240,7 @@ module _ (p : Procedure) where
   instr_in (Plain (Store w a from)) h = absurd h
   instr_in (Plain (Push w a)) h = absurd h
   instr_in (Plain (Find d to a)) h = absurd h
-  instr_in (Plain (Stop code)) h = absurd h
+  instr_in (Plain (Stop code)) h = tt
   instr_in (When t to) h = test_in t h
   instr_in (Unless t to) h = test_in t h
   instr_in (Jump to) h = tt
@@ -269,7 +269,7 @@ module _ (p : Procedure) where
   waits_for (Plain (Store w a from)) at h high hl j n = absurd h
   waits_for (Plain (Push w a)) at h high hl j n = absurd h
   waits_for (Plain (Find d to a)) at h high hl j n = absurd h
-  waits_for (Plain (Stop code)) at h high hl j n = absurd h
+  waits_for (Plain (Stop code)) at h high hl j n = tt
   waits_for (When t to) at h high hl j n =
       let le = j.1 in ((j.0, (omega (arith, le, hl), refl)), (next (When t to) at (λ e. e) n, refl))
   waits_for (Unless t to) at h high hl j n =

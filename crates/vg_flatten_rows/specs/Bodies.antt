@@ -4,19 +4,20 @@ use Rattle.std.specs.Option.{option_map}
 use Rattle.vg_meaning.specs.Code.{Code, Nothing, Then, Do, If, Loop, Break, Continue, Return as Returning}
 use Rattle.vg_firm.specs.declared.step.Home.TheVariants.{Ram}
 use Rattle.vg_firm.specs.declared.step.Order.TheVariants.{Signed}
-use Rattle.vg_firm.specs.declared.step.Operator.TheVariants.{Plus, Less, Unequal}
-use Rattle.vg_firm.specs.declared.step.Prefix.TheVariants.{Cut}
+use Rattle.vg_firm.specs.declared.step.Operator.TheVariants.{Plus, Divide, Remainder, Less, Unequal, ShiftLeft, ShiftRight}
+use Rattle.vg_firm.specs.declared.step.Prefix.TheVariants.{Complement, Cut}
 use Rattle.vg_firm.specs.declared.step.Elements.{Elements}
 use Rattle.vg_firm.specs.declared.step.Step.{Step}
 use Rattle.vg_firm.specs.declared.step.Step.TheVariants.{Number, Local as Get, SetLocal, Forget, Operate, Apply, ReadDevice, WriteDevice, LoadItem, StoreItem}
-use Rattle.vg_firm.specs.declared.step.Step.TheVariants.{Call as CallOf, CallValue}
+use Rattle.vg_firm.specs.declared.step.Step.TheVariants.{LoadNothing, StoreNothing, IsWithin, StopUnlessWithin, Call as CallOf, CallValue}
 use Rattle.vg_firm.specs.Program.{Procedure}
 use Rattle.vg_lin.specs.declared.instr.Operand.{Operand}
 use Rattle.vg_lin.specs.declared.instr.Operand.TheVariants.{Local, Known}
-use Rattle.vg_lin.specs.declared.instr.Operator.TheVariants.{Plus as Sum}
-use Rattle.vg_lin.specs.declared.instr.Comparison.TheVariants.{Less as IsLess, Same}
+use Rattle.vg_lin.specs.declared.instr.Operator.{Operator as LinOperator}
+use Rattle.vg_lin.specs.declared.instr.Operator.TheVariants.{Plus as Sum, Minus as Difference, Divide as Quotient, Remainder as Rest, And as Mask, ShiftLeft as LeftShift, ShiftRight as RightShift}
+use Rattle.vg_lin.specs.declared.instr.Comparison.TheVariants.{Below, Less as IsLess, Same}
 use Rattle.vg_lin.specs.declared.instr.Test.{Test}
-use Rattle.vg_lin.specs.declared.instr.Plain.TheVariants.{Copy, Compute, WriteDevice as Writes}
+use Rattle.vg_lin.specs.declared.instr.Plain.TheVariants.{Copy, Compute, WriteDevice as Writes, Stop}
 use Rattle.vg_lin.specs.declared.instr.Callee.TheVariants.{Procedure as ByNumber}
 use Rattle.vg_lin.specs.declared.instr.Registers.{Registers}
 use Rattle.vg_lin.specs.declared.instr.Registers.TheVariants.{One, Two}
@@ -47,6 +48,12 @@ procedure params widths body = record { method = 0; params = params; widths = wi
 
 abbrev pub sum : (width to : ℕ) → (x y : Operand) → Instr
 sum width to x y = Plain (Compute (record { operator = Sum; width = width; to = to; left = x; right = y }))
+
+abbrev pub computes : LinOperator → (width to : ℕ) → (x y : Operand) → Instr
+computes op width to x y = Plain (Compute (record { operator = op; width = width; to = to; left = x; right = y }))
+
+abbrev pub below : (x y : Operand) → Test
+below x y = record { comparison = Below; width = 4; left = x; right = y }
 
 abbrev pub less : (x y : Operand) → Test
 less x y = record { comparison = IsLess; width = 4; left = x; right = y }
@@ -128,6 +135,79 @@ cast = refl
 endless : flattened 4 (procedure 0 [] (Loop (Do (Number 1)) Nothing Nothing))
     ≡ Some (When (is_zero (Known 1)) 2 ∷ Jump 0 ∷ Return (Known 0) ∷ [])
 endless = refl
+
+-- ---- divisions and shifts
+
+-- x = x / y; the run stops where y is 0.
+quotient : flattened 4 (procedure 2 (4 ∷ 4 ∷ []) (steps (Get 0 ∷ Get 1 ∷ Operate Divide ∷ SetLocal 0 ∷ []) Nothing))
+    ≡ Some (
+    Unless (is_zero (Local 1)) 2 ∷ Plain (Stop 3) ∷ computes Quotient 4 2 (Local 0) (Local 1) ∷ Plain (Copy 0 (Local 2)) ∷ Return (Known 0) ∷ [])
+quotient = refl
+
+-- x = x / 10; needs no test.
+tenth : flattened 4 (procedure 1 (4 ∷ []) (steps (Get 0 ∷ Number 10 ∷ Operate Divide ∷ SetLocal 0 ∷ []) Nothing))
+    ≡ Some (computes Quotient 4 1 (Local 0) (Known 10) ∷ Plain (Copy 0 (Local 1)) ∷ Return (Known 0) ∷ [])
+tenth = refl
+
+-- x = x % 0; stops.
+rest_of_none : flattened 4 (procedure 1 (4 ∷ []) (steps (Get 0 ∷ Number 0 ∷ Operate Remainder ∷ SetLocal 0 ∷ []) Nothing))
+    ≡ Some (
+    Unless (is_zero (Known 0)) 2 ∷ Plain (Stop 3) ∷ computes Rest 4 1 (Local 0) (Known 0) ∷ Plain (Copy 0 (Local 1)) ∷ Return (Known 0) ∷ [])
+rest_of_none = refl
+
+-- x = x << n; of a raw.8
+left : flattened 4 (procedure 2 (1 ∷ 4 ∷ []) (steps (Get 0 ∷ Get 1 ∷ Operate (ShiftLeft 8) ∷ SetLocal 0 ∷ []) Nothing))
+    ≡ Some (computes LeftShift 1 2 (Local 0) (Local 1) ∷ Plain (Copy 0 (Local 2)) ∷ Return (Known 0) ∷ [])
+left = refl
+
+-- x = x << 2; of a raw.12
+left_masked : flattened 4 (procedure 1 (2 ∷ []) (steps (Get 0 ∷ Number 2 ∷ Operate (ShiftLeft 12) ∷ SetLocal 0 ∷ []) Nothing))
+    ≡ Some (
+    computes LeftShift 2 1 (Local 0) (Known 2) ∷ computes Mask 2 1 (Local 1) (Known 4095) ∷ Plain (Copy 0 (Local 1)) ∷ Return (Known 0) ∷ [])
+left_masked = refl
+
+-- x = x >> 3; and x = x >> 8; of a raw.8
+right : flattened 4 (procedure 1 (1 ∷ []) (steps (Get 0 ∷ Number 3 ∷ Operate (ShiftRight 8) ∷ SetLocal 0 ∷ []) Nothing))
+    ≡ Some (computes RightShift 4 1 (Local 0) (Known 3) ∷ Plain (Copy 0 (Local 1)) ∷ Return (Known 0) ∷ [])
+right = refl
+
+right_by_all : flattened 4 (procedure 1 (1 ∷ []) (steps (Get 0 ∷ Number 8 ∷ Operate (ShiftRight 8) ∷ SetLocal 0 ∷ []) Nothing))
+    ≡ Some (Plain (Copy 0 (Known 0)) ∷ Return (Known 0) ∷ [])
+right_by_all = refl
+
+-- x = x >> n; of a raw.8
+right_by_any : flattened 4 (procedure 2 (1 ∷ 4 ∷ []) (steps (Get 0 ∷ Get 1 ∷ Operate (ShiftRight 8) ∷ SetLocal 0 ∷ []) Nothing))
+    ≡ Some (
+    Unless (below (Local 1) (Known 8)) 3 ∷ computes RightShift 4 2 (Local 0) (Local 1) ∷ Jump 4 ∷ Plain (Copy 2 (Known 0)) ∷ Plain (Copy 0 (Local 2))
+    ∷ Return (Known 0) ∷ [])
+right_by_any = refl
+
+-- x = ~x; of a raw.32
+complement : flattened 4 (procedure 1 (4 ∷ []) (steps (Get 0 ∷ Apply (Complement 32) ∷ SetLocal 0 ∷ []) Nothing))
+    ≡ Some (computes Difference 4 1 (Known 4294967295) (Local 0) ∷ Plain (Copy 0 (Local 1)) ∷ Return (Known 0) ∷ [])
+complement = refl
+
+-- ---- objects
+
+-- if (C <: o) x = 1; where the objects of C have the numbers 3 to 7
+class_test : flattened 4 (procedure 2 (2 ∷ 4 ∷ [])
+    (Then (steps (Get 0 ∷ IsWithin 3 5 ∷ []) Nothing) (If (steps (Number 1 ∷ SetLocal 1 ∷ []) Nothing) Nothing)))
+    ≡ Some (
+    computes Difference 4 2 (Local 0) (Known 3) ∷ Unless (below (Local 2) (Known 5)) 3 ∷ Plain (Copy 1 (Known 1)) ∷ Return (Known 0) ∷ [])
+class_test = refl
+
+-- c = C of o; null is one of each class.
+class_cast : flattened 4 (procedure 2 (2 ∷ 2 ∷ []) (steps (Get 0 ∷ StopUnlessWithin 3 5 ∷ SetLocal 1 ∷ []) Nothing))
+    ≡ Some (
+    When (is_zero (Local 0)) 4 ∷ computes Difference 4 3 (Local 0) (Known 3) ∷ When (below (Local 3) (Known 5)) 4 ∷ Plain (Stop 4)
+    ∷ Plain (Copy 1 (Local 0)) ∷ Return (Known 0) ∷ [])
+class_cast = refl
+
+-- x = o.f; and o.f = 7; where no object has the field: the null checks stay.
+no_field : flattened 4 (procedure 2 (2 ∷ 4 ∷ []) (steps (Get 0 ∷ LoadNothing ∷ SetLocal 1 ∷ Get 0 ∷ Number 7 ∷ StoreNothing ∷ []) Nothing))
+    ≡ Some (
+    Unless (is_zero (Local 0)) 2 ∷ Plain (Stop 1) ∷ Plain (Copy 1 (Known 0)) ∷ Unless (is_zero (Local 0)) 5 ∷ Plain (Stop 1) ∷ Return (Known 0) ∷ [])
+no_field = refl
 
 -- ---- what is not taken yet
 

@@ -3,6 +3,7 @@ use Rattle.std.specs.Prelude.{ℕ, suc, ◌+◌, ◌==◌, List, [], ◌∷◌, 
 use Rattle.vg_meaning.specs.Code.{Code, Nothing, Then, Do, If, Loop, Break as Breaking, Continue as Continuing, Return as Returning}
 use Rattle.vg_lin.specs.declared.instr.Operand.{Operand}
 use Rattle.vg_lin.specs.declared.instr.Plain.{Plain as PlainInstr}
+use Rattle.vg_lin.specs.declared.instr.Plain.TheVariants.{Stop}
 use Rattle.vg_lin.specs.declared.instr.Call.{Call as Calling}
 use Rattle.vg_lin.specs.declared.instr.Instr.{Instr}
 use Rattle.vg_lin.specs.declared.instr.Instr.TheVariants.{Plain, When, Unless, Jump, Call, Return, Idle}
@@ -23,6 +24,10 @@ pub data Block : Type 0 where
   Both : (first rest : Block) → Block
   Choice : (t : Truth) (then' else' : Block) → Block
   Repeat : (before : Block) (t : Truth) (body next : Block) → Block
+
+-- The run stops with an exception of this code where the truth value holds.
+abbrev pub stop_where : (code : ℕ) → Truth → Block
+stop_where code t = Choice t (One (Stop code)) Skip
 
 -- ---- what a block means
 

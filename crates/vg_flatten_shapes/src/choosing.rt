@@ -1,7 +1,7 @@
 // The code of choices.
 ghost use Rattle.std.specs.Prelude.{◌≡◌, ◌∷◌};
 ghost use Rattle.vg_flatten_shapes.specs.declared.open.Open.TheVariants.{Set};
-ghost use Rattle.vg_flatten_shapes.specs.Blocks.{branch, choice_code};
+ghost use Rattle.vg_flatten_shapes.specs.Blocks.{branch, choice_code, stop_where, open_code};
 ghost use Rattle.vg_flatten_shapes.specs.Laying.{LaysCode};
 
 use crate::fault::Fault;
@@ -9,7 +9,7 @@ use crate::open::{Open, Truth};
 use crate::piece::{append, place_behind};
 use std::alloc::Global;
 use vg_base::{Refusal, Row};
-use vg_lin::Instr;
+use vg_lin::{Instr, Plain};
 
 /// The branch to a place where the truth value is false.
 pub fn branch(truth: Truth, to: u16) -> Instr
@@ -57,4 +57,17 @@ fn choice_alone(
     let mut code = Row::new(alloc);
     code.push(Open::Set(branch(truth, end)))?;
     Ok(append(code, first)?)
+}
+
+/// The run stops with an exception of this code where the truth value holds.
+pub fn stop_where(
+    alloc: Global,
+    at: u16,
+    code: u8,
+    truth: Truth,
+) -> Result<Row<Open>, Refusal<Fault>>
+    ensures { LaysCode result (open_code (stop_where code truth) at) }
+{
+    let stop = [Open::Set(Instr::Plain(Plain::Stop(code)))];
+    choice(alloc, at, truth, stop.as_slice(), &[])
 }

@@ -8,7 +8,7 @@ pub mod piece;
 pub mod room;
 pub mod shape;
 
-pub use choosing::{branch, choice};
+pub use choosing::{branch, choice, stop_where};
 pub use fault::Fault;
 pub use open::{Open, Truth};
 pub use piece::{Piece, append, behind, nothing, one, place_behind};

@@ -1,22 +1,24 @@
 -- What each step becomes, from where values wait.
-use Rattle.std.specs.Prelude.{ℕ, ◌^◌, ◌==◌, ◌&&◌, nat_lt, List, [], ◌∷◌, reverse, Option, Some, None, if◌then◌else◌}
+use Rattle.std.specs.Prelude.{ℕ, ◌+◌, ◌-◌, ◌^◌, Bool, true, ◌==◌, ◌&&◌, nat_lt, List, [], ◌∷◌, reverse, Option, Some, None, if◌then◌else◌}
 use Rattle.vg_firm.specs.declared.step.Order.{Order}
 use Rattle.vg_firm.specs.declared.step.Order.TheVariants.{Signed, Unsigned}
 use Rattle.vg_firm.specs.declared.step.Operator.{Operator}
-use Rattle.vg_firm.specs.declared.step.Operator.TheVariants.{Plus, Minus, Times, Less, AtMost, Greater, AtLeast, Equal, Unequal}
-use Rattle.vg_firm.specs.declared.step.Operator.TheVariants.{And, Or, Xor}
+use Rattle.vg_firm.specs.declared.step.Operator.TheVariants.{Plus, Minus, Times, Divide, Remainder, Less, AtMost, Greater, AtLeast, Equal, Unequal}
+use Rattle.vg_firm.specs.declared.step.Operator.TheVariants.{And, Or, Xor, ShiftLeft, ShiftRight}
 use Rattle.vg_firm.specs.declared.step.Prefix.{Prefix}
-use Rattle.vg_firm.specs.declared.step.Prefix.TheVariants.{Negative, Not, Cut}
+use Rattle.vg_firm.specs.declared.step.Prefix.TheVariants.{Negative, Not, Complement, Cut}
 use Rattle.vg_firm.specs.declared.step.Step.{Step}
 use Rattle.vg_firm.specs.declared.step.Step.TheVariants.{Number, Local, SetLocal, Forget, Operate, Apply, ReadDevice, WriteDevice}
-use Rattle.vg_firm.specs.declared.step.Step.TheVariants.{Call, Idle}
+use Rattle.vg_firm.specs.declared.step.Step.TheVariants.{LoadNothing, StoreNothing, IsWithin, StopUnlessWithin, Call, Idle}
 use Rattle.vg_lin.specs.declared.instr.Operand.{Operand}
 use Rattle.vg_lin.specs.declared.instr.Operand.TheVariants.{Local as InLocal, Known}
 use Rattle.vg_lin.specs.declared.instr.Operator.{Operator as LinOperator}
 use Rattle.vg_lin.specs.declared.instr.Operator.TheVariants.{Plus as Sum, Minus as Difference, Times as Product, And as Both', Or as Either', Xor as Unlike}
+use Rattle.vg_lin.specs.declared.instr.Operator.TheVariants.{Divide as Quotient, Remainder as Rest, ShiftLeft as LeftShift, ShiftRight as RightShift}
 use Rattle.vg_lin.specs.declared.instr.Comparison.{Comparison}
 use Rattle.vg_lin.specs.declared.instr.Comparison.TheVariants.{Below, Less as IsLess, Same}
 use Rattle.vg_lin.specs.declared.instr.Test.{Test}
+use Rattle.vg_lin.specs.declared.instr.Plain.{Plain}
 use Rattle.vg_lin.specs.declared.instr.Plain.TheVariants.{Copy, Compute, ReadDevice as ReadsDevice, WriteDevice as WritesDevice}
 use Rattle.vg_lin.specs.declared.instr.Callee.TheVariants.{Procedure}
 use Rattle.vg_lin.specs.declared.instr.Registers.{Registers}
@@ -26,7 +28,7 @@ use Rattle.vg_flatten_shapes.specs.declared.open.Truth.{Truth}
 use Rattle.vg_flatten_shapes.specs.declared.room.Room.{Room}
 use Rattle.vg_flatten_shapes.specs.declared.open.Truth.TheVariants.{Holds, Fails}
 use Rattle.vg_flatten_shapes.specs.Shapes.{only, is_free, temp}
-use Rattle.vg_flatten_shapes.specs.Blocks.{Skip, One, CallTo, TakeInterrupt}
+use Rattle.vg_flatten_shapes.specs.Blocks.{Block, Skip, One, CallTo, TakeInterrupt, Both, Choice, stop_where}
 use Rattle.vg_flatten_shapes.specs.Made.{Made, Gives, Refused, by_temp, is_zero}
 
 -- ---- operators
@@ -62,21 +64,71 @@ abbrev pub computed : Room → LinOperator → (width : ℕ) → (x y : Operand)
 computed r op width x y hs =
     by_temp (temp r hs) (λ to. Gives (One (Compute (record { operator = op; width = width; to = to; left = x; right = y }))) (only (InLocal to ∷ hs)))
 
-abbrev pub compared : Option Truth → List Operand → Made
-compared (Some t) hs = Gives Skip (record { truth = Some t; homes = hs })
-compared None hs = Refused NotTaken
-
-abbrev pub operated_as : Room → Option LinOperator → Option Truth → (x y : Operand) → List Operand → Made
-operated_as r (Some op) t x y hs = computed r op 4 x y hs
-operated_as r None t x y hs = compared t hs
-
-abbrev pub operated : Room → Operator → List Operand → Made
-operated r op (y ∷ x ∷ hs) = operated_as r (computing op) (comparing op x y) x y hs
-operated r op _ = Refused NotTaken
-
 -- The bytes of so many bits, where they are whole.
 abbrev pub bytes_of : (bits : ℕ) → Option ℕ
 bytes_of bits = if bits == 8 then Some 1 else if bits == 16 then Some 2 else if bits == 24 then Some 3 else if bits == 32 then Some 4 else None
+
+-- The bytes that hold so many bits, and more.
+abbrev pub bytes_around : (bits : ℕ) → Option ℕ
+bytes_around bits =
+    if nat_lt bits 8 then Some 1 else if nat_lt bits 16 then Some 2 else if nat_lt bits 24 then Some 3 else if nat_lt bits 32 then Some 4 else None
+
+-- Whether a number may be 0, for all that is known.
+abbrev pub may_be_zero : Operand → Bool
+may_be_zero (InLocal i) = true
+may_be_zero (Known v) = v == 0
+
+-- The run stops where a divisor is 0.
+abbrev pub divisor_checked : Operand → Block
+divisor_checked y = if may_be_zero y then stop_where 3 (Holds (is_zero y)) else Skip
+
+abbrev pub divided : Room → LinOperator → (x y : Operand) → List Operand → Made
+divided r op x y hs =
+    by_temp (temp r hs) (λ to. Gives (Both (divisor_checked y) (One (Compute (record { operator = op; width = 4; to = to; left = x; right = y }))))
+    (only (InLocal to ∷ hs)))
+
+-- What a shift to the left leaves above so many bits is cleared, where they are no whole bytes.
+abbrev pub masked : Room → (bits : ℕ) → Option ℕ → (x y : Operand) → List Operand → Made
+masked r bits (Some width) x y hs =
+    by_temp (temp r hs) (λ to. Gives (Both (One (Compute (record { operator = LeftShift; width = width; to = to; left = x; right = y })))
+    (One (Compute (record { operator = Both'; width = width; to = to; left = InLocal to; right = Known (2 ^ bits - 1) })))) (only (InLocal to ∷ hs)))
+masked r bits None x y hs = Refused NotTaken
+
+abbrev pub shifted_left : Room → (bits : ℕ) → Option ℕ → (x y : Operand) → List Operand → Made
+shifted_left r bits (Some width) x y hs = computed r LeftShift width x y hs
+shifted_left r bits None x y hs = masked r bits (bytes_around bits) x y hs
+
+-- A shift to the right by a number that is not known leaves nothing of so many bits where it is as many, or more.
+abbrev pub shifted_where : Room → (bits : ℕ) → (x y : Operand) → List Operand → Made
+shifted_where r bits x y hs =
+    by_temp (temp r hs) (λ to. Gives (Choice (Holds (test_of Below y (Known bits)))
+    (One (Compute (record { operator = RightShift; width = 4; to = to; left = x; right = y }))) (One (Copy to (Known 0)))) (only (InLocal to ∷ hs)))
+
+abbrev pub shifted_by : Room → (bits : ℕ) → (x y : Operand) → List Operand → Made
+shifted_by r bits x y hs =
+    if bits == 32 then computed r RightShift 4 x y hs else if nat_lt bits 32 then shifted_where r bits x y hs else Refused NotTaken
+
+abbrev pub shifted_right : Room → (bits : ℕ) → (x y : Operand) → List Operand → Made
+shifted_right r bits x (Known n) hs =
+    if nat_lt 32 bits then Refused NotTaken else if nat_lt n bits then computed r RightShift 4 x (Known n) hs else Gives Skip (only (Known 0 ∷ hs))
+shifted_right r bits x (InLocal i) hs = shifted_by r bits x (InLocal i) hs
+
+-- What is neither one computation nor a comparison.
+abbrev pub combined : Room → Operator → (x y : Operand) → List Operand → Made
+combined r Divide x y hs = divided r Quotient x y hs
+combined r Remainder x y hs = divided r Rest x y hs
+combined r (ShiftLeft bits) x y hs = shifted_left r bits (bytes_of bits) x y hs
+combined r (ShiftRight bits) x y hs = shifted_right r bits x y hs
+combined r _ x y hs = Refused NotTaken
+
+abbrev pub operated_as : Room → Operator → Option LinOperator → Option Truth → (x y : Operand) → List Operand → Made
+operated_as r op (Some lop) t x y hs = computed r lop 4 x y hs
+operated_as r op None (Some t) x y hs = Gives Skip (record { truth = Some t; homes = hs })
+operated_as r op None None x y hs = combined r op x y hs
+
+abbrev pub operated : Room → Operator → List Operand → Made
+operated r op (y ∷ x ∷ hs) = operated_as r op (computing op) (comparing op x y) x y hs
+operated r op _ = Refused NotTaken
 
 abbrev pub cut : Room → Option ℕ → Operand → List Operand → Made
 cut r (Some width) h hs = computed r Sum width h (Known 0) hs
@@ -86,6 +138,7 @@ abbrev pub applied : Room → Prefix → List Operand → Made
 applied r Not (h ∷ hs) = Gives Skip (record { truth = Some (Holds (is_zero h)); homes = hs })
 applied r Negative (h ∷ hs) = computed r Difference 4 (Known 0) h hs
 applied r (Cut bits) (h ∷ hs) = cut r (bytes_of bits) h hs
+applied r (Complement bits) (h ∷ hs) = if bits == 32 then computed r Difference 4 (Known (2 ^ 32 - 1)) h hs else Refused NotTaken
 applied r _ _ = Refused NotTaken
 
 -- ---- numbers, locals, devices and calls
@@ -141,6 +194,41 @@ called r q count hs =
     else if count == 4 then with_four r q hs
     else Refused NotTaken
 
+-- ---- objects
+
+-- The null check of a field that no object has, whose value is 0.
+abbrev pub load_nothing : List Operand → Made
+load_nothing (h ∷ hs) = Gives (stop_where 1 (Holds (is_zero h))) (only (Known 0 ∷ hs))
+load_nothing [] = Refused NotTaken
+
+-- The null check of a field that is not kept.
+abbrev pub store_nothing : List Operand → Made
+store_nothing (v ∷ h ∷ hs) = Gives (stop_where 1 (Holds (is_zero h))) (only hs)
+store_nothing _ = Refused NotTaken
+
+-- How far an object's number is behind the first of so many: it is one of them where this is less than their count.
+abbrev pub distance : (to first : ℕ) → Operand → Plain
+distance to first h = Compute (record { operator = Difference; width = 4; to = to; left = h; right = Known first })
+
+abbrev pub is_near : (to count : ℕ) → Test
+is_near to count = test_of Below (InLocal to) (Known count)
+
+abbrev pub is_one_of : Room → (first count : ℕ) → List Operand → Made
+is_one_of r first count (h ∷ hs) =
+    if nat_lt (first + count) (2 ^ 32)
+    then by_temp (temp r hs) (λ to. Gives (One (distance to first h)) (record { truth = Some (Holds (is_near to count)); homes = hs }))
+    else Refused NotTaken
+is_one_of r first count [] = Refused NotTaken
+
+-- A cast: the number stays where it is, and the run stops unless it is 0 or one of so many.
+abbrev pub cast_to : Room → (first count : ℕ) → List Operand → Made
+cast_to r first count (h ∷ hs) =
+    if nat_lt (first + count) (2 ^ 32)
+    then by_temp (temp r (h ∷ hs)) (λ to. Gives (Choice (Fails (is_zero h)) (Both (One (distance to first h)) (stop_where 4 (Fails (is_near to count)))) Skip)
+    (only (h ∷ hs)))
+    else Refused NotTaken
+cast_to r first count [] = Refused NotTaken
+
 -- ---- steps
 
 -- Where no truth value waits as a test.
@@ -155,4 +243,8 @@ stepped r (ReadDevice address) hs = read r address hs
 stepped r (WriteDevice address) hs = written address hs
 stepped r (Call q count) hs = called r q count hs
 stepped r Idle hs = Gives TakeInterrupt (only hs)
+stepped r LoadNothing hs = load_nothing hs
+stepped r StoreNothing hs = store_nothing hs
+stepped r (IsWithin first count) hs = is_one_of r first count hs
+stepped r (StopUnlessWithin first count) hs = cast_to r first count hs
 stepped r _ hs = Refused NotTaken

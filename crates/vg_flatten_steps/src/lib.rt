@@ -2,8 +2,11 @@
 #![tactic(auto)]
 
 pub mod calls;
+pub mod divisions;
+pub mod objects;
 pub mod operators;
 pub mod put;
+pub mod shifts;
 pub mod steps;
 
 pub use operators::is_zero;

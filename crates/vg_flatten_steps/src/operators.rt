@@ -1,17 +1,19 @@
 // What operators become.
 ghost use Rattle.std.specs.Prelude.{◌≡◌, ◌+◌, ◌≤◌, None};
-ghost use Rattle.vg_flatten_steps.specs.Steps.{operated, applied, computed, computing, comparing, operated_as, bytes_of, test_of, by_order};
+ghost use Rattle.vg_flatten_steps.specs.Steps.{operated, applied, computed, computing, comparing, operated_as, combined, bytes_of, test_of, by_order};
 ghost use Rattle.vg_flatten_shapes.specs.Made.{is_zero};
 ghost use Rattle.vg_flatten_shapes.specs.Laying.{Lays};
 
+use crate::divisions::divided;
 use crate::put::{put_into, put_truth, temp};
+use crate::shifts::{shifted_left, shifted_right};
 use std::alloc::Global;
 use vg_base::Refusal;
 use vg_firm::{Operator as FirmOperator, Order, Prefix};
 use vg_flatten_shapes::{Fault, Homes, Piece, Room, Truth};
 use vg_lin::{Comparison, Computation, Instr, Operand, Operator, Plain, Test};
 
-fn computed(
+pub(crate) fn computed(
     alloc: Global,
     room: Room,
     at: u16,
@@ -68,14 +70,44 @@ fn operated_as(
 ) -> Result<Piece, Refusal<Fault>>
     requires room { room.locals + room.temps ≤ 252 }
     requires settled { homes.truth ≡ None }
-    ensures { Lays result at (operated_as room (computing op) (comparing op left right) left right homes.homes) }
+    ensures { Lays result at (operated_as room op (computing op) (comparing op left right) left right homes.homes) }
 {
     match computing(op) {
         Some(operator) => computed(alloc, room, at, operator, 4, left, right, homes),
         None => match comparing(op, left, right) {
             Some(truth) => Ok(put_truth(alloc, truth, homes)),
-            None => Err(Refusal::Fault(Fault::NotTaken)),
+            None => combined(alloc, room, at, op, left, right, homes),
         },
+    }
+}
+
+fn combined(
+    alloc: Global,
+    room: Room,
+    at: u16,
+    op: FirmOperator,
+    left: Operand,
+    right: Operand,
+    homes: Homes,
+) -> Result<Piece, Refusal<Fault>>
+    requires room { room.locals + room.temps ≤ 252 }
+    requires settled { homes.truth ≡ None }
+    ensures { Lays result at (combined room op left right homes.homes) }
+{
+    match op {
+        FirmOperator::Divide => divided(alloc, room, at, Operator::Divide, left, right, homes),
+        FirmOperator::Remainder => divided(
+            alloc,
+            room,
+            at,
+            Operator::Remainder,
+            left,
+            right,
+            homes,
+        ),
+        FirmOperator::ShiftLeft(bits) => shifted_left(alloc, room, at, bits, left, right, homes),
+        FirmOperator::ShiftRight(bits) => shifted_right(alloc, room, at, bits, left, right, homes),
+        _ => Err(Refusal::Fault(Fault::NotTaken)),
     }
 }
 
@@ -102,7 +134,7 @@ fn by_order(order: Order) -> Comparison
     }
 }
 
-fn test_of(comparison: Comparison, left: Operand, right: Operand) -> Test
+pub(crate) fn test_of(comparison: Comparison, left: Operand, right: Operand) -> Test
     ensures { result ≡ test_of comparison left right }
 {
     Test {
@@ -127,7 +159,7 @@ fn comparing(op: FirmOperator, left: Operand, right: Operand) -> Option<Truth>
     }
 }
 
-fn bytes_of(bits: u8) -> Option<u8>
+pub(crate) fn bytes_of(bits: u8) -> Option<u8>
     ensures { result ≡ bytes_of bits }
 {
     if bits == 8 {
@@ -181,7 +213,13 @@ pub(crate) fn applied(
                 ),
                 None => Err(Refusal::Fault(Fault::NotTaken)),
             },
-            Prefix::Complement(_) => Err(Refusal::Fault(Fault::NotTaken)),
+            Prefix::Complement(bits) => {
+                if bits == 32 {
+                    let all = Operand::Known(u32::MAX);
+                    return computed(alloc, room, at, Operator::Minus, 4, all, home, homes);
+                }
+                Err(Refusal::Fault(Fault::NotTaken))
+            }
         },
         None => Err(Refusal::Fault(Fault::NotTaken)),
     }

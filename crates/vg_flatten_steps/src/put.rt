@@ -1,12 +1,12 @@
 // What a step puts above what waits.
-ghost use Rattle.std.specs.Prelude.{◌≡◌, ◌+◌, ◌≤◌, ◌∷◌, [], IfOk, Some};
+ghost use Rattle.std.specs.Prelude.{◌≡◌, ◌+◌, ◌≤◌, ◌∷◌, ◌++◌, [], IfOk, Some};
 ghost use Rattle.vg_flatten_shapes.specs.declared.open.Open.TheVariants.{Set};
 ghost use Rattle.vg_lin.specs.declared.instr.Operand.TheVariants.{Local};
 ghost use Rattle.vg_flatten_shapes.specs.Shapes.{temp};
 ghost use Rattle.vg_flatten_shapes.specs.Laying.{HasTemp};
 
 use std::alloc::Global;
-use vg_base::{NoMemory, Refusal};
+use vg_base::{NoMemory, Refusal, Row};
 use vg_flatten_shapes::{Fault, Homes, Open, Piece, Room, Truth, nothing, one};
 use vg_lin::{Instr, Operand};
 
@@ -28,6 +28,22 @@ pub(crate) fn put_into(alloc: Global, to: u8, instr: Instr, homes: Homes) -> Res
     let mut homes = homes;
     homes.push(Operand::Local(to))?;
     one(alloc, Open::Set(instr), homes)
+}
+
+/// The same behind other code.
+pub(crate) fn put_behind(
+    code: Row<Open>,
+    to: u8,
+    instr: Instr,
+    homes: Homes,
+) -> Result<Piece, NoMemory>
+    ensures { IfOk result (λ p. (p.code ≡ code ++ Set instr ∷ []) × (p.homes ≡ record { truth = homes.truth; homes = Local to ∷ homes.homes })) }
+{
+    let mut code = code;
+    let mut homes = homes;
+    code.push(Open::Set(instr))?;
+    homes.push(Operand::Local(to))?;
+    Ok(Piece { code, homes })
 }
 
 /// The home waits above the others, and costs nothing.

@@ -4,6 +4,7 @@ ghost use Rattle.vg_flatten_steps.specs.Steps.{stepped, get_local, set_local, re
 ghost use Rattle.vg_flatten_shapes.specs.Laying.{Lays};
 
 use crate::calls::called;
+use crate::objects::{cast_to, is_one_of, load_nothing, store_nothing};
 use crate::operators::{applied, operated};
 use crate::put::{put_home, put_into, temp};
 use std::alloc::Global;
@@ -35,6 +36,10 @@ pub fn stepped(
         Step::WriteDevice(address) => written(alloc, at, address, homes),
         Step::Call(q, count) => called(alloc, room, at, q, count, homes),
         Step::Idle => Ok(one(alloc, Open::Set(Instr::Idle), homes)?),
+        Step::LoadNothing => load_nothing(alloc, at, homes),
+        Step::StoreNothing => store_nothing(alloc, at, homes),
+        Step::IsWithin(first, count) => is_one_of(alloc, room, at, first, count, homes),
+        Step::StopUnlessWithin(first, count) => cast_to(alloc, room, at, first, count, homes),
         _ => Err(Refusal::Fault(Fault::NotTaken)),
     }
 }

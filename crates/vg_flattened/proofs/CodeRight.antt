@@ -38,7 +38,9 @@ use Rattle.vg_flatten_shapes.proofs.Temps.{some_is, none_is_not}
 use Rattle.vg_flattened.proofs.Locals.{value_of_home, put_temp, placed_temp}
 use Rattle.vg_flattened.proofs.Free.{homes_same}
 use Rattle.vg_flattened.proofs.Right.{Right, Does, linear, packed, right_after, right_last, right_settled, IsTested, is_tested, picks, chooses, way}
-use Rattle.vg_flattened.proofs.StepRight.{right_number, right_local, right_set, right_forget, right_operated, right_applied, right_read, right_written}
+use Rattle.vg_flattened.proofs.StepRight.{right_number, right_local, right_set, right_forget, right_applied, right_read, right_written}
+use Rattle.vg_flattened.proofs.CombinedRight.{right_operated}
+use Rattle.vg_flattened.proofs.ObjectRight.{right_load_nothing, right_store_nothing, right_one_of, right_cast}
 use Rattle.vg_flattened.proofs.CallRight.{AreParams, AlikeCalls, AlikeHandling, right_called}
 
 and_then-and_then : {S : Type 0} (a : Answer S History) (g h : Piece S History) → and_then (and_then a g) h ≡ and_then a (λ s w. and_then (g s w) h)
@@ -121,13 +123,13 @@ module _ (k : Codes) (f : FirmProgram) (m : FirmProcedure) (call : FirmCaller Hi
   right_stepped (Store c w) hs placed = tt
   right_stepped (LoadAt h c o) hs placed = tt
   right_stepped (StoreAt c o w) hs placed = tt
-  right_stepped LoadNothing hs placed = tt
-  right_stepped StoreNothing hs placed = tt
+  right_stepped LoadNothing hs placed = right_load_nothing k f m call handle p go params r ws wide hs placed
+  right_stepped StoreNothing hs placed = right_store_nothing k f m call handle p go params r ws wide hs placed
   right_stepped (LoadItem e) hs placed = tt
   right_stepped (StoreItem e) hs placed = tt
   right_stepped (Length t) hs placed = tt
-  right_stepped (IsWithin a b) hs placed = tt
-  right_stepped (StopUnlessWithin a b) hs placed = tt
+  right_stepped (IsWithin a b) hs placed = right_one_of k f m call handle p go params r ws wide a b hs placed
+  right_stepped (StopUnlessWithin a b) hs placed = right_cast k f m call handle p go params r ws wide a b hs placed
   right_stepped (Bind q) hs placed = tt
   right_stepped (BindFor d) hs placed = tt
   right_stepped (CallFor d c) hs placed = tt

@@ -7,6 +7,9 @@ pub mod Free
 pub mod Operating
 pub mod Right
 pub mod StepRight
+pub mod Shifting
+pub mod CombinedRight
+pub mod ObjectRight
 pub mod CallRight
 pub mod CodeRight
 pub mod Standing

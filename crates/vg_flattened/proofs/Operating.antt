@@ -23,33 +23,33 @@ use Rattle.vg_flattened.proofs.Related.{said}
 use Rattle.vg_flattened.proofs.Numbers.{low_same, low_small, sum_same, difference_same, product_same, less_same, below_same, same_same, at_most_signed, at_most_unsigned}
 use Rattle.vg_flatten_shapes.proofs.Temps.{some_is, none_is_not}
 
--- Both compute the same number of four bytes.
-pub record Computes (op : Operator) (lop : LinOperator) (x y : ℕ) : Type 0 where
+-- Both compute the same number, which has at most four bytes.
+pub record Computes (op : Operator) (lop : LinOperator) (width x y : ℕ) : Type 0 where
   pub z : ℕ
   pub packed : firm_computed op x y ≡ Some z
-  pub linear : lin_computed lop 4 x y ≡ Some z
+  pub linear : lin_computed lop width x y ≡ Some z
   pub small : z < 2 ^ 32
 
 of_low : (op : Operator) (lop : LinOperator) (x y z n : ℕ) → firm_computed op x y ≡ Some z → z ≡ low 4 n → lin_computed lop 4 x y ≡ Some (low 4 n)
-    → Computes op lop x y
+    → Computes op lop 4 x y
 of_low op lop x y z n e h g = record { z = low 4 n; packed = e ∙ ap Some h; linear = g; small = low_small n }
 
 of_small : (op : Operator) (lop : LinOperator) (x y z : ℕ) → firm_computed op x y ≡ Some z → lin_computed lop 4 x y ≡ Some (low 4 z) → z < 2 ^ 32
-    → Computes op lop x y
+    → Computes op lop 4 x y
 of_small op lop x y z e g h = record { z = z; packed = e; linear = g ∙ ap Some (low_same z h); small = h }
 
-pub computes : (op : Operator) (lop : LinOperator) (x y : ℕ) → x < 2 ^ 32 → y < 2 ^ 32 → computing op ≡ Some lop → Computes op lop x y
-computes Plus lop x y h g e = subst (λ o. Computes Plus o x y) (some_is Sum lop e) (of_low Plus Sum x y _ (x + y) refl (sum_same x y h g) refl)
+pub computes : (op : Operator) (lop : LinOperator) (x y : ℕ) → x < 2 ^ 32 → y < 2 ^ 32 → computing op ≡ Some lop → Computes op lop 4 x y
+computes Plus lop x y h g e = subst (λ o. Computes Plus o 4 x y) (some_is Sum lop e) (of_low Plus Sum x y _ (x + y) refl (sum_same x y h g) refl)
 computes Minus lop x y h g e =
-    subst (λ o. Computes Minus o x y) (some_is Difference lop e)
+    subst (λ o. Computes Minus o 4 x y) (some_is Difference lop e)
     (of_low Minus Difference x y _ (x + (256 ^ 4 - low 4 y)) refl (difference_same x y h g) refl)
-computes Times lop x y h g e = subst (λ o. Computes Times o x y) (some_is Product lop e) (of_low Times Product x y _ (x * y) refl (product_same x y h g) refl)
+computes Times lop x y h g e = subst (λ o. Computes Times o 4 x y) (some_is Product lop e) (of_low Times Product x y _ (x * y) refl (product_same x y h g) refl)
 computes And lop x y h g e =
-    let le = and_le_l x y in subst (λ o. Computes And o x y) (some_is Both' lop e) (of_small And Both' x y (bit_and x y) refl refl (omega (arith, le, h)))
+    let le = and_le_l x y in subst (λ o. Computes And o 4 x y) (some_is Both' lop e) (of_small And Both' x y (bit_and x y) refl refl (omega (arith, le, h)))
 computes Or lop x y h g e =
-    subst (λ o. Computes Or o x y) (some_is Either' lop e) (of_small Or Either' x y (bit_or x y) refl refl (or_lt 32 x y h g))
+    subst (λ o. Computes Or o 4 x y) (some_is Either' lop e) (of_small Or Either' x y (bit_or x y) refl refl (or_lt 32 x y h g))
 computes Xor lop x y h g e =
-    subst (λ o. Computes Xor o x y) (some_is Unlike lop e) (of_small Xor Unlike x y (bit_xor x y) refl refl (xor_lt 32 x y h g))
+    subst (λ o. Computes Xor o 4 x y) (some_is Unlike lop e) (of_small Xor Unlike x y (bit_xor x y) refl refl (xor_lt 32 x y h g))
 computes Divide lop x y h g e = none_is_not lop e
 computes Remainder lop x y h g e = none_is_not lop e
 computes (Less o) lop x y h g e = none_is_not lop e

@@ -38,16 +38,16 @@ use Rattle.vg_flatten_shapes.specs.declared.room.Room.{Room}
 use Rattle.vg_flatten_shapes.specs.Shapes.{Shape, only, is_free, temp}
 use Rattle.vg_flatten_shapes.specs.Blocks.{Block, Skip, One}
 use Rattle.vg_flatten_shapes.specs.Made.{Made, Gives as Makes, Refused, by_temp, is_zero}
-use Rattle.vg_flatten_steps.specs.Steps.{computing, comparing, computed, compared, operated, operated_as, bytes_of, applied}
+use Rattle.vg_flatten_steps.specs.Steps.{computing, comparing, computed, bytes_of, applied}
 use Rattle.vg_flatten_steps.specs.Steps.{put_number, get_local, set_local as sets_local, forgotten, read, written, cut}
 use Rattle.vg_flatten.specs.Fitting.{CallsFit}
 use Rattle.vg_flattened.proofs.Alike.{IsFair, Alike, gives, leaves, overs, wrong, AlikePiece}
 use Rattle.vg_flattened.proofs.Related.{IsAt, ArePlaced, AreAt, AreWidths, AreSame, IsSaid, said, Held, Leaves}
-use Rattle.vg_flattened.proofs.Numbers.{low_same, low_small, opposite_same, same_same}
+use Rattle.vg_flattened.proofs.Numbers.{low_same, low_small, opposite_same, same_same, complement_same, complement_small}
 use Rattle.vg_flatten_shapes.proofs.Temps.{some_is, none_is_not}
 use Rattle.vg_flattened.proofs.Locals.{value_of_home, put_temp, placed_temp}
 use Rattle.vg_flattened.proofs.Free.{homes_beside, kept_behind_set}
-use Rattle.vg_flattened.proofs.Operating.{Computes, computes, Compares, compares, holds_of}
+use Rattle.vg_flattened.proofs.Operating.{Computes, Compares, compares, holds_of}
 use Rattle.vg_flattened.proofs.Right.{Right, Does, linear}
 
 module _ (k : Codes) (f : FirmProgram) (m : FirmProcedure) (call : FirmCaller History) (handle : ℕ → Piece Firm History)
@@ -62,19 +62,19 @@ module _ (k : Codes) (f : FirmProgram) (m : FirmProcedure) (call : FirmCaller Hi
   step' = firm_step k f m call handle
 
   -- behind a plain instruction that goes on
-  plain_goes : (i : Plain) (d : Deciding State) (w : World History) (t : State) → plain p i d.state w.outside ≡ Goes t w.outside
+  pub plain_goes : (i : Plain) (d : Deciding State) (w : World History) (t : State) → plain p i d.state w.outside ≡ Goes t w.outside
       → linear' (One i) d w ≡ Gives (record d { state = t }) w
   plain_goes i d w t e = ap (λ z. lifted z d w) e
 
   -- a number goes to a temporary
-  into_temp : (hs : List Operand) (to z : ℕ) (i : Plain) (s : Firm) (d : Deciding State) (w : World History) → IsFair w → ArePlaced r.locals hs
+  pub into_temp : (hs : List Operand) (to z : ℕ) (i : Plain) (s : Firm) (d : Deciding State) (w : World History) → IsFair w → ArePlaced r.locals hs
       → temp r hs ≡ Some to → z < 2 ^ 32 → AreSame r ws hs s d.state → plain p i d.state w.outside ≡ Goes (sets to z d.state) w.outside
       → Alike (Held r ws (only (Local to ∷ hs))) (Leaves r ws) (put z s w) (linear' (One i) d w)
   into_temp hs to z i s d w fair placed e small same goes =
       subst (λ x. Alike (Held r ws (only (Local to ∷ hs))) (Leaves r ws) (put z s w) x) (sym (plain_goes i d w (sets to z d.state) goes))
       (gives fair (put_temp r m.widths ws hs s d.state to z wide placed e small same))
 
-  computes_to : (op : LinOperator) (width to : ℕ) (a b : Operand) (x y z : ℕ) (t : State) (o : Outside) → value a t ≡ Some x → value b t ≡ Some y
+  pub computes_to : (op : LinOperator) (width to : ℕ) (a b : Operand) (x y z : ℕ) (t : State) (o : Outside) → value a t ≡ Some x → value b t ≡ Some y
       → lin_computed op width x y ≡ Some z
       → plain p (Compute (record { operator = op; width = width; to = to; left = a; right = b })) t o ≡ Goes (sets to z t) o
   computes_to op width to a b x y z t o ha hb e =
@@ -160,40 +160,50 @@ module _ (k : Codes) (f : FirmProgram) (m : FirmProcedure) (call : FirmCaller Hi
 
   -- ---- operators
 
-  right_computed : (op : Operator) (lop : LinOperator) (x y : Operand) (hs : List Operand) → ArePlaced r.locals hs → computing op ≡ Some lop
-      → Right' (only (y ∷ x ∷ hs)) (computed r lop 4 x y hs) (step' (Operate op))
-  right_computed op lop x y hs placed e = by_room (temp r hs) refl
+  -- an operator of two numbers becomes a block
+  pub right_block : (op : Operator) (x y : Operand) (hs : List Operand) (b : ℕ → Block) → ArePlaced r.locals hs
+      → ((to : ℕ) → temp r hs ≡ Some to → (u v : ℕ) (s : Firm) (d : Deciding State) (w : World History) → IsFair w
+      → value x d.state ≡ Some u → value y d.state ≡ Some v → u < 2 ^ 32 → v < 2 ^ 32 → AreSame r ws hs s d.state
+      → Alike (Held r ws (only (Local to ∷ hs))) (Leaves r ws) (put_computed (firm_computed op u v) s w) (linear' (b to) d w))
+      → Right' (only (y ∷ x ∷ hs)) (by_temp (temp r hs) (λ to. Makes (b to) (only (Local to ∷ hs)))) (step' (Operate op))
+  right_block op x y hs b placed law = by_room (temp r hs) refl
     where
-      by_result : (to : ℕ) → temp r hs ≡ Some to → (s : Firm) (d : Deciding State) (w : World History) → IsFair w → AreSame r ws (y ∷ x ∷ hs) s d.state
-          → (b a : ℕ) (vs : List ℕ) → AreAt (y ∷ x ∷ hs) (b ∷ a ∷ vs) d.state.locals → Computes op lop a b
-          → Alike (Held r ws (only (Local to ∷ hs))) (Leaves r ws) (put_computed (firm_computed op a b) (record s { values = vs }) w)
-          (linear' (One (Compute (record { operator = lop; width = 4; to = to; left = x; right = y }))) d w)
-      by_result to has s d w i q b a vs at c =
-          subst (λ z. Alike (Held r ws (only (Local to ∷ hs))) (Leaves r ws) (put_computed z (record s { values = vs }) w)
-          (linear' (One (Compute (record { operator = lop; width = 4; to = to; left = x; right = y }))) d w)) (sym c.packed)
-          (into_temp hs to c.z (Compute (record { operator = lop; width = 4; to = to; left = x; right = y }))
-          (record s { values = vs }) d w i placed has c.small (record { waits = at.1.1; kept = q.kept; none = q.none })
-          (computes_to lop 4 to x y a b c.z d.state w.outside (value_of_home x a d.state at.1.0.0) (value_of_home y b d.state at.0.0) c.linear))
-
       by_values : (to : ℕ) → temp r hs ≡ Some to → (s : Firm) (d : Deciding State) (w : World History) → IsFair w → AreSame r ws (y ∷ x ∷ hs) s d.state
           → (vs : List ℕ) → AreAt (y ∷ x ∷ hs) vs d.state.locals
-          → Alike (Held r ws (only (Local to ∷ hs))) (Leaves r ws) (take_from vs (λ b. taking (λ a. put_computed (firm_computed op a b))) s w)
-          (linear' (One (Compute (record { operator = lop; width = 4; to = to; left = x; right = y }))) d w)
+          → Alike (Held r ws (only (Local to ∷ hs))) (Leaves r ws) (take_from vs (λ v. taking (λ u. put_computed (firm_computed op u v))) s w)
+          (linear' (b to) d w)
       by_values to has s d w i q [] at = absurd at
-      by_values to has s d w i q (b ∷ []) at = absurd at.1
-      by_values to has s d w i q (b ∷ a ∷ vs) at = by_result to has s d w i q b a vs at (computes op lop a b at.1.0.1 at.0.1 e)
+      by_values to has s d w i q (v ∷ []) at = absurd at.1
+      by_values to has s d w i q (v ∷ u ∷ vs) at =
+          law to has u v (record s { values = vs }) d w i (value_of_home x u d.state at.1.0.0) (value_of_home y v d.state at.0.0) at.1.0.1 at.0.1
+          (record { waits = at.1.1; kept = q.kept; none = q.none })
 
-      by_room : (o : Option ℕ) → temp r hs ≡ o
-          → Right' (only (y ∷ x ∷ hs))
-          (by_temp o (λ to. Makes (One (Compute (record { operator = lop; width = 4; to = to; left = x; right = y }))) (only (Local to ∷ hs)))) (step'
-          (Operate op))
+      by_room : (o : Option ℕ) → temp r hs ≡ o → Right' (only (y ∷ x ∷ hs)) (by_temp o (λ to. Makes (b to) (only (Local to ∷ hs)))) (step' (Operate op))
       by_room (Some to) has = (placed_temp r hs to has placed, λ fit s d w i q. by_values to has s d w i q s.values q.waits)
       by_room None has = tt
 
-  right_compared : (op : Operator) (x y : Operand) (hs : List Operand) → ArePlaced r.locals hs → (o : Option Truth) → comparing op x y ≡ o
-      → Right' (only (y ∷ x ∷ hs)) (compared o hs) (step' (Operate op))
-  right_compared op x y hs placed None e = tt
-  right_compared op x y hs placed (Some t) e = (placed, λ fit s d w i q. by_values s d w i q s.values q.waits)
+  -- one computation does it
+  pub does_computed : (op : Operator) (lop : LinOperator) (width : ℕ) (x y : Operand) (hs : List Operand) → ArePlaced r.locals hs
+      → (to : ℕ) → temp r hs ≡ Some to → (u v : ℕ) (s : Firm) (d : Deciding State) (w : World History) → IsFair w
+      → value x d.state ≡ Some u → value y d.state ≡ Some v → AreSame r ws hs s d.state → Computes op lop width u v
+      → Alike (Held r ws (only (Local to ∷ hs))) (Leaves r ws) (put_computed (firm_computed op u v) s w)
+      (linear' (One (Compute (record { operator = lop; width = width; to = to; left = x; right = y }))) d w)
+  does_computed op lop width x y hs placed to has u v s d w i hu hv same c =
+      subst (λ z. Alike (Held r ws (only (Local to ∷ hs))) (Leaves r ws) (put_computed z s w)
+      (linear' (One (Compute (record { operator = lop; width = width; to = to; left = x; right = y }))) d w)) (sym c.packed)
+      (into_temp hs to c.z (Compute (record { operator = lop; width = width; to = to; left = x; right = y })) s d w i placed has c.small same
+      (computes_to lop width to x y u v c.z d.state w.outside hu hv c.linear))
+
+  pub right_binary : (op : Operator) (lop : LinOperator) (width : ℕ) (x y : Operand) (hs : List Operand) → ArePlaced r.locals hs
+      → ((u v : ℕ) (t : State) → value y t ≡ Some v → u < 2 ^ 32 → v < 2 ^ 32 → Computes op lop width u v)
+      → Right' (only (y ∷ x ∷ hs)) (computed r lop width x y hs) (step' (Operate op))
+  right_binary op lop width x y hs placed law =
+      right_block op x y hs (λ to. One (Compute (record { operator = lop; width = width; to = to; left = x; right = y }))) placed
+      (λ to has u v s d w i hu hv lu lv same. does_computed op lop width x y hs placed to has u v s d w i hu hv same (law u v d.state hv lu lv))
+
+  pub right_compared : (op : Operator) (x y : Operand) (hs : List Operand) → ArePlaced r.locals hs → (t : Truth) → comparing op x y ≡ Some t
+      → Right' (only (y ∷ x ∷ hs)) (Makes Skip (record { truth = Some t; homes = hs })) (step' (Operate op))
+  right_compared op x y hs placed t e = (placed, λ fit s d w i q. by_values s d w i q s.values q.waits)
     where
       by_result : (s : Firm) (d : Deciding State) (w : World History) → IsFair w → (b a : ℕ) (vs : List ℕ)
           → AreSame r ws hs (record s { values = vs }) d.state
@@ -214,15 +224,6 @@ module _ (k : Codes) (f : FirmProgram) (m : FirmProcedure) (call : FirmCaller Hi
       by_values s d w i q (b ∷ a ∷ vs) at =
           by_result s d w i b a vs (record { waits = at.1.1; kept = q.kept; none = q.none })
           (compares x y a b d.state (value_of_home x a d.state at.1.0.0) (value_of_home y b d.state at.0.0) at.1.0.1 at.0.1 op t e)
-
-  pub right_operated : (op : Operator) (hs : List Operand) → ArePlaced r.locals hs → Right' (only hs) (operated r op hs) (step' (Operate op))
-  right_operated op [] placed = tt
-  right_operated op (y ∷ []) placed = tt
-  right_operated op (y ∷ x ∷ hs) placed = by_kind (computing op) refl
-    where
-      by_kind : (o : Option LinOperator) → computing op ≡ o → Right' (only (y ∷ x ∷ hs)) (operated_as r o (comparing op x y) x y hs) (step' (Operate op))
-      by_kind (Some lop) e = right_computed op lop x y hs placed.1.1 e
-      by_kind None e = right_compared op x y hs placed.1.1 (comparing op x y) refl
 
   -- one number becomes another
   right_unary : (op : LinOperator) (width : ℕ) (a b h : Operand) (g : ℕ → ℕ) (q' : Step) (hs : List Operand) → ArePlaced r.locals hs
@@ -343,7 +344,14 @@ module _ (k : Codes) (f : FirmProgram) (m : FirmProcedure) (call : FirmCaller Hi
             (256 ^ 4 - low 4 x))),
       ))
   right_applied (Cut bits) (h ∷ hs) placed = right_cut bits h hs placed.1 (bytes_of bits) refl
-  right_applied (Complement bits) (h ∷ hs) placed = tt
+  right_applied (Complement bits) (h ∷ hs) placed = by_width (bits == 32) refl
+    where
+      by_width : (b : Bool) → (bits == 32) ≡ b
+          → Right' (only (h ∷ hs)) (if b then computed r Difference 4 (Known (2 ^ 32 - 1)) h hs else Refused NotTaken) (step' (Apply (Complement bits)))
+      by_width false e = tt
+      by_width true e =
+          right_unary Difference 4 (Known (2 ^ 32 - 1)) h h (firm_applied (Complement bits)) (Apply (Complement bits)) hs placed.1 (λ s w. refl)
+          (λ x t small at. (2 ^ 32 - 1, x, refl, at, ap Some (complement_same bits x (grind arith) small), complement_small bits x (grind arith)))
 
   -- ---- devices
 

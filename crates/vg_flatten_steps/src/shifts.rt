@@ -1,0 +1,190 @@
+// What shifts become.
+ghost use Rattle.std.specs.Prelude.{◌≡◌, ◌+◌, ◌-◌, ◌≤◌, ◌<◌, ◌^◌, Some, None};
+ghost use Rattle.vg_flatten_shapes.specs.Laying.{Lays};
+ghost use Rattle.vg_flatten_steps.specs.Steps.{shifted_left, shifted_right, shifted_by, shifted_where, masked, bytes_of, bytes_around};
+
+use crate::operators::{bytes_of, computed, test_of};
+use crate::put::{put_behind, put_home, temp};
+use std::alloc::Global;
+use vg_base::{Refusal, Row};
+use vg_flatten_shapes::{Fault, Homes, Open, Piece, Room, Truth, choice};
+use vg_lin::{Comparison, Computation, Instr, Operand, Operator, Plain};
+
+pub(crate) fn shifted_left(
+    alloc: Global,
+    room: Room,
+    at: u16,
+    bits: u8,
+    left: Operand,
+    right: Operand,
+    homes: Homes,
+) -> Result<Piece, Refusal<Fault>>
+    requires room { room.locals + room.temps ≤ 252 }
+    requires settled { homes.truth ≡ None }
+    ensures { Lays result at (shifted_left room bits (bytes_of bits) left right homes.homes) }
+{
+    match bytes_of(bits) {
+        Some(width) => {
+            computed(
+                alloc,
+                room,
+                at,
+                Operator::ShiftLeft,
+                width,
+                left,
+                right,
+                homes,
+            )
+        }
+        None => match bytes_around(bits) {
+            Some(width) => masked(alloc, room, at, bits, width, left, right, homes),
+            None => Err(Refusal::Fault(Fault::NotTaken)),
+        },
+    }
+}
+
+fn bytes_around(bits: u8) -> Option<u8>
+    ensures { result ≡ bytes_around bits }
+{
+    if bits < 8 {
+        Some(1)
+    } else if bits < 16 {
+        Some(2)
+    } else if bits < 24 {
+        Some(3)
+    } else if bits < 32 {
+        Some(4)
+    } else {
+        None
+    }
+}
+
+fn masked(
+    alloc: Global,
+    room: Room,
+    at: u16,
+    bits: u8,
+    width: u8,
+    left: Operand,
+    right: Operand,
+    homes: Homes,
+) -> Result<Piece, Refusal<Fault>>
+    requires room { room.locals + room.temps ≤ 252 }
+    requires settled { homes.truth ≡ None }
+    requires few { bytes_around bits ≡ Some width }
+    ensures { Lays result at (masked room bits (Some width) left right homes.homes) }
+{
+    let to = temp(room, &homes)?;
+    let shift = Computation {
+        operator: Operator::ShiftLeft,
+        width,
+        to,
+        left,
+        right,
+    };
+    let mask = Computation {
+        operator: Operator::And,
+        width,
+        to,
+        left: Operand::Local(to),
+        right: Operand::Known(mask_of(bits)),
+    };
+    let mut code = Row::new(alloc);
+    code.push(Open::Set(Instr::Plain(Plain::Compute(shift))))?;
+    Ok(put_behind(code, to, Instr::Plain(Plain::Compute(mask)), homes)?)
+}
+
+/// The number of so many bits that are set.
+fn mask_of(bits: u8) -> u32
+    requires { bits < 32 }
+    ensures { result ≡ 2 ^ bits - 1 }
+{
+    (1u32 << bits) - 1
+}
+
+pub(crate) fn shifted_right(
+    alloc: Global,
+    room: Room,
+    at: u16,
+    bits: u8,
+    left: Operand,
+    right: Operand,
+    homes: Homes,
+) -> Result<Piece, Refusal<Fault>>
+    requires room { room.locals + room.temps ≤ 252 }
+    requires settled { homes.truth ≡ None }
+    ensures { Lays result at (shifted_right room bits left right homes.homes) }
+{
+    match right {
+        Operand::Known(count) => {
+            if bits > 32 {
+                return Err(Refusal::Fault(Fault::NotTaken));
+            }
+            if count < bits as u32 {
+                return computed(alloc, room, at, Operator::ShiftRight, 4, left, right, homes);
+            }
+            Ok(put_home(alloc, Operand::Known(0), homes)?)
+        }
+        Operand::Local(_) => shifted_by(alloc, room, at, bits, left, right, homes),
+    }
+}
+
+fn shifted_by(
+    alloc: Global,
+    room: Room,
+    at: u16,
+    bits: u8,
+    left: Operand,
+    right: Operand,
+    homes: Homes,
+) -> Result<Piece, Refusal<Fault>>
+    requires room { room.locals + room.temps ≤ 252 }
+    requires settled { homes.truth ≡ None }
+    ensures { Lays result at (shifted_by room bits left right homes.homes) }
+{
+    if bits == 32 {
+        return computed(alloc, room, at, Operator::ShiftRight, 4, left, right, homes);
+    }
+    if bits < 32 {
+        return shifted_where(alloc, room, at, bits, left, right, homes);
+    }
+    Err(Refusal::Fault(Fault::NotTaken))
+}
+
+/// A shift by an amount that may be as many bits as there are, or more.
+fn shifted_where(
+    alloc: Global,
+    room: Room,
+    at: u16,
+    bits: u8,
+    left: Operand,
+    right: Operand,
+    homes: Homes,
+) -> Result<Piece, Refusal<Fault>>
+    requires room { room.locals + room.temps ≤ 252 }
+    requires settled { homes.truth ≡ None }
+    requires few { bits < 32 }
+    ensures { Lays result at (shifted_where room bits left right homes.homes) }
+{
+    let to = temp(room, &homes)?;
+    let shift = Computation {
+        operator: Operator::ShiftRight,
+        width: 4,
+        to,
+        left,
+        right,
+    };
+    let test = test_of(Comparison::Below, right, Operand::Known(bits as u32));
+    let shifted = [Open::Set(Instr::Plain(Plain::Compute(shift)))];
+    let none = [Open::Set(Instr::Plain(Plain::Copy(to, Operand::Known(0))))];
+    let code = choice(
+        alloc,
+        at,
+        Truth::Holds(test),
+        shifted.as_slice(),
+        none.as_slice(),
+    )?;
+    let mut homes = homes;
+    homes.push(Operand::Local(to))?;
+    Ok(Piece { code, homes })
+}
