@@ -1,0 +1,4 @@
+pub mod Nodes
+pub mod Settled
+pub mod Links
+pub mod Arguments
