@@ -7,9 +7,14 @@ use Rattle.vg_syntax.specs.Tree.{Node, Spot}
 use Rattle.vg_syntax.specs.Tree as tree
 use Rattle.vg_syntax.specs.Numbering.{numbered}
 use Rattle.vg_tree.specs.declared.node.Node as held_node
+use Rattle.vg_syntax.specs.declared.kind.Kind.{Kind}
+use Rattle.vg_syntax.specs.declared.kind.Kind.TheVariants as kind
+use Rattle.vg_source.specs.Types as source_type
+use Rattle.vg_source.specs.Types.{StaticType}
 use Rattle.vg_source.specs.Steps as source
 use Rattle.vg_source.specs.Resolved as resolved
-use Rattle.vg_source.specs.Resolved.{Resolved, Fresh, Onto, IsValue, settled, settled_as, index_suffix}
+use Rattle.vg_source.specs.Resolved.{Resolved, Scope, Head as SourceHead, Fresh, Onto, IsValue, OwnMethod, ItsMethod, settled, settled_as}
+use Rattle.vg_source.specs.Resolved.{index_suffix, call_suffix, part, type_part}
 use Rattle.vg_rules.specs.Breach.{asks, ◌or◌}
 use Rattle.vg_rules.specs.Bodies.{breach, primary_breach, index_keeps, is_int}
 use Rattle.vg_core.specs.declared.types.CoreType.{CoreType}
@@ -34,7 +39,7 @@ use Rattle.vg_types_tables.specs.Promises.{waiting, meant, whole, Leads, Puts, S
 use Rattle.vg_types_tables.proofs.TypeViews.{number_named}
 use Rattle.vg_types_leaves.specs.Judgements.{ShowsPlace}
 use Rattle.vg_types_leaves.proofs.Types.{number_view}
-use Rattle.vg_types_expressions.specs.Judged.{value_of}
+use Rattle.vg_types_operators.specs.Judged.{value_of}
 use Rattle.vg_types_expressions.specs.Nodes.{postfix_node, chain_node}
 use Rattle.vg_types_expressions.specs.Links.{code_behind, behind_all, Linking}
 use Rattle.vg_types_expressions.proofs.Linking.{chain_behind, behind_head}
@@ -208,3 +213,22 @@ module _ (texts : List (List ℕ)) (root : held_node.Node) (d : Declared) (k : B
   element_kept n spot h i eh ei =
       ap (λ z. asks (index_keeps (head_view texts d z) (IsValue (type_view texts d i.type_))) 20 spot) eh
       ∙ ap (λ z. asks (is_int (IsValue (type_view texts d z))) 20 spot) ei
+
+-- what is called is no place
+pub call_no_place : (at n : ℕ) (m : Resolved) (h : SourceHead) → (call_suffix at n m h).store ≡ None
+call_no_place at n m (OwnMethod at' c x ps r) = refl
+call_no_place at n m (ItsMethod c x ps r) = refl
+call_no_place at n m (IsValue (source_type.FunctionType ps r)) = refl
+call_no_place at n m h = refl
+
+-- nor is what an operator gives
+pub part_no_place : (at : ℕ) (op : Kind) (h : SourceHead) (m : Resolved) → (part at op h m).store ≡ None
+part_no_place at kind.AndAnd h m = refl
+part_no_place at kind.OrOr h m = refl
+part_no_place at op h m = refl
+
+-- or what is cast or tested
+pub type_part_no_place : (at : ℕ) (op : Kind) (t : StaticType) (ls : Scope) → (type_part at op t ls).store ≡ None
+type_part_no_place at kind.Below (source_type.ClassType c) ls = refl
+type_part_no_place at kind.Below t ls = refl
+type_part_no_place at op t ls = refl

@@ -5,3 +5,4 @@ pub mod Sorts
 pub mod Wholes
 pub mod Arguing
 pub mod Aiming
+pub mod Calling

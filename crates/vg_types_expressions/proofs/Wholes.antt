@@ -1,20 +1,28 @@
 -- What expressions stand for, from what stands for their parts: the definition is rewritten by what is known of each part, and the
 -- code of the whole leads from head to head as its parts do.
 use Rattle.std.proofs.Common.{◌≡◌, ℕ, ◌<◌, true, false, List, [], ◌∷◌}
-use Rattle.std.proofs.Common.{Option, Some, None, get_or, slice_get, refl, sym, ap, ◌∙◌, subst, arith}
+use Rattle.std.proofs.Common.{Option, Some, None, Result, Ok, Err, get_or, slice_get, refl, sym, ap, ◌∙◌, subst, arith}
 use Rattle.std.proofs.lemmas.Option.{slice_get_within, slice_get-get_or}
-use Rattle.vg_meaning.specs.Code.{Code, Then, Do}
+use Rattle.vg_base.specs.declared.refusal.Refusal.{Refusal}
+use Rattle.vg_base.specs.declared.refusal.Refusal.TheVariants.{Fault, NoMemory}
+use Rattle.vg_meaning.specs.Code.{Code, Then, Do, If}
 use Rattle.vg_meaning.specs.Shapes.{Fits}
 use Rattle.vg_syntax.specs.Tree.{Node, Spot}
 use Rattle.vg_syntax.specs.Tree as tree
-use Rattle.vg_syntax.specs.Numbering.{numbered}
+use Rattle.vg_syntax.specs.declared.kind.Kind.{Kind}
+use Rattle.vg_syntax.specs.declared.kind.Kind.TheVariants as kind
+use Rattle.vg_syntax.specs.Numbering.{numbered, with_id}
 use Rattle.vg_tree.specs.declared.node.Node as held_node
 use Rattle.vg_source.specs.Types as source_type
+use Rattle.vg_source.specs.Values.{Truth}
 use Rattle.vg_source.specs.Steps as source
 use Rattle.vg_source.specs.Resolved as resolved
 use Rattle.vg_source.specs.Resolved.{Owner, Scope, Fresh, Onto, IsValue, index_suffix}
 use Rattle.vg_rules.specs.Breach.{Breach, asks, ◌or◌}
 use Rattle.vg_rules.specs.Bodies.{breach, primary_breach, index_keeps, is_int}
+use Rattle.vg_rules.specs.Operands.{operands_keep}
+use Rattle.vg_types_views.specs.declared.broken.Broken.{Broken}
+use Rattle.vg_types_views.specs.Judges.{Judges}
 use Rattle.vg_core.specs.declared.types.CoreType.{CoreType}
 use Rattle.vg_core.specs.declared.types.CoreType.TheVariants.{IntType, BoolType, CharType, RawType, NullType}
 use Rattle.vg_core.specs.declared.types.CoreType.TheVariants.{ClassType, ArrayType, FunctionType, NoType, MoreTypes}
@@ -35,10 +43,10 @@ use Rattle.vg_types_tables.specs.Views.{declarations_at, naming, type_view, head
 use Rattle.vg_types_tables.specs.Declares.{Declares, IsFormed, IsKnown, IsTypeNumber, IsMadeBelow}
 use Rattle.vg_types_tables.specs.Promises.{IsHead, waiting, Leads, Puts, Stands, Leaves}
 use Rattle.vg_types_tables.proofs.TypeViews.{number_named}
-use Rattle.vg_types_leaves.specs.Judgements.{Shows}
+use Rattle.vg_types_leaves.specs.Judgements.{Shows, Behind}
 use Rattle.vg_types_leaves.proofs.Types.{number_view}
-use Rattle.vg_types_expressions.specs.Nodes.{chain_node, is_name}
-use Rattle.vg_types_expressions.specs.Judged.{value_of}
+use Rattle.vg_types_expressions.specs.Nodes.{chain_node, part_node, is_name}
+use Rattle.vg_types_operators.specs.Judged.{value_of}
 
 -- what is in front of no name breaks what it breaks
 pub no_name_front : (ds : Node) (o : Owner) (ls : Scope) (e s : Node) (b : Option Breach) → is_name e ≡ false → primary_breach ds o ls e s b ≡ b
@@ -138,6 +146,57 @@ module _ (texts : List (List ℕ)) (root : held_node.Node) (d : Declared) (k : B
       → asks (index_keeps (head_view texts d h) (IsValue (type_view texts d i.type_))) 20 spot ≡ Some (record { rule = 20; node = spot.id })
   element_breaks n spot h i eh e =
       ap (λ z. asks (index_keeps (head_view texts d z) (IsValue (type_view texts d i.type_))) 20 spot) eh ∙ ap (λ b. asks b 20 spot) e
+
+-- what a part does is told from what its operand does, leaves and has in scope
+part_same : (at : ℕ) (op : Kind) (h : resolved.Head) (m n : resolved.Resolved) → m.does ≡ n.does → m.head ≡ n.head → m.scope ≡ n.scope
+    → resolved.part at op h m ≡ resolved.part at op h n
+part_same at kind.AndAnd h m n ed eh es =
+    ap (λ z. resolved.doing (If z (Do (source.Put (Truth false)))) (IsValue source_type.BoolType) m.scope) ed
+    ∙ ap (λ z. resolved.doing (If n.does (Do (source.Put (Truth false)))) (IsValue source_type.BoolType) z) es
+part_same at kind.OrOr h m n ed eh es =
+    ap (λ z. resolved.doing (If (Do (source.Put (Truth true))) z) (IsValue source_type.BoolType) m.scope) ed
+    ∙ ap (λ z. resolved.doing (If (Do (source.Put (Truth true))) n.does) (IsValue source_type.BoolType) z) es
+part_same at op h m n ed eh es =
+    ap (λ z. resolved.doing (Then z (Do (source.Operate at (resolved.operator_of op)))) (resolved.result_of (resolved.operator_of op) h m.head) m.scope) ed
+    ∙ ap (λ z. resolved.doing (Then n.does (Do (source.Operate at (resolved.operator_of op)))) (resolved.result_of (resolved.operator_of op) h z) m.scope) eh
+    ∙ ap (λ z. resolved.doing (Then n.does (Do (source.Operate at (resolved.operator_of op)))) (resolved.result_of (resolved.operator_of op) h n.head) z) es
+
+module _ (texts : List (List ℕ)) (root : held_node.Node) (d : Declared) (k : BodyKind) (ls : Locals) where
+  -- a part with an operand
+  pub part_judged : (id : ℕ) (at : Spot) (op : Kind) (e : Node) (h : Head) (j : Judged) (r : Result Standing (Refusal Broken))
+      → breach (declarations_at texts root) (body_view texts d k) e Fresh (scope_view texts d ls) ≡ None → Stands texts root d k ls e j
+      → Judges (Shows texts d ls (resolved.part id op (head_view texts d h) (value_of texts d ls j))) r
+      (asks (operands_keep (declarations_at texts root) op (head_view texts d h) (IsValue (type_view texts d j.type_))) 18 (with_id id at))
+      → Behind texts root d k ls (part_node id at op e) (Onto (head_view texts d h)) r
+  part_judged id at op e h j r kept s = by r
+    where
+      value : resolved.Resolved
+      value = resolved.settled (resolved.resolved (declarations_at texts root) (body_view texts d k).owner e Fresh (scope_view texts d ls))
+
+      same : resolved.part id op (head_view texts d h) value ≡ resolved.part id op (head_view texts d h) (value_of texts d ls j)
+      same = part_same id op (head_view texts d h) value (value_of texts d ls j) (sym s.does) s.head s.scope
+
+      asked : breach (declarations_at texts root) (body_view texts d k) (part_node id at op e) (Onto (head_view texts d h)) (scope_view texts d ls)
+          ≡ asks (operands_keep (declarations_at texts root) op (head_view texts d h) (IsValue (type_view texts d j.type_))) 18 (with_id id at)
+      asked =
+          ap (λ z. z or asks (operands_keep (declarations_at texts root) op (head_view texts d h) value.head) 18 (with_id id at)) kept
+          ∙ ap (λ z. asks (operands_keep (declarations_at texts root) op (head_view texts d h) z) 18 (with_id id at)) s.head
+
+      by : (q : Result Standing (Refusal Broken))
+          → Judges (Shows texts d ls (resolved.part id op (head_view texts d h) (value_of texts d ls j))) q
+          (asks (operands_keep (declarations_at texts root) op (head_view texts d h) (IsValue (type_view texts d j.type_))) 18 (with_id id at))
+          → Behind texts root d k ls (part_node id at op e) (Onto (head_view texts d h)) q
+      by (Ok t) (b, shown) = (
+        asked ∙ b,
+        record {
+          head = ap (λ z. z.head) same ∙ shown.head;
+          does = shown.does ∙ sym (ap (λ z. z.does) same);
+          scope = ap (λ z. z.scope) same ∙ shown.scope;
+          known = shown.known;
+        },
+      )
+      by (Err (Fault f)) b = asked ∙ b
+      by (Err NoMemory) b = b
 
 -- `this` is no place
 pub this_no_place : (o : Owner) (ls : Scope) → (resolved.this_in o ls).store ≡ None

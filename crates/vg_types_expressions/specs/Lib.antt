@@ -2,4 +2,3 @@ pub mod Nodes
 pub mod Settled
 pub mod Links
 pub mod Arguments
-pub mod Judged

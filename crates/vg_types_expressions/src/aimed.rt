@@ -14,11 +14,12 @@ ghost use Rattle.vg_types_expressions.specs.Nodes.{postfix_node, chain_node, ind
 
 use crate::indexed::element_target;
 use crate::rows::row_of;
-use crate::whole::{expression, front_links, operand, plain};
+use crate::whole::{call_behind, expression, front_links, operand, part_behind, plain};
 use std::alloc::Global;
 use vg_base::{Names, Place, Refusal};
 use vg_tree::Node;
 use vg_types_leaves::{member_target, name_target};
+use vg_types_operators::type_part;
 use vg_types_tables::{Aimed, BodyKind, Declared, Head, Locals, Storing, chain, two};
 use vg_types_views::Broken;
 
@@ -282,6 +283,7 @@ fn target_row(
 }
 
 // A last suffix or part.
+#[tactic(auto, using(crate::proofs::Aiming::call_no_place, crate::proofs::Aiming::part_no_place, crate::proofs::Aiming::type_part_no_place))]
 fn link_target(
     alloc: Global,
     names: &Names,
@@ -313,7 +315,34 @@ fn link_target(
         Node::Index(place, index) => index_target(
             alloc, names, root, declared, body, locals, head, *place, index, id,
         ),
-        // Not read yet: calls and parts, which are no places. No tree of a text has another node here.
+        Node::Call(place, args) => {
+            let standing = call_behind(
+                alloc, names, root, declared, body, locals, head, *place, args, id,
+            )?;
+            Ok(Aimed {
+                place: None,
+                next: standing.next,
+            })
+        }
+        Node::Part(place, op, operand) => {
+            let standing = part_behind(
+                alloc, names, root, declared, body, locals, head, *place, *op, operand, id,
+            )?;
+            Ok(Aimed {
+                place: None,
+                next: standing.next,
+            })
+        }
+        Node::TypePart(place, op, type_) => {
+            let standing = type_part(
+                names, root, declared, body, locals, head, *place, *op, type_, id,
+            )?;
+            Ok(Aimed {
+                place: None,
+                next: standing.next,
+            })
+        }
+        // No tree of a text has another node here.
         _ => Err(Refusal::NoMemory),
     }
 }

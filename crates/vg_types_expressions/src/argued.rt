@@ -36,6 +36,7 @@ pub struct Argued {
 
 /// A row of arguments for parameters of these types: their code and whether they fit, or the first breach in one of them. `id` is the
 /// number of the first of their nodes.
+#[cycle(expression)]
 pub fn arguments(
     alloc: Global,
     names: &Names,
@@ -68,6 +69,7 @@ pub fn arguments(
 }
 
 // Arguments, in order of the text.
+#[cycle(expression)]
 fn argument_row(
     alloc: Global,
     names: &Names,

@@ -1,11 +1,11 @@
 // Elements of arrays.
-ghost use Rattle.std.specs.Prelude.{◌≡◌, ℕ, List, false, IfOk, IfSome, IfNone, IsTrue};
+ghost use Rattle.std.specs.Prelude.{◌≡◌, ℕ, List, false, IfOk, IfSome, IfNone};
 ghost use Rattle.vg_syntax.specs.Reads.{spot};
 ghost use Rattle.vg_syntax.specs.Numbering.{with_id};
 ghost use Rattle.vg_source.specs.Resolved.{IsValue, index_suffix, Head as SpecHead};
 ghost use Rattle.vg_rules.specs.Breach.{asks};
-ghost use Rattle.vg_rules.specs.Bodies.{index_keeps, is_int};
-ghost use Rattle.vg_core.specs.declared.types.CoreType.TheVariants.{ArrayType, IntType};
+ghost use Rattle.vg_rules.specs.Bodies.{index_keeps};
+ghost use Rattle.vg_core.specs.declared.types.CoreType.TheVariants.{ArrayType};
 ghost use Rattle.vg_core.specs.HeldProgram.{code_of};
 ghost use Rattle.vg_types_tables.specs.declared.declared.Declared.{Declared as SpecDeclared};
 ghost use Rattle.vg_types_tables.specs.declared.judged.Head.TheVariants.{Value};
@@ -14,12 +14,13 @@ ghost use Rattle.vg_types_tables.specs.Views.{type_view, head_view};
 ghost use Rattle.vg_types_tables.specs.Declares.{Declares};
 ghost use Rattle.vg_types_tables.specs.Promises.{IsHead, Puts, Leads, Stores};
 ghost use Rattle.vg_types_leaves.specs.Judgements.{HasValue, Shows, AimsAt};
-ghost use Rattle.vg_types_expressions.specs.Judged.{value_of};
+ghost use Rattle.vg_types_operators.specs.Judged.{value_of};
 
 use std::alloc::Global;
 use vg_base::{Names, NodeId, Place, Refusal};
 use vg_core::{Code, CoreType, Step};
 use vg_tree::Node;
+use vg_types_calls::is_int;
 use vg_types_tables::{
     Aimed, BodyKind, Declared, Head, Judged, Locals, Standing, Storing, two, type_of_number,
 };
@@ -96,25 +97,6 @@ fn elements(head: Head) -> Option<u32>
         },
         Head::Nothing | Head::Component(_) | Head::Device(_) => None,
         Head::OwnMethod(_, _, _) | Head::ItsMethod(_) => None,
-    }
-}
-
-/// Whether a type is that of ints.
-pub(crate) fn is_int(type_: CoreType) -> bool
-    ensures is { IsTrue result → type_ ≡ IntType }
-    ensures keeps { (texts : List (List ℕ)) (d : SpecDeclared) → result ≡ is_int (IsValue (type_view texts d type_)) }
-{
-    match type_ {
-        CoreType::IntType => true,
-        CoreType::BoolType
-        | CoreType::CharType
-        | CoreType::RawType(_)
-        | CoreType::NullType
-        | CoreType::ClassType(_)
-        | CoreType::ArrayType(_)
-        | CoreType::FunctionType(_, _)
-        | CoreType::NoType
-        | CoreType::MoreTypes(_, _) => false,
     }
 }
 

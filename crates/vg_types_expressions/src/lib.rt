@@ -1,10 +1,9 @@
 //! The rules on expressions: the code that an expression stands for and its type, or the first breach in it.
-//!
-//! Operators, calls, new objects and new arrays are not read yet: they answer want of memory, of which no clause says anything.
 #![tactic(auto)]
 
 mod aimed;
 mod argued;
+mod called;
 mod indexed;
 mod rows;
 mod settled;

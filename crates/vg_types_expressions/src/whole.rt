@@ -2,7 +2,7 @@
 ghost use Rattle.std.specs.Prelude.{◌≡◌, ◌+◌, ◌-◌, ◌<◌, ◌^◌, ℕ, length, drop, None, IfOk};
 ghost use Rattle.vg_syntax.specs.Numbering.{count_nodes, numbered};
 ghost use Rattle.vg_syntax.specs.Reads.{spot};
-ghost use Rattle.vg_tree.specs.Held.{node_at, row_at};
+ghost use Rattle.vg_tree.specs.Held.{node_at, row_at, text_at, type_at};
 ghost use Rattle.vg_source.specs.Resolved.{Fresh, Onto};
 ghost use Rattle.vg_rules.specs.Bodies.{breach, primary_breach};
 ghost use Rattle.vg_core.specs.HeldProgram.{code_of};
@@ -12,21 +12,27 @@ ghost use Rattle.vg_types_tables.specs.Views.{declarations_at, body_view, owner_
 ghost use Rattle.vg_types_tables.specs.Declares.{Declares};
 ghost use Rattle.vg_types_tables.specs.Promises.{AreDeclared, IsBody, IsHead, Stands, Leaves, Puts, Leads, meant};
 ghost use Rattle.vg_types_leaves.specs.Judgements.{HasValue, Behind, Whole};
-ghost use Rattle.vg_types_expressions.specs.Nodes.{postfix_node, chain_node, index_node};
+ghost use Rattle.vg_types_expressions.specs.Nodes.{postfix_node, chain_node, index_node, call_node, part_node, unary_node};
+ghost use Rattle.vg_types_expressions.specs.Nodes.{new_object_node, new_array_node};
 ghost use Rattle.vg_types_expressions.specs.Links.{JudgesFront, Linking};
 
+use crate::argued::arguments;
+use crate::called::{called, made};
 use crate::indexed::element;
 use crate::rows::{as_name, begins_with_member, row_of};
 use crate::settled::settle;
 use std::alloc::Global;
-use vg_base::{Names, NodeId, Place, Refusal};
+use vg_base::{Name, Names, Place, Refusal};
 use vg_core::{Code, CoreType, CoreValue, Step};
-use vg_tree::Node;
+use vg_syntax::Kind;
+use vg_tree::{Node, TypeTree};
+use vg_types_calls::{array_made, making_params, params_behind};
 use vg_types_leaves::{
     character, member_behind, name_alone, name_in_front, number, put, string, this_object,
 };
+use vg_types_operators::{part, prefixed, type_part};
 use vg_types_tables::{BodyKind, Declared, Head, Judged, Locals, Standing, chain, two};
-use vg_types_views::Broken;
+use vg_types_views::{Broken, text_of};
 
 /// A whole expression: its type and its code, or the first breach in it. `id` is the number of its node.
 #[cycle(expression)]
@@ -90,6 +96,7 @@ fn primary(
 }
 
 // An expression that is no place.
+#[cycle(expression)]
 #[tactic(auto, using(crate::proofs::Wholes::this_no_place))]
 pub(crate) fn plain(
     alloc: Global,
@@ -146,9 +153,130 @@ pub(crate) fn plain(
             id,
         )),
         Node::This(place) => this_object(names, root, declared, body, locals, *place, id),
-        // Not read yet: operators before an operand, new objects, new arrays. No tree of a text has another node here.
+        Node::NewObject(place, name, args) => new_object(
+            alloc, names, root, declared, body, locals, *place, *name, args, id,
+        ),
+        Node::NewArray(place, element, size) => new_array(
+            alloc, names, root, declared, body, locals, *place, element, size, id,
+        ),
+        Node::Unary(place, operators, operand) => unary(
+            alloc,
+            names,
+            root,
+            declared,
+            body,
+            locals,
+            *place,
+            operators.as_slice(),
+            operand,
+            id,
+        ),
+        // No tree of a text has another node here.
         _ => Err(Refusal::NoMemory),
     }
+}
+
+// A new object: rule 25.
+#[cycle(expression)]
+fn new_object(
+    alloc: Global,
+    names: &Names,
+    root: &Node,
+    declared: &Declared,
+    body: BodyKind,
+    locals: &Locals,
+    place: Place,
+    name: Name,
+    args: &Node,
+    id: u32,
+) -> Result<Standing, Refusal<Broken>>
+    requires declares { Declares names.now root.now declared.now }
+    requires body { IsBody declared.now.tables body }
+    requires scope { AreDeclared declared.now.tables locals.now }
+    requires room { id + 1 + count_nodes (node_at names.now args.now) < 2 ^ 32 }
+    ensures judged { Behind names.now root.now declared.now body locals.now
+        (new_object_node id (spot place) (text_at names.now name) (numbered (id + 1) (node_at names.now args.now))) Fresh result }
+    ensures typed { IfOk result (λ j. Leads declared.now.tables body locals.now Nothing (code_of j.code) j.head) }
+    ensures value { IfOk result (λ j. HasValue j.head) }
+    ensures next { IfOk result (λ j. j.next ≡ id + 1 + count_nodes (node_at names.now args.now)) }
+{
+    let class = text_of(names, name);
+    let wanted = making_params(alloc, declared, class)?;
+    let params = wanted.as_slice();
+    let argued = arguments(
+        alloc,
+        names,
+        root,
+        declared,
+        body,
+        locals,
+        params,
+        args,
+        id + 1,
+    )?;
+    made(
+        alloc, names, root, declared, body, locals, place, class, params, args, argued, id,
+    )
+}
+
+// A new array: rules 8 and 25.
+#[cycle(expression)]
+fn new_array(
+    alloc: Global,
+    names: &Names,
+    root: &Node,
+    declared: &Declared,
+    body: BodyKind,
+    locals: &Locals,
+    place: Place,
+    element: &TypeTree,
+    size: &Node,
+    id: u32,
+) -> Result<Standing, Refusal<Broken>>
+    requires declares { Declares names.now root.now declared.now }
+    requires body { IsBody declared.now.tables body }
+    requires scope { AreDeclared declared.now.tables locals.now }
+    requires room { id + 1 + count_nodes (node_at names.now size.now) < 2 ^ 32 }
+    ensures judged { Behind names.now root.now declared.now body locals.now
+        (new_array_node id (spot place) (type_at names.now element.now) (numbered (id + 1) (node_at names.now size.now))) Fresh result }
+    ensures typed { IfOk result (λ j. Leads declared.now.tables body locals.now Nothing (code_of j.code) j.head) }
+    ensures value { IfOk result (λ j. HasValue j.head) }
+    ensures next { IfOk result (λ j. j.next ≡ id + 1 + count_nodes (node_at names.now size.now)) }
+{
+    let judged = expression(alloc, names, root, declared, body, locals, size, id + 1)?;
+    array_made(
+        alloc, names, root, declared, body, locals, place, element, judged, id,
+    )
+}
+
+// An operand with operators before it: rule 18.
+#[cycle(expression)]
+fn unary(
+    alloc: Global,
+    names: &Names,
+    root: &Node,
+    declared: &Declared,
+    body: BodyKind,
+    locals: &Locals,
+    place: Place,
+    operators: &[Kind],
+    operand: &Node,
+    id: u32,
+) -> Result<Standing, Refusal<Broken>>
+    requires declares { Declares names.now root.now declared.now }
+    requires body { IsBody declared.now.tables body }
+    requires scope { AreDeclared declared.now.tables locals.now }
+    requires room { id + 1 + count_nodes (node_at names.now operand.now) < 2 ^ 32 }
+    ensures judged { Behind names.now root.now declared.now body locals.now
+        (unary_node id (spot place) operators.now (numbered (id + 1) (node_at names.now operand.now))) Fresh result }
+    ensures typed { IfOk result (λ j. Leads declared.now.tables body locals.now Nothing (code_of j.code) j.head) }
+    ensures value { IfOk result (λ j. HasValue j.head) }
+    ensures next { IfOk result (λ j. j.next ≡ id + 1 + count_nodes (node_at names.now operand.now)) }
+{
+    let judged = expression(alloc, names, root, declared, body, locals, operand, id + 1)?;
+    prefixed(
+        alloc, names, root, declared, body, locals, place, operators, judged, id,
+    )
 }
 
 // An operand and a row of suffixes.
@@ -449,7 +577,16 @@ pub(crate) fn link(
         Node::Index(place, index) => index_behind(
             alloc, names, root, declared, body, locals, head, *place, index, id,
         ),
-        // Not read yet: calls, parts with an operand, casts and class tests. No tree of a text has another node here.
+        Node::Call(place, args) => call_behind(
+            alloc, names, root, declared, body, locals, head, *place, args, id,
+        ),
+        Node::Part(place, op, operand) => part_behind(
+            alloc, names, root, declared, body, locals, head, *place, *op, operand, id,
+        ),
+        Node::TypePart(place, op, type_) => type_part(
+            names, root, declared, body, locals, head, *place, *op, type_, id,
+        ),
+        // No tree of a text has another node here.
         _ => Err(Refusal::NoMemory),
     }
 }
@@ -482,6 +619,83 @@ fn index_behind(
     let judged = expression(alloc, names, root, declared, body, locals, index, id + 1)?;
     element(
         alloc, names, root, declared, body, locals, head, place, judged, id,
+    )
+}
+
+// A Call suffix: rule 17.
+#[cycle(expression)]
+pub(crate) fn call_behind(
+    alloc: Global,
+    names: &Names,
+    root: &Node,
+    declared: &Declared,
+    body: BodyKind,
+    locals: &Locals,
+    head: Head,
+    place: Place,
+    args: &Node,
+    id: u32,
+) -> Result<Standing, Refusal<Broken>>
+    requires declares { Declares names.now root.now declared.now }
+    requires body { IsBody declared.now.tables body }
+    requires scope { AreDeclared declared.now.tables locals.now }
+    requires head { IsHead names.now declared.now head }
+    requires room { id + 1 + count_nodes (node_at names.now args.now) < 2 ^ 32 }
+    ensures judged { Behind names.now root.now declared.now body locals.now (call_node id (spot place) (numbered (id + 1) (node_at names.now args.now)))
+        (Onto (head_view names.now declared.now head)) result }
+    ensures typed { IfOk result (λ j. Leads declared.now.tables body locals.now head (code_of j.code) j.head) }
+    ensures value { IfOk result (λ j. HasValue j.head) }
+    ensures next { IfOk result (λ j. j.next ≡ id + 1 + count_nodes (node_at names.now args.now)) }
+{
+    // A copy: the look-up below takes the head.
+    let callee = head;
+    let wanted = params_behind(alloc, declared, head)?;
+    let params = wanted.as_slice();
+    let argued = arguments(
+        alloc,
+        names,
+        root,
+        declared,
+        body,
+        locals,
+        params,
+        args,
+        id + 1,
+    )?;
+    called(
+        alloc, names, root, declared, body, locals, callee, place, params, args, argued, id,
+    )
+}
+
+// A part with an operand: rule 18.
+#[cycle(expression)]
+pub(crate) fn part_behind(
+    alloc: Global,
+    names: &Names,
+    root: &Node,
+    declared: &Declared,
+    body: BodyKind,
+    locals: &Locals,
+    head: Head,
+    place: Place,
+    op: Kind,
+    operand: &Node,
+    id: u32,
+) -> Result<Standing, Refusal<Broken>>
+    requires declares { Declares names.now root.now declared.now }
+    requires body { IsBody declared.now.tables body }
+    requires scope { AreDeclared declared.now.tables locals.now }
+    requires head { IsHead names.now declared.now head }
+    requires room { id + 1 + count_nodes (node_at names.now operand.now) < 2 ^ 32 }
+    ensures judged { Behind names.now root.now declared.now body locals.now (part_node id (spot place) op (numbered (id + 1) (node_at names.now operand.now)))
+        (Onto (head_view names.now declared.now head)) result }
+    ensures typed { IfOk result (λ j. Leads declared.now.tables body locals.now head (code_of j.code) j.head) }
+    ensures value { IfOk result (λ j. HasValue j.head) }
+    ensures next { IfOk result (λ j. j.next ≡ id + 1 + count_nodes (node_at names.now operand.now)) }
+{
+    let judged = expression(alloc, names, root, declared, body, locals, operand, id + 1)?;
+    part(
+        alloc, names, root, declared, body, locals, head, place, op, judged, id,
     )
 }
 

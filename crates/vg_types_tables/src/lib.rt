@@ -24,4 +24,4 @@ pub use lookups::{
 };
 pub use scope::find_local;
 pub use types::fits;
-pub use written_type::{type_keeps, written};
+pub use written_type::{has_levels, type_keeps, written};

@@ -61,8 +61,8 @@ fn width_keeps(width: &str) -> bool
     !vg_types_numbers::is_hexadecimal(width) && number >= 1 && number <= 32
 }
 
-// Whether a type has at most so many array levels.
-fn has_levels(type_: &TypeTree, most: usize) -> bool
+/// Whether a type has at most so many array levels.
+pub fn has_levels(type_: &TypeTree, most: usize) -> bool
     ensures { (texts : List (List ℕ)) → result ≡ nat_le (levels (type_at texts type_.now)) most }
 {
     match type_ {
