@@ -1,9 +1,8 @@
 // The heap.
 ghost use Rattle.std.specs.Prelude.{◌≡◌, ◌+◌, [], IfOk, IfSome, OnErr, OnOk, length, map, replicate, slice_get, slice_set};
-ghost use Rattle.vg_core.specs.declared.program.Tables.{Tables};
 ghost use Rattle.vg_core.specs.declared.heap.Cell.TheVariants.{Object, Array};
 ghost use Rattle.vg_core.specs.Tables as tables_of;
-ghost use Rattle.vg_core.specs.Heap.{class_in, item_in, size_of, value_at, set_at, stored_values, OfComponent, OfObject, OfArray, with_field, with_item};
+ghost use Rattle.vg_core.specs.Heap.{class_in, item_in, size_of, value_at, set_at, stored_values, OfComponent, OfObject, with_field, with_item};
 ghost use Rattle.vg_core.specs.declared.value.CoreValue.TheVariants.{Char};
 ghost use Rattle.vg_core.specs.HeldProgram.{program_at};
 ghost use Rattle.vg_core.specs.Meaning.{default_in, defaults};
@@ -197,7 +196,7 @@ impl Store {
 
     /// Another element of the array in a cell, where it has it.
     pub fn set_item(&mut self, k: u32, i: u32, value: CoreValue)
-        ensures { (p : Tables) → self.new ≡ set_at p (OfArray k i) value self.old }
+        ensures { self.new ≡ heap_of (with_item i value (slice_get self.old.cells k) self.old.cells k) self.old.globals }
     {
         set_item_at(self.alloc, &mut self.cells, k, i, value);
     }

@@ -1,0 +1,15 @@
+//! A run over the typed program: what it has in hand and around it, and what each step does but those that call.
+#![tactic(auto)]
+
+pub mod around;
+pub mod devices;
+pub mod methods;
+pub mod operators;
+pub mod places;
+pub mod run;
+pub mod signal;
+pub mod values;
+
+pub use around::{Around, Phase};
+pub use run::{Element, Run};
+pub use signal::Signal;
