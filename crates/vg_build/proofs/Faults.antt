@@ -1,25 +1,16 @@
 -- What an answer says of the bytes: which texts are refused, and which are built.
 use Rattle.std.proofs.Common.{◌≡◌, ℕ, ◌⊎◌, ◌↔◌, List, [], Option, Some, None, Result, Ok, Err, refl, sym, ap, ◌∙◌, subst, inl, inr}
-use Rattle.std.specs.Prelude.{◌==◌, IsOk}
+use Rattle.std.specs.Prelude.{IsOk}
 use Rattle.std.specs.Option.{option_map}
 use Rattle.vg_base.specs.declared.place.Place.{Place}
 use Rattle.vg_base.specs.declared.refusal.Refusal.{Refusal}
 use Rattle.vg_base.specs.declared.refusal.Refusal.TheVariants as refusal
 use Rattle.vg_syntax.specs.Faults.{IsText, NoTreeIn, TooDeepIn}
 use Rattle.vg_syntax.specs.Reads.{Reads}
-use Rattle.vg_syntax.specs.Tree.{Node, Text}
-use Rattle.vg_source.specs.Declared.{or_else}
+use Rattle.vg_syntax.specs.Tree.{Node}
 use Rattle.vg_rules.specs.declared.what.What.{What}
-use Rattle.vg_rules.specs.Breach.{Breach, asks, ◌or◌}
-use Rattle.vg_rules.specs.Names.{names_breach, programs, classes_breach}
-use Rattle.vg_rules.specs.Signatures.{signatures_breach}
-use Rattle.vg_rules.specs.Inherited.{inherited_breach}
-use Rattle.vg_rules.specs.Entries.{entries_breach}
-use Rattle.vg_rules.specs.Legal.{breach_of, written_breach}
 use Rattle.vg_rules.specs.Refusal as refused
-use Rattle.vg_rules.specs.Refusal.{Refused, too_many, broken_at, refusal_of}
-use Rattle.vg_types_names.specs.Declarations.{names_part}
-use Rattle.vg_types_signatures.specs.Parts.{declared_part}
+use Rattle.vg_rules.specs.Refusal.{Refused, refusal_of}
 use Rattle.vg_first_text.specs.declared.device_write.DeviceWrite.{DeviceWrite}
 use Rattle.vg_first_text.specs.FirstText.{IsFirst}
 use Rattle.vg_texts.proofs.Values.{some_tree, one_tree}
@@ -28,7 +19,7 @@ use Rattle.vg_first_laws.proofs.Texts.{first_is_text, first_has_no_fault, first_
 use Rattle.vg_first_laws.proofs.Means.{text_is_legal}
 use Rattle.vg_build.specs.declared.fault.Fault.{Fault}
 use Rattle.vg_build.specs.declared.fault.Fault.TheVariants.{NoTree, TooDeep, TooMany, Broken, NotBuilt}
-use Rattle.vg_build.specs.Judged.{refused_today, fault_of, fault_today, RefusedIn, KeptIn, JudgedBy}
+use Rattle.vg_build.specs.Judged.{fault_of, tree_fault, RefusedIn, KeptIn, JudgedBy}
 use Rattle.vg_build.specs.Mirrors.{ReadBy}
 use Rattle.vg_build.specs.Answer.{Answer, Answers, HasFault, IsNotBuilt, IsSettled, fault_in, first_place}
 
@@ -46,39 +37,14 @@ some_same a b e = cc
 
 -- ---- what is asked of a tree
 
-or_again : (a b c : Option Breach) → (a or b) or c ≡ a or (b or c)
-or_again (Some x) b c = refl
-or_again None b c = refl
-
--- what is refused today is refused for that by all the rules
-refused_again : (m : Option Refused) (a b : Option Breach) (r : Refused) → or_else m (broken_at a) ≡ Some r → or_else m (broken_at (a or b)) ≡ Some r
-refused_again (Some x) a b r e = e
-refused_again None (Some x) b r e = e
-refused_again None None b r e = let clash : None ≡ Some r = e in cc
-
-pub refused_is_refused : (tree : Node) (r : Refused) → refused_today tree ≡ Some r → refusal_of tree ≡ Some r
-refused_is_refused (Text at ds) r e =
-    let rest : Option Breach = inherited_breach ds ds or (entries_breach ds ds or written_breach ds ds) in
-    let whole : breach_of (Text at ds) ≡ (names_part (Text at ds) or declared_part (Text at ds)) or rest =
-    sym (or_again (names_part (Text at ds)) (declared_part (Text at ds)) rest
-    ∙ ap (λ x. names_part (Text at ds) or x) (or_again (classes_breach ds ds) (signatures_breach ds ds) rest)
-    ∙ or_again (names_breach [] ds) (asks (programs ds == 1) 2 at) (classes_breach ds ds or (signatures_breach ds ds or rest))) in
-    ap (λ b. or_else (too_many (Text at ds)) (broken_at b)) whole
-    ∙ refused_again (too_many (Text at ds)) (names_part (Text at ds) or declared_part (Text at ds)) rest r e
-refused_is_refused _ r e = e
-
 -- a text is not refused and kept
 kept_or_refused : (bytes : List ℕ) (why : Fault) → KeptIn bytes → RefusedIn bytes why → ⊥
 kept_or_refused bytes why (text, tree, reads, kept) (text', tree', reads', refused) =
-    let clash : None ≡ Some why = sym kept ∙ ap fault_today (one_tree bytes tree tree' reads reads') ∙ refused in cc
+    let clash : None ≡ Some why = sym kept ∙ ap tree_fault (one_tree bytes tree tree' reads reads') ∙ refused in cc
 
 -- a legal tree is refused for nothing
-legal_is_kept : (tree : Node) → refusal_of tree ≡ None → fault_today tree ≡ None
-legal_is_kept tree legal = by (refused_today tree) refl
-  where
-    by : (o : Option Refused) → refused_today tree ≡ o → fault_today tree ≡ None
-    by None e = ap (option_map (fault_of tree)) e
-    by (Some r) e = absurd (let clash : None ≡ Some r = sym legal ∙ refused_is_refused tree r e in cc)
+legal_is_kept : (tree : Node) → refusal_of tree ≡ None → tree_fault tree ≡ None
+legal_is_kept tree legal = ap (option_map (fault_of tree)) legal
 
 first_is_kept : (bytes : List ℕ) (writes : List DeviceWrite) → IsFirst bytes writes → KeptIn bytes
 first_is_kept bytes writes first =
@@ -88,7 +54,7 @@ first_is_kept bytes writes first =
 
 -- two answers for one text are one
 one_refusal : (bytes : List ℕ) (a b : Fault) → RefusedIn bytes a → RefusedIn bytes b → Some a ≡ Some b
-one_refusal bytes a b (text, tree, reads, e) (text', tree', reads', e') = sym e ∙ ap fault_today (one_tree bytes tree tree' reads reads') ∙ e'
+one_refusal bytes a b (text, tree, reads, e) (text', tree', reads', e') = sym e ∙ ap tree_fault (one_tree bytes tree tree' reads reads') ∙ e'
 
 -- the answers that come of what is asked of a tree
 abbrev IsAsked : Fault → Type 0
@@ -137,7 +103,7 @@ has_fault bytes (NotBuilt p) asked h = absurd asked
 pub read_by : (bytes : List ℕ) (tree : Node) → IsText bytes → Reads bytes tree → (r : Result (Unit {0}) (Refusal Fault)) → JudgedBy tree r → ReadBy bytes r
 read_by bytes tree text reads (Ok u) k = record { text = text; tree = tree; reads = reads; kept = k }
 read_by bytes tree text reads (Err (refusal.Fault why)) k =
-    has_fault bytes why (asked_of tree (refused_today tree) why k) (text, tree, reads, k)
+    has_fault bytes why (asked_of tree (refusal_of tree) why k) (text, tree, reads, k)
 read_by bytes tree text reads (Err refusal.NoMemory) k = tt
 
 -- exactly the texts that cease to be one at this place are refused there

@@ -32,7 +32,7 @@ fault_in (Err refusal.NoMemory) = None
 abbrev pub IsNoFirst : List ℕ → Type 0
 IsNoFirst bytes = (writes : List DeviceWrite) → IsFirst bytes writes → ⊥
 
--- the bytes are a text of the language that is refused for nothing that is asked, of a form that is not built yet
+-- the bytes are a text of the language that is refused for nothing, of a form that is not built yet
 abbrev pub IsNotBuilt : List ℕ → Type 0
 IsNotBuilt bytes = KeptIn bytes × IsNoFirst bytes
 

@@ -12,7 +12,7 @@ use Rattle.vg_hex.specs.HexImage.{HexImage}
 use Rattle.vg_build.specs.declared.building.Built.{Built}
 use Rattle.vg_build.specs.declared.fault.Fault.{Fault}
 use Rattle.vg_build.specs.declared.layout.Layout.{Layout}
-use Rattle.vg_build.specs.Judged.{fault_today}
+use Rattle.vg_build.specs.Judged.{tree_fault}
 use Rattle.vg_build.specs.Answer.{IsCause}
 use Rattle.vg_build.specs.Layout.{layout_text}
 
@@ -29,12 +29,12 @@ pub record IsMadeOf (writes : List DeviceWrite) (built : Built) : Type 0 where
   pub spelled : HexImage (hex_text built.image) built.image
   pub note : built.note ≡ layout_text built.layout
 
--- the bytes are a text of the language with a tree, which is refused for nothing that is asked
+-- the bytes are a text of the language with a tree, which is refused for nothing
 pub record HasTree (bytes : List ℕ) : Type 0 where
   pub text : IsText bytes
   pub tree : Node
   pub reads : Reads bytes tree
-  pub kept : fault_today tree ≡ None
+  pub kept : tree_fault tree ≡ None
 
 -- they have one, or there is a cause
 abbrev pub ReadBy : List ℕ → {V : Type 0} → Result V (Refusal Fault) → Type 0

@@ -1,4 +1,4 @@
-// What is asked of the tree of a text before anything is built of it.
+// What is asked of the tree of a text before anything is built of it: limits, and all rules.
 ghost use Rattle.std.specs.Prelude.{◌≡◌, ◌<◌, ◌^◌, ℕ, List};
 ghost use Rattle.vg_rules.specs.Refusal as rules;
 ghost use Rattle.vg_tree_walks.specs.Whole.{tree_at, node_count};
@@ -9,12 +9,11 @@ use std::alloc::Global;
 use vg_base::{Names, NodeId, Place, Refusal};
 use vg_places::place_of;
 use vg_tree_walks::Tree;
+use vg_types_check::check;
 use vg_types_counts::{TooMany, too_many};
-use vg_types_names::declared_names;
-use vg_types_signatures::signatures;
 use vg_types_views::Broken;
 
-/// Whether a tree has too many of something, or breaks a rule that is asked.
+/// Whether a tree has too many of something, or breaks a rule.
 pub(crate) fn judged(alloc: Global, names: &Names, tree: &Tree) -> Result<(), Refusal<Fault>>
     requires { node_count tree.now < 2 ^ 32 }
     ensures { JudgedBy (tree_at names.now tree.now) result }
@@ -22,12 +21,7 @@ pub(crate) fn judged(alloc: Global, names: &Names, tree: &Tree) -> Result<(), Re
     if let Some(many) = too_many(tree) {
         return Err(Refusal::Fault(too_many_fault(tree, many)));
     }
-    let declarations = match declared_names(alloc, names, tree) {
-        Ok(declarations) => declarations,
-        Err(Refusal::Fault(broken)) => return Err(Refusal::Fault(broken_fault(tree, broken))),
-        Err(Refusal::NoMemory) => return Err(Refusal::NoMemory),
-    };
-    match signatures(alloc, names, tree, &declarations) {
+    match check(alloc, names, tree) {
         Ok(()) => Ok(()),
         Err(Refusal::Fault(broken)) => Err(Refusal::Fault(broken_fault(tree, broken))),
         Err(Refusal::NoMemory) => Err(Refusal::NoMemory),

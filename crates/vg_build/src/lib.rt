@@ -4,7 +4,6 @@
 mod building;
 mod fault;
 mod judging;
-pub mod law;
 mod layout;
 
 pub use building::{Built, build};

@@ -1,4 +1,4 @@
-//! The rules that are asked of a text today, in their order.
+//! The rules of a text, all 25 in their order: the first breach, or none where the text is legal.
 #![tactic(auto)]
 
 mod pass;

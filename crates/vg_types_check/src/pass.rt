@@ -5,6 +5,7 @@ ghost use Rattle.vg_tree.specs.Held.{node_at};
 ghost use Rattle.vg_tree_walks.specs.Whole.{tree_at, node_count};
 ghost use Rattle.vg_source.specs.Program.{declarations_of};
 ghost use Rattle.vg_rules.specs.Names.{programs};
+ghost use Rattle.vg_rules.specs.Legal.{breach_of};
 ghost use Rattle.vg_types_views.specs.Judges.{Judges};
 ghost use Rattle.vg_types_names.specs.Declarations.{are_declarations, names_part};
 ghost use Rattle.vg_types_signatures.specs.Parts.{declared_part};
@@ -24,9 +25,21 @@ use vg_types_names::declared_names;
 use vg_types_signatures::signatures;
 use vg_types_tables::Declared;
 use vg_types_views::Broken;
+use vg_types_written::written;
 
-/// The first breach of the rules that are asked. A tree that no text has is answered by want of memory.
+/// The first breach of a text, by all 25 rules: the rule and the number of the node that breaks it.
+///
+/// Each pass goes over the text once and finds what a name stands for in maps, so the time is about linear. A tree that no text has is answered by want of
+/// memory.
 pub fn check(alloc: Global, names: &Names, tree: &Tree) -> Result<(), Refusal<Broken>>
+    requires { node_count tree.now < 2 ^ 32 }
+    ensures { Judges (λ u. Unit {0}) result (breach_of (tree_at names.now tree.now)) }
+{
+    check_parts(alloc, names, tree)
+}
+
+// The same, asked in parts.
+fn check_parts(alloc: Global, names: &Names, tree: &Tree) -> Result<(), Refusal<Broken>>
     requires { node_count tree.now < 2 ^ 32 }
     ensures { Judges (λ u. Unit {0}) result (asked_part (tree_at names.now tree.now)) }
 {
@@ -75,5 +88,5 @@ fn check_declared(
 {
     inherited(names, root, declared)?;
     entries(alloc, names, root, declared)?;
-    Ok(())
+    written(alloc, names, root, declared)
 }
