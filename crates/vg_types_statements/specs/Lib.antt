@@ -1,0 +1,4 @@
+pub mod Nodes
+pub mod Grows
+pub mod Asked
+pub mod Arms
