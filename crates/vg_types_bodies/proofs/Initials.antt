@@ -33,10 +33,10 @@ use Rattle.vg_types_tables.specs.Views.{declarations_at, type_view, typed_view, 
 use Rattle.vg_types_tables.specs.Promises.{Stands, Puts}
 use Rattle.vg_types_expressions.specs.declared.argued.Argued.{Argued}
 use Rattle.vg_types_expressions.specs.Arguments.{PutsFor}
-use Rattle.vg_types_statements.specs.Grows.{first_breach}
-use Rattle.vg_types_statements.specs.Asked.{asked}
-use Rattle.vg_types_statements.proofs.MoreLocals.{more_locals}
-use Rattle.vg_types_statements.proofs.Written.{initialiser_written}
+use Rattle.vg_types_simple.specs.Grows.{first_breach}
+use Rattle.vg_types_simple.specs.Asked.{asked}
+use Rattle.vg_types_simple.proofs.MoreLocals.{more_locals}
+use Rattle.vg_types_simple.proofs.Written.{initialiser_written}
 use Rattle.vg_types_bodies.specs.Initial.{initial_breach, IsInitial, PutsInitial}
 
 -- where no member is seen

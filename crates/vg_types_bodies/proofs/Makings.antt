@@ -25,7 +25,7 @@ use Rattle.vg_types_tables.specs.declared.declared.Declared.{Declared}
 use Rattle.vg_types_tables.specs.declared.locals.Locals.{Locals}
 use Rattle.vg_types_tables.specs.Views.{declarations_at, owner_view, row_view, scope_view, code_view}
 use Rattle.vg_types_tables.specs.Promises.{meant}
-use Rattle.vg_types_statements.specs.Grows.{first_breach}
+use Rattle.vg_types_simple.specs.Grows.{first_breach}
 use Rattle.vg_types_statements.specs.Arms.{RunsIn}
 use Rattle.vg_types_bodies.specs.declared.making.Constructed.{Constructed}
 use Rattle.vg_types_bodies.specs.Bodies.{IsBodyOf}

@@ -22,7 +22,7 @@ use Rattle.vg_core.specs.Typing.{known}
 use Rattle.vg_types_tables.specs.declared.declared.Declared.{Declared}
 use Rattle.vg_types_tables.specs.Views.{declarations_at, naming, owner_view}
 use Rattle.vg_types_statements.specs.Arms.{RunsIn}
-use Rattle.vg_types_statements.proofs.MoreLocals.{more_locals}
+use Rattle.vg_types_simple.proofs.MoreLocals.{more_locals}
 use Rattle.vg_types_bodies.specs.Initial.{super_code, above_name, SuperRuns}
 use Rattle.vg_types_bodies.specs.Fields.{making_kind}
 use Rattle.vg_types_bodies.specs.Routines.{MethodIs, MakingIs, StartIs, MakingTyped, StartTyped, IsBelow, making_signature}

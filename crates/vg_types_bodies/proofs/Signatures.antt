@@ -24,7 +24,7 @@ use Rattle.vg_types_tables.specs.Views.{declarations_at, row_view, owner_view, b
 use Rattle.vg_types_tables.specs.Declares.{IsKnown, Declares}
 use Rattle.vg_types_tables.specs.Promises.{Sees, meant}
 use Rattle.vg_types_tables.proofs.OneClass.{one_type}
-use Rattle.vg_types_statements.specs.Grows.{first_breach}
+use Rattle.vg_types_simple.specs.Grows.{first_breach}
 use Rattle.vg_types_statements.specs.Arms.{RunsIn}
 use Rattle.vg_types_bodies.specs.Bodies.{IsBodyOf}
 

@@ -26,7 +26,7 @@ use Rattle.vg_core.specs.Tables as tables
 use Rattle.vg_core.specs.Typing.{Sub, known}
 use Rattle.vg_types_tables.specs.declared.declared.Declared.{Declared}
 use Rattle.vg_types_tables.specs.Views.{declarations_at, naming, code_view}
-use Rattle.vg_types_statements.specs.Asked.{asked}
+use Rattle.vg_types_simple.specs.Asked.{asked}
 
 -- ---- initialisers
 

@@ -22,7 +22,7 @@ use vg_base::{Names, Refusal};
 use vg_core::{Code, CoreType, Step};
 use vg_tree::Node;
 use vg_types_expressions::arguments;
-use vg_types_statements::{broken, nothing};
+use vg_types_simple::{broken, nothing};
 use vg_types_tables::{Declared, Done, Locals, two};
 use vg_types_views::Broken;
 

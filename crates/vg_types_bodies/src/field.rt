@@ -17,7 +17,7 @@ use std::alloc::Global;
 use vg_base::{Names, NoMemory, Refusal};
 use vg_core::{Code, CoreType, Owner, Step};
 use vg_tree::Node;
-use vg_types_statements::nothing;
+use vg_types_simple::nothing;
 use vg_types_tables::{Declared, three, two};
 use vg_types_views::Broken;
 

@@ -14,7 +14,7 @@ use vg_core::{Code, CoreType};
 use vg_tree::Node;
 use vg_tree::nothing::is_nothing;
 use vg_types_expressions::expression;
-use vg_types_statements::broken;
+use vg_types_simple::broken;
 use vg_types_tables::{BodyKind, Declared, Locals, fits};
 use vg_types_views::Broken;
 

@@ -7,7 +7,7 @@ ghost use Rattle.vg_core.specs.HeldProgram.{code_of};
 ghost use Rattle.vg_types_views.specs.Judges.{Judges};
 ghost use Rattle.vg_types_tables.specs.Declares.{Declares};
 ghost use Rattle.vg_types_tables.specs.Promises.{AreDeclared, IsBody, meant};
-ghost use Rattle.vg_types_statements.specs.Grows.{first_breach};
+ghost use Rattle.vg_types_simple.specs.Grows.{first_breach};
 ghost use Rattle.vg_types_statements.specs.Arms.{RunsIn};
 ghost use Rattle.vg_types_bodies.specs.Bodies.{IsBodyOf};
 

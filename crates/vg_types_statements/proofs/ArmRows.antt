@@ -31,9 +31,9 @@ use Rattle.vg_types_tables.specs.Promises.{AreDeclared, Does, Puts, Runs, meant}
 use Rattle.vg_types_statements.specs.declared.arms.Armed.{Armed}
 use Rattle.vg_types_statements.specs.declared.arms.AllArms.{AllArms}
 use Rattle.vg_types_statements.specs.Nodes.{if_node}
-use Rattle.vg_types_statements.specs.Grows.{Grows, first_breach}
+use Rattle.vg_types_simple.specs.Grows.{Grows, first_breach}
 use Rattle.vg_types_statements.specs.Arms.{condition_of, block_of, before_arms, before_named, arms_view, code_arms, meant_arms, ArmsRun, DoesArm, DoesArms}
-use Rattle.vg_types_statements.proofs.Judging.{or_behind, err_in_front, err_of_none}
+use Rattle.vg_types_simple.proofs.Judging.{or_behind, err_in_front, err_of_none}
 use Rattle.vg_types_statements.proofs.Typing.{no_arms_run, one_arm_more}
 use Rattle.vg_types_statements.proofs.Rows.{stays, grows_on}
 

@@ -1,8 +1,4 @@
-pub mod MoreLocals
-pub mod Judging
 pub mod Typing
-pub mod Written
-pub mod Asking
 pub mod Rows
 pub mod ArmCodes
 pub mod ArmRows

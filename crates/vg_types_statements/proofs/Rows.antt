@@ -28,9 +28,9 @@ use Rattle.vg_types_tables.specs.Views.{declarations_at, naming, owner_view, bod
 use Rattle.vg_core.specs.declared.step.Step.{Step}
 use Rattle.vg_core.specs.Naming.{named_code}
 use Rattle.vg_tree_walks.proofs.Passing.{left_of}
-use Rattle.vg_types_statements.specs.Grows.{Grows, first_breach}
+use Rattle.vg_types_simple.specs.Grows.{Grows, first_breach}
 use Rattle.vg_types_statements.specs.Arms.{RunsIn}
-use Rattle.vg_types_statements.proofs.MoreLocals.{got_in_front}
+use Rattle.vg_types_simple.proofs.MoreLocals.{got_in_front}
 use Rattle.vg_types_statements.proofs.Typing.{runs_more}
 
 -- ---- how locals grow

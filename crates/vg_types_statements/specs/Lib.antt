@@ -1,4 +1,2 @@
 pub mod Nodes
-pub mod Grows
-pub mod Asked
 pub mod Arms

@@ -1,6 +1,6 @@
 // Code that is put together.
 ghost use Rattle.std.specs.Prelude.{◌≡◌, ℕ, List, IfOk};
-ghost use Rattle.vg_meaning.specs.Code.{Code as MeantCode, Nothing, Then, If, Loop};
+ghost use Rattle.vg_meaning.specs.Code.{Code as MeantCode, Then, If, Loop};
 ghost use Rattle.vg_core.specs.declared.step.Step.{Step};
 ghost use Rattle.vg_core.specs.HeldProgram.{code_of};
 ghost use Rattle.vg_types_statements.specs.Arms.{before_arms, before_named, code_arms};
@@ -11,14 +11,6 @@ ghost use Rattle.vg_types_tables.specs.Views.{code_view};
 use std::alloc::Global;
 use vg_base::NoMemory;
 use vg_core::Code;
-use vg_types_tables::row;
-
-/// Code that does nothing. It takes no memory.
-pub fn nothing(alloc: Global) -> Code
-    ensures { code_of result ≡ Nothing }
-{
-    row(Vec::new(alloc))
-}
 
 /// A loop: its condition, its body, and what is done behind the body.
 pub(crate) fn a_loop(

@@ -11,22 +11,20 @@ ghost use Rattle.vg_types_views.specs.Judges.{Judges};
 ghost use Rattle.vg_types_tables.specs.Declares.{Declares};
 ghost use Rattle.vg_types_tables.specs.Promises.{AreDeclared, IsBody, Does, Puts, Runs};
 ghost use Rattle.vg_types_statements.specs.Nodes.{block_node, if_node, while_node, for_node};
-ghost use Rattle.vg_types_statements.specs.Grows.{first_breach, Grows};
+ghost use Rattle.vg_types_simple.specs.Grows.{first_breach, Grows};
 ghost use Rattle.vg_types_statements.specs.Arms.{condition_of, block_of, DoesArm, DoesArms, ArmsRun};
 
 use crate::arms::{AllArms, Armed};
-use crate::fault::broken;
-use crate::form::{a_loop, all_arms, an_arm, nothing};
-use crate::jumps::jump;
-use crate::local::local_statement;
-use crate::returns::return_statement;
-use crate::simple::{assign_statement, eval_statement, simple_statement};
-use crate::values::is_bool;
+use crate::form::{a_loop, all_arms, an_arm};
 use std::alloc::Global;
 use vg_base::{Names, Place, Refusal};
 use vg_core::Code;
 use vg_tree::Node;
 use vg_types_expressions::expression;
+use vg_types_simple::{
+    assign_statement, broken, eval_statement, is_bool, jump, local_statement, nothing,
+    return_statement, simple_statement,
+};
 use vg_types_tables::{BodyKind, Declared, Done, Locals, row, two};
 use vg_types_views::Broken;
 

@@ -1,5 +1,5 @@
 use Rattle.vg_core.specs.HeldProgram.{code_of}
-use Rattle.vg_types_statements.proofs.Judging.{not_false}
+use Rattle.vg_types_simple.proofs.Judging.{not_false}
 use Rattle.vg_types_bodies.proofs.Initials.{super_runs}
 use Rattle.vg_types_bodies.proofs.above.class_above.Goals as goal
 

@@ -2,8 +2,8 @@ use Rattle.std.proofs.Common.{◌≡◌, ◌+◌, false, refl, sym, ◌∙◌}
 use Rattle.vg_syntax.specs.Numbering.{numbered}
 use Rattle.vg_tree.specs.Held.{node_at}
 use Rattle.vg_tree.specs.Nothing.{is_nothing}
-use Rattle.vg_types_statements.proofs.Judging.{refused}
-use Rattle.vg_types_statements.proofs.Written.{written_numbered}
+use Rattle.vg_types_simple.proofs.Judging.{refused}
+use Rattle.vg_types_simple.proofs.Written.{written_numbered}
 use Rattle.vg_types_bodies.specs.Initial.{IsInitial}
 use Rattle.vg_types_bodies.proofs.Initials.{initial_refused, initial_done, initial_puts}
 use Rattle.vg_types_bodies.proofs.initial.initial_value.Goals as goal

@@ -7,7 +7,7 @@ use Rattle.vg_tree.specs.Held.{node_at, row_at, arm_row}
 use Rattle.vg_core.specs.HeldProgram.{code_of}
 use Rattle.vg_types_tables.specs.Promises.{Does}
 use Rattle.vg_types_statements.specs.Arms.{condition_of, block_of, DoesArm, DoesArms}
-use Rattle.vg_types_statements.proofs.Judging.{always_ok, err_in_front, not_false}
+use Rattle.vg_types_simple.proofs.Judging.{always_ok, err_in_front, not_false}
 use Rattle.vg_types_statements.proofs.Typing.{nothing_runs, loop_runs, then_runs, runs_more}
 use Rattle.vg_types_statements.proofs.Rows.{stays, left_grows, row_rest, none_left, going_starts, going_on, going_done, going_next, room_for, broken_there}
 use Rattle.vg_types_statements.proofs.Rows.{row_runs}

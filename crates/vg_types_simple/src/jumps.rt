@@ -9,7 +9,7 @@ use vg_types_tables::{BodyKind, Done};
 use vg_types_views::Broken;
 
 /// A jump out of a loop or on to its next turn.
-pub(crate) fn jump(body: BodyKind, code: Code, id: u32) -> Result<Done, Refusal<Broken>>
+pub fn jump(body: BodyKind, code: Code, id: u32) -> Result<Done, Refusal<Broken>>
     requires { id + 1 < 2 ^ 32 }
     ensures { result ≡ if body.in_loop then Ok (record { code = code; next = id + 1 }) else Err (Fault (record { rule = 24; node = record { 0 = id } })) }
 {

@@ -49,7 +49,7 @@ pub(crate) fn is_no_type(names: &Names, declared: &Declared, type_: CoreType) ->
 }
 
 /// Whether a value of this type is a truth value.
-pub(crate) fn is_bool(names: &Names, declared: &Declared, type_: CoreType) -> bool
+pub fn is_bool(names: &Names, declared: &Declared, type_: CoreType) -> bool
     ensures exact { result ≡ is_bool (IsValue (type_view names.now declared.now type_)) }
     ensures bool { IsTrue result → type_ ≡ BoolType }
 {

@@ -14,9 +14,9 @@ ghost use Rattle.vg_types_views.specs.Judges.{Judges};
 ghost use Rattle.vg_types_tables.specs.Views.{declarations_at, type_view};
 ghost use Rattle.vg_types_tables.specs.Declares.{Declares, IsKnown};
 ghost use Rattle.vg_types_tables.specs.Promises.{AreDeclared, IsBody, Does, Runs};
-ghost use Rattle.vg_types_statements.specs.Nodes.{return_node};
-ghost use Rattle.vg_types_statements.specs.Grows.{first_breach};
-ghost use Rattle.vg_types_statements.specs.Asked.{asked, return_fits};
+ghost use Rattle.vg_types_simple.specs.Nodes.{return_node};
+ghost use Rattle.vg_types_simple.specs.Grows.{first_breach};
+ghost use Rattle.vg_types_simple.specs.Asked.{asked, return_fits};
 
 use crate::fault::broken;
 use crate::values::{is_no_type, unwritten};
@@ -30,7 +30,7 @@ use vg_types_tables::{BodyKind, Declared, Done, Locals, fits, two};
 use vg_types_views::Broken;
 
 /// A `return`.
-pub(crate) fn return_statement(
+pub fn return_statement(
     alloc: Global,
     names: &Names,
     root: &Node,

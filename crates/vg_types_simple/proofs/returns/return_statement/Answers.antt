@@ -8,12 +8,12 @@ use Rattle.vg_core.specs.declared.step.Step.TheVariants.{Put}
 use Rattle.vg_core.specs.declared.value.CoreValue.TheVariants.{Null}
 use Rattle.vg_core.specs.HeldProgram.{code_of}
 use Rattle.vg_types_tables.specs.Promises.{Does}
-use Rattle.vg_types_statements.specs.Nodes.{return_node}
-use Rattle.vg_types_statements.proofs.Judging.{refused, judged_ok}
-use Rattle.vg_types_statements.proofs.Typing.{returns_nothing, returns_value}
-use Rattle.vg_types_statements.proofs.Written.{written_numbered}
-use Rattle.vg_types_statements.proofs.Asking.{return_refused, return_done}
-use Rattle.vg_types_statements.proofs.returns.return_statement.Goals as goal
+use Rattle.vg_types_simple.specs.Nodes.{return_node}
+use Rattle.vg_types_simple.proofs.Judging.{refused, judged_ok}
+use Rattle.vg_types_simple.proofs.Typing.{returns_nothing, returns_value}
+use Rattle.vg_types_simple.proofs.Written.{written_numbered}
+use Rattle.vg_types_simple.proofs.Asking.{return_refused, return_done}
+use Rattle.vg_types_simple.proofs.returns.return_statement.Goals as goal
 
 pub returns-then-is_nothing-clause-typed : goal.returns-then-is_nothing-clause-typed
 returns-then-is_nothing-clause-typed c =

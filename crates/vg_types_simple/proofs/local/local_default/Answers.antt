@@ -1,6 +1,6 @@
 use Rattle.vg_core.specs.HeldProgram.{code_of}
-use Rattle.vg_types_statements.proofs.Asking.{default_runs}
-use Rattle.vg_types_statements.proofs.local.local_default.Goals as goal
+use Rattle.vg_types_simple.proofs.Asking.{default_runs}
+use Rattle.vg_types_simple.proofs.local.local_default.Goals as goal
 
 pub returns-clause-typed : goal.returns-clause-typed
 returns-clause-typed c =

@@ -7,8 +7,8 @@ ghost use Rattle.vg_core.specs.HeldProgram.{code_of};
 ghost use Rattle.vg_types_views.specs.Judges.{Judges};
 ghost use Rattle.vg_types_tables.specs.Declares.{Declares};
 ghost use Rattle.vg_types_tables.specs.Promises.{AreDeclared, IsBody, Does, Runs};
-ghost use Rattle.vg_types_statements.specs.Nodes.{eval_node, assign_node};
-ghost use Rattle.vg_types_statements.specs.Grows.{first_breach};
+ghost use Rattle.vg_types_simple.specs.Nodes.{eval_node, assign_node};
+ghost use Rattle.vg_types_simple.specs.Grows.{first_breach};
 
 use crate::fault::broken;
 use crate::form::nothing;
@@ -21,7 +21,7 @@ use vg_types_tables::{BodyKind, Declared, Done, Locals, fits, three, two};
 use vg_types_views::Broken;
 
 /// What may stand in the head of a `for`: an expression, an assignment, or nothing.
-pub(crate) fn simple_statement(
+pub fn simple_statement(
     alloc: Global,
     names: &Names,
     root: &Node,
@@ -60,7 +60,7 @@ pub(crate) fn simple_statement(
 
 /// An expression as a statement: its value is dropped.
 #[tactic(auto, using(crate::proofs::Typing::forgets))]
-pub(crate) fn eval_statement(
+pub fn eval_statement(
     alloc: Global,
     names: &Names,
     root: &Node,
@@ -90,7 +90,7 @@ pub(crate) fn eval_statement(
 }
 
 /// An assignment.
-pub(crate) fn assign_statement(
+pub fn assign_statement(
     alloc: Global,
     names: &Names,
     root: &Node,

@@ -14,9 +14,9 @@ ghost use Rattle.vg_types_views.specs.Judges.{Judges};
 ghost use Rattle.vg_types_tables.specs.Views.{declarations_at, type_view, scope_view};
 ghost use Rattle.vg_types_tables.specs.Declares.{Declares, IsKnown};
 ghost use Rattle.vg_types_tables.specs.Promises.{AreDeclared, IsBody, Does, Runs};
-ghost use Rattle.vg_types_statements.specs.Nodes.{local_node};
-ghost use Rattle.vg_types_statements.specs.Grows.{first_breach, Grows};
-ghost use Rattle.vg_types_statements.specs.Asked.{declaration_breach};
+ghost use Rattle.vg_types_simple.specs.Nodes.{local_node};
+ghost use Rattle.vg_types_simple.specs.Grows.{first_breach, Grows};
+ghost use Rattle.vg_types_simple.specs.Asked.{declaration_breach};
 
 use crate::fault::broken;
 use crate::values::unwritten;
@@ -32,7 +32,7 @@ use vg_types_tables::{
 use vg_types_views::{Broken, text_of};
 
 /// The declaration of a local.
-pub(crate) fn local_statement(
+pub fn local_statement(
     alloc: Global,
     names: &Names,
     root: &Node,

@@ -1,6 +1,6 @@
 use Rattle.vg_core.specs.HeldProgram.{code_of}
-use Rattle.vg_types_statements.proofs.Typing.{forgets}
-use Rattle.vg_types_statements.proofs.simple.eval_statement.Goals as goal
+use Rattle.vg_types_simple.proofs.Typing.{forgets}
+use Rattle.vg_types_simple.proofs.simple.eval_statement.Goals as goal
 
 pub returns-clause-typed : goal.returns-clause-typed
 returns-clause-typed c =

@@ -7,7 +7,7 @@ use Rattle.vg_syntax.specs.Numbering.{with_id}
 use Rattle.vg_rules.specs.Breach.{Breach, asks, ◌or◌}
 use Rattle.vg_types_views.specs.declared.broken.Broken.{Broken}
 use Rattle.vg_types_views.specs.Judges.{Judges}
-use Rattle.vg_types_statements.specs.Asked.{asked}
+use Rattle.vg_types_simple.specs.Asked.{asked}
 
 pub always_ok : {A E P : Type 0} (r : Result A E) → P → OnOk r P
 always_ok (Ok a) h = h

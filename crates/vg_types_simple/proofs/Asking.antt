@@ -35,12 +35,12 @@ use Rattle.vg_types_tables.specs.declared.judged.Judged.{Judged}
 use Rattle.vg_types_tables.specs.declared.judged.Done.{Done}
 use Rattle.vg_types_tables.specs.Views.{declarations_at, naming, type_view, body_view, scope_view}
 use Rattle.vg_types_tables.specs.Promises.{Stands, Does, Puts, Runs}
-use Rattle.vg_types_statements.specs.Nodes.{return_node, local_node}
-use Rattle.vg_types_statements.specs.Grows.{first_breach}
-use Rattle.vg_types_statements.specs.Asked.{asked, return_fits, declaration_breach}
-use Rattle.vg_types_statements.proofs.Judging.{asks_is, or_behind}
-use Rattle.vg_types_statements.proofs.Typing.{puts_more}
-use Rattle.vg_types_statements.proofs.Written.{return_of_none, return_written, default_written, initialiser_written}
+use Rattle.vg_types_simple.specs.Nodes.{return_node, local_node}
+use Rattle.vg_types_simple.specs.Grows.{first_breach}
+use Rattle.vg_types_simple.specs.Asked.{asked, return_fits, declaration_breach}
+use Rattle.vg_types_simple.proofs.Judging.{asks_is, or_behind}
+use Rattle.vg_types_simple.proofs.Typing.{puts_more}
+use Rattle.vg_types_simple.proofs.Written.{return_of_none, return_written, default_written, initialiser_written}
 
 -- ---- what is returned
 

@@ -5,11 +5,11 @@ use Rattle.vg_tree.specs.Held.{text_at, type_at, node_at}
 use Rattle.vg_tree.specs.Nothing.{is_nothing}
 use Rattle.vg_core.specs.HeldProgram.{code_of}
 use Rattle.vg_types_tables.specs.Promises.{Does}
-use Rattle.vg_types_statements.specs.Nodes.{local_node}
-use Rattle.vg_types_statements.proofs.Judging.{refused}
-use Rattle.vg_types_statements.proofs.Written.{written_numbered}
-use Rattle.vg_types_statements.proofs.Asking.{local_refused, local_done, local_runs}
-use Rattle.vg_types_statements.proofs.local.local_statement.Goals as goal
+use Rattle.vg_types_simple.specs.Nodes.{local_node}
+use Rattle.vg_types_simple.proofs.Judging.{refused}
+use Rattle.vg_types_simple.proofs.Written.{written_numbered}
+use Rattle.vg_types_simple.proofs.Asking.{local_refused, local_done, local_runs}
+use Rattle.vg_types_simple.proofs.local.local_statement.Goals as goal
 
 pub returns-then-not-fits-clause-judged : goal.returns-then-not-fits-clause-judged
 returns-then-not-fits-clause-judged c =

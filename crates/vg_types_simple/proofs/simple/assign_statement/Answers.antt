@@ -1,7 +1,7 @@
 use Rattle.std.proofs.Common.{refl}
 use Rattle.vg_core.specs.HeldProgram.{code_of}
-use Rattle.vg_types_statements.proofs.Typing.{stores_that, if_some}
-use Rattle.vg_types_statements.proofs.simple.assign_statement.Goals as goal
+use Rattle.vg_types_simple.proofs.Typing.{stores_that, if_some}
+use Rattle.vg_types_simple.proofs.simple.assign_statement.Goals as goal
 
 pub returns-clause-typed : goal.returns-clause-typed
 returns-clause-typed c =
