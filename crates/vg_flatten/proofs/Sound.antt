@@ -1,6 +1,6 @@
 -- That the instructions of what was made keep what every procedure of linear code keeps: operands in range, and jumps that lead to no
 -- place behind the code nor to themselves.
-use Rattle.std.specs.Prelude.{ℕ, zero, suc, ◌+◌, ◌-◌, ◌<◌, ◌≤◌, ◌^◌, Bool, true, false, ◌==◌, ◌&&◌, ◌||◌, nat_lt, List, [], ◌∷◌, ◌++◌, length, map, reverse, Option, Some, None, if◌then◌else◌, slice_get}
+use Rattle.std.specs.Prelude.{ℕ, zero, suc, ◌+◌, ◌-◌, ◌<◌, ◌≤◌, ◌*◌, ◌^◌, Bool, true, false, ◌==◌, ◌&&◌, ◌||◌, nat_lt, nat_le, List, [], ◌∷◌, ◌++◌, length, map, reverse, Option, Some, None, if◌then◌else◌, slice_get}
 use Rattle.std.specs.List.{AllByRecursion}
 use Rattle.std.proofs.Common.{◌≡◌, ◌≢◌, refl, sym, ap, ◌∙◌, subst, arith}
 use Rattle.std.proofs.lemmas.List.{length-append, length-map}
@@ -17,11 +17,11 @@ use Rattle.vg_firm.specs.declared.step.Step.TheVariants.{StopUnlessWithin, Bind,
 use Rattle.vg_lin.specs.declared.instr.Operand.{Operand}
 use Rattle.vg_lin.specs.declared.instr.Operand.TheVariants.{Local, Known}
 use Rattle.vg_lin.specs.declared.instr.Operator.{Operator as LinOperator}
-use Rattle.vg_lin.specs.declared.instr.Operator.TheVariants.{Plus as Sum, Minus as Difference, Divide as Quotient, Remainder as Rest, ShiftLeft as ShiftsLeft, ShiftRight as ShiftsRight}
+use Rattle.vg_lin.specs.declared.instr.Operator.TheVariants.{Plus as Sum, Minus as Difference, Times as Product, Divide as Quotient, Remainder as Rest, ShiftLeft as ShiftsLeft, ShiftRight as ShiftsRight}
 use Rattle.vg_lin.specs.declared.instr.Comparison.TheVariants.{Below, Same}
 use Rattle.vg_lin.specs.declared.instr.Test.{Test}
 use Rattle.vg_lin.specs.declared.instr.Plain.{Plain as PlainInstr}
-use Rattle.vg_lin.specs.declared.instr.Plain.TheVariants.{Copy, Compute, ReadDevice as ReadsDevice, WriteDevice as WritesDevice, Stop}
+use Rattle.vg_lin.specs.declared.instr.Plain.TheVariants.{Copy, Compute, Load as LoadsBytes, ReadDevice as ReadsDevice, WriteDevice as WritesDevice, Stop}
 use Rattle.vg_lin.specs.declared.instr.Callee.{Callee}
 use Rattle.vg_lin.specs.declared.instr.Callee.TheVariants.{Procedure as ByNumber, Code as ByCode}
 use Rattle.vg_lin.specs.declared.instr.Registers.{Registers}
@@ -30,6 +30,7 @@ use Rattle.vg_lin.specs.Meaning.{operands}
 use Rattle.vg_flatten_shapes.specs.declared.fault.Fault.TheVariants.{NotTaken}
 use Rattle.vg_flatten_shapes.specs.declared.open.Truth.{Truth}
 use Rattle.vg_flatten_shapes.specs.declared.open.Truth.TheVariants.{Holds, Fails}
+use Rattle.vg_flatten_shapes.specs.declared.layout.Layout.{Layout}
 use Rattle.vg_flatten_shapes.specs.declared.room.Room.{Room}
 use Rattle.vg_flatten_shapes.specs.Shapes.{Shape, only, empty, is_empty, is_free, same_operand, same_homes, temp}
 use Rattle.vg_flatten_shapes.specs.Blocks.{stop_where, Block, Skip, One, CallTo, TakeInterrupt, GiveBack, BreakOut, GoOn, Both, Choice, Repeat}
@@ -43,6 +44,10 @@ use Rattle.vg_flatten.specs.Loops.{has_loop}
 use Rattle.vg_flatten_control.specs.Flat.{repeated_body, repeated_next, given_back, flat}
 use Rattle.vg_flatten_steps.specs.Steps.{bytes_around, may_be_zero, divisor_checked, divided, masked, shifted_left, shifted_where, shifted_by, shifted_right, combined}
 use Rattle.vg_flatten_steps.specs.Steps.{load_nothing, store_nothing, is_near, is_one_of, cast_to}
+use Rattle.vg_flatten_steps.specs.Steps.{is_width, load_flash, multiplied, multiple, fetched, load_one, load_of, length_of, in_flash}
+use Rattle.vg_flatten_shapes.specs.declared.layout.Place.{Place}
+use Rattle.vg_firm.specs.declared.step.Home.{Home}
+use Rattle.vg_firm.specs.declared.step.Home.TheVariants.{Ram as InRam, Flash as InFlash}
 use Rattle.vg_flatten_shapes.proofs.Temps.{some_is, none_is_not, temp_is}
 
 -- ---- operands in range
@@ -70,6 +75,7 @@ MayBeIn size None = Unit {0}
 abbrev pub IsPlainIn : (size : ℕ) → PlainInstr → Type 0
 IsPlainIn size (Copy to a) = (to < size) × IsIn size a
 IsPlainIn size (Compute c) = (1 ≤ c.width) × (c.width ≤ 4) × (c.to < size) × IsIn size c.left × IsIn size c.right
+IsPlainIn size (LoadsBytes memory width to a) = (1 ≤ width) × (width ≤ 4) × (to < size) × IsIn size a.index
 IsPlainIn size (ReadsDevice to address) = to < size
 IsPlainIn size (WritesDevice address a) = IsIn size a
 IsPlainIn size (Stop code) = Unit {0}
@@ -103,7 +109,7 @@ MadeIn L size (Refused why) = Unit {0}
 
 -- ---- what was made is in range
 
-module _ (L : Type 0) (r : Room) where
+module _ (L : Type 0) (lay : Layout) (r : Room) where
   abbrev size : ℕ
   size = r.locals + r.temps
 
@@ -353,7 +359,72 @@ module _ (L : Type 0) (r : Room) where
         (h, tt),
       ))) tt
 
-  in_stepped : (q : Step) (hs : List Operand) → AreIn size hs → MadeIn L size (stepped r q hs)
+  -- ---- columns and tables in flash
+
+  in_multiplied : (to by : ℕ) (h : Operand) → to < size → IsIn size h → BlockIn L size (multiplied to by h)
+  in_multiplied to by h lt hh = by_one (by == 1)
+    where
+      by_one : (b : Bool) → BlockIn L size (if b then Skip else One (Compute (record { operator = Product; width = 4; to = to; left = h; right = Known by })))
+      by_one true = tt
+      by_one false = (omega arith, omega arith, lt, hh, tt)
+
+  in_multiple : (to by : ℕ) (h : Operand) → to < size → IsIn size h → IsIn size (multiple to by h)
+  in_multiple to by h lt hh = by_one (by == 1)
+    where
+      by_one : (b : Bool) → IsIn size (if b then h else Local to)
+      by_one true = hh
+      by_one false = lt
+
+  in_fetched : (width by base : ℕ) (h : Operand) (hs : List Operand) → 1 ≤ width → width ≤ 4 → IsIn size h → AreIn size hs
+      → MadeIn L size (fetched r width by base h hs)
+  in_fetched width by base h hs low high hh hhs =
+      in_by_temp hs _ (λ to lt. (
+        (
+          in_stop 1 (Holds (is_zero h)) (in_test h (Known 0) hh tt Same),
+          (in_multiplied to by h lt hh, (low, high, lt, in_multiple to by h lt hh)),
+        ),
+        ((lt, hhs), tt),
+      ))
+
+  width_low : (w : ℕ) → is_width w ≡ true → 1 ≤ w
+  width_low w e = grind arith
+
+  width_high : (w : ℕ) → is_width w ≡ true → w ≤ 4
+  width_high w e = grind arith
+
+  in_load_one : (o : Option Place) (hs : List Operand) → AreIn size hs → MadeIn L size (load_one r o hs)
+  in_load_one None hs h = tt
+  in_load_one (Some place) hs h = by_width (is_width place.width) refl
+    where
+      by_width : (b : Bool) → is_width place.width ≡ b
+          → MadeIn L size (if b then by_temp (temp r hs) (λ to. Gives (One (load_flash place.width to place.address (Known 0))) (only (Local to ∷ hs)))
+          else Refused NotTaken)
+      by_width true e = in_by_temp hs _ (λ to lt. ((width_low place.width e, width_high place.width e, lt, tt), ((lt, h), tt)))
+      by_width false e = tt
+
+  in_load_of : (first : ℕ) (o : Option Place) (hs : List Operand) → AreIn size hs → MadeIn L size (load_of r first o hs)
+  in_load_of first None hs h = tt
+  in_load_of first (Some place) [] h = tt
+  in_load_of first (Some place) (a ∷ hs) h = by_width (is_width place.width) (nat_le (place.width * first) place.address) refl
+    where
+      by_width : (b c : Bool) → is_width place.width ≡ b
+          → MadeIn L size (if b && c then fetched r place.width place.width (place.address - place.width * first) a hs else Refused NotTaken)
+      by_width true true e =
+          in_fetched place.width place.width (place.address - place.width * first) a hs (width_low place.width e) (width_high place.width e) h.0 h.1
+      by_width true false e = tt
+      by_width false c e = tt
+
+  in_length_of : (o : Option ℕ) (hs : List Operand) → AreIn size hs → MadeIn L size (length_of r o hs)
+  in_length_of None hs h = tt
+  in_length_of (Some table) [] h = tt
+  in_length_of (Some table) (a ∷ hs) h =
+      in_if (nat_le 2 table) (fetched r 2 4 (table - 2) a hs) (Refused NotTaken) (in_fetched 2 4 (table - 2) a hs (omega arith) (omega arith) h.0 h.1) tt
+
+  in_home : (home : Home) (made : Made) → MadeIn L size made → MadeIn L size (in_flash home made)
+  in_home InFlash made h = h
+  in_home InRam made h = tt
+
+  in_stepped : (q : Step) (hs : List Operand) → AreIn size hs → MadeIn L size (stepped lay r q hs)
   in_stepped (Number v) hs h = in_number v hs h
   in_stepped (GetLocal i) hs h = in_local i hs h
   in_stepped (SetLocal i) hs h = in_set i hs h
@@ -365,15 +436,15 @@ module _ (L : Type 0) (r : Room) where
   in_stepped (Call q count) hs h = in_called q count hs h
   in_stepped Idle hs h = (tt, (h, tt))
   in_stepped This hs h = tt
-  in_stepped (Load a c) hs h = tt
+  in_stepped (Load a c) hs h = in_home a (load_one r (slice_get lay.flash c) hs) (in_load_one (slice_get lay.flash c) hs h)
   in_stepped (Store c w) hs h = tt
-  in_stepped (LoadAt a c o) hs h = tt
+  in_stepped (LoadAt a c o) hs h = in_home a (load_of r o (slice_get lay.flash c) hs) (in_load_of o (slice_get lay.flash c) hs h)
   in_stepped (StoreAt c o w) hs h = tt
   in_stepped LoadNothing hs h = in_load_nothing hs h
   in_stepped StoreNothing hs h = in_store_nothing hs h
   in_stepped (LoadItem e) hs h = tt
   in_stepped (StoreItem e) hs h = tt
-  in_stepped (Length t) hs h = tt
+  in_stepped (Length t) hs h = in_length_of (slice_get lay.tables t) hs h
   in_stepped (IsWithin a b) hs h = in_one_of a b hs h
   in_stepped (StopUnlessWithin a b) hs h = in_cast a b hs h
   in_stepped (Bind q) hs h = tt
@@ -453,17 +524,17 @@ module _ (L : Type 0) (r : Room) where
   rest_of true y h e = h refl
   rest_of false y h e = h e
 
-  pub in_flat : (c : Code Step) (s : Shape) → (has_loop c ≡ true → L) → ShapeIn size s → MadeIn L size (flat r c s)
+  pub in_flat : (c : Code Step) (s : Shape) → (has_loop c ≡ true → L) → ShapeIn size s → MadeIn L size (flat lay r c s)
   in_flat Nothing s l h = (tt, h)
   in_flat (Then a b) s l h =
-      in_after (flat r a s) (flat r b) (in_flat a s (first_of (has_loop a) (has_loop b) l) h)
+      in_after (flat lay r a s) (flat lay r b) (in_flat a s (first_of (has_loop a) (has_loop b) l) h)
       (λ s1 h1. in_flat b s1 (rest_of (has_loop a) (has_loop b) l) h1)
   in_flat (Do q) s l h = in_after (settled r s) _ (in_settled s h) (λ s1 h1. in_stepped q s1.homes h1.0)
   in_flat (If a b) s l h =
-      in_chosen s (flat r a) (flat r b) h (λ z hz. in_flat a z (first_of (has_loop a) (has_loop b) l) hz)
+      in_chosen s (flat lay r a) (flat lay r b) h (λ z hz. in_flat a z (first_of (has_loop a) (has_loop b) l) hz)
       (λ z hz. in_flat b z (rest_of (has_loop a) (has_loop b) l) hz)
   in_flat (Loop c body next) s l h =
-      in_if (is_empty s) _ _ (in_repeated (l refl) (flat r c empty) (flat r body empty) (flat r next empty)
+      in_if (is_empty s) _ _ (in_repeated (l refl) (flat lay r c empty) (flat lay r body empty) (flat lay r next empty)
       (in_flat c empty (λ e. l refl) (tt, tt)) (in_flat body empty (λ e. l refl) (tt, tt)) (in_flat next empty (λ e. l refl) (tt, tt))) tt
   in_flat Break s l h = in_if (is_empty s) (Gives BreakOut empty) (Refused NotTaken) (tt, (tt, tt)) tt
   in_flat Continue s l h = in_if (is_empty s) (Gives GoOn empty) (Refused NotTaken) (tt, (tt, tt)) tt

@@ -1,5 +1,7 @@
 -- What each step becomes, from where values wait.
-use Rattle.std.specs.Prelude.{ℕ, ◌+◌, ◌-◌, ◌^◌, Bool, true, ◌==◌, ◌&&◌, nat_lt, List, [], ◌∷◌, reverse, Option, Some, None, if◌then◌else◌}
+use Rattle.std.specs.Prelude.{ℕ, ◌+◌, ◌-◌, ◌*◌, ◌^◌, Bool, true, ◌==◌, ◌&&◌, nat_lt, nat_le, List, [], ◌∷◌, reverse, Option, Some, None, slice_get, if◌then◌else◌}
+use Rattle.vg_firm.specs.declared.step.Home.{Home}
+use Rattle.vg_firm.specs.declared.step.Home.TheVariants.{Ram as InRam, Flash as InFlash}
 use Rattle.vg_firm.specs.declared.step.Order.{Order}
 use Rattle.vg_firm.specs.declared.step.Order.TheVariants.{Signed, Unsigned}
 use Rattle.vg_firm.specs.declared.step.Operator.{Operator}
@@ -9,7 +11,7 @@ use Rattle.vg_firm.specs.declared.step.Prefix.{Prefix}
 use Rattle.vg_firm.specs.declared.step.Prefix.TheVariants.{Negative, Not, Complement, Cut}
 use Rattle.vg_firm.specs.declared.step.Step.{Step}
 use Rattle.vg_firm.specs.declared.step.Step.TheVariants.{Number, Local, SetLocal, Forget, Operate, Apply, ReadDevice, WriteDevice}
-use Rattle.vg_firm.specs.declared.step.Step.TheVariants.{LoadNothing, StoreNothing, IsWithin, StopUnlessWithin, Call, Idle}
+use Rattle.vg_firm.specs.declared.step.Step.TheVariants.{Load as LoadOne, LoadAt, Length, LoadNothing, StoreNothing, IsWithin, StopUnlessWithin, Call, Idle}
 use Rattle.vg_lin.specs.declared.instr.Operand.{Operand}
 use Rattle.vg_lin.specs.declared.instr.Operand.TheVariants.{Local as InLocal, Known}
 use Rattle.vg_lin.specs.declared.instr.Operator.{Operator as LinOperator}
@@ -19,11 +21,14 @@ use Rattle.vg_lin.specs.declared.instr.Comparison.{Comparison}
 use Rattle.vg_lin.specs.declared.instr.Comparison.TheVariants.{Below, Less as IsLess, Same}
 use Rattle.vg_lin.specs.declared.instr.Test.{Test}
 use Rattle.vg_lin.specs.declared.instr.Plain.{Plain}
-use Rattle.vg_lin.specs.declared.instr.Plain.TheVariants.{Copy, Compute, ReadDevice as ReadsDevice, WriteDevice as WritesDevice}
+use Rattle.vg_lin.specs.declared.instr.Plain.TheVariants.{Copy, Compute, Load, ReadDevice as ReadsDevice, WriteDevice as WritesDevice}
+use Rattle.vg_lin.specs.declared.instr.Memory.TheVariants.{Flash}
 use Rattle.vg_lin.specs.declared.instr.Callee.TheVariants.{Procedure}
 use Rattle.vg_lin.specs.declared.instr.Registers.{Registers}
 use Rattle.vg_lin.specs.declared.instr.Registers.TheVariants.{Empty, One as One', Two, Three, Four}
 use Rattle.vg_flatten_shapes.specs.declared.fault.Fault.TheVariants.{NotTaken}
+use Rattle.vg_flatten_shapes.specs.declared.layout.Layout.{Layout}
+use Rattle.vg_flatten_shapes.specs.declared.layout.Place.{Place}
 use Rattle.vg_flatten_shapes.specs.declared.open.Truth.{Truth}
 use Rattle.vg_flatten_shapes.specs.declared.room.Room.{Room}
 use Rattle.vg_flatten_shapes.specs.declared.open.Truth.TheVariants.{Holds, Fails}
@@ -229,22 +234,72 @@ cast_to r first count (h ∷ hs) =
     else Refused NotTaken
 cast_to r first count [] = Refused NotTaken
 
+-- ---- columns and tables in flash
+
+-- A number of bytes that a load takes.
+abbrev pub is_width : (width : ℕ) → Bool
+is_width width = nat_lt 0 width && nat_lt width 5
+
+abbrev pub load_flash : (width to base : ℕ) → Operand → Plain
+load_flash width to base index = Load Flash width to (record { base = base; index = index })
+
+-- A number, so many times.
+abbrev pub multiplied : (to by : ℕ) → Operand → Block
+multiplied to by h = if by == 1 then Skip else One (Compute (record { operator = Product; width = 4; to = to; left = h; right = Known by }))
+
+abbrev pub multiple : (to by : ℕ) → Operand → Operand
+multiple to by h = if by == 1 then h else InLocal to
+
+-- Behind the null check of a number, so many bytes: those at a base, so many times further as the number says.
+abbrev pub fetched : Room → (width by base : ℕ) → Operand → List Operand → Made
+fetched r width by base h hs =
+    by_temp (temp r hs) (λ to. Gives (Both (stop_where 1 (Holds (is_zero h)))
+    (Both (multiplied to by h) (One (load_flash width to base (multiple to by h))))) (only (InLocal to ∷ hs)))
+
+-- The one value of a column.
+abbrev pub load_one : Room → Option Place → List Operand → Made
+load_one r (Some place) hs =
+    if is_width place.width then by_temp (temp r hs) (λ to. Gives (One (load_flash place.width to place.address (Known 0))) (only (InLocal to ∷ hs)))
+    else Refused NotTaken
+load_one r None hs = Refused NotTaken
+
+-- The value of an object: the column begins with that of the first.
+abbrev pub load_of : Room → (first : ℕ) → Option Place → List Operand → Made
+load_of r first (Some place) (h ∷ hs) =
+    if is_width place.width && nat_le (place.width * first) place.address
+    then fetched r place.width place.width (place.address - place.width * first) h hs
+    else Refused NotTaken
+load_of r first _ _ = Refused NotTaken
+
+-- The length of an array: four bytes of a table are the place of one, and the upper two its length.
+abbrev pub length_of : Room → Option ℕ → List Operand → Made
+length_of r (Some table) (h ∷ hs) = if nat_le 2 table then fetched r 2 4 (table - 2) h hs else Refused NotTaken
+length_of r _ _ = Refused NotTaken
+
+-- A column in RAM is not taken yet.
+abbrev pub in_flash : Home → Made → Made
+in_flash InFlash made = made
+in_flash InRam made = Refused NotTaken
+
 -- ---- steps
 
 -- Where no truth value waits as a test.
-abbrev pub stepped : Room → Step → List Operand → Made
-stepped r (Number v) hs = put_number v hs
-stepped r (Local i) hs = get_local r i hs
-stepped r (SetLocal i) hs = set_local r i hs
-stepped r Forget hs = forgotten hs
-stepped r (Operate op) hs = operated r op hs
-stepped r (Apply op) hs = applied r op hs
-stepped r (ReadDevice address) hs = read r address hs
-stepped r (WriteDevice address) hs = written address hs
-stepped r (Call q count) hs = called r q count hs
-stepped r Idle hs = Gives TakeInterrupt (only hs)
-stepped r LoadNothing hs = load_nothing hs
-stepped r StoreNothing hs = store_nothing hs
-stepped r (IsWithin first count) hs = is_one_of r first count hs
-stepped r (StopUnlessWithin first count) hs = cast_to r first count hs
-stepped r _ hs = Refused NotTaken
+abbrev pub stepped : Layout → Room → Step → List Operand → Made
+stepped lay r (Number v) hs = put_number v hs
+stepped lay r (Local i) hs = get_local r i hs
+stepped lay r (SetLocal i) hs = set_local r i hs
+stepped lay r Forget hs = forgotten hs
+stepped lay r (Operate op) hs = operated r op hs
+stepped lay r (Apply op) hs = applied r op hs
+stepped lay r (ReadDevice address) hs = read r address hs
+stepped lay r (WriteDevice address) hs = written address hs
+stepped lay r (Call q count) hs = called r q count hs
+stepped lay r Idle hs = Gives TakeInterrupt (only hs)
+stepped lay r (LoadOne home c) hs = in_flash home (load_one r (slice_get lay.flash c) hs)
+stepped lay r (LoadAt home c first) hs = in_flash home (load_of r first (slice_get lay.flash c) hs)
+stepped lay r (Length table) hs = length_of r (slice_get lay.tables table) hs
+stepped lay r LoadNothing hs = load_nothing hs
+stepped lay r StoreNothing hs = store_nothing hs
+stepped lay r (IsWithin first count) hs = is_one_of r first count hs
+stepped lay r (StopUnlessWithin first count) hs = cast_to r first count hs
+stepped lay r _ hs = Refused NotTaken

@@ -2,6 +2,7 @@
 #![tactic(auto)]
 
 pub mod calls;
+pub mod columns;
 pub mod divisions;
 pub mod objects;
 pub mod operators;

@@ -17,6 +17,8 @@ use Rattle.vg_lin.specs.Steps.{Interrupt}
 use Rattle.vg_lin.specs.State.{State}
 use Rattle.vg_lin.specs.Meaning.{language, begun, widths_of, name_of, result_of, call_of}
 use Rattle.vg_lin.specs.Structured.{Step, Deciding, fresh, Caller as LinCaller, with_found, handle as lin_handle, resumed, body as lin_body, called as lin_called, step as lin_step, truth as lin_truth}
+use Rattle.vg_flatten_shapes.specs.declared.layout.Layout.{Layout}
+use Rattle.vg_flatten.specs.Columns.{FlashStands}
 use Rattle.vg_flatten_shapes.specs.declared.room.Room.{Room}
 use Rattle.vg_flatten_shapes.specs.Shapes.{Shape, only, empty, is_empty}
 use Rattle.vg_flatten_shapes.specs.Blocks.{Block, Skip, GiveBack, Both, structured}
@@ -67,7 +69,7 @@ alike_guarded p names call go calls q count s w ram i = by_name (is_among names 
 
 module _ (k : Codes) (f : FirmProgram) (p : LinProgram) (params : List ℕ) (known : AreParams params p) (call : FirmCaller History) (go : LinCaller State)
     (calls : AlikeCalls p call go) (handler : (vector : ℕ) → p.handler vector ≡ f.handler vector)
-    (m : FirmProcedure) (lp : LinProcedure) (fit : IsFit m) (is : IsFlat params m lp) where
+    (lay : Layout) (flash : FlashStands lay f p) (m : FirmProcedure) (lp : LinProcedure) (fit : IsFit m) (is : IsFlat lay params m lp) where
   abbrev r : Room
   r = is.room
 
@@ -135,7 +137,7 @@ module _ (k : Codes) (f : FirmProgram) (p : LinProgram) (params : List ℕ) (kno
       subst (λ z. Alike (Returned count s) Never (run_procedure full k f call handle m count 0 s w) (returned z (over Wrong)))
       (sym (ap (λ z. and_then z (linear' (Both is.block (GiveBack (Known 0))))) (zeroes_do (length m.widths - m.params) m.params d w)))
       (finished count s _ _ (does (right_code k f m (guarded m.calls call) handle p go params r ws (widths_are r m.widths is.locals) known
-      (alike_guarded p m.calls call go calls) (alike_handling p f call go calls handler r ws) m.body empty tt)))
+      (alike_guarded p m.calls call go calls) (alike_handling p f call go calls handler r ws) lay flash m.body empty tt)))
     where
       facts : (count ≡ m.params) × (length (arguments count s) ≡ count) × (all_fit m.widths (arguments count s) ≡ true)
       facts = entry_facts count s enter
@@ -153,7 +155,7 @@ module _ (k : Codes) (f : FirmProgram) (p : LinProgram) (params : List ℕ) (kno
       begin : Held r ws empty (firm_entered m count 0 s) begun_d
       begin = record { waits = tt; kept = kept; none = ap (λ z. z.state.waiting) ed }
 
-      does : Right k f m (guarded m.calls call) handle p go params r ws (widths_are r m.widths is.locals) empty (flat r m.body empty)
+      does : Right k f m (guarded m.calls call) handle p go params r ws (widths_are r m.widths is.locals) empty (flat lay r m.body empty)
           (packed k f m (guarded m.calls call) handle p go params r ws (widths_are r m.widths is.locals) m.body)
           → Alike (Held r ws empty) (Leaves r ws)
           (performed full (firm_step k f m (guarded m.calls call) handle) firm_truth m.body (firm_entered m count 0 s) w) (linear' is.block begun_d w)

@@ -23,6 +23,8 @@ use Rattle.vg_lin.specs.Meaning.{language, result_of}
 use Rattle.vg_lin.specs.Structured.{Deciding, Caller as LinCaller, with_found, handle as lin_handle, lifted, step as lin_step, truth as lin_truth}
 use Rattle.vg_flatten_shapes.specs.declared.fault.Fault.TheVariants.{NotTaken}
 use Rattle.vg_flatten_shapes.specs.declared.open.Truth.{Truth}
+use Rattle.vg_flatten_shapes.specs.declared.layout.Layout.{Layout}
+use Rattle.vg_flatten.specs.Columns.{FlashStands}
 use Rattle.vg_flatten_shapes.specs.declared.room.Room.{Room}
 use Rattle.vg_flatten_shapes.specs.Shapes.{Shape, only, empty, is_empty, is_none, same_operand, same_homes, temp}
 use Rattle.vg_flatten_shapes.specs.Blocks.{Block, Skip, One, TakeInterrupt, GiveBack, BreakOut, GoOn, Both, Choice, Repeat, structured, picked}
@@ -41,6 +43,7 @@ use Rattle.vg_flattened.proofs.Right.{Right, Does, linear, packed, right_after, 
 use Rattle.vg_flattened.proofs.StepRight.{right_number, right_local, right_set, right_forget, right_applied, right_read, right_written}
 use Rattle.vg_flattened.proofs.CombinedRight.{right_operated}
 use Rattle.vg_flattened.proofs.ObjectRight.{right_load_nothing, right_store_nothing, right_one_of, right_cast}
+use Rattle.vg_flattened.proofs.ColumnRight.{right_load, right_load_at, right_length}
 use Rattle.vg_flattened.proofs.CallRight.{AreParams, AlikeCalls, AlikeHandling, right_called}
 
 and_then-and_then : {S : Type 0} (a : Answer S History) (g h : Piece S History) → and_then (and_then a g) h ≡ and_then a (λ s w. and_then (g s w) h)
@@ -87,7 +90,8 @@ empty_is s e = by_truth s.truth s.homes e
 module _ (k : Codes) (f : FirmProgram) (m : FirmProcedure) (call : FirmCaller History) (handle : ℕ → Piece Firm History)
     (p : LinProgram) (go : LinCaller State) (params : List ℕ) (r : Room) (ws : List ℕ) (wide : AreWidths r m.widths ws)
     (known : AreParams params p) (calls : AlikeCalls p call go)
-    (handling : AlikeHandling r ws handle (λ vector. lin_handle (language p) go ((language p).handler vector))) where
+    (handling : AlikeHandling r ws handle (λ vector. lin_handle (language p) go ((language p).handler vector)))
+    (lay : Layout) (flash : FlashStands lay f p) where
   abbrev Right' : Shape → Made → Piece Firm History → Type 0
   Right' = Right k f m call handle p go params r ws wide
 
@@ -107,7 +111,7 @@ module _ (k : Codes) (f : FirmProgram) (m : FirmProcedure) (call : FirmCaller Hi
         (λ vector. lin_handle (language p) go ((language p).handler vector)) (handling hs) s d w i q,
   )
 
-  right_stepped : (q : Step) (hs : List Operand) → ArePlaced r.locals hs → Right' (only hs) (stepped r q hs) (packed' (Do q))
+  right_stepped : (q : Step) (hs : List Operand) → ArePlaced r.locals hs → Right' (only hs) (stepped lay r q hs) (packed' (Do q))
   right_stepped (Number v) hs placed = right_number k f m call handle p go params r ws wide v hs placed
   right_stepped (GetLocal i) hs placed = right_local k f m call handle p go params r ws wide i hs placed
   right_stepped (SetLocal i) hs placed = right_set k f m call handle p go params r ws wide i hs placed
@@ -119,15 +123,15 @@ module _ (k : Codes) (f : FirmProgram) (m : FirmProcedure) (call : FirmCaller Hi
   right_stepped (Call q count) hs placed = right_called k f m call handle p go params r ws wide known calls q count hs placed
   right_stepped Idle hs placed = right_idle hs placed
   right_stepped This hs placed = tt
-  right_stepped (Load h c) hs placed = tt
+  right_stepped (Load h c) hs placed = right_load k f m call handle p go params r ws wide lay flash h c hs placed
   right_stepped (Store c w) hs placed = tt
-  right_stepped (LoadAt h c o) hs placed = tt
+  right_stepped (LoadAt h c o) hs placed = right_load_at k f m call handle p go params r ws wide lay flash h c o hs placed
   right_stepped (StoreAt c o w) hs placed = tt
   right_stepped LoadNothing hs placed = right_load_nothing k f m call handle p go params r ws wide hs placed
   right_stepped StoreNothing hs placed = right_store_nothing k f m call handle p go params r ws wide hs placed
   right_stepped (LoadItem e) hs placed = tt
   right_stepped (StoreItem e) hs placed = tt
-  right_stepped (Length t) hs placed = tt
+  right_stepped (Length t) hs placed = right_length k f m call handle p go params r ws wide lay flash t hs placed
   right_stepped (IsWithin a b) hs placed = right_one_of k f m call handle p go params r ws wide a b hs placed
   right_stepped (StopUnlessWithin a b) hs placed = right_cast k f m call handle p go params r ws wide a b hs placed
   right_stepped (Bind q) hs placed = tt
@@ -354,18 +358,18 @@ module _ (k : Codes) (f : FirmProgram) (m : FirmProcedure) (call : FirmCaller Hi
 
   -- ---- all code
 
-  pub right_code : (c : Code Step) (shape : Shape) → ArePlaced r.locals shape.homes → Right' shape (flat r c shape) (packed' c)
+  pub right_code : (c : Code Step) (shape : Shape) → ArePlaced r.locals shape.homes → Right' shape (flat lay r c shape) (packed' c)
   right_code Nothing shape placed = (placed, λ fit s d w i q. gives i q)
   right_code (Then a b) shape placed =
-      right_after k f m call handle p go params r ws wide shape (flat r a shape) (flat r b) (packed' a) (packed' b) (right_code a shape placed)
+      right_after k f m call handle p go params r ws wide shape (flat lay r a shape) (flat lay r b) (packed' a) (packed' b) (right_code a shape placed)
       (λ s1 placed1. right_code b s1 placed1)
-  right_code (Do q) shape placed = right_settled k f m call handle p go params r ws wide shape (stepped r q) (packed' (Do q)) placed (right_stepped q)
+  right_code (Do q) shape placed = right_settled k f m call handle p go params r ws wide shape (stepped lay r q) (packed' (Do q)) placed (right_stepped q)
   right_code (If a b) shape placed =
-      right_chosen shape (flat r a) (flat r b) (packed' a) (packed' b) (λ hs placed1. right_code a (only hs) placed1)
+      right_chosen shape (flat lay r a) (flat lay r b) (packed' a) (packed' b) (λ hs placed1. right_code a (only hs) placed1)
       (λ hs placed1. right_code b (only hs) placed1) placed
   right_code (Loop c body next) shape placed =
-      right_where_empty shape (repeated (flat r c empty) (flat r body empty) (flat r next empty)) (packed' (Loop c body next))
-      (right_repeated (flat r c empty) (flat r body empty) (flat r next empty) (packed' c) (packed' body) (packed' next) (right_code c empty tt)
+      right_where_empty shape (repeated (flat lay r c empty) (flat lay r body empty) (flat lay r next empty)) (packed' (Loop c body next))
+      (right_repeated (flat lay r c empty) (flat lay r body empty) (flat lay r next empty) (packed' c) (packed' body) (packed' next) (right_code c empty tt)
       (right_code body empty tt) (right_code next empty tt))
   right_code Break shape placed = right_where_empty shape (Makes BreakOut empty) (packed' Break) (tt, λ fit s d w i q. leaves i q)
   right_code Continue shape placed = right_where_empty shape (Makes GoOn empty) (packed' Continue) (tt, λ fit s d w i q. leaves i q)

@@ -24,6 +24,7 @@ use Rattle.vg_lin.specs.Follows.{IsLegal}
 use Rattle.vg_lin.specs.Sessions.{world}
 use Rattle.vg_lin.proofs.Followed.{follows_sessions}
 use Rattle.vg_flatten_shapes.specs.declared.open.Open.{Open}
+use Rattle.vg_flatten_shapes.specs.declared.layout.Layout.{Layout}
 use Rattle.vg_flatten_shapes.specs.declared.room.Room.{Room}
 use Rattle.vg_flatten_shapes.specs.Shapes.{only}
 use Rattle.vg_flatten_shapes.specs.Blocks.{Block, Skip, structured, open_code}
@@ -86,7 +87,7 @@ over_same _ _ t v why no' legal (wrong {s = s1} {w = w1}) e =
     reason_in (Some x) = reason_of x
     reason_in None = None
 
-module _ (k : Codes) (f : FirmProgram) (params : List ℕ) (p : LinProgram) (flat : AreFlat k f params p) where
+module _ (k : Codes) (lay : Layout) (f : FirmProgram) (params : List ℕ) (p : LinProgram) (flat : AreFlat k lay f params p) where
   -- the block of each procedure
   abbrev pub block_at : (q : ℕ) (o : Option FirmProcedure) → slice_get f.procedures q ≡ o → Block
   block_at q (Some m) e = whole m (flat.flats q m e).3.block
@@ -155,7 +156,7 @@ module _ (k : Codes) (f : FirmProgram) (params : List ℕ) (p : LinProgram) (fla
           (λ s1 d1 w1 i1 st. subst (λ z. Alike (Returned count s) Never
           (run_procedure full k f (firm_called full k f n) (λ vector. firm_handled (firm_called full k f n) (f.handler vector)) m count 0 z w1)
           (lin_body (language p) (lin_called (language p) bodies n) (structured (block_at q (Some m) e)) d1 w1)) (sym st.0)
-          (alike_body k f p params known (firm_called full k f n) (lin_called (language p) bodies n) hn flat.handler m (flat.flats q m e).0
+          (alike_body k f p params known (firm_called full k f n) (lin_called (language p) bodies n) hn flat.handler lay flat.flash m (flat.flats q m e).0
           (flat.flats q m e).2
           (flat.flats q m e).3 count s ram w1 i1 enters d1
           (st.1 ∙ ap (λ z. fresh (record { locals = begun (widths_of z) (arguments count s); waiting = []; ram = ram })) (flat.flats q m e).1

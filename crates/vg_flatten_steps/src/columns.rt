@@ -1,0 +1,218 @@
+// What loads from columns and tables in flash become.
+ghost use Rattle.std.specs.Prelude.{◌≡◌, ◌+◌, ◌≤◌, Some, None, slice_get};
+ghost use Rattle.vg_flatten_shapes.specs.Blocks.{open_code};
+ghost use Rattle.vg_flatten_shapes.specs.Laying.{Lays, LaysCode};
+ghost use Rattle.vg_flatten_steps.specs.Steps.{is_width, load_flash, multiplied, multiple, fetched, load_one, load_of, length_of, in_flash};
+
+use crate::operators::is_zero;
+use crate::put::{put_into, temp};
+use std::alloc::Global;
+use vg_base::{Refusal, Row};
+use vg_firm::Home;
+use vg_flatten_shapes::{
+    Fault, Homes, Layout, Open, Piece, Place, Room, Truth, append, place_behind, stop_where,
+};
+use vg_lin::{Address, Computation, Instr, Memory, Operand, Operator, Plain};
+
+fn is_width(width: u8) -> bool
+    ensures { result ≡ is_width width }
+{
+    0 < width && width < 5
+}
+
+fn load_flash(width: u8, to: u8, base: u16, index: Operand) -> Plain
+    ensures { result ≡ load_flash width to base index }
+{
+    Plain::Load(Memory::Flash, width, to, Address { base, index })
+}
+
+/// A number, so many times.
+fn multiplied(
+    alloc: Global,
+    at: u16,
+    to: u8,
+    by: u8,
+    home: Operand,
+) -> Result<Row<Open>, Refusal<Fault>>
+    ensures { LaysCode result (open_code (multiplied to by home) at) }
+{
+    let mut code = Row::new(alloc);
+    if by == 1 {
+        return Ok(code);
+    }
+    code.push(Open::Set(Instr::Plain(Plain::Compute(Computation {
+        operator: Operator::Times,
+        width: 4,
+        to,
+        left: home,
+        right: Operand::Known(by as u32),
+    }))))?;
+    Ok(code)
+}
+
+fn multiple(to: u8, by: u8, home: Operand) -> Operand
+    ensures { result ≡ multiple to by home }
+{
+    if by == 1 { home } else { Operand::Local(to) }
+}
+
+/// Behind the null check of a number, so many bytes: those at a base, so many times further as the number says.
+fn fetched(
+    alloc: Global,
+    room: Room,
+    at: u16,
+    width: u8,
+    by: u8,
+    base: u16,
+    home: Operand,
+    homes: Homes,
+) -> Result<Piece, Refusal<Fault>>
+    requires room { room.locals + room.temps ≤ 252 }
+    requires settled { homes.truth ≡ None }
+    ensures { Lays result at (fetched room width by base home homes.homes) }
+{
+    let to = temp(room, &homes)?;
+    let check = stop_where(alloc, at, 1, Truth::Holds(is_zero(home)))?;
+    let inside = place_behind(at, check.len())?;
+    let mut rest = multiplied(alloc, inside, to, by, home)?;
+    let load = load_flash(width, to, base, multiple(to, by, home));
+    rest.push(Open::Set(Instr::Plain(load)))?;
+    let code = append(check, rest.as_slice())?;
+    let mut homes = homes;
+    homes.push(Operand::Local(to))?;
+    Ok(Piece { code, homes })
+}
+
+fn load_one(
+    alloc: Global,
+    room: Room,
+    at: u16,
+    place: Place,
+    homes: Homes,
+) -> Result<Piece, Refusal<Fault>>
+    requires room { room.locals + room.temps ≤ 252 }
+    requires settled { homes.truth ≡ None }
+    ensures { Lays result at (load_one room (Some place) homes.homes) }
+{
+    if is_width(place.width) {
+        let to = temp(room, &homes)?;
+        let load = load_flash(place.width, to, place.address, Operand::Known(0));
+        return Ok(put_into(alloc, to, Instr::Plain(load), homes)?);
+    }
+    Err(Refusal::Fault(Fault::NotTaken))
+}
+
+/// The one value of a column.
+pub(crate) fn load(
+    alloc: Global,
+    layout: &Layout,
+    room: Room,
+    at: u16,
+    home: Home,
+    column: u16,
+    homes: Homes,
+) -> Result<Piece, Refusal<Fault>>
+    requires room { room.locals + room.temps ≤ 252 }
+    requires settled { homes.truth ≡ None }
+    ensures { Lays result at (in_flash home (load_one room (slice_get layout.now.flash column) homes.homes)) }
+{
+    match home {
+        Home::Ram => Err(Refusal::Fault(Fault::NotTaken)),
+        Home::Flash => match layout.flash.as_slice().get(column as usize) {
+            Some(place) => load_one(alloc, room, at, *place, homes),
+            None => Err(Refusal::Fault(Fault::NotTaken)),
+        },
+    }
+}
+
+fn load_of(
+    alloc: Global,
+    room: Room,
+    at: u16,
+    first: u16,
+    place: Place,
+    homes: Homes,
+) -> Result<Piece, Refusal<Fault>>
+    requires room { room.locals + room.temps ≤ 252 }
+    requires settled { homes.truth ≡ None }
+    ensures { Lays result at (load_of room first (Some place) homes.homes) }
+{
+    let mut homes = homes;
+    match homes.pop() {
+        Some(home) => {
+            let before = place.width as u32 * first as u32;
+            if is_width(place.width) && before <= place.address as u32 {
+                let base = place.address - before as u16;
+                return fetched(alloc, room, at, place.width, place.width, base, home, homes);
+            }
+            Err(Refusal::Fault(Fault::NotTaken))
+        }
+        None => Err(Refusal::Fault(Fault::NotTaken)),
+    }
+}
+
+/// The value of an object, whose column begins with that of the first.
+pub(crate) fn load_at(
+    alloc: Global,
+    layout: &Layout,
+    room: Room,
+    at: u16,
+    home: Home,
+    column: u16,
+    first: u16,
+    homes: Homes,
+) -> Result<Piece, Refusal<Fault>>
+    requires room { room.locals + room.temps ≤ 252 }
+    requires settled { homes.truth ≡ None }
+    ensures { Lays result at (in_flash home (load_of room first (slice_get layout.now.flash column) homes.homes)) }
+{
+    match home {
+        Home::Ram => Err(Refusal::Fault(Fault::NotTaken)),
+        Home::Flash => match layout.flash.as_slice().get(column as usize) {
+            Some(place) => load_of(alloc, room, at, first, *place, homes),
+            None => Err(Refusal::Fault(Fault::NotTaken)),
+        },
+    }
+}
+
+fn length_of(
+    alloc: Global,
+    room: Room,
+    at: u16,
+    table: u16,
+    homes: Homes,
+) -> Result<Piece, Refusal<Fault>>
+    requires room { room.locals + room.temps ≤ 252 }
+    requires settled { homes.truth ≡ None }
+    ensures { Lays result at (length_of room (Some table) homes.homes) }
+{
+    let mut homes = homes;
+    match homes.pop() {
+        Some(home) => {
+            if table >= 2 {
+                return fetched(alloc, room, at, 2, 4, table - 2, home, homes);
+            }
+            Err(Refusal::Fault(Fault::NotTaken))
+        }
+        None => Err(Refusal::Fault(Fault::NotTaken)),
+    }
+}
+
+/// The length of an array, by the table of its type.
+pub(crate) fn length(
+    alloc: Global,
+    layout: &Layout,
+    room: Room,
+    at: u16,
+    table: u16,
+    homes: Homes,
+) -> Result<Piece, Refusal<Fault>>
+    requires room { room.locals + room.temps ≤ 252 }
+    requires settled { homes.truth ≡ None }
+    ensures { Lays result at (length_of room (slice_get layout.now.tables table) homes.homes) }
+{
+    match layout.tables.as_slice().get(table as usize) {
+        Some(address) => length_of(alloc, room, at, *address, homes),
+        None => Err(Refusal::Fault(Fault::NotTaken)),
+    }
+}
