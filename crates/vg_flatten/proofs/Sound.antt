@@ -44,10 +44,10 @@ use Rattle.vg_flatten.specs.Loops.{has_loop}
 use Rattle.vg_flatten_control.specs.Flat.{repeated_body, repeated_next, given_back, flat}
 use Rattle.vg_flatten_steps.specs.Steps.{bytes_around, may_be_zero, divisor_checked, divided, masked, shifted_left, shifted_where, shifted_by, shifted_right, combined}
 use Rattle.vg_flatten_steps.specs.Steps.{load_nothing, store_nothing, is_near, is_one_of, cast_to}
-use Rattle.vg_flatten_steps.specs.Steps.{is_width, load_flash, multiplied, multiple, fetched, load_one, load_of, length_of, in_flash}
+use Rattle.vg_flatten_steps.specs.Steps.{is_width, load_from, multiplied, multiple, fetched, load_one, load_of, length_of, places_in, memory_of}
 use Rattle.vg_flatten_shapes.specs.declared.layout.Place.{Place}
-use Rattle.vg_firm.specs.declared.step.Home.{Home}
-use Rattle.vg_firm.specs.declared.step.Home.TheVariants.{Ram as InRam, Flash as InFlash}
+use Rattle.vg_lin.specs.declared.instr.Memory.{Memory}
+use Rattle.vg_lin.specs.declared.instr.Memory.TheVariants.{Flash}
 use Rattle.vg_flatten_shapes.proofs.Temps.{some_is, none_is_not, temp_is}
 
 -- ---- operands in range
@@ -359,7 +359,7 @@ module _ (L : Type 0) (lay : Layout) (r : Room) where
         (h, tt),
       ))) tt
 
-  -- ---- columns and tables in flash
+  -- ---- columns and tables
 
   in_multiplied : (to by : ℕ) (h : Operand) → to < size → IsIn size h → BlockIn L size (multiplied to by h)
   in_multiplied to by h lt hh = by_one (by == 1)
@@ -375,9 +375,9 @@ module _ (L : Type 0) (lay : Layout) (r : Room) where
       by_one true = hh
       by_one false = lt
 
-  in_fetched : (width by base : ℕ) (h : Operand) (hs : List Operand) → 1 ≤ width → width ≤ 4 → IsIn size h → AreIn size hs
-      → MadeIn L size (fetched r width by base h hs)
-  in_fetched width by base h hs low high hh hhs =
+  in_fetched : (memory : Memory) (width by base : ℕ) (h : Operand) (hs : List Operand) → 1 ≤ width → width ≤ 4 → IsIn size h → AreIn size hs
+      → MadeIn L size (fetched r memory width by base h hs)
+  in_fetched memory width by base h hs low high hh hhs =
       in_by_temp hs _ (λ to lt. (
         (
           in_stop 1 (Holds (is_zero h)) (in_test h (Known 0) hh tt Same),
@@ -392,25 +392,25 @@ module _ (L : Type 0) (lay : Layout) (r : Room) where
   width_high : (w : ℕ) → is_width w ≡ true → w ≤ 4
   width_high w e = grind arith
 
-  in_load_one : (o : Option Place) (hs : List Operand) → AreIn size hs → MadeIn L size (load_one r o hs)
-  in_load_one None hs h = tt
-  in_load_one (Some place) hs h = by_width (is_width place.width) refl
+  in_load_one : (memory : Memory) (o : Option Place) (hs : List Operand) → AreIn size hs → MadeIn L size (load_one r memory o hs)
+  in_load_one memory None hs h = tt
+  in_load_one memory (Some place) hs h = by_width (is_width place.width) refl
     where
       by_width : (b : Bool) → is_width place.width ≡ b
-          → MadeIn L size (if b then by_temp (temp r hs) (λ to. Gives (One (load_flash place.width to place.address (Known 0))) (only (Local to ∷ hs)))
+          → MadeIn L size (if b then by_temp (temp r hs) (λ to. Gives (One (load_from memory place.width to place.address (Known 0))) (only (Local to ∷ hs)))
           else Refused NotTaken)
       by_width true e = in_by_temp hs _ (λ to lt. ((width_low place.width e, width_high place.width e, lt, tt), ((lt, h), tt)))
       by_width false e = tt
 
-  in_load_of : (first : ℕ) (o : Option Place) (hs : List Operand) → AreIn size hs → MadeIn L size (load_of r first o hs)
-  in_load_of first None hs h = tt
-  in_load_of first (Some place) [] h = tt
-  in_load_of first (Some place) (a ∷ hs) h = by_width (is_width place.width) (nat_le (place.width * first) place.address) refl
+  in_load_of : (memory : Memory) (first : ℕ) (o : Option Place) (hs : List Operand) → AreIn size hs → MadeIn L size (load_of r memory first o hs)
+  in_load_of memory first None hs h = tt
+  in_load_of memory first (Some place) [] h = tt
+  in_load_of memory first (Some place) (a ∷ hs) h = by_width (is_width place.width) (nat_le (place.width * first) place.address) refl
     where
       by_width : (b c : Bool) → is_width place.width ≡ b
-          → MadeIn L size (if b && c then fetched r place.width place.width (place.address - place.width * first) a hs else Refused NotTaken)
+          → MadeIn L size (if b && c then fetched r memory place.width place.width (place.address - place.width * first) a hs else Refused NotTaken)
       by_width true true e =
-          in_fetched place.width place.width (place.address - place.width * first) a hs (width_low place.width e) (width_high place.width e) h.0 h.1
+          in_fetched memory place.width place.width (place.address - place.width * first) a hs (width_low place.width e) (width_high place.width e) h.0 h.1
       by_width true false e = tt
       by_width false c e = tt
 
@@ -418,11 +418,7 @@ module _ (L : Type 0) (lay : Layout) (r : Room) where
   in_length_of None hs h = tt
   in_length_of (Some table) [] h = tt
   in_length_of (Some table) (a ∷ hs) h =
-      in_if (nat_le 2 table) (fetched r 2 4 (table - 2) a hs) (Refused NotTaken) (in_fetched 2 4 (table - 2) a hs (omega arith) (omega arith) h.0 h.1) tt
-
-  in_home : (home : Home) (made : Made) → MadeIn L size made → MadeIn L size (in_flash home made)
-  in_home InFlash made h = h
-  in_home InRam made h = tt
+      in_if (nat_le 2 table) (fetched r Flash 2 4 (table - 2) a hs) (Refused NotTaken) (in_fetched Flash 2 4 (table - 2) a hs (omega arith) (omega arith) h.0 h.1) tt
 
   in_stepped : (q : Step) (hs : List Operand) → AreIn size hs → MadeIn L size (stepped lay r q hs)
   in_stepped (Number v) hs h = in_number v hs h
@@ -436,9 +432,9 @@ module _ (L : Type 0) (lay : Layout) (r : Room) where
   in_stepped (Call q count) hs h = in_called q count hs h
   in_stepped Idle hs h = (tt, (h, tt))
   in_stepped This hs h = tt
-  in_stepped (Load a c) hs h = in_home a (load_one r (slice_get lay.flash c) hs) (in_load_one (slice_get lay.flash c) hs h)
+  in_stepped (Load a c) hs h = in_load_one (memory_of a) (slice_get (places_in lay a) c) hs h
   in_stepped (Store c w) hs h = tt
-  in_stepped (LoadAt a c o) hs h = in_home a (load_of r o (slice_get lay.flash c) hs) (in_load_of o (slice_get lay.flash c) hs h)
+  in_stepped (LoadAt a c o) hs h = in_load_of (memory_of a) o (slice_get (places_in lay a) c) hs h
   in_stepped (StoreAt c o w) hs h = tt
   in_stepped LoadNothing hs h = in_load_nothing hs h
   in_stepped StoreNothing hs h = in_store_nothing hs h

@@ -18,7 +18,7 @@ use Rattle.vg_flatten_shapes.specs.Blocks.{Block, Skip, One, GiveBack, Both, ope
 use Rattle.vg_flatten_shapes.specs.Made.{Gives}
 use Rattle.vg_flatten_control.specs.Flat.{flat}
 use Rattle.vg_flatten.specs.Fitting.{CallsFit}
-use Rattle.vg_flatten.specs.Columns.{FlashStands}
+use Rattle.vg_flatten.specs.Columns.{FlashStands, RamStands}
 use Rattle.vg_flatten_shapes.specs.Blocks.{set_in}
 
 -- So many locals from one on get the value 0.
@@ -67,6 +67,7 @@ pub record AreFlat (k : Codes) (lay : Layout) (f : FirmProgram) (params : List �
   pub start : slice_get p.procedures p.start ≡ Some (start_of f.main)
   pub main : slice_get params f.main ≡ Some 0
   pub flash : FlashStands lay f p
+  pub ram : RamStands lay.ram f.ram p.ram
 
 -- The instructions that set so many locals from one on to 0.
 abbrev pub zero_list : (count from : ℕ) → List Open

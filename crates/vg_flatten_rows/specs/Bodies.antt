@@ -18,7 +18,7 @@ use Rattle.vg_lin.specs.declared.instr.Operator.TheVariants.{Plus as Sum, Minus 
 use Rattle.vg_lin.specs.declared.instr.Comparison.TheVariants.{Below, Less as IsLess, Same}
 use Rattle.vg_lin.specs.declared.instr.Test.{Test}
 use Rattle.vg_lin.specs.declared.instr.Plain.TheVariants.{Copy, Compute, Load as LoadsBytes, WriteDevice as Writes, Stop}
-use Rattle.vg_lin.specs.declared.instr.Memory.TheVariants.{Flash as InFlash}
+use Rattle.vg_lin.specs.declared.instr.Memory.TheVariants.{Ram as InRam, Flash as InFlash}
 use Rattle.vg_lin.specs.declared.instr.Callee.TheVariants.{Procedure as ByNumber}
 use Rattle.vg_lin.specs.declared.instr.Registers.{Registers}
 use Rattle.vg_lin.specs.declared.instr.Registers.TheVariants.{One, Two}
@@ -47,7 +47,7 @@ flattened_in lay temps m = code_for m (flat lay (record { locals = length m.widt
 
 -- The same without columns.
 abbrev pub flattened : (temps : ℕ) → Procedure → Option (List Instr)
-flattened temps m = flattened_in (record { flash = []; tables = [] }) temps m
+flattened temps m = flattened_in (record { ram = []; flash = []; tables = [] }) temps m
 
 -- A procedure whose locals have these widths, the first ones being its parameters.
 abbrev pub procedure : (params : ℕ) → (widths : List ℕ) → Code Step → Procedure
@@ -216,14 +216,14 @@ no_field : flattened 4 (procedure 2 (2 ∷ 4 ∷ []) (steps (Get 0 ∷ LoadNothi
     Unless (is_zero (Local 0)) 2 ∷ Plain (Stop 1) ∷ Plain (Copy 1 (Known 0)) ∷ Unless (is_zero (Local 0)) 5 ∷ Plain (Stop 1) ∷ Return (Known 0) ∷ [])
 no_field = refl
 
--- ---- columns and tables in flash
+-- ---- columns and tables
 
 abbrev pub place : (address width : ℕ) → Place
 place address width = record { address = address; width = width }
 
 -- Three columns, of entries of two bytes, one and four; and a table.
 abbrev pub layout : Layout
-layout = record { flash = place 150 2 ∷ place 160 1 ∷ place 200 4 ∷ []; tables = 180 ∷ [] }
+layout = record { ram = place 256 1 ∷ place 258 2 ∷ []; flash = place 150 2 ∷ place 160 1 ∷ place 200 4 ∷ []; tables = 180 ∷ [] }
 
 abbrev pub loads : (width to base : ℕ) → Operand → Instr
 loads width to base index = Plain (LoadsBytes InFlash width to (record { base = base; index = index }))
@@ -245,6 +245,17 @@ wide_field : flattened_in layout 4 (procedure 2 (2 ∷ 4 ∷ []) (steps (Get 0 �
     Unless (is_zero (Local 0)) 2 ∷ Plain (Stop 1) ∷ computes Product 4 2 (Local 0) (Known 4) ∷ loads 4 2 192 (Local 2) ∷ Plain (Copy 1 (Local 2))
     ∷ Return (Known 0) ∷ [])
 wide_field = refl
+
+-- x = C.f; and x = o.f; in RAM
+component_field_in_ram : flattened_in layout 4 (procedure 0 (1 ∷ []) (steps (LoadOne Ram 0 ∷ SetLocal 0 ∷ []) Nothing))
+    ≡ Some (Plain (Copy 0 (Known 0)) ∷ Plain (LoadsBytes InRam 1 1 (record { base = 256; index = Known 0 })) ∷ Plain (Copy 0 (Local 1)) ∷ Return (Known 0) ∷ [])
+component_field_in_ram = refl
+
+field_in_ram : flattened_in layout 4 (procedure 2 (2 ∷ 2 ∷ []) (steps (Get 0 ∷ LoadAt Ram 1 1 ∷ SetLocal 1 ∷ []) Nothing))
+    ≡ Some (
+    Unless (is_zero (Local 0)) 2 ∷ Plain (Stop 1) ∷ computes Product 4 2 (Local 0) (Known 2)
+    ∷ Plain (LoadsBytes InRam 2 2 (record { base = 256; index = Local 2 })) ∷ Plain (Copy 1 (Local 2)) ∷ Return (Known 0) ∷ [])
+field_in_ram = refl
 
 -- n = a.length;
 array_length : flattened_in layout 4 (procedure 2 (2 ∷ 4 ∷ []) (steps (Get 0 ∷ Length 0 ∷ SetLocal 1 ∷ []) Nothing))

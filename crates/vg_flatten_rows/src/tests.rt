@@ -45,6 +45,7 @@ fn high(alloc: Global, count: u8) -> Result<Procedure, NoMemory>
 
 fn flattened(alloc: Global, count: u8) -> Result<LinProc, Refusal<Fault>> {
     let layout = Layout {
+        ram: Row::new(alloc),
         flash: Row::new(alloc),
         tables: Row::new(alloc),
     };

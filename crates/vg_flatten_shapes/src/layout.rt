@@ -8,9 +8,10 @@ pub struct Place {
     pub width: u8,
 }
 
-/// The columns in flash and the tables of the arrays' places, by their numbers; a table is named by its address.
+/// The columns in RAM and in flash and the tables of the arrays' places, by their numbers; a table is named by its address.
 #[derive(Drop)]
 pub struct Layout {
+    pub ram: Row<Place>,
     pub flash: Row<Place>,
     pub tables: Row<u16>,
 }

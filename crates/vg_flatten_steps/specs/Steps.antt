@@ -22,7 +22,8 @@ use Rattle.vg_lin.specs.declared.instr.Comparison.TheVariants.{Below, Less as Is
 use Rattle.vg_lin.specs.declared.instr.Test.{Test}
 use Rattle.vg_lin.specs.declared.instr.Plain.{Plain}
 use Rattle.vg_lin.specs.declared.instr.Plain.TheVariants.{Copy, Compute, Load, ReadDevice as ReadsDevice, WriteDevice as WritesDevice}
-use Rattle.vg_lin.specs.declared.instr.Memory.TheVariants.{Flash}
+use Rattle.vg_lin.specs.declared.instr.Memory.{Memory}
+use Rattle.vg_lin.specs.declared.instr.Memory.TheVariants.{Ram, Flash}
 use Rattle.vg_lin.specs.declared.instr.Callee.TheVariants.{Procedure}
 use Rattle.vg_lin.specs.declared.instr.Registers.{Registers}
 use Rattle.vg_lin.specs.declared.instr.Registers.TheVariants.{Empty, One as One', Two, Three, Four}
@@ -234,14 +235,14 @@ cast_to r first count (h ∷ hs) =
     else Refused NotTaken
 cast_to r first count [] = Refused NotTaken
 
--- ---- columns and tables in flash
+-- ---- columns and tables
 
 -- A number of bytes that a load takes.
 abbrev pub is_width : (width : ℕ) → Bool
 is_width width = nat_lt 0 width && nat_lt width 5
 
-abbrev pub load_flash : (width to base : ℕ) → Operand → Plain
-load_flash width to base index = Load Flash width to (record { base = base; index = index })
+abbrev pub load_from : Memory → (width to base : ℕ) → Operand → Plain
+load_from memory width to base index = Load memory width to (record { base = base; index = index })
 
 -- A number, so many times.
 abbrev pub multiplied : (to by : ℕ) → Operand → Block
@@ -251,35 +252,39 @@ abbrev pub multiple : (to by : ℕ) → Operand → Operand
 multiple to by h = if by == 1 then h else InLocal to
 
 -- Behind the null check of a number, so many bytes: those at a base, so many times further as the number says.
-abbrev pub fetched : Room → (width by base : ℕ) → Operand → List Operand → Made
-fetched r width by base h hs =
+abbrev pub fetched : Room → Memory → (width by base : ℕ) → Operand → List Operand → Made
+fetched r memory width by base h hs =
     by_temp (temp r hs) (λ to. Gives (Both (stop_where 1 (Holds (is_zero h)))
-    (Both (multiplied to by h) (One (load_flash width to base (multiple to by h))))) (only (InLocal to ∷ hs)))
+    (Both (multiplied to by h) (One (load_from memory width to base (multiple to by h))))) (only (InLocal to ∷ hs)))
 
 -- The one value of a column.
-abbrev pub load_one : Room → Option Place → List Operand → Made
-load_one r (Some place) hs =
-    if is_width place.width then by_temp (temp r hs) (λ to. Gives (One (load_flash place.width to place.address (Known 0))) (only (InLocal to ∷ hs)))
+abbrev pub load_one : Room → Memory → Option Place → List Operand → Made
+load_one r memory (Some place) hs =
+    if is_width place.width then by_temp (temp r hs) (λ to. Gives (One (load_from memory place.width to place.address (Known 0))) (only (InLocal to ∷ hs)))
     else Refused NotTaken
-load_one r None hs = Refused NotTaken
+load_one r memory None hs = Refused NotTaken
 
 -- The value of an object: the column begins with that of the first.
-abbrev pub load_of : Room → (first : ℕ) → Option Place → List Operand → Made
-load_of r first (Some place) (h ∷ hs) =
+abbrev pub load_of : Room → Memory → (first : ℕ) → Option Place → List Operand → Made
+load_of r memory first (Some place) (h ∷ hs) =
     if is_width place.width && nat_le (place.width * first) place.address
-    then fetched r place.width place.width (place.address - place.width * first) h hs
+    then fetched r memory place.width place.width (place.address - place.width * first) h hs
     else Refused NotTaken
-load_of r first _ _ = Refused NotTaken
+load_of r memory first _ _ = Refused NotTaken
 
 -- The length of an array: four bytes of a table are the place of one, and the upper two its length.
 abbrev pub length_of : Room → Option ℕ → List Operand → Made
-length_of r (Some table) (h ∷ hs) = if nat_le 2 table then fetched r 2 4 (table - 2) h hs else Refused NotTaken
+length_of r (Some table) (h ∷ hs) = if nat_le 2 table then fetched r Flash 2 4 (table - 2) h hs else Refused NotTaken
 length_of r _ _ = Refused NotTaken
 
--- A column in RAM is not taken yet.
-abbrev pub in_flash : Home → Made → Made
-in_flash InFlash made = made
-in_flash InRam made = Refused NotTaken
+-- The places of the columns of a home, and the memory where they are.
+abbrev pub places_in : Layout → Home → List Place
+places_in lay InRam = lay.ram
+places_in lay InFlash = lay.flash
+
+abbrev pub memory_of : Home → Memory
+memory_of InRam = Ram
+memory_of InFlash = Flash
 
 -- ---- steps
 
@@ -295,8 +300,8 @@ stepped lay r (ReadDevice address) hs = read r address hs
 stepped lay r (WriteDevice address) hs = written address hs
 stepped lay r (Call q count) hs = called r q count hs
 stepped lay r Idle hs = Gives TakeInterrupt (only hs)
-stepped lay r (LoadOne home c) hs = in_flash home (load_one r (slice_get lay.flash c) hs)
-stepped lay r (LoadAt home c first) hs = in_flash home (load_of r first (slice_get lay.flash c) hs)
+stepped lay r (LoadOne home c) hs = load_one r (memory_of home) (slice_get (places_in lay home) c) hs
+stepped lay r (LoadAt home c first) hs = load_of r (memory_of home) first (slice_get (places_in lay home) c) hs
 stepped lay r (Length table) hs = length_of r (slice_get lay.tables table) hs
 stepped lay r LoadNothing hs = load_nothing hs
 stepped lay r StoreNothing hs = store_nothing hs

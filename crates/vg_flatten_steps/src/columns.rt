@@ -1,8 +1,8 @@
-// What loads from columns and tables in flash become.
+// What loads from columns and tables become.
 ghost use Rattle.std.specs.Prelude.{◌≡◌, ◌+◌, ◌≤◌, Some, None, slice_get};
 ghost use Rattle.vg_flatten_shapes.specs.Blocks.{open_code};
 ghost use Rattle.vg_flatten_shapes.specs.Laying.{Lays, LaysCode};
-ghost use Rattle.vg_flatten_steps.specs.Steps.{is_width, load_flash, multiplied, multiple, fetched, load_one, load_of, length_of, in_flash};
+ghost use Rattle.vg_flatten_steps.specs.Steps.{is_width, load_from, multiplied, multiple, fetched, load_one, load_of, length_of, places_in, memory_of};
 
 use crate::operators::is_zero;
 use crate::put::{put_into, temp};
@@ -20,10 +20,30 @@ fn is_width(width: u8) -> bool
     0 < width && width < 5
 }
 
-fn load_flash(width: u8, to: u8, base: u16, index: Operand) -> Plain
-    ensures { result ≡ load_flash width to base index }
+fn load_from(memory: Memory, width: u8, to: u8, base: u16, index: Operand) -> Plain
+    ensures { result ≡ load_from memory width to base index }
 {
-    Plain::Load(Memory::Flash, width, to, Address { base, index })
+    Plain::Load(memory, width, to, Address { base, index })
+}
+
+/// The places of the columns of a home.
+fn places_in(layout: &Layout, home: Home) -> &[Place]
+    ensures { result.now ≡ places_in layout.now home }
+{
+    match home {
+        Home::Ram => layout.ram.as_slice(),
+        Home::Flash => layout.flash.as_slice(),
+    }
+}
+
+/// The memory where they are.
+fn memory_of(home: Home) -> Memory
+    ensures { result ≡ memory_of home }
+{
+    match home {
+        Home::Ram => Memory::Ram,
+        Home::Flash => Memory::Flash,
+    }
 }
 
 /// A number, so many times.
@@ -61,6 +81,7 @@ fn fetched(
     alloc: Global,
     room: Room,
     at: u16,
+    memory: Memory,
     width: u8,
     by: u8,
     base: u16,
@@ -69,13 +90,13 @@ fn fetched(
 ) -> Result<Piece, Refusal<Fault>>
     requires room { room.locals + room.temps ≤ 252 }
     requires settled { homes.truth ≡ None }
-    ensures { Lays result at (fetched room width by base home homes.homes) }
+    ensures { Lays result at (fetched room memory width by base home homes.homes) }
 {
     let to = temp(room, &homes)?;
     let check = stop_where(alloc, at, 1, Truth::Holds(is_zero(home)))?;
     let inside = place_behind(at, check.len())?;
     let mut rest = multiplied(alloc, inside, to, by, home)?;
-    let load = load_flash(width, to, base, multiple(to, by, home));
+    let load = load_from(memory, width, to, base, multiple(to, by, home));
     rest.push(Open::Set(Instr::Plain(load)))?;
     let code = append(check, rest.as_slice())?;
     let mut homes = homes;
@@ -87,16 +108,17 @@ fn load_one(
     alloc: Global,
     room: Room,
     at: u16,
+    memory: Memory,
     place: Place,
     homes: Homes,
 ) -> Result<Piece, Refusal<Fault>>
     requires room { room.locals + room.temps ≤ 252 }
     requires settled { homes.truth ≡ None }
-    ensures { Lays result at (load_one room (Some place) homes.homes) }
+    ensures { Lays result at (load_one room memory (Some place) homes.homes) }
 {
     if is_width(place.width) {
         let to = temp(room, &homes)?;
-        let load = load_flash(place.width, to, place.address, Operand::Known(0));
+        let load = load_from(memory, place.width, to, place.address, Operand::Known(0));
         return Ok(put_into(alloc, to, Instr::Plain(load), homes)?);
     }
     Err(Refusal::Fault(Fault::NotTaken))
@@ -114,14 +136,11 @@ pub(crate) fn load(
 ) -> Result<Piece, Refusal<Fault>>
     requires room { room.locals + room.temps ≤ 252 }
     requires settled { homes.truth ≡ None }
-    ensures { Lays result at (in_flash home (load_one room (slice_get layout.now.flash column) homes.homes)) }
+    ensures { Lays result at (load_one room (memory_of home) (slice_get (places_in layout.now home) column) homes.homes) }
 {
-    match home {
-        Home::Ram => Err(Refusal::Fault(Fault::NotTaken)),
-        Home::Flash => match layout.flash.as_slice().get(column as usize) {
-            Some(place) => load_one(alloc, room, at, *place, homes),
-            None => Err(Refusal::Fault(Fault::NotTaken)),
-        },
+    match places_in(layout, home).get(column as usize) {
+        Some(place) => load_one(alloc, room, at, memory_of(home), *place, homes),
+        None => Err(Refusal::Fault(Fault::NotTaken)),
     }
 }
 
@@ -129,13 +148,14 @@ fn load_of(
     alloc: Global,
     room: Room,
     at: u16,
+    memory: Memory,
     first: u16,
     place: Place,
     homes: Homes,
 ) -> Result<Piece, Refusal<Fault>>
     requires room { room.locals + room.temps ≤ 252 }
     requires settled { homes.truth ≡ None }
-    ensures { Lays result at (load_of room first (Some place) homes.homes) }
+    ensures { Lays result at (load_of room memory first (Some place) homes.homes) }
 {
     let mut homes = homes;
     match homes.pop() {
@@ -143,7 +163,17 @@ fn load_of(
             let before = place.width as u32 * first as u32;
             if is_width(place.width) && before <= place.address as u32 {
                 let base = place.address - before as u16;
-                return fetched(alloc, room, at, place.width, place.width, base, home, homes);
+                return fetched(
+                    alloc,
+                    room,
+                    at,
+                    memory,
+                    place.width,
+                    place.width,
+                    base,
+                    home,
+                    homes,
+                );
             }
             Err(Refusal::Fault(Fault::NotTaken))
         }
@@ -164,14 +194,11 @@ pub(crate) fn load_at(
 ) -> Result<Piece, Refusal<Fault>>
     requires room { room.locals + room.temps ≤ 252 }
     requires settled { homes.truth ≡ None }
-    ensures { Lays result at (in_flash home (load_of room first (slice_get layout.now.flash column) homes.homes)) }
+    ensures { Lays result at (load_of room (memory_of home) first (slice_get (places_in layout.now home) column) homes.homes) }
 {
-    match home {
-        Home::Ram => Err(Refusal::Fault(Fault::NotTaken)),
-        Home::Flash => match layout.flash.as_slice().get(column as usize) {
-            Some(place) => load_of(alloc, room, at, first, *place, homes),
-            None => Err(Refusal::Fault(Fault::NotTaken)),
-        },
+    match places_in(layout, home).get(column as usize) {
+        Some(place) => load_of(alloc, room, at, memory_of(home), first, *place, homes),
+        None => Err(Refusal::Fault(Fault::NotTaken)),
     }
 }
 
@@ -190,7 +217,7 @@ fn length_of(
     match homes.pop() {
         Some(home) => {
             if table >= 2 {
-                return fetched(alloc, room, at, 2, 4, table - 2, home, homes);
+                return fetched(alloc, room, at, Memory::Flash, 2, 4, table - 2, home, homes);
             }
             Err(Refusal::Fault(Fault::NotTaken))
         }

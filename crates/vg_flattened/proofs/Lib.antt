@@ -10,6 +10,7 @@ pub mod StepRight
 pub mod Shifting
 pub mod CombinedRight
 pub mod ObjectRight
+pub mod Writing
 pub mod ColumnRight
 pub mod CallRight
 pub mod CodeRight
