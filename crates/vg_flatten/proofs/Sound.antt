@@ -21,7 +21,7 @@ use Rattle.vg_lin.specs.declared.instr.Operator.TheVariants.{Plus as Sum, Minus 
 use Rattle.vg_lin.specs.declared.instr.Comparison.TheVariants.{Below, Same}
 use Rattle.vg_lin.specs.declared.instr.Test.{Test}
 use Rattle.vg_lin.specs.declared.instr.Plain.{Plain as PlainInstr}
-use Rattle.vg_lin.specs.declared.instr.Plain.TheVariants.{Copy, Compute, Load as LoadsBytes, ReadDevice as ReadsDevice, WriteDevice as WritesDevice, Stop}
+use Rattle.vg_lin.specs.declared.instr.Plain.TheVariants.{Copy, Compute, Load as LoadsBytes, Store as StoresBytes, ReadDevice as ReadsDevice, WriteDevice as WritesDevice, Stop}
 use Rattle.vg_lin.specs.declared.instr.Callee.{Callee}
 use Rattle.vg_lin.specs.declared.instr.Callee.TheVariants.{Procedure as ByNumber, Code as ByCode}
 use Rattle.vg_lin.specs.declared.instr.Registers.{Registers}
@@ -45,6 +45,7 @@ use Rattle.vg_flatten_control.specs.Flat.{repeated_body, repeated_next, given_ba
 use Rattle.vg_flatten_steps.specs.Steps.{bytes_around, may_be_zero, divisor_checked, divided, masked, shifted_left, shifted_where, shifted_by, shifted_right, combined}
 use Rattle.vg_flatten_steps.specs.Steps.{load_nothing, store_nothing, is_near, is_one_of, cast_to}
 use Rattle.vg_flatten_steps.specs.Steps.{is_width, load_from, multiplied, multiple, fetched, load_one, load_of, length_of, places_in, memory_of}
+use Rattle.vg_flatten_steps.specs.Steps.{store_at, store_one, put_of, store_of}
 use Rattle.vg_flatten_shapes.specs.declared.layout.Place.{Place}
 use Rattle.vg_lin.specs.declared.instr.Memory.{Memory}
 use Rattle.vg_lin.specs.declared.instr.Memory.TheVariants.{Flash}
@@ -76,6 +77,7 @@ abbrev pub IsPlainIn : (size : ℕ) → PlainInstr → Type 0
 IsPlainIn size (Copy to a) = (to < size) × IsIn size a
 IsPlainIn size (Compute c) = (1 ≤ c.width) × (c.width ≤ 4) × (c.to < size) × IsIn size c.left × IsIn size c.right
 IsPlainIn size (LoadsBytes memory width to a) = (1 ≤ width) × (width ≤ 4) × (to < size) × IsIn size a.index
+IsPlainIn size (StoresBytes width a from) = (1 ≤ width) × (width ≤ 4) × IsIn size a.index × IsIn size from
 IsPlainIn size (ReadsDevice to address) = to < size
 IsPlainIn size (WritesDevice address a) = IsIn size a
 IsPlainIn size (Stop code) = Unit {0}
@@ -420,6 +422,43 @@ module _ (L : Type 0) (lay : Layout) (r : Room) where
   in_length_of (Some table) (a ∷ hs) h =
       in_if (nat_le 2 table) (fetched r Flash 2 4 (table - 2) a hs) (Refused NotTaken) (in_fetched Flash 2 4 (table - 2) a hs (omega arith) (omega arith) h.0 h.1) tt
 
+  in_store_one : (width : ℕ) (o : Option Place) (hs : List Operand) → AreIn size hs → MadeIn L size (store_one width o hs)
+  in_store_one width None hs h = tt
+  in_store_one width (Some place) [] h = tt
+  in_store_one width (Some place) (v ∷ hs) h = by_width (is_width width) (width == place.width) refl
+    where
+      by_width : (b c : Bool) → is_width width ≡ b
+          → MadeIn L size (if b && c then Gives (One (store_at width place.address (Known 0) v)) (only hs) else Refused NotTaken)
+      by_width true true e = ((width_low width e, width_high width e, tt, h.0), (h.1, tt))
+      by_width true false e = tt
+      by_width false c e = tt
+
+  in_put_of : (width base : ℕ) (v a : Operand) (hs : List Operand) → 1 ≤ width → width ≤ 4 → IsIn size v → IsIn size a → AreIn size hs
+      → MadeIn L size (put_of r width base v a hs)
+  in_put_of width base v a hs low high hv ha h =
+      in_by_temp (v ∷ a ∷ hs) _ (λ to lt. (
+        (
+          in_stop 1 (Holds (is_zero a)) (in_test a (Known 0) ha tt Same),
+          (in_multiplied to width a lt ha, (low, high, in_multiple to width a lt ha, hv)),
+        ),
+        (h, tt),
+      ))
+
+  in_store_of : (first width : ℕ) (o : Option Place) (hs : List Operand) → AreIn size hs → MadeIn L size (store_of r first width o hs)
+  in_store_of first width None hs h = tt
+  in_store_of first width (Some place) [] h = tt
+  in_store_of first width (Some place) (v ∷ []) h = tt
+  in_store_of first width (Some place) (v ∷ a ∷ hs) h =
+      by_width (is_width width) (width == place.width) (nat_le (place.width * first) place.address) refl
+    where
+      by_width : (b c d : Bool) → is_width width ≡ b
+          → MadeIn L size (if b && c && d then put_of r width (place.address - place.width * first) v a hs else Refused NotTaken)
+      by_width true true true e =
+          in_put_of width (place.address - place.width * first) v a hs (width_low width e) (width_high width e) h.0 h.1.0 h.1.1
+      by_width true true false e = tt
+      by_width true false d e = tt
+      by_width false c d e = tt
+
   in_stepped : (q : Step) (hs : List Operand) → AreIn size hs → MadeIn L size (stepped lay r q hs)
   in_stepped (Number v) hs h = in_number v hs h
   in_stepped (GetLocal i) hs h = in_local i hs h
@@ -433,9 +472,9 @@ module _ (L : Type 0) (lay : Layout) (r : Room) where
   in_stepped Idle hs h = (tt, (h, tt))
   in_stepped This hs h = tt
   in_stepped (Load a c) hs h = in_load_one (memory_of a) (slice_get (places_in lay a) c) hs h
-  in_stepped (Store c w) hs h = tt
+  in_stepped (Store c w) hs h = in_store_one w (slice_get lay.ram c) hs h
   in_stepped (LoadAt a c o) hs h = in_load_of (memory_of a) o (slice_get (places_in lay a) c) hs h
-  in_stepped (StoreAt c o w) hs h = tt
+  in_stepped (StoreAt c o w) hs h = in_store_of o w (slice_get lay.ram c) hs h
   in_stepped LoadNothing hs h = in_load_nothing hs h
   in_stepped StoreNothing hs h = in_store_nothing hs h
   in_stepped (LoadItem e) hs h = tt

@@ -9,7 +9,7 @@ use Rattle.vg_firm.specs.declared.step.Prefix.TheVariants.{Complement, Cut}
 use Rattle.vg_firm.specs.declared.step.Elements.{Elements}
 use Rattle.vg_firm.specs.declared.step.Step.{Step}
 use Rattle.vg_firm.specs.declared.step.Step.TheVariants.{Number, Local as Get, SetLocal, Forget, Operate, Apply, ReadDevice, WriteDevice, LoadItem, StoreItem}
-use Rattle.vg_firm.specs.declared.step.Step.TheVariants.{Load as LoadOne, LoadAt, Length, LoadNothing, StoreNothing, IsWithin, StopUnlessWithin, Call as CallOf, CallValue}
+use Rattle.vg_firm.specs.declared.step.Step.TheVariants.{Load as LoadOne, Store as StoreOne, LoadAt, StoreAt, Length, LoadNothing, StoreNothing, IsWithin, StopUnlessWithin, Call as CallOf, CallValue}
 use Rattle.vg_firm.specs.Program.{Procedure}
 use Rattle.vg_lin.specs.declared.instr.Operand.{Operand}
 use Rattle.vg_lin.specs.declared.instr.Operand.TheVariants.{Local, Known}
@@ -17,7 +17,7 @@ use Rattle.vg_lin.specs.declared.instr.Operator.{Operator as LinOperator}
 use Rattle.vg_lin.specs.declared.instr.Operator.TheVariants.{Plus as Sum, Minus as Difference, Times as Product, Divide as Quotient, Remainder as Rest, And as Mask, ShiftLeft as LeftShift, ShiftRight as RightShift}
 use Rattle.vg_lin.specs.declared.instr.Comparison.TheVariants.{Below, Less as IsLess, Same}
 use Rattle.vg_lin.specs.declared.instr.Test.{Test}
-use Rattle.vg_lin.specs.declared.instr.Plain.TheVariants.{Copy, Compute, Load as LoadsBytes, WriteDevice as Writes, Stop}
+use Rattle.vg_lin.specs.declared.instr.Plain.TheVariants.{Copy, Compute, Load as LoadsBytes, Store as StoresBytes, WriteDevice as Writes, Stop}
 use Rattle.vg_lin.specs.declared.instr.Memory.TheVariants.{Ram as InRam, Flash as InFlash}
 use Rattle.vg_lin.specs.declared.instr.Callee.TheVariants.{Procedure as ByNumber}
 use Rattle.vg_lin.specs.declared.instr.Registers.{Registers}
@@ -256,6 +256,26 @@ field_in_ram : flattened_in layout 4 (procedure 2 (2 ∷ 2 ∷ []) (steps (Get 0
     Unless (is_zero (Local 0)) 2 ∷ Plain (Stop 1) ∷ computes Product 4 2 (Local 0) (Known 2)
     ∷ Plain (LoadsBytes InRam 2 2 (record { base = 256; index = Local 2 })) ∷ Plain (Copy 1 (Local 2)) ∷ Return (Known 0) ∷ [])
 field_in_ram = refl
+
+-- C.f = x; and o.f = x; of one byte and of two
+store_component_field : flattened_in layout 4 (procedure 1 (1 ∷ []) (steps (Get 0 ∷ StoreOne 0 1 ∷ []) Nothing))
+    ≡ Some (Plain (StoresBytes 1 (record { base = 256; index = Known 0 }) (Local 0)) ∷ Return (Known 0) ∷ [])
+store_component_field = refl
+
+store_field : flattened_in layout 4 (procedure 2 (2 ∷ 2 ∷ []) (steps (Get 0 ∷ Get 1 ∷ StoreAt 1 1 2 ∷ []) Nothing))
+    ≡ Some (
+    Unless (is_zero (Local 0)) 2 ∷ Plain (Stop 1) ∷ computes Product 4 4 (Local 0) (Known 2)
+    ∷ Plain (StoresBytes 2 (record { base = 256; index = Local 4 }) (Local 1)) ∷ Return (Known 0) ∷ [])
+store_field = refl
+
+-- o.f = o.f + 1; of one byte
+step_field : flattened_in layout 4 (procedure 1 (2 ∷ [])
+    (steps (Get 0 ∷ Get 0 ∷ LoadAt Ram 0 1 ∷ Number 1 ∷ Operate Plus ∷ Apply (Cut 8) ∷ StoreAt 0 1 1 ∷ []) Nothing))
+    ≡ Some (
+    Unless (is_zero (Local 0)) 2 ∷ Plain (Stop 1) ∷ Plain (LoadsBytes InRam 1 2 (record { base = 255; index = Local 0 })) ∷ sum 4 2 (Local 2) (Known 1)
+    ∷ sum 1 2 (Local 2) (Known 0) ∷ Unless (is_zero (Local 0)) 7 ∷ Plain (Stop 1)
+    ∷ Plain (StoresBytes 1 (record { base = 255; index = Local 0 }) (Local 2)) ∷ Return (Known 0) ∷ [])
+step_field = refl
 
 -- n = a.length;
 array_length : flattened_in layout 4 (procedure 2 (2 ∷ 4 ∷ []) (steps (Get 0 ∷ Length 0 ∷ SetLocal 1 ∷ []) Nothing))

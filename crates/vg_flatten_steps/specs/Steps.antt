@@ -11,7 +11,7 @@ use Rattle.vg_firm.specs.declared.step.Prefix.{Prefix}
 use Rattle.vg_firm.specs.declared.step.Prefix.TheVariants.{Negative, Not, Complement, Cut}
 use Rattle.vg_firm.specs.declared.step.Step.{Step}
 use Rattle.vg_firm.specs.declared.step.Step.TheVariants.{Number, Local, SetLocal, Forget, Operate, Apply, ReadDevice, WriteDevice}
-use Rattle.vg_firm.specs.declared.step.Step.TheVariants.{Load as LoadOne, LoadAt, Length, LoadNothing, StoreNothing, IsWithin, StopUnlessWithin, Call, Idle}
+use Rattle.vg_firm.specs.declared.step.Step.TheVariants.{Load as LoadOne, Store as StoreOne, LoadAt, StoreAt, Length, LoadNothing, StoreNothing, IsWithin, StopUnlessWithin, Call, Idle}
 use Rattle.vg_lin.specs.declared.instr.Operand.{Operand}
 use Rattle.vg_lin.specs.declared.instr.Operand.TheVariants.{Local as InLocal, Known}
 use Rattle.vg_lin.specs.declared.instr.Operator.{Operator as LinOperator}
@@ -21,7 +21,7 @@ use Rattle.vg_lin.specs.declared.instr.Comparison.{Comparison}
 use Rattle.vg_lin.specs.declared.instr.Comparison.TheVariants.{Below, Less as IsLess, Same}
 use Rattle.vg_lin.specs.declared.instr.Test.{Test}
 use Rattle.vg_lin.specs.declared.instr.Plain.{Plain}
-use Rattle.vg_lin.specs.declared.instr.Plain.TheVariants.{Copy, Compute, Load, ReadDevice as ReadsDevice, WriteDevice as WritesDevice}
+use Rattle.vg_lin.specs.declared.instr.Plain.TheVariants.{Copy, Compute, Load, Store as StoreBytes, ReadDevice as ReadsDevice, WriteDevice as WritesDevice}
 use Rattle.vg_lin.specs.declared.instr.Memory.{Memory}
 use Rattle.vg_lin.specs.declared.instr.Memory.TheVariants.{Ram, Flash}
 use Rattle.vg_lin.specs.declared.instr.Callee.TheVariants.{Procedure}
@@ -277,6 +277,29 @@ abbrev pub length_of : Room → Option ℕ → List Operand → Made
 length_of r (Some table) (h ∷ hs) = if nat_le 2 table then fetched r Flash 2 4 (table - 2) h hs else Refused NotTaken
 length_of r _ _ = Refused NotTaken
 
+-- A store at a base, so many bytes further as a number says, behind its null check.
+abbrev pub store_at : (width base : ℕ) → (index value : Operand) → Plain
+store_at width base index value = StoreBytes width (record { base = base; index = index }) value
+
+-- The one value of a column gets a value of so many bytes, as many as an entry has.
+abbrev pub store_one : (width : ℕ) → Option Place → List Operand → Made
+store_one width (Some place) (v ∷ hs) =
+    if is_width width && (width == place.width) then Gives (One (store_at width place.address (Known 0) v)) (only hs) else Refused NotTaken
+store_one width _ _ = Refused NotTaken
+
+-- The value of an object does.
+abbrev pub put_of : Room → (width base : ℕ) → (v h : Operand) → List Operand → Made
+put_of r width base v h hs =
+    by_temp (temp r (v ∷ h ∷ hs)) (λ to. Gives (Both (stop_where 1 (Holds (is_zero h)))
+    (Both (multiplied to width h) (One (store_at width base (multiple to width h) v)))) (only hs))
+
+abbrev pub store_of : Room → (first width : ℕ) → Option Place → List Operand → Made
+store_of r first width (Some place) (v ∷ h ∷ hs) =
+    if is_width width && (width == place.width) && nat_le (place.width * first) place.address
+    then put_of r width (place.address - place.width * first) v h hs
+    else Refused NotTaken
+store_of r first width _ _ = Refused NotTaken
+
 -- The places of the columns of a home, and the memory where they are.
 abbrev pub places_in : Layout → Home → List Place
 places_in lay InRam = lay.ram
@@ -302,6 +325,8 @@ stepped lay r (Call q count) hs = called r q count hs
 stepped lay r Idle hs = Gives TakeInterrupt (only hs)
 stepped lay r (LoadOne home c) hs = load_one r (memory_of home) (slice_get (places_in lay home) c) hs
 stepped lay r (LoadAt home c first) hs = load_of r (memory_of home) first (slice_get (places_in lay home) c) hs
+stepped lay r (StoreOne c width) hs = store_one width (slice_get lay.ram c) hs
+stepped lay r (StoreAt c first width) hs = store_of r first width (slice_get lay.ram c) hs
 stepped lay r (Length table) hs = length_of r (slice_get lay.tables table) hs
 stepped lay r LoadNothing hs = load_nothing hs
 stepped lay r StoreNothing hs = store_nothing hs

@@ -1,8 +1,9 @@
-// What loads from columns and tables become.
+// What loads from columns and tables, and stores to columns, become.
 ghost use Rattle.std.specs.Prelude.{◌≡◌, ◌+◌, ◌≤◌, Some, None, slice_get};
 ghost use Rattle.vg_flatten_shapes.specs.Blocks.{open_code};
 ghost use Rattle.vg_flatten_shapes.specs.Laying.{Lays, LaysCode};
 ghost use Rattle.vg_flatten_steps.specs.Steps.{is_width, load_from, multiplied, multiple, fetched, load_one, load_of, length_of, places_in, memory_of};
+ghost use Rattle.vg_flatten_steps.specs.Steps.{store_at, store_one, put_of, store_of};
 
 use crate::operators::is_zero;
 use crate::put::{put_into, temp};
@@ -10,7 +11,7 @@ use std::alloc::Global;
 use vg_base::{Refusal, Row};
 use vg_firm::Home;
 use vg_flatten_shapes::{
-    Fault, Homes, Layout, Open, Piece, Place, Room, Truth, append, place_behind, stop_where,
+    Fault, Homes, Layout, Open, Piece, Place, Room, Truth, append, one, place_behind, stop_where,
 };
 use vg_lin::{Address, Computation, Instr, Memory, Operand, Operator, Plain};
 
@@ -240,6 +241,131 @@ pub(crate) fn length(
 {
     match layout.tables.as_slice().get(table as usize) {
         Some(address) => length_of(alloc, room, at, *address, homes),
+        None => Err(Refusal::Fault(Fault::NotTaken)),
+    }
+}
+
+fn store_at(width: u8, base: u16, index: Operand, value: Operand) -> Plain
+    ensures { result ≡ store_at width base index value }
+{
+    Plain::Store(width, Address { base, index }, value)
+}
+
+fn store_one(
+    alloc: Global,
+    at: u16,
+    width: u8,
+    place: Place,
+    homes: Homes,
+) -> Result<Piece, Refusal<Fault>>
+    requires { homes.truth ≡ None }
+    ensures { Lays result at (store_one width (Some place) homes.homes) }
+{
+    let mut homes = homes;
+    match homes.pop() {
+        Some(value) => {
+            if is_width(width) && width == place.width {
+                let store = store_at(width, place.address, Operand::Known(0), value);
+                return Ok(one(alloc, Open::Set(Instr::Plain(store)), homes)?);
+            }
+            Err(Refusal::Fault(Fault::NotTaken))
+        }
+        None => Err(Refusal::Fault(Fault::NotTaken)),
+    }
+}
+
+/// The one value of a column gets another.
+pub(crate) fn store(
+    alloc: Global,
+    layout: &Layout,
+    at: u16,
+    column: u16,
+    width: u8,
+    homes: Homes,
+) -> Result<Piece, Refusal<Fault>>
+    requires { homes.truth ≡ None }
+    ensures { Lays result at (store_one width (slice_get layout.now.ram column) homes.homes) }
+{
+    match layout.ram.as_slice().get(column as usize) {
+        Some(place) => store_one(alloc, at, width, *place, homes),
+        None => Err(Refusal::Fault(Fault::NotTaken)),
+    }
+}
+
+/// Behind the null check of a number, a value goes to so many bytes: those at a base, so many times further as the number says.
+fn put_of(
+    alloc: Global,
+    room: Room,
+    at: u16,
+    width: u8,
+    base: u16,
+    value: Operand,
+    home: Operand,
+    homes: Homes,
+) -> Result<Piece, Refusal<Fault>>
+    requires room { room.locals + room.temps ≤ 252 }
+    requires settled { homes.truth ≡ None }
+    ensures { Lays result at (put_of room width base value home homes.homes) }
+{
+    let mut homes = homes;
+    homes.push(home)?;
+    homes.push(value)?;
+    let to = temp(room, &homes)?;
+    homes.pop();
+    homes.pop();
+    let check = stop_where(alloc, at, 1, Truth::Holds(is_zero(home)))?;
+    let inside = place_behind(at, check.len())?;
+    let mut rest = multiplied(alloc, inside, to, width, home)?;
+    let store = store_at(width, base, multiple(to, width, home), value);
+    rest.push(Open::Set(Instr::Plain(store)))?;
+    let code = append(check, rest.as_slice())?;
+    Ok(Piece { code, homes })
+}
+
+fn store_of(
+    alloc: Global,
+    room: Room,
+    at: u16,
+    first: u16,
+    width: u8,
+    place: Place,
+    homes: Homes,
+) -> Result<Piece, Refusal<Fault>>
+    requires room { room.locals + room.temps ≤ 252 }
+    requires settled { homes.truth ≡ None }
+    ensures { Lays result at (store_of room first width (Some place) homes.homes) }
+{
+    let mut homes = homes;
+    match (homes.pop(), homes.pop()) {
+        (Some(value), Some(home)) => {
+            let before = place.width as u32 * first as u32;
+            if is_width(width) && width == place.width && before <= place.address as u32 {
+                let base = place.address - before as u16;
+                return put_of(alloc, room, at, width, base, value, home, homes);
+            }
+            Err(Refusal::Fault(Fault::NotTaken))
+        }
+        _ => Err(Refusal::Fault(Fault::NotTaken)),
+    }
+}
+
+/// The value of an object gets another.
+pub(crate) fn store_to(
+    alloc: Global,
+    layout: &Layout,
+    room: Room,
+    at: u16,
+    column: u16,
+    first: u16,
+    width: u8,
+    homes: Homes,
+) -> Result<Piece, Refusal<Fault>>
+    requires room { room.locals + room.temps ≤ 252 }
+    requires settled { homes.truth ≡ None }
+    ensures { Lays result at (store_of room first width (slice_get layout.now.ram column) homes.homes) }
+{
+    match layout.ram.as_slice().get(column as usize) {
+        Some(place) => store_of(alloc, room, at, first, width, *place, homes),
         None => Err(Refusal::Fault(Fault::NotTaken)),
     }
 }

@@ -4,7 +4,7 @@ ghost use Rattle.vg_flatten_steps.specs.Steps.{stepped, get_local, set_local, re
 ghost use Rattle.vg_flatten_shapes.specs.Laying.{Lays};
 
 use crate::calls::called;
-use crate::columns::{length, load, load_at};
+use crate::columns::{length, load, load_at, store, store_to};
 use crate::objects::{cast_to, is_one_of, load_nothing, store_nothing};
 use crate::operators::{applied, operated};
 use crate::put::{put_home, put_into, temp};
@@ -41,6 +41,10 @@ pub fn stepped(
         Step::Load(home, column) => load(alloc, layout, room, at, home, column, homes),
         Step::LoadAt(home, column, first) => {
             load_at(alloc, layout, room, at, home, column, first, homes)
+        }
+        Step::Store(column, width) => store(alloc, layout, at, column, width, homes),
+        Step::StoreAt(column, first, width) => {
+            store_to(alloc, layout, room, at, column, first, width, homes)
         }
         Step::Length(table) => length(alloc, layout, room, at, table, homes),
         Step::LoadNothing => load_nothing(alloc, at, homes),

@@ -49,7 +49,7 @@ use Rattle.vg_flattened.proofs.CombinedRight.{stops_both, says_zero, stopped, pa
 
 -- ---- places
 
-found_at : (memory : Memory) (address : ℕ) → first_address memory ≤ address → index_of memory address ≡ Some (address - first_address memory)
+pub found_at : (memory : Memory) (address : ℕ) → first_address memory ≤ address → index_of memory address ≡ Some (address - first_address memory)
 found_at memory address le = ap (λ b. if b then None else Some (address - first_address memory)) (is_not address (first_address memory) le)
   where
     is_not : (a b : ℕ) → b ≤ a → nat_lt a b ≡ false
@@ -67,17 +67,17 @@ four_bytes (suc (suc (suc (suc zero)))) v le lt = omega (arith, lt)
 four_bytes (suc (suc (suc (suc (suc w))))) v le lt = absurd (omega (arith, le))
 
 -- a number that is one behind another, so many times
-times_both : (n first w : ℕ) → first ≤ n → n * w ≡ w * first + w * (n - first)
+pub times_both : (n first w : ℕ) → first ≤ n → n * w ≡ w * first + w * (n - first)
 times_both n first w le = mul_comm n w ∙ ap (λ z. w * z) (sum_is n first le) ∙ mul-add w first (n - first)
   where
     sum_is : (a b : ℕ) → b ≤ a → a ≡ b + (a - b)
     sum_is a b l = omega (arith, l)
 
 -- the place of the first entry
-reached : (address low' : ℕ) → low' ≤ address → low' ≤ address + 0
+pub reached : (address low' : ℕ) → low' ≤ address → low' ≤ address + 0
 reached address low' h = omega (arith, h)
 
-first_is : (address low' w : ℕ) → low' ≤ address → address + 0 - low' ≡ address - low' + w * 0
+pub first_is : (address low' w : ℕ) → low' ≤ address → address + 0 - low' ≡ address - low' + w * 0
 first_is address low' w h = omega (arith, h)
 
 module _ (k : Codes) (f : FirmProgram) (m : FirmProcedure) (call : FirmCaller History) (handle : ℕ → Piece Firm History)
@@ -152,7 +152,7 @@ module _ (k : Codes) (f : FirmProgram) (m : FirmProcedure) (call : FirmCaller Hi
   stands_in InFlash hs s t q c place vs e h = flash.columns c place vs e h
 
   -- a null check before more
-  null_then : {G : Firm → Deciding State → Type 0} {L : Signal → Firm → Deciding State → Type 0} (h : Operand) (x : ℕ) (next : ℕ → Piece Firm History)
+  pub null_then : {G : Firm → Deciding State → Type 0} {L : Signal → Firm → Deciding State → Type 0} (h : Operand) (x : ℕ) (next : ℕ → Piece Firm History)
       (rest : Piece (Deciding State) History) (s : Firm) (d : Deciding State) (w : World History) → IsFair w → value h d.state ≡ Some x → x < 2 ^ 32
       → (0 < x → Alike G L (next x s w) (rest (record d { truth = None }) w))
       → Alike G L (not_null next x s w) (and_then (linear' (stop_where 1 (Holds (is_zero h))) d w) rest)

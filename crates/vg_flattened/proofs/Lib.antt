@@ -12,6 +12,7 @@ pub mod CombinedRight
 pub mod ObjectRight
 pub mod Writing
 pub mod ColumnRight
+pub mod StoreRight
 pub mod CallRight
 pub mod CodeRight
 pub mod Standing
