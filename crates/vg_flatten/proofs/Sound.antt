@@ -45,7 +45,9 @@ use Rattle.vg_flatten_control.specs.Flat.{repeated_body, repeated_next, given_ba
 use Rattle.vg_flatten_steps.specs.Steps.{bytes_around, may_be_zero, divisor_checked, divided, masked, shifted_left, shifted_where, shifted_by, shifted_right, combined}
 use Rattle.vg_flatten_steps.specs.Steps.{load_nothing, store_nothing, is_near, is_one_of, cast_to}
 use Rattle.vg_flatten_steps.specs.Steps.{is_width, load_from, multiplied, multiple, fetched, load_one, load_of, length_of, places_in, memory_of}
-use Rattle.vg_flatten_steps.specs.Steps.{store_at, store_one, put_of, store_of}
+use Rattle.vg_flatten_steps.specs.Steps.{store_at, store_one, put_of, store_of, is_place, timed, element_of, load_element, load_item}
+use Rattle.vg_flatten_steps.specs.declared.elements.Reach.{Reach}
+use Rattle.vg_firm.specs.declared.step.Elements.{Elements}
 use Rattle.vg_flatten_shapes.specs.declared.layout.Place.{Place}
 use Rattle.vg_lin.specs.declared.instr.Memory.{Memory}
 use Rattle.vg_lin.specs.declared.instr.Memory.TheVariants.{Flash}
@@ -459,6 +461,48 @@ module _ (L : Type 0) (lay : Layout) (r : Room) where
       by_width true false d e = tt
       by_width false c d e = tt
 
+  -- ---- elements
+
+  in_timed : (to by : ℕ) (h : Operand) → to < size → IsIn size h → IsPlainIn size (timed to by h)
+  in_timed to by h lt hh = (omega arith, omega arith, lt, hh, tt)
+
+  in_element : (x : Reach) (last : PlainInstr) → x.first < size → x.second < size → IsIn size x.home → IsIn size x.index → IsPlainIn size last
+      → BlockIn L size (element_of x last)
+  in_element x last l1 l2 hh hi hl = (
+    in_stop 1 (Holds (is_zero x.home)) (in_test x.home (Known 0) hh tt Same),
+    (
+      in_timed x.first 4 x.home l1 hh,
+      (
+        (omega arith, omega arith, l2, l1),
+        (
+          in_stop 2 (Fails (test_of Below x.index (Local x.second))) (in_test x.index (Local x.second) hi l2 Below),
+          ((omega arith, omega arith, l1, l1), (in_timed x.second x.width x.index l2 hi, ((omega arith, omega arith, l1, l1, l2), hl))),
+        ),
+      ),
+    ),
+  )
+
+  in_load_item : (e : Elements) (o : Option Place) (u : Option ℕ) (hs : List Operand) → AreIn size hs → MadeIn L size (load_item r e o u hs)
+  in_load_item e None u hs h = tt
+  in_load_item e (Some place) None hs h = tt
+  in_load_item e (Some place) (Some table) [] h = tt
+  in_load_item e (Some place) (Some table) (i ∷ []) h = tt
+  in_load_item e (Some place) (Some table) (i ∷ a ∷ hs) h = by_width (is_width e.width) (is_place e place) (nat_le 4 table) refl
+    where
+      made : is_width e.width ≡ true → MadeIn L size (load_element r e table a i hs)
+      made is =
+          in_by_temp hs _ (λ to l0. in_by_temp (i ∷ a ∷ hs) _ (λ first l1. in_by_temp (Local first ∷ i ∷ a ∷ hs) _ (λ second l2. (
+            in_element (record { first = first; second = second; table = table; width = e.width; home = a; index = i })
+                (load_from (memory_of e.home) e.width to 0 (Local first)) l1 l2 h.1.0 h.0 (width_low e.width is, width_high e.width is, l0, l1),
+            ((l0, h.1.1), tt),
+          ))))
+
+      by_width : (b c d : Bool) → is_width e.width ≡ b → MadeIn L size (if b && c && d then load_element r e table a i hs else Refused NotTaken)
+      by_width true true true is = made is
+      by_width true true false is = tt
+      by_width true false d is = tt
+      by_width false c d is = tt
+
   in_stepped : (q : Step) (hs : List Operand) → AreIn size hs → MadeIn L size (stepped lay r q hs)
   in_stepped (Number v) hs h = in_number v hs h
   in_stepped (GetLocal i) hs h = in_local i hs h
@@ -477,7 +521,7 @@ module _ (L : Type 0) (lay : Layout) (r : Room) where
   in_stepped (StoreAt c o w) hs h = in_store_of o w (slice_get lay.ram c) hs h
   in_stepped LoadNothing hs h = in_load_nothing hs h
   in_stepped StoreNothing hs h = in_store_nothing hs h
-  in_stepped (LoadItem e) hs h = tt
+  in_stepped (LoadItem e) hs h = in_load_item e (slice_get (places_in lay e.home) e.column) (slice_get lay.tables e.table) hs h
   in_stepped (StoreItem e) hs h = tt
   in_stepped (Length t) hs h = in_length_of (slice_get lay.tables t) hs h
   in_stepped (IsWithin a b) hs h = in_one_of a b hs h

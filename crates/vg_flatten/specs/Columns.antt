@@ -23,10 +23,12 @@ pub record RamStands (places : List Place) (columns : List (List ℕ)) (bytes : 
       → slice_get places d ≡ Some second → slice_get columns d ≡ Some us
       → (first.address + first.width * length vs ≤ second.address) ⊎ (second.address + second.width * length us ≤ first.address)
 
--- A table has four bytes for each array, of which the upper two are its length.
+-- A table has four bytes for each array: its address and, in the upper two, its length.
 pub record TableStands (bytes : List ℕ) (address : ℕ) (arrays : List ArrayPlace) : Type 0 where
   pub behind : first_address Flash ≤ address
   pub short : address + 4 * length arrays ≤ 65536
+  pub addresses : (i : ℕ) (a : ArrayPlace) → slice_get arrays i ≡ Some a
+      → (number_at bytes 2 (address - first_address Flash + 4 * i) ≡ Some a.address) × (a.address < 65536)
   pub lengths : (i : ℕ) (a : ArrayPlace) → slice_get arrays i ≡ Some a
       → (number_at bytes 2 (address - first_address Flash + 4 * i + 2) ≡ Some a.length) × (a.length < 65536)
 

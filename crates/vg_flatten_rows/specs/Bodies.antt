@@ -284,18 +284,28 @@ array_length : flattened_in layout 4 (procedure 2 (2 ∷ 4 ∷ []) (steps (Get 0
     ∷ Return (Known 0) ∷ [])
 array_length = refl
 
+-- ---- elements
+
+abbrev pub bytes : Elements
+bytes = record { home = Ram; column = 0; address = 256; table = 0; width = 1 }
+
+-- x = a[i]; of bytes in RAM, by the table at 180: the length is checked before the address is read.
+element : flattened_in layout 4 (procedure 3 (2 ∷ 4 ∷ 1 ∷ []) (steps (Get 0 ∷ Get 1 ∷ LoadItem bytes ∷ SetLocal 2 ∷ []) Nothing))
+    ≡ Some (
+    Unless (is_zero (Local 0)) 2 ∷ Plain (Stop 1) ∷ computes Product 4 5 (Local 0) (Known 4) ∷ loads 2 6 178 (Local 5)
+    ∷ When (below (Local 1) (Local 6)) 6 ∷ Plain (Stop 2) ∷ loads 2 5 176 (Local 5) ∷ computes Product 4 6 (Local 1) (Known 1)
+    ∷ sum 4 5 (Local 5) (Local 6) ∷ Plain (LoadsBytes InRam 1 3 (record { base = 0; index = Local 5 })) ∷ Plain (Copy 2 (Local 3)) ∷ Return (Known 0) ∷ [])
+element = refl
+
 -- ---- what is not taken yet
 
 -- a delegate in a local, called with no argument
 delegate_call : flattened 4 (procedure 1 (4 ∷ []) (steps (Get 0 ∷ CallValue 0 ∷ Forget ∷ []) Nothing)) ≡ None
 delegate_call = refl
 
-abbrev bytes : Elements
-bytes = record { home = Ram; column = 0; address = 0x100; table = 0; width = 1 }
-
 -- a[i] = b[i];
-element : flattened 4 (procedure 3 (2 ∷ 2 ∷ 4 ∷ []) (steps (Get 0 ∷ Get 2 ∷ Get 1 ∷ Get 2 ∷ LoadItem bytes ∷ StoreItem bytes ∷ []) Nothing)) ≡ None
-element = refl
+copied_element : flattened_in layout 4 (procedure 3 (2 ∷ 2 ∷ 4 ∷ []) (steps (Get 0 ∷ Get 2 ∷ Get 1 ∷ Get 2 ∷ LoadItem bytes ∷ StoreItem bytes ∷ []) Nothing)) ≡ None
+copied_element = refl
 
 -- ---- a high body
 

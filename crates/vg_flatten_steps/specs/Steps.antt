@@ -2,6 +2,7 @@
 use Rattle.std.specs.Prelude.{ℕ, ◌+◌, ◌-◌, ◌*◌, ◌^◌, Bool, true, ◌==◌, ◌&&◌, nat_lt, nat_le, List, [], ◌∷◌, reverse, Option, Some, None, slice_get, if◌then◌else◌}
 use Rattle.vg_firm.specs.declared.step.Home.{Home}
 use Rattle.vg_firm.specs.declared.step.Home.TheVariants.{Ram as InRam, Flash as InFlash}
+use Rattle.vg_firm.specs.declared.step.Elements.{Elements}
 use Rattle.vg_firm.specs.declared.step.Order.{Order}
 use Rattle.vg_firm.specs.declared.step.Order.TheVariants.{Signed, Unsigned}
 use Rattle.vg_firm.specs.declared.step.Operator.{Operator}
@@ -11,7 +12,7 @@ use Rattle.vg_firm.specs.declared.step.Prefix.{Prefix}
 use Rattle.vg_firm.specs.declared.step.Prefix.TheVariants.{Negative, Not, Complement, Cut}
 use Rattle.vg_firm.specs.declared.step.Step.{Step}
 use Rattle.vg_firm.specs.declared.step.Step.TheVariants.{Number, Local, SetLocal, Forget, Operate, Apply, ReadDevice, WriteDevice}
-use Rattle.vg_firm.specs.declared.step.Step.TheVariants.{Load as LoadOne, Store as StoreOne, LoadAt, StoreAt, Length, LoadNothing, StoreNothing, IsWithin, StopUnlessWithin, Call, Idle}
+use Rattle.vg_firm.specs.declared.step.Step.TheVariants.{Load as LoadOne, Store as StoreOne, LoadAt, StoreAt, LoadItem, Length, LoadNothing, StoreNothing, IsWithin, StopUnlessWithin, Call, Idle}
 use Rattle.vg_lin.specs.declared.instr.Operand.{Operand}
 use Rattle.vg_lin.specs.declared.instr.Operand.TheVariants.{Local as InLocal, Known}
 use Rattle.vg_lin.specs.declared.instr.Operator.{Operator as LinOperator}
@@ -33,6 +34,7 @@ use Rattle.vg_flatten_shapes.specs.declared.layout.Place.{Place}
 use Rattle.vg_flatten_shapes.specs.declared.open.Truth.{Truth}
 use Rattle.vg_flatten_shapes.specs.declared.room.Room.{Room}
 use Rattle.vg_flatten_shapes.specs.declared.open.Truth.TheVariants.{Holds, Fails}
+use Rattle.vg_flatten_steps.specs.declared.elements.Reach.{Reach}
 use Rattle.vg_flatten_shapes.specs.Shapes.{only, is_free, temp}
 use Rattle.vg_flatten_shapes.specs.Blocks.{Block, Skip, One, CallTo, TakeInterrupt, Both, Choice, stop_where}
 use Rattle.vg_flatten_shapes.specs.Made.{Made, Gives, Refused, by_temp, is_zero}
@@ -309,6 +311,49 @@ abbrev pub memory_of : Home → Memory
 memory_of InRam = Ram
 memory_of InFlash = Flash
 
+-- ---- elements of arrays
+
+-- The column of a type of arrays stands where its elements are said to stand, in as many bytes.
+abbrev pub is_place : Elements → Place → Bool
+is_place e place = (e.address == place.address) && (e.width == place.width)
+
+abbrev pub timed : (to by : ℕ) → Operand → Plain
+timed to by h = Compute (record { operator = Product; width = 4; to = to; left = h; right = Known by })
+
+-- What is done with the address of an element, which is so many times its width behind that of the array.
+abbrev pub place_of : Reach → (last : Plain) → Block
+place_of x last =
+    Both (One (load_from Flash 2 x.first (x.table - 4) (InLocal x.first)))
+    (Both (One (timed x.second x.width x.index))
+    (Both (One (Compute (record { operator = Sum; width = 4; to = x.first; left = InLocal x.first; right = InLocal x.second }))) (One last)))
+
+-- The same behind the bounds check.
+abbrev pub bounded : Reach → (last : Plain) → Block
+bounded x last = Both (stop_where 2 (Fails (test_of Below x.index (InLocal x.second)))) (place_of x last)
+
+-- The same behind a load of the length of the array.
+abbrev pub reached : Reach → (last : Plain) → Block
+reached x last = Both (One (timed x.first 4 x.home)) (Both (One (load_from Flash 2 x.second (x.table - 2) (InLocal x.first))) (bounded x last))
+
+-- The same behind the null check.
+abbrev pub element_of : Reach → (last : Plain) → Block
+element_of x last = Both (stop_where 1 (Holds (is_zero x.home))) (reached x last)
+
+-- What is done with two temporaries above these.
+abbrev pub by_two : Room → List Operand → ((first second : ℕ) → Made) → Made
+by_two r hs go = by_temp (temp r hs) (λ first. by_temp (temp r (InLocal first ∷ hs)) (λ second. go first second))
+
+abbrev pub load_element : Room → Elements → (table : ℕ) → (h i : Operand) → List Operand → Made
+load_element r e table h i hs =
+    by_temp (temp r hs) (λ to. by_two r (i ∷ h ∷ hs) (λ first second.
+    Gives (element_of (record { first = first; second = second; table = table; width = e.width; home = h; index = i })
+    (load_from (memory_of e.home) e.width to 0 (InLocal first))) (only (InLocal to ∷ hs))))
+
+abbrev pub load_item : Room → Elements → Option Place → Option ℕ → List Operand → Made
+load_item r e (Some place) (Some table) (i ∷ h ∷ hs) =
+    if is_width e.width && is_place e place && nat_le 4 table then load_element r e table h i hs else Refused NotTaken
+load_item r e _ _ _ = Refused NotTaken
+
 -- ---- steps
 
 -- Where no truth value waits as a test.
@@ -327,6 +372,7 @@ stepped lay r (LoadOne home c) hs = load_one r (memory_of home) (slice_get (plac
 stepped lay r (LoadAt home c first) hs = load_of r (memory_of home) first (slice_get (places_in lay home) c) hs
 stepped lay r (StoreOne c width) hs = store_one width (slice_get lay.ram c) hs
 stepped lay r (StoreAt c first width) hs = store_of r first width (slice_get lay.ram c) hs
+stepped lay r (LoadItem e) hs = load_item r e (slice_get (places_in lay e.home) e.column) (slice_get lay.tables e.table) hs
 stepped lay r (Length table) hs = length_of r (slice_get lay.tables table) hs
 stepped lay r LoadNothing hs = load_nothing hs
 stepped lay r StoreNothing hs = store_nothing hs

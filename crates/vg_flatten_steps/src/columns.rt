@@ -15,20 +15,20 @@ use vg_flatten_shapes::{
 };
 use vg_lin::{Address, Computation, Instr, Memory, Operand, Operator, Plain};
 
-fn is_width(width: u8) -> bool
+pub(crate) fn is_width(width: u8) -> bool
     ensures { result ≡ is_width width }
 {
     0 < width && width < 5
 }
 
-fn load_from(memory: Memory, width: u8, to: u8, base: u16, index: Operand) -> Plain
+pub(crate) fn load_from(memory: Memory, width: u8, to: u8, base: u16, index: Operand) -> Plain
     ensures { result ≡ load_from memory width to base index }
 {
     Plain::Load(memory, width, to, Address { base, index })
 }
 
 /// The places of the columns of a home.
-fn places_in(layout: &Layout, home: Home) -> &[Place]
+pub(crate) fn places_in(layout: &Layout, home: Home) -> &[Place]
     ensures { result.now ≡ places_in layout.now home }
 {
     match home {
@@ -38,7 +38,7 @@ fn places_in(layout: &Layout, home: Home) -> &[Place]
 }
 
 /// The memory where they are.
-fn memory_of(home: Home) -> Memory
+pub(crate) fn memory_of(home: Home) -> Memory
     ensures { result ≡ memory_of home }
 {
     match home {

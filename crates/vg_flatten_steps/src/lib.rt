@@ -4,6 +4,7 @@
 pub mod calls;
 pub mod columns;
 pub mod divisions;
+pub mod elements;
 pub mod objects;
 pub mod operators;
 pub mod put;

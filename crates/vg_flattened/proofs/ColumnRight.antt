@@ -55,10 +55,10 @@ found_at memory address le = ap (λ b. if b then None else Some (address - first
     is_not : (a b : ℕ) → b ≤ a → nat_lt a b ≡ false
     is_not a b l = grind arith
 
-width_high : (w : ℕ) → is_width w ≡ true → w ≤ 4
+pub width_high : (w : ℕ) → is_width w ≡ true → w ≤ 4
 width_high w e = grind arith
 
-four_bytes : (w v : ℕ) → w ≤ 4 → v < 256 ^ w → v < 2 ^ 32
+pub four_bytes : (w v : ℕ) → w ≤ 4 → v < 256 ^ w → v < 2 ^ 32
 four_bytes zero v le lt = omega (arith, lt)
 four_bytes (suc zero) v le lt = omega (arith, lt)
 four_bytes (suc (suc zero)) v le lt = omega (arith, lt)
@@ -93,7 +93,7 @@ module _ (k : Codes) (f : FirmProgram) (m : FirmProcedure) (call : FirmCaller Hi
   step' = firm_step k f m call handle
 
   -- bytes go to a local
-  loads : (memory : Memory) (width to base n j x : ℕ) (index : Operand) (t : State) (o : Outside) → value index t ≡ Some n
+  pub loads : (memory : Memory) (width to base n j x : ℕ) (index : Operand) (t : State) (o : Outside) → value index t ≡ Some n
       → first_address memory ≤ base + n → base + n - first_address memory ≡ j → number_at (bytes_of p memory t) width j ≡ Some x
       → plain p (load_from memory width to base index) t o ≡ Goes (sets to x t) o
   loads memory width to base n j x index t o hv le e h =
@@ -145,7 +145,7 @@ module _ (k : Codes) (f : FirmProgram) (m : FirmProcedure) (call : FirmCaller Hi
           (ap (λ z. number_at z width j) (bytes_same memory to (n * by) d.state) ∙ num)))
 
   -- where the columns of a home stand
-  stands_in : (home : Home) (hs : List Operand) (s : Firm) (t : State) → AreSame lay r ws hs s t → (c : ℕ) (place : Place) (vs : List ℕ)
+  pub stands_in : (home : Home) (hs : List Operand) (s : Firm) (t : State) → AreSame lay r ws hs s t → (c : ℕ) (place : Place) (vs : List ℕ)
       → slice_get (places_in lay home) c ≡ Some place → slice_get (columns_in f home s) c ≡ Some vs
       → ColumnStands (memory_of home) (bytes_of p (memory_of home) t) place vs
   stands_in InRam hs s t q c place vs e h = q.ram.stands c place vs e h

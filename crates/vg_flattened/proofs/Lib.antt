@@ -13,6 +13,7 @@ pub mod ObjectRight
 pub mod Writing
 pub mod ColumnRight
 pub mod StoreRight
+pub mod ElementRight
 pub mod CallRight
 pub mod CodeRight
 pub mod Standing
