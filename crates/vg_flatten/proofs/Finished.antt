@@ -13,6 +13,7 @@ use Rattle.vg_lin.specs.declared.instr.Instr.TheVariants.{Plain, Return}
 use Rattle.vg_flatten_shapes.specs.declared.open.Open.{Open}
 use Rattle.vg_flatten_shapes.specs.declared.open.Open.TheVariants.{Set}
 use Rattle.vg_flatten_shapes.specs.declared.piece.Piece.{Piece}
+use Rattle.vg_flatten_shapes.specs.declared.layout.Layout.{Layout}
 use Rattle.vg_flatten_shapes.specs.declared.room.Room.{Room}
 use Rattle.vg_flatten_shapes.specs.Shapes.{Shape, empty, is_empty}
 use Rattle.vg_flatten_shapes.specs.Blocks.{Block, open_code}
@@ -72,30 +73,30 @@ whole_laid m (Gives b s) body first rest code at hf ha hp he hr hc = (
     place : at ≡ 0 + length (open_code (zeroes (length m.widths - m.params) m.params) 0)
     place = ha ∙ ap (λ z. 0 + length z) zs
 
-module _ (m : FirmProcedure) (r : Room) (params : List ℕ) (locals : r.locals ≡ length m.widths) (few : r.locals + r.temps ≤ 252)
+module _ (lay : Layout) (m : FirmProcedure) (r : Room) (params : List ℕ) (locals : r.locals ≡ length m.widths) (few : r.locals + r.temps ≤ 252)
     (hp : m.params ≤ length m.widths)
-    (hw : AllByRecursion IsWidth m.widths) (open' : List Open) (code : List Instr) (widths : List ℕ) (is : IsWhole open' (flat r m.body empty) m)
+    (hw : AllByRecursion IsWidth m.widths) (open' : List Open) (code : List Instr) (widths : List ℕ) (is : IsWhole open' (flat lay r m.body empty) m)
     (sealed : code ≡ map (set_in 0 0) open') (set : AllSet open') (ws : widths ≡ m.widths ++ replicate r.temps 4) where
   abbrev pub procedure : Procedure
   procedure = record { method = Some m.method; params = m.params; widths = widths; code = code }
 
-  block_in : (b : Block) (s : Shape) → flat r m.body empty ≡ Gives b s → BlockIn (Unit {0}) (length m.widths + r.temps) b
+  block_in : (b : Block) (s : Shape) → flat lay r m.body empty ≡ Gives b s → BlockIn (Unit {0}) (length m.widths + r.temps) b
   block_in b s e =
-      subst (λ z. BlockIn (Unit {0}) (z + r.temps) b) locals (subst (λ z. MadeIn (Unit {0}) (r.locals + r.temps) z) e (in_flat (Unit {0}) r m.body empty (λ l. tt) (tt, tt))).0
+      subst (λ z. BlockIn (Unit {0}) (z + r.temps) b) locals (subst (λ z. MadeIn (Unit {0}) (r.locals + r.temps) z) e (in_flat (Unit {0}) lay r m.body empty (λ l. tt) (tt, tt))).0
 
   code_is : (b : Block) → open' ≡ open_code (whole m b) 0 → code ≡ map (set_in 0 0) (open_code (whole m b) 0)
   code_is b e = sealed ∙ ap (map (set_in 0 0)) e
 
-  sound_by : (x : Made) → flat r m.body empty ≡ x → IsWhole open' x m → IsSound procedure
+  sound_by : (x : Made) → flat lay r m.body empty ≡ x → IsWhole open' x m → IsSound procedure
   sound_by (Refused why) e h = absurd h
   sound_by (Gives b s) e h =
       subst (λ z. IsSound (record { method = Some m.method; params = m.params; widths = z; code = code })) (sym ws)
       (whole_sound m b r.temps (Some m.method) code hp hw (omega (arith, few, locals)) (block_in b s e) (subst AllSet h.1 set) (code_is b h.1))
 
   pub procedure_sound : IsSound procedure
-  procedure_sound = sound_by (flat r m.body empty) refl is
+  procedure_sound = sound_by (flat lay r m.body empty) refl is
 
-  flat_by : (x : Made) → flat r m.body empty ≡ x → IsWhole open' x m → AllFit params open' → IsFlat params m procedure
+  flat_by : (x : Made) → flat lay r m.body empty ≡ x → IsWhole open' x m → AllFit params open' → IsFlat lay params m procedure
   flat_by (Refused why) e h fit = absurd h
   flat_by (Gives b s) e h fit =
       record {
@@ -112,16 +113,16 @@ module _ (m : FirmProcedure) (r : Room) (params : List ℕ) (locals : r.locals �
         code = code_is b h.1;
       }
 
-  pub procedure_flat : AllFit params open' → IsFlat params m procedure
-  procedure_flat fit = flat_by (flat r m.body empty) refl is fit
+  pub procedure_flat : AllFit params open' → IsFlat lay params m procedure
+  procedure_flat fit = flat_by (flat lay r m.body empty) refl is fit
 
-  onward_by : (x : Made) → flat r m.body empty ≡ x → IsWhole open' x m → has_loop m.body ≡ false → all_lead_on 0 code ≡ true
+  onward_by : (x : Made) → flat lay r m.body empty ≡ x → IsWhole open' x m → has_loop m.body ≡ false → all_lead_on 0 code ≡ true
   onward_by (Refused why) e h none = absurd h
   onward_by (Gives b s) e h none =
       ap (all_lead_on 0) (code_is b h.1)
       ∙ leads_onward (r.locals + r.temps) (whole m b) (
         in_zeroes ⊥ (r.locals + r.temps) (length m.widths - m.params) m.params (omega (arith, hp, locals)),
-        ((subst (λ z. MadeIn ⊥ (r.locals + r.temps) z) e (in_flat ⊥ r m.body empty (λ l. not_both (sym none ∙ l)) (tt, tt))).0, tt),
+        ((subst (λ z. MadeIn ⊥ (r.locals + r.temps) z) e (in_flat ⊥ lay r m.body empty (λ l. not_both (sym none ∙ l)) (tt, tt))).0, tt),
       ) (subst AllSet h.1 set)
     where
       not_both : false ≡ true → ⊥
@@ -129,4 +130,4 @@ module _ (m : FirmProcedure) (r : Room) (params : List ℕ) (locals : r.locals �
 
   -- no jump leads back where the body has no loop
   pub procedure_onward : has_loop m.body ≡ false → all_lead_on 0 code ≡ true
-  procedure_onward none = onward_by (flat r m.body empty) refl is none
+  procedure_onward none = onward_by (flat lay r m.body empty) refl is none

@@ -1,6 +1,6 @@
 -- That the instructions of what was made keep what every procedure of linear code keeps: operands in range, and jumps that lead to no
 -- place behind the code nor to themselves.
-use Rattle.std.specs.Prelude.{ℕ, zero, suc, ◌+◌, ◌-◌, ◌<◌, ◌≤◌, ◌^◌, Bool, true, false, ◌==◌, ◌&&◌, ◌||◌, nat_lt, List, [], ◌∷◌, ◌++◌, length, map, reverse, Option, Some, None, if◌then◌else◌, slice_get}
+use Rattle.std.specs.Prelude.{ℕ, zero, suc, ◌+◌, ◌-◌, ◌<◌, ◌≤◌, ◌*◌, ◌^◌, Bool, true, false, ◌==◌, ◌&&◌, ◌||◌, nat_lt, nat_le, List, [], ◌∷◌, ◌++◌, length, map, reverse, Option, Some, None, if◌then◌else◌, slice_get}
 use Rattle.std.specs.List.{AllByRecursion}
 use Rattle.std.proofs.Common.{◌≡◌, ◌≢◌, refl, sym, ap, ◌∙◌, subst, arith}
 use Rattle.std.proofs.lemmas.List.{length-append, length-map}
@@ -17,11 +17,11 @@ use Rattle.vg_firm.specs.declared.step.Step.TheVariants.{StopUnlessWithin, Bind,
 use Rattle.vg_lin.specs.declared.instr.Operand.{Operand}
 use Rattle.vg_lin.specs.declared.instr.Operand.TheVariants.{Local, Known}
 use Rattle.vg_lin.specs.declared.instr.Operator.{Operator as LinOperator}
-use Rattle.vg_lin.specs.declared.instr.Operator.TheVariants.{Plus as Sum, Minus as Difference, Divide as Quotient, Remainder as Rest, ShiftLeft as ShiftsLeft, ShiftRight as ShiftsRight}
+use Rattle.vg_lin.specs.declared.instr.Operator.TheVariants.{Plus as Sum, Minus as Difference, Times as Product, Divide as Quotient, Remainder as Rest, ShiftLeft as ShiftsLeft, ShiftRight as ShiftsRight}
 use Rattle.vg_lin.specs.declared.instr.Comparison.TheVariants.{Below, Same}
 use Rattle.vg_lin.specs.declared.instr.Test.{Test}
 use Rattle.vg_lin.specs.declared.instr.Plain.{Plain as PlainInstr}
-use Rattle.vg_lin.specs.declared.instr.Plain.TheVariants.{Copy, Compute, ReadDevice as ReadsDevice, WriteDevice as WritesDevice, Stop}
+use Rattle.vg_lin.specs.declared.instr.Plain.TheVariants.{Copy, Compute, Load as LoadsBytes, Store as StoresBytes, ReadDevice as ReadsDevice, WriteDevice as WritesDevice, Stop}
 use Rattle.vg_lin.specs.declared.instr.Callee.{Callee}
 use Rattle.vg_lin.specs.declared.instr.Callee.TheVariants.{Procedure as ByNumber, Code as ByCode}
 use Rattle.vg_lin.specs.declared.instr.Registers.{Registers}
@@ -30,6 +30,7 @@ use Rattle.vg_lin.specs.Meaning.{operands}
 use Rattle.vg_flatten_shapes.specs.declared.fault.Fault.TheVariants.{NotTaken}
 use Rattle.vg_flatten_shapes.specs.declared.open.Truth.{Truth}
 use Rattle.vg_flatten_shapes.specs.declared.open.Truth.TheVariants.{Holds, Fails}
+use Rattle.vg_flatten_shapes.specs.declared.layout.Layout.{Layout}
 use Rattle.vg_flatten_shapes.specs.declared.room.Room.{Room}
 use Rattle.vg_flatten_shapes.specs.Shapes.{Shape, only, empty, is_empty, is_free, same_operand, same_homes, temp}
 use Rattle.vg_flatten_shapes.specs.Blocks.{stop_where, Block, Skip, One, CallTo, TakeInterrupt, GiveBack, BreakOut, GoOn, Both, Choice, Repeat}
@@ -43,6 +44,13 @@ use Rattle.vg_flatten.specs.Loops.{has_loop}
 use Rattle.vg_flatten_control.specs.Flat.{repeated_body, repeated_next, given_back, flat}
 use Rattle.vg_flatten_steps.specs.Steps.{bytes_around, may_be_zero, divisor_checked, divided, masked, shifted_left, shifted_where, shifted_by, shifted_right, combined}
 use Rattle.vg_flatten_steps.specs.Steps.{load_nothing, store_nothing, is_near, is_one_of, cast_to}
+use Rattle.vg_flatten_steps.specs.Steps.{is_width, load_from, multiplied, multiple, fetched, load_one, load_of, length_of, places_in, memory_of}
+use Rattle.vg_flatten_steps.specs.Steps.{store_at, store_one, put_of, store_of, is_place, timed, element_of, load_element, load_item}
+use Rattle.vg_flatten_steps.specs.declared.elements.Reach.{Reach}
+use Rattle.vg_firm.specs.declared.step.Elements.{Elements}
+use Rattle.vg_flatten_shapes.specs.declared.layout.Place.{Place}
+use Rattle.vg_lin.specs.declared.instr.Memory.{Memory}
+use Rattle.vg_lin.specs.declared.instr.Memory.TheVariants.{Flash}
 use Rattle.vg_flatten_shapes.proofs.Temps.{some_is, none_is_not, temp_is}
 
 -- ---- operands in range
@@ -70,6 +78,8 @@ MayBeIn size None = Unit {0}
 abbrev pub IsPlainIn : (size : ℕ) → PlainInstr → Type 0
 IsPlainIn size (Copy to a) = (to < size) × IsIn size a
 IsPlainIn size (Compute c) = (1 ≤ c.width) × (c.width ≤ 4) × (c.to < size) × IsIn size c.left × IsIn size c.right
+IsPlainIn size (LoadsBytes memory width to a) = (1 ≤ width) × (width ≤ 4) × (to < size) × IsIn size a.index
+IsPlainIn size (StoresBytes width a from) = (1 ≤ width) × (width ≤ 4) × IsIn size a.index × IsIn size from
 IsPlainIn size (ReadsDevice to address) = to < size
 IsPlainIn size (WritesDevice address a) = IsIn size a
 IsPlainIn size (Stop code) = Unit {0}
@@ -103,7 +113,7 @@ MadeIn L size (Refused why) = Unit {0}
 
 -- ---- what was made is in range
 
-module _ (L : Type 0) (r : Room) where
+module _ (L : Type 0) (lay : Layout) (r : Room) where
   abbrev size : ℕ
   size = r.locals + r.temps
 
@@ -353,7 +363,147 @@ module _ (L : Type 0) (r : Room) where
         (h, tt),
       ))) tt
 
-  in_stepped : (q : Step) (hs : List Operand) → AreIn size hs → MadeIn L size (stepped r q hs)
+  -- ---- columns and tables
+
+  in_multiplied : (to by : ℕ) (h : Operand) → to < size → IsIn size h → BlockIn L size (multiplied to by h)
+  in_multiplied to by h lt hh = by_one (by == 1)
+    where
+      by_one : (b : Bool) → BlockIn L size (if b then Skip else One (Compute (record { operator = Product; width = 4; to = to; left = h; right = Known by })))
+      by_one true = tt
+      by_one false = (omega arith, omega arith, lt, hh, tt)
+
+  in_multiple : (to by : ℕ) (h : Operand) → to < size → IsIn size h → IsIn size (multiple to by h)
+  in_multiple to by h lt hh = by_one (by == 1)
+    where
+      by_one : (b : Bool) → IsIn size (if b then h else Local to)
+      by_one true = hh
+      by_one false = lt
+
+  in_fetched : (memory : Memory) (width by base : ℕ) (h : Operand) (hs : List Operand) → 1 ≤ width → width ≤ 4 → IsIn size h → AreIn size hs
+      → MadeIn L size (fetched r memory width by base h hs)
+  in_fetched memory width by base h hs low high hh hhs =
+      in_by_temp hs _ (λ to lt. (
+        (
+          in_stop 1 (Holds (is_zero h)) (in_test h (Known 0) hh tt Same),
+          (in_multiplied to by h lt hh, (low, high, lt, in_multiple to by h lt hh)),
+        ),
+        ((lt, hhs), tt),
+      ))
+
+  width_low : (w : ℕ) → is_width w ≡ true → 1 ≤ w
+  width_low w e = grind arith
+
+  width_high : (w : ℕ) → is_width w ≡ true → w ≤ 4
+  width_high w e = grind arith
+
+  in_load_one : (memory : Memory) (o : Option Place) (hs : List Operand) → AreIn size hs → MadeIn L size (load_one r memory o hs)
+  in_load_one memory None hs h = tt
+  in_load_one memory (Some place) hs h = by_width (is_width place.width) refl
+    where
+      by_width : (b : Bool) → is_width place.width ≡ b
+          → MadeIn L size (if b then by_temp (temp r hs) (λ to. Gives (One (load_from memory place.width to place.address (Known 0))) (only (Local to ∷ hs)))
+          else Refused NotTaken)
+      by_width true e = in_by_temp hs _ (λ to lt. ((width_low place.width e, width_high place.width e, lt, tt), ((lt, h), tt)))
+      by_width false e = tt
+
+  in_load_of : (memory : Memory) (first : ℕ) (o : Option Place) (hs : List Operand) → AreIn size hs → MadeIn L size (load_of r memory first o hs)
+  in_load_of memory first None hs h = tt
+  in_load_of memory first (Some place) [] h = tt
+  in_load_of memory first (Some place) (a ∷ hs) h = by_width (is_width place.width) (nat_le (place.width * first) place.address) refl
+    where
+      by_width : (b c : Bool) → is_width place.width ≡ b
+          → MadeIn L size (if b && c then fetched r memory place.width place.width (place.address - place.width * first) a hs else Refused NotTaken)
+      by_width true true e =
+          in_fetched memory place.width place.width (place.address - place.width * first) a hs (width_low place.width e) (width_high place.width e) h.0 h.1
+      by_width true false e = tt
+      by_width false c e = tt
+
+  in_length_of : (o : Option ℕ) (hs : List Operand) → AreIn size hs → MadeIn L size (length_of r o hs)
+  in_length_of None hs h = tt
+  in_length_of (Some table) [] h = tt
+  in_length_of (Some table) (a ∷ hs) h =
+      in_if (nat_le 2 table) (fetched r Flash 2 4 (table - 2) a hs) (Refused NotTaken) (in_fetched Flash 2 4 (table - 2) a hs (omega arith) (omega arith) h.0 h.1) tt
+
+  in_store_one : (width : ℕ) (o : Option Place) (hs : List Operand) → AreIn size hs → MadeIn L size (store_one width o hs)
+  in_store_one width None hs h = tt
+  in_store_one width (Some place) [] h = tt
+  in_store_one width (Some place) (v ∷ hs) h = by_width (is_width width) (width == place.width) refl
+    where
+      by_width : (b c : Bool) → is_width width ≡ b
+          → MadeIn L size (if b && c then Gives (One (store_at width place.address (Known 0) v)) (only hs) else Refused NotTaken)
+      by_width true true e = ((width_low width e, width_high width e, tt, h.0), (h.1, tt))
+      by_width true false e = tt
+      by_width false c e = tt
+
+  in_put_of : (width base : ℕ) (v a : Operand) (hs : List Operand) → 1 ≤ width → width ≤ 4 → IsIn size v → IsIn size a → AreIn size hs
+      → MadeIn L size (put_of r width base v a hs)
+  in_put_of width base v a hs low high hv ha h =
+      in_by_temp (v ∷ a ∷ hs) _ (λ to lt. (
+        (
+          in_stop 1 (Holds (is_zero a)) (in_test a (Known 0) ha tt Same),
+          (in_multiplied to width a lt ha, (low, high, in_multiple to width a lt ha, hv)),
+        ),
+        (h, tt),
+      ))
+
+  in_store_of : (first width : ℕ) (o : Option Place) (hs : List Operand) → AreIn size hs → MadeIn L size (store_of r first width o hs)
+  in_store_of first width None hs h = tt
+  in_store_of first width (Some place) [] h = tt
+  in_store_of first width (Some place) (v ∷ []) h = tt
+  in_store_of first width (Some place) (v ∷ a ∷ hs) h =
+      by_width (is_width width) (width == place.width) (nat_le (place.width * first) place.address) refl
+    where
+      by_width : (b c d : Bool) → is_width width ≡ b
+          → MadeIn L size (if b && c && d then put_of r width (place.address - place.width * first) v a hs else Refused NotTaken)
+      by_width true true true e =
+          in_put_of width (place.address - place.width * first) v a hs (width_low width e) (width_high width e) h.0 h.1.0 h.1.1
+      by_width true true false e = tt
+      by_width true false d e = tt
+      by_width false c d e = tt
+
+  -- ---- elements
+
+  in_timed : (to by : ℕ) (h : Operand) → to < size → IsIn size h → IsPlainIn size (timed to by h)
+  in_timed to by h lt hh = (omega arith, omega arith, lt, hh, tt)
+
+  in_element : (x : Reach) (last : PlainInstr) → x.first < size → x.second < size → IsIn size x.home → IsIn size x.index → IsPlainIn size last
+      → BlockIn L size (element_of x last)
+  in_element x last l1 l2 hh hi hl = (
+    in_stop 1 (Holds (is_zero x.home)) (in_test x.home (Known 0) hh tt Same),
+    (
+      in_timed x.first 4 x.home l1 hh,
+      (
+        (omega arith, omega arith, l2, l1),
+        (
+          in_stop 2 (Fails (test_of Below x.index (Local x.second))) (in_test x.index (Local x.second) hi l2 Below),
+          ((omega arith, omega arith, l1, l1), (in_timed x.second x.width x.index l2 hi, ((omega arith, omega arith, l1, l1, l2), hl))),
+        ),
+      ),
+    ),
+  )
+
+  in_load_item : (e : Elements) (o : Option Place) (u : Option ℕ) (hs : List Operand) → AreIn size hs → MadeIn L size (load_item r e o u hs)
+  in_load_item e None u hs h = tt
+  in_load_item e (Some place) None hs h = tt
+  in_load_item e (Some place) (Some table) [] h = tt
+  in_load_item e (Some place) (Some table) (i ∷ []) h = tt
+  in_load_item e (Some place) (Some table) (i ∷ a ∷ hs) h = by_width (is_width e.width) (is_place e place) (nat_le 4 table) refl
+    where
+      made : is_width e.width ≡ true → MadeIn L size (load_element r e table a i hs)
+      made is =
+          in_by_temp hs _ (λ to l0. in_by_temp (i ∷ a ∷ hs) _ (λ first l1. in_by_temp (Local first ∷ i ∷ a ∷ hs) _ (λ second l2. (
+            in_element (record { first = first; second = second; table = table; width = e.width; home = a; index = i })
+                (load_from (memory_of e.home) e.width to 0 (Local first)) l1 l2 h.1.0 h.0 (width_low e.width is, width_high e.width is, l0, l1),
+            ((l0, h.1.1), tt),
+          ))))
+
+      by_width : (b c d : Bool) → is_width e.width ≡ b → MadeIn L size (if b && c && d then load_element r e table a i hs else Refused NotTaken)
+      by_width true true true is = made is
+      by_width true true false is = tt
+      by_width true false d is = tt
+      by_width false c d is = tt
+
+  in_stepped : (q : Step) (hs : List Operand) → AreIn size hs → MadeIn L size (stepped lay r q hs)
   in_stepped (Number v) hs h = in_number v hs h
   in_stepped (GetLocal i) hs h = in_local i hs h
   in_stepped (SetLocal i) hs h = in_set i hs h
@@ -365,15 +515,15 @@ module _ (L : Type 0) (r : Room) where
   in_stepped (Call q count) hs h = in_called q count hs h
   in_stepped Idle hs h = (tt, (h, tt))
   in_stepped This hs h = tt
-  in_stepped (Load a c) hs h = tt
-  in_stepped (Store c w) hs h = tt
-  in_stepped (LoadAt a c o) hs h = tt
-  in_stepped (StoreAt c o w) hs h = tt
+  in_stepped (Load a c) hs h = in_load_one (memory_of a) (slice_get (places_in lay a) c) hs h
+  in_stepped (Store c w) hs h = in_store_one w (slice_get lay.ram c) hs h
+  in_stepped (LoadAt a c o) hs h = in_load_of (memory_of a) o (slice_get (places_in lay a) c) hs h
+  in_stepped (StoreAt c o w) hs h = in_store_of o w (slice_get lay.ram c) hs h
   in_stepped LoadNothing hs h = in_load_nothing hs h
   in_stepped StoreNothing hs h = in_store_nothing hs h
-  in_stepped (LoadItem e) hs h = tt
+  in_stepped (LoadItem e) hs h = in_load_item e (slice_get (places_in lay e.home) e.column) (slice_get lay.tables e.table) hs h
   in_stepped (StoreItem e) hs h = tt
-  in_stepped (Length t) hs h = tt
+  in_stepped (Length t) hs h = in_length_of (slice_get lay.tables t) hs h
   in_stepped (IsWithin a b) hs h = in_one_of a b hs h
   in_stepped (StopUnlessWithin a b) hs h = in_cast a b hs h
   in_stepped (Bind q) hs h = tt
@@ -453,17 +603,17 @@ module _ (L : Type 0) (r : Room) where
   rest_of true y h e = h refl
   rest_of false y h e = h e
 
-  pub in_flat : (c : Code Step) (s : Shape) → (has_loop c ≡ true → L) → ShapeIn size s → MadeIn L size (flat r c s)
+  pub in_flat : (c : Code Step) (s : Shape) → (has_loop c ≡ true → L) → ShapeIn size s → MadeIn L size (flat lay r c s)
   in_flat Nothing s l h = (tt, h)
   in_flat (Then a b) s l h =
-      in_after (flat r a s) (flat r b) (in_flat a s (first_of (has_loop a) (has_loop b) l) h)
+      in_after (flat lay r a s) (flat lay r b) (in_flat a s (first_of (has_loop a) (has_loop b) l) h)
       (λ s1 h1. in_flat b s1 (rest_of (has_loop a) (has_loop b) l) h1)
   in_flat (Do q) s l h = in_after (settled r s) _ (in_settled s h) (λ s1 h1. in_stepped q s1.homes h1.0)
   in_flat (If a b) s l h =
-      in_chosen s (flat r a) (flat r b) h (λ z hz. in_flat a z (first_of (has_loop a) (has_loop b) l) hz)
+      in_chosen s (flat lay r a) (flat lay r b) h (λ z hz. in_flat a z (first_of (has_loop a) (has_loop b) l) hz)
       (λ z hz. in_flat b z (rest_of (has_loop a) (has_loop b) l) hz)
   in_flat (Loop c body next) s l h =
-      in_if (is_empty s) _ _ (in_repeated (l refl) (flat r c empty) (flat r body empty) (flat r next empty)
+      in_if (is_empty s) _ _ (in_repeated (l refl) (flat lay r c empty) (flat lay r body empty) (flat lay r next empty)
       (in_flat c empty (λ e. l refl) (tt, tt)) (in_flat body empty (λ e. l refl) (tt, tt)) (in_flat next empty (λ e. l refl) (tt, tt))) tt
   in_flat Break s l h = in_if (is_empty s) (Gives BreakOut empty) (Refused NotTaken) (tt, (tt, tt)) tt
   in_flat Continue s l h = in_if (is_empty s) (Gives GoOn empty) (Refused NotTaken) (tt, (tt, tt)) tt

@@ -236,8 +236,8 @@ module _ (p : Procedure) where
   instr_in (Plain (WriteDevice address a)) h = operand_in a h
   instr_in (Plain (Product to a b)) h = absurd h
   instr_in (Plain (DivideStep a b c)) h = absurd h
-  instr_in (Plain (Load m w to a)) h = absurd h
-  instr_in (Plain (Store w a from)) h = absurd h
+  instr_in (Plain (Load m w to a)) h = ((h.0, h.1), h.2, operand_in a.index h.3)
+  instr_in (Plain (Store w a from)) h = ((h.0, h.1), operand_in a.index h.2, operand_in from h.3)
   instr_in (Plain (Push w a)) h = absurd h
   instr_in (Plain (Find d to a)) h = absurd h
   instr_in (Plain (Stop code)) h = tt
@@ -265,8 +265,8 @@ module _ (p : Procedure) where
   waits_for (Plain (WriteDevice address a)) at h high hl j n = (next (Plain (WriteDevice address a)) at (λ e. e) n, refl)
   waits_for (Plain (Product to a b)) at h high hl j n = absurd h
   waits_for (Plain (DivideStep a b c)) at h high hl j n = absurd h
-  waits_for (Plain (Load m w to a)) at h high hl j n = absurd h
-  waits_for (Plain (Store w a from)) at h high hl j n = absurd h
+  waits_for (Plain (Load m w to a)) at h high hl j n = (next (Plain (Load m w to a)) at (λ e. e) n, refl)
+  waits_for (Plain (Store w a from)) at h high hl j n = (next (Plain (Store w a from)) at (λ e. e) n, refl)
   waits_for (Plain (Push w a)) at h high hl j n = absurd h
   waits_for (Plain (Find d to a)) at h high hl j n = absurd h
   waits_for (Plain (Stop code)) at h high hl j n = tt

@@ -11,12 +11,14 @@ use Rattle.vg_lin.specs.declared.instr.Instr.TheVariants.{Plain, Jump, Call as C
 use Rattle.vg_lin.specs.Program.{Procedure, Program}
 use Rattle.vg_flatten_shapes.specs.declared.open.Open.{Open}
 use Rattle.vg_flatten_shapes.specs.declared.open.Open.TheVariants.{Set}
+use Rattle.vg_flatten_shapes.specs.declared.layout.Layout.{Layout}
 use Rattle.vg_flatten_shapes.specs.declared.room.Room.{Room}
 use Rattle.vg_flatten_shapes.specs.Shapes.{Shape, empty, is_empty}
 use Rattle.vg_flatten_shapes.specs.Blocks.{Block, Skip, One, GiveBack, Both, open_code}
 use Rattle.vg_flatten_shapes.specs.Made.{Gives}
 use Rattle.vg_flatten_control.specs.Flat.{flat}
 use Rattle.vg_flatten.specs.Fitting.{CallsFit}
+use Rattle.vg_flatten.specs.Columns.{FlashStands, RamStands}
 use Rattle.vg_flatten_shapes.specs.Blocks.{set_in}
 
 -- So many locals from one on get the value 0.
@@ -29,11 +31,11 @@ abbrev pub whole : FirmProcedure → Block → Block
 whole m b = Both (zeroes (length m.widths - m.params) m.params) (Both b (GiveBack (Known 0)))
 
 -- The procedure of linear code is the flattened one, where each number of a procedure has its parameters in the list.
-pub record IsFlat (params : List ℕ) (m : FirmProcedure) (p : Procedure) : Type 0 where
+pub record IsFlat (lay : Layout) (params : List ℕ) (m : FirmProcedure) (p : Procedure) : Type 0 where
   pub room : Room
   pub block : Block
   pub shape : Shape
-  pub made : flat room m.body empty ≡ Gives block shape
+  pub made : flat lay room m.body empty ≡ Gives block shape
   pub done : is_empty shape ≡ true
   pub locals : room.locals ≡ length m.widths
   pub fits : CallsFit params block
@@ -56,14 +58,16 @@ pub record IsFit (m : FirmProcedure) : Type 0 where
   pub widths : (i w : ℕ) → slice_get m.widths i ≡ Some w → w ≤ 4
   pub result : m.result ≤ 4
 
--- The program of linear code is the packed one, flattened, with a start behind its procedures.
-pub record AreFlat (k : Codes) (f : FirmProgram) (params : List ℕ) (p : Program) : Type 0 where
+-- The program of linear code is the packed one, flattened, with a start behind its procedures and its columns at their places.
+pub record AreFlat (k : Codes) (lay : Layout) (f : FirmProgram) (params : List ℕ) (p : Program) : Type 0 where
   pub flats : (q : ℕ) (m : FirmProcedure) → slice_get f.procedures q ≡ Some m
-      → (lp : Procedure) × (slice_get p.procedures q ≡ Some lp) × IsFit m × IsFlat params m lp
+      → (lp : Procedure) × (slice_get p.procedures q ≡ Some lp) × IsFit m × IsFlat lay params m lp
   pub known : (q n : ℕ) → slice_get params q ≡ Some n → (m : FirmProcedure) × (slice_get f.procedures q ≡ Some m) × (m.params ≡ n)
   pub handler : (vector : ℕ) → p.handler vector ≡ f.handler vector
   pub start : slice_get p.procedures p.start ≡ Some (start_of f.main)
   pub main : slice_get params f.main ≡ Some 0
+  pub flash : FlashStands lay f p
+  pub ram : RamStands lay.ram f.ram p.ram
 
 -- The instructions that set so many locals from one on to 0.
 abbrev pub zero_list : (count from : ℕ) → List Open

@@ -1,4 +1,5 @@
 pub mod Fitting
+pub mod Columns
 pub mod Flattened
 pub mod Refusals
 pub mod Loops

@@ -4,4 +4,4 @@
 pub mod procedure;
 
 pub use procedure::{flatten, start};
-pub use vg_flatten_shapes::Fault;
+pub use vg_flatten_shapes::{Fault, Layout, Place};

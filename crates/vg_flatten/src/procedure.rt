@@ -19,7 +19,7 @@ use std::alloc::Global;
 use vg_base::{NoMemory, Refusal, Row};
 use vg_firm::Procedure;
 use vg_flatten_control::flat::flat;
-use vg_flatten_shapes::{Fault, Homes, Open, Room, append, place_behind};
+use vg_flatten_shapes::{Fault, Homes, Layout, Open, Room, append, place_behind};
 use vg_lin::{Call, Callee, Instr, LinProc, Operand, Plain, Registers};
 
 /// The procedure with which a run begins: it calls main, and then idles for ever.
@@ -107,15 +107,20 @@ fn sealed(alloc: Global, code: &[Open]) -> Result<Row<Instr>, Refusal<Fault>>
 }
 
 /// The code of a whole procedure: the locals that are no parameters are 0 at first, and the end of the body gives 0 back.
-fn whole_code(alloc: Global, room: Room, procedure: &Procedure) -> Result<Row<Open>, Refusal<Fault>>
+fn whole_code(
+    alloc: Global,
+    layout: &Layout,
+    room: Room,
+    procedure: &Procedure,
+) -> Result<Row<Open>, Refusal<Fault>>
     requires room { room.locals + room.temps ≤ 252 }
     requires locals { room.locals ≡ length procedure.now.widths }
     requires params { procedure.now.params ≤ length procedure.now.widths }
-    ensures { Wholes result (flat room (code_of procedure.now.body) empty) (procedure_of procedure.now) }
+    ensures { Wholes result (flat layout.now room (code_of procedure.now.body) empty) (procedure_of procedure.now) }
 {
     let first = zeroes(alloc, room.locals - procedure.params, procedure.params)?;
     let at = place_behind(0, first.len())?;
-    let body = flat(alloc, room, at, &procedure.body, Homes::new(alloc))?;
+    let body = flat(alloc, layout, room, at, &procedure.body, Homes::new(alloc))?;
     if !body.homes.is_empty() {
         return Err(Refusal::Fault(Fault::NotTaken));
     }
@@ -144,19 +149,20 @@ fn temps_beside(locals: u8) -> u8
     if locals > 204 { 252 - locals } else { 48 }
 }
 
-/// A procedure as linear code, in a program whose procedures have so many parameters.
+/// A procedure as linear code, in a program whose procedures have so many parameters and whose columns stand so.
 ///
 /// It refuses what it does not take yet; calls have at most four arguments.
 pub fn flatten(
     alloc: Global,
+    layout: &Layout,
     params: &[u8],
     procedure: &Procedure,
 ) -> Result<LinProc, Refusal<Fault>>
     requires params { procedure.now.params ≤ length procedure.now.widths }
     requires widths { AllByRecursion IsWidth procedure.now.widths }
-    ensures flat { IfOk result (λ p. IsFlat params.now (procedure_of procedure.now) p) }
+    ensures flat { IfOk result (λ p. IsFlat layout.now params.now (procedure_of procedure.now) p) }
     ensures onward { IfOk result (λ p. has_loop (code_of procedure.now.body) ≡ false → all_lead_on 0 p.code ≡ true) }
-    ensures refusal { IsRefusedFor result params.now (procedure_of procedure.now) }
+    ensures refusal { IsRefusedFor result layout.now params.now (procedure_of procedure.now) }
 {
     let count = procedure.widths.len();
     if count > 252 {
@@ -165,7 +171,7 @@ pub fn flatten(
     let locals = count as u8;
     let temps = temps_beside(locals);
     let room = Room { locals, temps };
-    let code = whole_code(alloc, room, procedure)?;
+    let code = whole_code(alloc, layout, room, procedure)?;
     if !all_fit(params, code.as_slice()) {
         return Err(Refusal::Fault(Fault::NotTaken));
     }

@@ -7,6 +7,7 @@ use Rattle.vg_lin.specs.declared.instr.Operand.TheVariants.{Local as InLocal}
 use Rattle.vg_lin.specs.declared.instr.Plain.TheVariants.{Copy}
 use Rattle.vg_flatten_shapes.specs.declared.fault.Fault.TheVariants.{NotTaken}
 use Rattle.vg_flatten_shapes.specs.declared.open.Truth.{Truth}
+use Rattle.vg_flatten_shapes.specs.declared.layout.Layout.{Layout}
 use Rattle.vg_flatten_shapes.specs.declared.room.Room.{Room}
 use Rattle.vg_flatten_shapes.specs.Shapes.{Shape, only, empty, is_empty, same_operand, same_homes, temp}
 use Rattle.vg_flatten_shapes.specs.Blocks.{Block, Skip, One, GiveBack, BreakOut, GoOn, Choice, Repeat}
@@ -62,12 +63,12 @@ given_back _ = Refused NotTaken
 
 -- ---- code
 
-abbrev pub flat : Room → Code Step → Shape → Made
-flat r Nothing s = Gives Skip s
-flat r (Then a b) s = after (flat r a s) (flat r b)
-flat r (Do p) s = after (settled r s) (λ s1. stepped r p s1.homes)
-flat r (If a b) s = chosen r (tested s) (flat r a) (flat r b)
-flat r (Loop c body next) s = where_empty s (repeated (flat r c empty) (flat r body empty) (flat r next empty))
-flat r Break s = where_empty s (Gives BreakOut empty)
-flat r Continue s = where_empty s (Gives GoOn empty)
-flat r Return s = after (settled r s) (λ s1. given_back s1.homes)
+abbrev pub flat : Layout → Room → Code Step → Shape → Made
+flat lay r Nothing s = Gives Skip s
+flat lay r (Then a b) s = after (flat lay r a s) (flat lay r b)
+flat lay r (Do p) s = after (settled r s) (λ s1. stepped lay r p s1.homes)
+flat lay r (If a b) s = chosen r (tested s) (flat lay r a) (flat lay r b)
+flat lay r (Loop c body next) s = where_empty s (repeated (flat lay r c empty) (flat lay r body empty) (flat lay r next empty))
+flat lay r Break s = where_empty s (Gives BreakOut empty)
+flat lay r Continue s = where_empty s (Gives GoOn empty)
+flat lay r Return s = after (settled r s) (λ s1. given_back s1.homes)

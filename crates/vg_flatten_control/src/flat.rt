@@ -3,9 +3,9 @@ ghost use Rattle.std.specs.Prelude.{◌≡◌, ◌+◌, ◌≤◌, ◌∷◌, �
 ghost use Rattle.vg_meaning.specs.Code.{Nothing, Then, If};
 ghost use Rattle.vg_firm.specs.Held.{code_of, list_of};
 ghost use Rattle.vg_flatten_shapes.specs.Shapes.{only, empty, is_empty, temp};
-ghost use Rattle.vg_flatten_shapes.specs.Blocks.{Block, open_code, loop_code, closed};
+ghost use Rattle.vg_flatten_shapes.specs.Blocks.{Block, Skip, open_code, loop_code, closed};
 ghost use Rattle.vg_flatten_control.specs.Flat.{repeated_body, landed, landed_as, flat, given_back, repeated, where_empty, chosen, joined};
-ghost use Rattle.vg_flatten_shapes.specs.Made.{after, settled, tested};
+ghost use Rattle.vg_flatten_shapes.specs.Made.{Gives, after, settled, tested};
 ghost use Rattle.vg_flatten_control.specs.Weights.{arms_list, arm_then};
 ghost use Rattle.vg_flatten_shapes.specs.Laying.{Lays, LaysCode, Places};
 ghost use Rattle.vg_flatten_control.specs.Joining.{Tests, Joins};
@@ -14,7 +14,7 @@ use std::alloc::Global;
 use vg_base::{NoMemory, Refusal, Row};
 use vg_firm::Code;
 use vg_flatten_shapes::{
-    Fault, Homes, Open, Piece, Room, Truth, append, behind, branch, choice, nothing, one,
+    Fault, Homes, Layout, Open, Piece, Room, Truth, append, behind, branch, choice, nothing, one,
     place_behind, same_operand,
 };
 use vg_flatten_steps::{is_zero, stepped, temp};
@@ -169,7 +169,7 @@ fn landing(alloc: Global, room: Room, at: u16, homes: Homes) -> Result<Piece, Re
 /// The same of no code.
 fn landed_nothing(alloc: Global, room: Room, at: u16, homes: Homes) -> Result<Piece, Refusal<Fault>>
     requires { room.locals + room.temps ≤ 252 }
-    ensures { Lays result at (landed room (flat room Nothing homes)) }
+    ensures { Lays result at (landed room (Gives Skip homes)) }
 {
     landing(alloc, room, at, homes)
 }
@@ -212,28 +212,29 @@ fn join(
 #[cycle(flat)]
 pub fn flat(
     alloc: Global,
+    layout: &Layout,
     room: Room,
     at: u16,
     code: &Code,
     homes: Homes,
 ) -> Result<Piece, Refusal<Fault>>
     requires { room.locals + room.temps ≤ 252 }
-    ensures { Lays result at (flat room (code_of code.now) homes) }
+    ensures { Lays result at (flat layout.now room (code_of code.now) homes) }
 {
     match code {
-        Code::Row(codes) => row(alloc, room, at, codes.as_slice(), homes),
+        Code::Row(codes) => row(alloc, layout, room, at, codes.as_slice(), homes),
         Code::Do(step) => {
             let first = settle(alloc, room, at, homes)?;
             let rest_at = place_behind(at, first.code.len())?;
-            let rest = stepped(alloc, room, rest_at, *step, first.homes)?;
+            let rest = stepped(alloc, layout, room, rest_at, *step, first.homes)?;
             Ok(behind(first.code, rest)?)
         }
-        Code::If(first, rest) => chosen(alloc, room, at, first, rest, homes),
-        Code::Arms(all, last) => arms(alloc, room, at, all.as_slice(), last, homes),
-        Code::Arm(condition, block) => arm(alloc, room, at, condition, block, homes),
+        Code::If(first, rest) => chosen(alloc, layout, room, at, first, rest, homes),
+        Code::Arms(all, last) => arms(alloc, layout, room, at, all.as_slice(), last, homes),
+        Code::Arm(condition, block) => arm(alloc, layout, room, at, condition, block, homes),
         Code::Loop(condition, body, next) => {
             if homes.is_empty() {
-                return repeated(alloc, room, at, condition, body, next);
+                return repeated(alloc, layout, room, at, condition, body, next);
             }
             Err(Refusal::Fault(Fault::NotTaken))
         }
@@ -262,15 +263,16 @@ pub fn flat(
 #[cycle(flat)]
 fn landed(
     alloc: Global,
+    layout: &Layout,
     room: Room,
     at: u16,
     code: &Code,
     homes: Homes,
 ) -> Result<Piece, Refusal<Fault>>
     requires { room.locals + room.temps ≤ 252 }
-    ensures { Lays result at (landed room (flat room (code_of code.now) homes)) }
+    ensures { Lays result at (landed room (flat layout.now room (code_of code.now) homes)) }
 {
-    let first = flat(alloc, room, at, code, homes)?;
+    let first = flat(alloc, layout, room, at, code, homes)?;
     let rest_at = place_behind(at, first.code.len())?;
     let rest = landing(alloc, room, rest_at, first.homes)?;
     Ok(behind(first.code, rest)?)
@@ -280,6 +282,7 @@ fn landed(
 #[cycle(flat)]
 fn chosen(
     alloc: Global,
+    layout: &Layout,
     room: Room,
     at: u16,
     first: &Code,
@@ -287,16 +290,16 @@ fn chosen(
     homes: Homes,
 ) -> Result<Piece, Refusal<Fault>>
     requires { room.locals + room.temps ≤ 252 }
-    ensures { Lays result at (flat room (If (code_of first.now) (code_of rest.now)) homes) }
+    ensures { Lays result at (flat layout.now room (If (code_of first.now) (code_of rest.now)) homes) }
 {
     let mut homes = homes;
     match take_truth(&mut homes) {
         None => Err(Refusal::Fault(Fault::NotTaken)),
         Some(truth) => {
             let first_at = place_behind(at, 1)?;
-            let first = landed(alloc, room, first_at, first, homes.copy(alloc)?)?;
+            let first = landed(alloc, layout, room, first_at, first, homes.copy(alloc)?)?;
             let rest_at = rest_place(at, first.code.len())?;
-            let rest = landed(alloc, room, rest_at, rest, homes)?;
+            let rest = landed(alloc, layout, room, rest_at, rest, homes)?;
             join(alloc, at, truth, first, rest)
         }
     }
@@ -306,6 +309,7 @@ fn chosen(
 #[cycle(flat)]
 fn repeated(
     alloc: Global,
+    layout: &Layout,
     room: Room,
     at: u16,
     condition: &Code,
@@ -313,9 +317,9 @@ fn repeated(
     next: &Code,
 ) -> Result<Piece, Refusal<Fault>>
     requires { room.locals + room.temps ≤ 252 }
-    ensures { Lays result at (repeated (flat room (code_of condition.now) empty) (flat room (code_of body.now) empty) (flat room (code_of next.now) empty)) }
+    ensures { Lays result at (repeated (flat layout.now room (code_of condition.now) empty) (flat layout.now room (code_of body.now) empty) (flat layout.now room (code_of next.now) empty)) }
 {
-    let before = flat(alloc, room, at, condition, Homes::new(alloc))?;
+    let before = flat(alloc, layout, room, at, condition, Homes::new(alloc))?;
     let mut homes = before.homes;
     match take_truth(&mut homes) {
         None => Err(Refusal::Fault(Fault::NotTaken)),
@@ -323,7 +327,7 @@ fn repeated(
             if !homes.is_empty() {
                 return Err(Refusal::Fault(Fault::NotTaken));
             }
-            repeated_parts(alloc, room, at, before.code, truth, body, next)
+            repeated_parts(alloc, layout, room, at, before.code, truth, body, next)
         }
     }
 }
@@ -332,6 +336,7 @@ fn repeated(
 #[cycle(flat)]
 fn repeated_parts(
     alloc: Global,
+    layout: &Layout,
     room: Room,
     at: u16,
     before: Row<Open>,
@@ -340,16 +345,16 @@ fn repeated_parts(
     next: &Code,
 ) -> Result<Piece, Refusal<Fault>>
     requires { room.locals + room.temps ≤ 252 }
-    ensures { (b : Block) → before ≡ open_code b at → Lays result at (repeated_body b truth (flat room (code_of body.now) empty) (flat room (code_of next.now) empty)) }
+    ensures { (b : Block) → before ≡ open_code b at → Lays result at (repeated_body b truth (flat layout.now room (code_of body.now) empty) (flat layout.now room (code_of next.now) empty)) }
 {
     let test_at = place_behind(at, before.len())?;
     let body_at = place_behind(test_at, 1)?;
-    let body = flat(alloc, room, body_at, body, Homes::new(alloc))?;
+    let body = flat(alloc, layout, room, body_at, body, Homes::new(alloc))?;
     if !body.homes.is_empty() {
         return Err(Refusal::Fault(Fault::NotTaken));
     }
     let next_at = place_behind(body_at, body.code.len())?;
-    let next = flat(alloc, room, next_at, next, Homes::new(alloc))?;
+    let next = flat(alloc, layout, room, next_at, next, Homes::new(alloc))?;
     if !next.homes.is_empty() {
         return Err(Refusal::Fault(Fault::NotTaken));
     }
@@ -370,19 +375,20 @@ fn repeated_parts(
 #[cycle(flat)]
 fn row(
     alloc: Global,
+    layout: &Layout,
     room: Room,
     at: u16,
     codes: &[Code],
     homes: Homes,
 ) -> Result<Piece, Refusal<Fault>>
     requires { room.locals + room.temps ≤ 252 }
-    ensures { Lays result at (flat room (list_of codes.now) homes) }
+    ensures { Lays result at (flat layout.now room (list_of codes.now) homes) }
 {
     let mut code = Row::new(alloc);
     let mut homes = homes;
     'parts: for part in codes {
         let part_at = place_behind(at, code.len())?;
-        let piece = flat(alloc, room, part_at, part, homes)?;
+        let piece = flat(alloc, layout, room, part_at, part, homes)?;
         code = append(code, piece.code.as_slice())?;
         homes = piece.homes;
     }
@@ -393,6 +399,7 @@ fn row(
 #[cycle(flat)]
 fn arms(
     alloc: Global,
+    layout: &Layout,
     room: Room,
     at: u16,
     all: &[Code],
@@ -400,11 +407,11 @@ fn arms(
     homes: Homes,
 ) -> Result<Piece, Refusal<Fault>>
     requires { room.locals + room.temps ≤ 252 }
-    ensures { Lays result at (flat room (arms_list all.now (code_of last.now)) homes) }
+    ensures { Lays result at (flat layout.now room (arms_list all.now (code_of last.now)) homes) }
 {
     match all {
-        [] => flat(alloc, room, at, last, homes),
-        [code, more @ ..] => arm_first(alloc, room, at, code, more, last, homes),
+        [] => flat(alloc, layout, room, at, last, homes),
+        [code, more @ ..] => arm_first(alloc, layout, room, at, code, more, last, homes),
     }
 }
 
@@ -412,6 +419,7 @@ fn arms(
 #[cycle(flat)]
 fn arm_first(
     alloc: Global,
+    layout: &Layout,
     room: Room,
     at: u16,
     code: &Code,
@@ -420,16 +428,16 @@ fn arm_first(
     homes: Homes,
 ) -> Result<Piece, Refusal<Fault>>
     requires { room.locals + room.temps ≤ 252 }
-    ensures { Lays result at (flat room (arm_then code.now (arms_list more.now (code_of last.now))) homes) }
+    ensures { Lays result at (flat layout.now room (arm_then code.now (arms_list more.now (code_of last.now))) homes) }
 {
     match code {
         Code::Arm(condition, block) => {
-            let first = flat(alloc, room, at, condition, homes)?;
+            let first = flat(alloc, layout, room, at, condition, homes)?;
             let rest_at = place_behind(at, first.code.len())?;
-            let rest = arm_or(alloc, room, rest_at, block, more, last, first.homes)?;
+            let rest = arm_or(alloc, layout, room, rest_at, block, more, last, first.homes)?;
             Ok(behind(first.code, rest)?)
         }
-        _ => code_and_arms(alloc, room, at, code, more, last, homes),
+        _ => code_and_arms(alloc, layout, room, at, code, more, last, homes),
     }
 }
 
@@ -437,6 +445,7 @@ fn arm_first(
 #[cycle(flat)]
 fn code_and_arms(
     alloc: Global,
+    layout: &Layout,
     room: Room,
     at: u16,
     code: &Code,
@@ -445,11 +454,11 @@ fn code_and_arms(
     homes: Homes,
 ) -> Result<Piece, Refusal<Fault>>
     requires { room.locals + room.temps ≤ 252 }
-    ensures { Lays result at (flat room (Then (code_of code.now) (arms_list more.now (code_of last.now))) homes) }
+    ensures { Lays result at (flat layout.now room (Then (code_of code.now) (arms_list more.now (code_of last.now))) homes) }
 {
-    let first = flat(alloc, room, at, code, homes)?;
+    let first = flat(alloc, layout, room, at, code, homes)?;
     let rest_at = place_behind(at, first.code.len())?;
-    let rest = arms(alloc, room, rest_at, more, last, first.homes)?;
+    let rest = arms(alloc, layout, room, rest_at, more, last, first.homes)?;
     Ok(behind(first.code, rest)?)
 }
 
@@ -457,6 +466,7 @@ fn code_and_arms(
 #[cycle(flat)]
 fn landed_arms(
     alloc: Global,
+    layout: &Layout,
     room: Room,
     at: u16,
     all: &[Code],
@@ -464,9 +474,9 @@ fn landed_arms(
     homes: Homes,
 ) -> Result<Piece, Refusal<Fault>>
     requires { room.locals + room.temps ≤ 252 }
-    ensures { Lays result at (landed room (flat room (arms_list all.now (code_of last.now)) homes)) }
+    ensures { Lays result at (landed room (flat layout.now room (arms_list all.now (code_of last.now)) homes)) }
 {
-    let first = arms(alloc, room, at, all, last, homes)?;
+    let first = arms(alloc, layout, room, at, all, last, homes)?;
     let rest_at = place_behind(at, first.code.len())?;
     let rest = landing(alloc, room, rest_at, first.homes)?;
     Ok(behind(first.code, rest)?)
@@ -476,6 +486,7 @@ fn landed_arms(
 #[cycle(flat)]
 fn arm_or(
     alloc: Global,
+    layout: &Layout,
     room: Room,
     at: u16,
     block: &Code,
@@ -484,16 +495,16 @@ fn arm_or(
     homes: Homes,
 ) -> Result<Piece, Refusal<Fault>>
     requires { room.locals + room.temps ≤ 252 }
-    ensures { Lays result at (flat room (If (code_of block.now) (arms_list more.now (code_of last.now))) homes) }
+    ensures { Lays result at (flat layout.now room (If (code_of block.now) (arms_list more.now (code_of last.now))) homes) }
 {
     let mut homes = homes;
     match take_truth(&mut homes) {
         None => Err(Refusal::Fault(Fault::NotTaken)),
         Some(truth) => {
             let first_at = place_behind(at, 1)?;
-            let first = landed(alloc, room, first_at, block, homes.copy(alloc)?)?;
+            let first = landed(alloc, layout, room, first_at, block, homes.copy(alloc)?)?;
             let rest_at = rest_place(at, first.code.len())?;
-            let rest = landed_arms(alloc, room, rest_at, more, last, homes)?;
+            let rest = landed_arms(alloc, layout, room, rest_at, more, last, homes)?;
             join(alloc, at, truth, first, rest)
         }
     }
@@ -503,6 +514,7 @@ fn arm_or(
 #[cycle(flat)]
 fn arm(
     alloc: Global,
+    layout: &Layout,
     room: Room,
     at: u16,
     condition: &Code,
@@ -510,11 +522,11 @@ fn arm(
     homes: Homes,
 ) -> Result<Piece, Refusal<Fault>>
     requires { room.locals + room.temps ≤ 252 }
-    ensures { Lays result at (flat room (Then (code_of condition.now) (If (code_of block.now) Nothing)) homes) }
+    ensures { Lays result at (flat layout.now room (Then (code_of condition.now) (If (code_of block.now) Nothing)) homes) }
 {
-    let first = flat(alloc, room, at, condition, homes)?;
+    let first = flat(alloc, layout, room, at, condition, homes)?;
     let rest_at = place_behind(at, first.code.len())?;
-    let rest = arm_or_nothing(alloc, room, rest_at, block, first.homes)?;
+    let rest = arm_or_nothing(alloc, layout, room, rest_at, block, first.homes)?;
     Ok(behind(first.code, rest)?)
 }
 
@@ -522,20 +534,21 @@ fn arm(
 #[cycle(flat)]
 fn arm_or_nothing(
     alloc: Global,
+    layout: &Layout,
     room: Room,
     at: u16,
     block: &Code,
     homes: Homes,
 ) -> Result<Piece, Refusal<Fault>>
     requires { room.locals + room.temps ≤ 252 }
-    ensures { Lays result at (flat room (If (code_of block.now) Nothing) homes) }
+    ensures { Lays result at (flat layout.now room (If (code_of block.now) Nothing) homes) }
 {
     let mut homes = homes;
     match take_truth(&mut homes) {
         None => Err(Refusal::Fault(Fault::NotTaken)),
         Some(truth) => {
             let first_at = place_behind(at, 1)?;
-            let first = landed(alloc, room, first_at, block, homes.copy(alloc)?)?;
+            let first = landed(alloc, layout, room, first_at, block, homes.copy(alloc)?)?;
             let rest_at = rest_place(at, first.code.len())?;
             let rest = landed_nothing(alloc, room, rest_at, homes)?;
             join(alloc, at, truth, first, rest)

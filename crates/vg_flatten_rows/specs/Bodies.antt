@@ -2,27 +2,30 @@
 use Rattle.std.specs.Prelude.{◌≡◌, refl, ℕ, zero, suc, ◌++◌, List, [], ◌∷◌, length, map, replicate, Option, Some, None}
 use Rattle.std.specs.Option.{option_map}
 use Rattle.vg_meaning.specs.Code.{Code, Nothing, Then, Do, If, Loop, Break, Continue, Return as Returning}
-use Rattle.vg_firm.specs.declared.step.Home.TheVariants.{Ram}
+use Rattle.vg_firm.specs.declared.step.Home.TheVariants.{Ram, Flash}
 use Rattle.vg_firm.specs.declared.step.Order.TheVariants.{Signed}
 use Rattle.vg_firm.specs.declared.step.Operator.TheVariants.{Plus, Divide, Remainder, Less, Unequal, ShiftLeft, ShiftRight}
 use Rattle.vg_firm.specs.declared.step.Prefix.TheVariants.{Complement, Cut}
 use Rattle.vg_firm.specs.declared.step.Elements.{Elements}
 use Rattle.vg_firm.specs.declared.step.Step.{Step}
 use Rattle.vg_firm.specs.declared.step.Step.TheVariants.{Number, Local as Get, SetLocal, Forget, Operate, Apply, ReadDevice, WriteDevice, LoadItem, StoreItem}
-use Rattle.vg_firm.specs.declared.step.Step.TheVariants.{LoadNothing, StoreNothing, IsWithin, StopUnlessWithin, Call as CallOf, CallValue}
+use Rattle.vg_firm.specs.declared.step.Step.TheVariants.{Load as LoadOne, Store as StoreOne, LoadAt, StoreAt, Length, LoadNothing, StoreNothing, IsWithin, StopUnlessWithin, Call as CallOf, CallValue}
 use Rattle.vg_firm.specs.Program.{Procedure}
 use Rattle.vg_lin.specs.declared.instr.Operand.{Operand}
 use Rattle.vg_lin.specs.declared.instr.Operand.TheVariants.{Local, Known}
 use Rattle.vg_lin.specs.declared.instr.Operator.{Operator as LinOperator}
-use Rattle.vg_lin.specs.declared.instr.Operator.TheVariants.{Plus as Sum, Minus as Difference, Divide as Quotient, Remainder as Rest, And as Mask, ShiftLeft as LeftShift, ShiftRight as RightShift}
+use Rattle.vg_lin.specs.declared.instr.Operator.TheVariants.{Plus as Sum, Minus as Difference, Times as Product, Divide as Quotient, Remainder as Rest, And as Mask, ShiftLeft as LeftShift, ShiftRight as RightShift}
 use Rattle.vg_lin.specs.declared.instr.Comparison.TheVariants.{Below, Less as IsLess, Same}
 use Rattle.vg_lin.specs.declared.instr.Test.{Test}
-use Rattle.vg_lin.specs.declared.instr.Plain.TheVariants.{Copy, Compute, WriteDevice as Writes, Stop}
+use Rattle.vg_lin.specs.declared.instr.Plain.TheVariants.{Copy, Compute, Load as LoadsBytes, Store as StoresBytes, WriteDevice as Writes, Stop}
+use Rattle.vg_lin.specs.declared.instr.Memory.TheVariants.{Ram as InRam, Flash as InFlash}
 use Rattle.vg_lin.specs.declared.instr.Callee.TheVariants.{Procedure as ByNumber}
 use Rattle.vg_lin.specs.declared.instr.Registers.{Registers}
 use Rattle.vg_lin.specs.declared.instr.Registers.TheVariants.{One, Two}
 use Rattle.vg_lin.specs.declared.instr.Instr.{Instr}
 use Rattle.vg_lin.specs.declared.instr.Instr.TheVariants.{Plain, When, Unless, Jump, Call, Return}
+use Rattle.vg_flatten_shapes.specs.declared.layout.Place.{Place}
+use Rattle.vg_flatten_shapes.specs.declared.layout.Layout.{Layout}
 use Rattle.vg_flatten_shapes.specs.Shapes.{empty}
 use Rattle.vg_flatten_shapes.specs.Blocks.{open_code, set_in}
 use Rattle.vg_flatten_shapes.specs.Made.{Made, Gives, Refused}
@@ -38,9 +41,13 @@ abbrev pub code_for : Procedure → Made → Option (List Instr)
 code_for m (Gives b s) = Some (map (set_in 0 0) (open_code (whole m b) 0))
 code_for m (Refused why) = None
 
--- The code of a body with so many temporaries.
+-- The code of a body with so many temporaries, where columns and tables stand so.
+abbrev pub flattened_in : Layout → (temps : ℕ) → Procedure → Option (List Instr)
+flattened_in lay temps m = code_for m (flat lay (record { locals = length m.widths; temps = temps }) m.body empty)
+
+-- The same without columns.
 abbrev pub flattened : (temps : ℕ) → Procedure → Option (List Instr)
-flattened temps m = code_for m (flat (record { locals = length m.widths; temps = temps }) m.body empty)
+flattened temps m = flattened_in (record { ram = []; flash = []; tables = [] }) temps m
 
 -- A procedure whose locals have these widths, the first ones being its parameters.
 abbrev pub procedure : (params : ℕ) → (widths : List ℕ) → Code Step → Procedure
@@ -209,18 +216,96 @@ no_field : flattened 4 (procedure 2 (2 ∷ 4 ∷ []) (steps (Get 0 ∷ LoadNothi
     Unless (is_zero (Local 0)) 2 ∷ Plain (Stop 1) ∷ Plain (Copy 1 (Known 0)) ∷ Unless (is_zero (Local 0)) 5 ∷ Plain (Stop 1) ∷ Return (Known 0) ∷ [])
 no_field = refl
 
+-- ---- columns and tables
+
+abbrev pub place : (address width : ℕ) → Place
+place address width = record { address = address; width = width }
+
+-- Three columns, of entries of two bytes, one and four; and a table.
+abbrev pub layout : Layout
+layout = record { ram = place 256 1 ∷ place 258 2 ∷ []; flash = place 150 2 ∷ place 160 1 ∷ place 200 4 ∷ []; tables = 180 ∷ [] }
+
+abbrev pub loads : (width to base : ℕ) → Operand → Instr
+loads width to base index = Plain (LoadsBytes InFlash width to (record { base = base; index = index }))
+
+-- x = C.f; of a component
+component_field : flattened_in layout 4 (procedure 0 (2 ∷ []) (steps (LoadOne Flash 0 ∷ SetLocal 0 ∷ []) Nothing))
+    ≡ Some (Plain (Copy 0 (Known 0)) ∷ loads 2 1 150 (Known 0) ∷ Plain (Copy 0 (Local 1)) ∷ Return (Known 0) ∷ [])
+component_field = refl
+
+-- x = o.f; of one byte, where the first object that has it has the number 3
+narrow_field : flattened_in layout 4 (procedure 2 (2 ∷ 1 ∷ []) (steps (Get 0 ∷ LoadAt Flash 1 3 ∷ SetLocal 1 ∷ []) Nothing))
+    ≡ Some (
+    Unless (is_zero (Local 0)) 2 ∷ Plain (Stop 1) ∷ loads 1 2 157 (Local 0) ∷ Plain (Copy 1 (Local 2)) ∷ Return (Known 0) ∷ [])
+narrow_field = refl
+
+-- the same of four bytes, where it has the number 2
+wide_field : flattened_in layout 4 (procedure 2 (2 ∷ 4 ∷ []) (steps (Get 0 ∷ LoadAt Flash 2 2 ∷ SetLocal 1 ∷ []) Nothing))
+    ≡ Some (
+    Unless (is_zero (Local 0)) 2 ∷ Plain (Stop 1) ∷ computes Product 4 2 (Local 0) (Known 4) ∷ loads 4 2 192 (Local 2) ∷ Plain (Copy 1 (Local 2))
+    ∷ Return (Known 0) ∷ [])
+wide_field = refl
+
+-- x = C.f; and x = o.f; in RAM
+component_field_in_ram : flattened_in layout 4 (procedure 0 (1 ∷ []) (steps (LoadOne Ram 0 ∷ SetLocal 0 ∷ []) Nothing))
+    ≡ Some (Plain (Copy 0 (Known 0)) ∷ Plain (LoadsBytes InRam 1 1 (record { base = 256; index = Known 0 })) ∷ Plain (Copy 0 (Local 1)) ∷ Return (Known 0) ∷ [])
+component_field_in_ram = refl
+
+field_in_ram : flattened_in layout 4 (procedure 2 (2 ∷ 2 ∷ []) (steps (Get 0 ∷ LoadAt Ram 1 1 ∷ SetLocal 1 ∷ []) Nothing))
+    ≡ Some (
+    Unless (is_zero (Local 0)) 2 ∷ Plain (Stop 1) ∷ computes Product 4 2 (Local 0) (Known 2)
+    ∷ Plain (LoadsBytes InRam 2 2 (record { base = 256; index = Local 2 })) ∷ Plain (Copy 1 (Local 2)) ∷ Return (Known 0) ∷ [])
+field_in_ram = refl
+
+-- C.f = x; and o.f = x; of one byte and of two
+store_component_field : flattened_in layout 4 (procedure 1 (1 ∷ []) (steps (Get 0 ∷ StoreOne 0 1 ∷ []) Nothing))
+    ≡ Some (Plain (StoresBytes 1 (record { base = 256; index = Known 0 }) (Local 0)) ∷ Return (Known 0) ∷ [])
+store_component_field = refl
+
+store_field : flattened_in layout 4 (procedure 2 (2 ∷ 2 ∷ []) (steps (Get 0 ∷ Get 1 ∷ StoreAt 1 1 2 ∷ []) Nothing))
+    ≡ Some (
+    Unless (is_zero (Local 0)) 2 ∷ Plain (Stop 1) ∷ computes Product 4 4 (Local 0) (Known 2)
+    ∷ Plain (StoresBytes 2 (record { base = 256; index = Local 4 }) (Local 1)) ∷ Return (Known 0) ∷ [])
+store_field = refl
+
+-- o.f = o.f + 1; of one byte
+step_field : flattened_in layout 4 (procedure 1 (2 ∷ [])
+    (steps (Get 0 ∷ Get 0 ∷ LoadAt Ram 0 1 ∷ Number 1 ∷ Operate Plus ∷ Apply (Cut 8) ∷ StoreAt 0 1 1 ∷ []) Nothing))
+    ≡ Some (
+    Unless (is_zero (Local 0)) 2 ∷ Plain (Stop 1) ∷ Plain (LoadsBytes InRam 1 2 (record { base = 255; index = Local 0 })) ∷ sum 4 2 (Local 2) (Known 1)
+    ∷ sum 1 2 (Local 2) (Known 0) ∷ Unless (is_zero (Local 0)) 7 ∷ Plain (Stop 1)
+    ∷ Plain (StoresBytes 1 (record { base = 255; index = Local 0 }) (Local 2)) ∷ Return (Known 0) ∷ [])
+step_field = refl
+
+-- n = a.length;
+array_length : flattened_in layout 4 (procedure 2 (2 ∷ 4 ∷ []) (steps (Get 0 ∷ Length 0 ∷ SetLocal 1 ∷ []) Nothing))
+    ≡ Some (
+    Unless (is_zero (Local 0)) 2 ∷ Plain (Stop 1) ∷ computes Product 4 2 (Local 0) (Known 4) ∷ loads 2 2 178 (Local 2) ∷ Plain (Copy 1 (Local 2))
+    ∷ Return (Known 0) ∷ [])
+array_length = refl
+
+-- ---- elements
+
+abbrev pub bytes : Elements
+bytes = record { home = Ram; column = 0; address = 256; table = 0; width = 1 }
+
+-- x = a[i]; of bytes in RAM, by the table at 180: the length is checked before the address is read.
+element : flattened_in layout 4 (procedure 3 (2 ∷ 4 ∷ 1 ∷ []) (steps (Get 0 ∷ Get 1 ∷ LoadItem bytes ∷ SetLocal 2 ∷ []) Nothing))
+    ≡ Some (
+    Unless (is_zero (Local 0)) 2 ∷ Plain (Stop 1) ∷ computes Product 4 5 (Local 0) (Known 4) ∷ loads 2 6 178 (Local 5)
+    ∷ When (below (Local 1) (Local 6)) 6 ∷ Plain (Stop 2) ∷ loads 2 5 176 (Local 5) ∷ computes Product 4 6 (Local 1) (Known 1)
+    ∷ sum 4 5 (Local 5) (Local 6) ∷ Plain (LoadsBytes InRam 1 3 (record { base = 0; index = Local 5 })) ∷ Plain (Copy 2 (Local 3)) ∷ Return (Known 0) ∷ [])
+element = refl
+
 -- ---- what is not taken yet
 
 -- a delegate in a local, called with no argument
 delegate_call : flattened 4 (procedure 1 (4 ∷ []) (steps (Get 0 ∷ CallValue 0 ∷ Forget ∷ []) Nothing)) ≡ None
 delegate_call = refl
 
-abbrev bytes : Elements
-bytes = record { home = Ram; column = 0; address = 0x100; table = 0; width = 1 }
-
 -- a[i] = b[i];
-element : flattened 4 (procedure 3 (2 ∷ 2 ∷ 4 ∷ []) (steps (Get 0 ∷ Get 2 ∷ Get 1 ∷ Get 2 ∷ LoadItem bytes ∷ StoreItem bytes ∷ []) Nothing)) ≡ None
-element = refl
+copied_element : flattened_in layout 4 (procedure 3 (2 ∷ 2 ∷ 4 ∷ []) (steps (Get 0 ∷ Get 2 ∷ Get 1 ∷ Get 2 ∷ LoadItem bytes ∷ StoreItem bytes ∷ []) Nothing)) ≡ None
+copied_element = refl
 
 -- ---- a high body
 

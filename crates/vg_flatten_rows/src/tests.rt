@@ -5,7 +5,7 @@ ghost use Rattle.vg_lin.specs.Sound.{IsWidth};
 use std::alloc::Global;
 use vg_base::{NoMemory, Refusal, Row};
 use vg_firm::{Code, Operator, Procedure, Step};
-use vg_flatten::{Fault, flatten};
+use vg_flatten::{Fault, Layout, flatten};
 use vg_lin::LinProc;
 
 // Sixty locals of four bytes.
@@ -44,7 +44,12 @@ fn high(alloc: Global, count: u8) -> Result<Procedure, NoMemory>
 }
 
 fn flattened(alloc: Global, count: u8) -> Result<LinProc, Refusal<Fault>> {
-    flatten(alloc, &[], &high(alloc, count)?)
+    let layout = Layout {
+        ram: Row::new(alloc),
+        flash: Row::new(alloc),
+        tables: Row::new(alloc),
+    };
+    flatten(alloc, &layout, &[], &high(alloc, count)?)
 }
 
 // How many instructions and locals there are; one value more finds no temporary.

@@ -3,6 +3,7 @@
 
 pub mod choosing;
 pub mod fault;
+pub mod layout;
 pub mod open;
 pub mod piece;
 pub mod room;
@@ -10,6 +11,7 @@ pub mod shape;
 
 pub use choosing::{branch, choice, stop_where};
 pub use fault::Fault;
+pub use layout::{Layout, Place};
 pub use open::{Open, Truth};
 pub use piece::{Piece, append, behind, nothing, one, place_behind};
 pub use room::Room;

@@ -1,5 +1,8 @@
 -- What each step becomes, from where values wait.
-use Rattle.std.specs.Prelude.{ℕ, ◌+◌, ◌-◌, ◌^◌, Bool, true, ◌==◌, ◌&&◌, nat_lt, List, [], ◌∷◌, reverse, Option, Some, None, if◌then◌else◌}
+use Rattle.std.specs.Prelude.{ℕ, ◌+◌, ◌-◌, ◌*◌, ◌^◌, Bool, true, ◌==◌, ◌&&◌, nat_lt, nat_le, List, [], ◌∷◌, reverse, Option, Some, None, slice_get, if◌then◌else◌}
+use Rattle.vg_firm.specs.declared.step.Home.{Home}
+use Rattle.vg_firm.specs.declared.step.Home.TheVariants.{Ram as InRam, Flash as InFlash}
+use Rattle.vg_firm.specs.declared.step.Elements.{Elements}
 use Rattle.vg_firm.specs.declared.step.Order.{Order}
 use Rattle.vg_firm.specs.declared.step.Order.TheVariants.{Signed, Unsigned}
 use Rattle.vg_firm.specs.declared.step.Operator.{Operator}
@@ -9,7 +12,7 @@ use Rattle.vg_firm.specs.declared.step.Prefix.{Prefix}
 use Rattle.vg_firm.specs.declared.step.Prefix.TheVariants.{Negative, Not, Complement, Cut}
 use Rattle.vg_firm.specs.declared.step.Step.{Step}
 use Rattle.vg_firm.specs.declared.step.Step.TheVariants.{Number, Local, SetLocal, Forget, Operate, Apply, ReadDevice, WriteDevice}
-use Rattle.vg_firm.specs.declared.step.Step.TheVariants.{LoadNothing, StoreNothing, IsWithin, StopUnlessWithin, Call, Idle}
+use Rattle.vg_firm.specs.declared.step.Step.TheVariants.{Load as LoadOne, Store as StoreOne, LoadAt, StoreAt, LoadItem, Length, LoadNothing, StoreNothing, IsWithin, StopUnlessWithin, Call, Idle}
 use Rattle.vg_lin.specs.declared.instr.Operand.{Operand}
 use Rattle.vg_lin.specs.declared.instr.Operand.TheVariants.{Local as InLocal, Known}
 use Rattle.vg_lin.specs.declared.instr.Operator.{Operator as LinOperator}
@@ -19,14 +22,19 @@ use Rattle.vg_lin.specs.declared.instr.Comparison.{Comparison}
 use Rattle.vg_lin.specs.declared.instr.Comparison.TheVariants.{Below, Less as IsLess, Same}
 use Rattle.vg_lin.specs.declared.instr.Test.{Test}
 use Rattle.vg_lin.specs.declared.instr.Plain.{Plain}
-use Rattle.vg_lin.specs.declared.instr.Plain.TheVariants.{Copy, Compute, ReadDevice as ReadsDevice, WriteDevice as WritesDevice}
+use Rattle.vg_lin.specs.declared.instr.Plain.TheVariants.{Copy, Compute, Load, Store as StoreBytes, ReadDevice as ReadsDevice, WriteDevice as WritesDevice}
+use Rattle.vg_lin.specs.declared.instr.Memory.{Memory}
+use Rattle.vg_lin.specs.declared.instr.Memory.TheVariants.{Ram, Flash}
 use Rattle.vg_lin.specs.declared.instr.Callee.TheVariants.{Procedure}
 use Rattle.vg_lin.specs.declared.instr.Registers.{Registers}
 use Rattle.vg_lin.specs.declared.instr.Registers.TheVariants.{Empty, One as One', Two, Three, Four}
 use Rattle.vg_flatten_shapes.specs.declared.fault.Fault.TheVariants.{NotTaken}
+use Rattle.vg_flatten_shapes.specs.declared.layout.Layout.{Layout}
+use Rattle.vg_flatten_shapes.specs.declared.layout.Place.{Place}
 use Rattle.vg_flatten_shapes.specs.declared.open.Truth.{Truth}
 use Rattle.vg_flatten_shapes.specs.declared.room.Room.{Room}
 use Rattle.vg_flatten_shapes.specs.declared.open.Truth.TheVariants.{Holds, Fails}
+use Rattle.vg_flatten_steps.specs.declared.elements.Reach.{Reach}
 use Rattle.vg_flatten_shapes.specs.Shapes.{only, is_free, temp}
 use Rattle.vg_flatten_shapes.specs.Blocks.{Block, Skip, One, CallTo, TakeInterrupt, Both, Choice, stop_where}
 use Rattle.vg_flatten_shapes.specs.Made.{Made, Gives, Refused, by_temp, is_zero}
@@ -229,22 +237,145 @@ cast_to r first count (h ∷ hs) =
     else Refused NotTaken
 cast_to r first count [] = Refused NotTaken
 
+-- ---- columns and tables
+
+-- A number of bytes that a load takes.
+abbrev pub is_width : (width : ℕ) → Bool
+is_width width = nat_lt 0 width && nat_lt width 5
+
+abbrev pub load_from : Memory → (width to base : ℕ) → Operand → Plain
+load_from memory width to base index = Load memory width to (record { base = base; index = index })
+
+-- A number, so many times.
+abbrev pub multiplied : (to by : ℕ) → Operand → Block
+multiplied to by h = if by == 1 then Skip else One (Compute (record { operator = Product; width = 4; to = to; left = h; right = Known by }))
+
+abbrev pub multiple : (to by : ℕ) → Operand → Operand
+multiple to by h = if by == 1 then h else InLocal to
+
+-- Behind the null check of a number, so many bytes: those at a base, so many times further as the number says.
+abbrev pub fetched : Room → Memory → (width by base : ℕ) → Operand → List Operand → Made
+fetched r memory width by base h hs =
+    by_temp (temp r hs) (λ to. Gives (Both (stop_where 1 (Holds (is_zero h)))
+    (Both (multiplied to by h) (One (load_from memory width to base (multiple to by h))))) (only (InLocal to ∷ hs)))
+
+-- The one value of a column.
+abbrev pub load_one : Room → Memory → Option Place → List Operand → Made
+load_one r memory (Some place) hs =
+    if is_width place.width then by_temp (temp r hs) (λ to. Gives (One (load_from memory place.width to place.address (Known 0))) (only (InLocal to ∷ hs)))
+    else Refused NotTaken
+load_one r memory None hs = Refused NotTaken
+
+-- The value of an object: the column begins with that of the first.
+abbrev pub load_of : Room → Memory → (first : ℕ) → Option Place → List Operand → Made
+load_of r memory first (Some place) (h ∷ hs) =
+    if is_width place.width && nat_le (place.width * first) place.address
+    then fetched r memory place.width place.width (place.address - place.width * first) h hs
+    else Refused NotTaken
+load_of r memory first _ _ = Refused NotTaken
+
+-- The length of an array: four bytes of a table are the place of one, and the upper two its length.
+abbrev pub length_of : Room → Option ℕ → List Operand → Made
+length_of r (Some table) (h ∷ hs) = if nat_le 2 table then fetched r Flash 2 4 (table - 2) h hs else Refused NotTaken
+length_of r _ _ = Refused NotTaken
+
+-- A store at a base, so many bytes further as a number says, behind its null check.
+abbrev pub store_at : (width base : ℕ) → (index value : Operand) → Plain
+store_at width base index value = StoreBytes width (record { base = base; index = index }) value
+
+-- The one value of a column gets a value of so many bytes, as many as an entry has.
+abbrev pub store_one : (width : ℕ) → Option Place → List Operand → Made
+store_one width (Some place) (v ∷ hs) =
+    if is_width width && (width == place.width) then Gives (One (store_at width place.address (Known 0) v)) (only hs) else Refused NotTaken
+store_one width _ _ = Refused NotTaken
+
+-- The value of an object does.
+abbrev pub put_of : Room → (width base : ℕ) → (v h : Operand) → List Operand → Made
+put_of r width base v h hs =
+    by_temp (temp r (v ∷ h ∷ hs)) (λ to. Gives (Both (stop_where 1 (Holds (is_zero h)))
+    (Both (multiplied to width h) (One (store_at width base (multiple to width h) v)))) (only hs))
+
+abbrev pub store_of : Room → (first width : ℕ) → Option Place → List Operand → Made
+store_of r first width (Some place) (v ∷ h ∷ hs) =
+    if is_width width && (width == place.width) && nat_le (place.width * first) place.address
+    then put_of r width (place.address - place.width * first) v h hs
+    else Refused NotTaken
+store_of r first width _ _ = Refused NotTaken
+
+-- The places of the columns of a home, and the memory where they are.
+abbrev pub places_in : Layout → Home → List Place
+places_in lay InRam = lay.ram
+places_in lay InFlash = lay.flash
+
+abbrev pub memory_of : Home → Memory
+memory_of InRam = Ram
+memory_of InFlash = Flash
+
+-- ---- elements of arrays
+
+-- The column of a type of arrays stands where its elements are said to stand, in as many bytes.
+abbrev pub is_place : Elements → Place → Bool
+is_place e place = (e.address == place.address) && (e.width == place.width)
+
+abbrev pub timed : (to by : ℕ) → Operand → Plain
+timed to by h = Compute (record { operator = Product; width = 4; to = to; left = h; right = Known by })
+
+-- What is done with the address of an element, which is so many times its width behind that of the array.
+abbrev pub place_of : Reach → (last : Plain) → Block
+place_of x last =
+    Both (One (load_from Flash 2 x.first (x.table - 4) (InLocal x.first)))
+    (Both (One (timed x.second x.width x.index))
+    (Both (One (Compute (record { operator = Sum; width = 4; to = x.first; left = InLocal x.first; right = InLocal x.second }))) (One last)))
+
+-- The same behind the bounds check.
+abbrev pub bounded : Reach → (last : Plain) → Block
+bounded x last = Both (stop_where 2 (Fails (test_of Below x.index (InLocal x.second)))) (place_of x last)
+
+-- The same behind a load of the length of the array.
+abbrev pub reached : Reach → (last : Plain) → Block
+reached x last = Both (One (timed x.first 4 x.home)) (Both (One (load_from Flash 2 x.second (x.table - 2) (InLocal x.first))) (bounded x last))
+
+-- The same behind the null check.
+abbrev pub element_of : Reach → (last : Plain) → Block
+element_of x last = Both (stop_where 1 (Holds (is_zero x.home))) (reached x last)
+
+-- What is done with two temporaries above these.
+abbrev pub by_two : Room → List Operand → ((first second : ℕ) → Made) → Made
+by_two r hs go = by_temp (temp r hs) (λ first. by_temp (temp r (InLocal first ∷ hs)) (λ second. go first second))
+
+abbrev pub load_element : Room → Elements → (table : ℕ) → (h i : Operand) → List Operand → Made
+load_element r e table h i hs =
+    by_temp (temp r hs) (λ to. by_two r (i ∷ h ∷ hs) (λ first second.
+    Gives (element_of (record { first = first; second = second; table = table; width = e.width; home = h; index = i })
+    (load_from (memory_of e.home) e.width to 0 (InLocal first))) (only (InLocal to ∷ hs))))
+
+abbrev pub load_item : Room → Elements → Option Place → Option ℕ → List Operand → Made
+load_item r e (Some place) (Some table) (i ∷ h ∷ hs) =
+    if is_width e.width && is_place e place && nat_le 4 table then load_element r e table h i hs else Refused NotTaken
+load_item r e _ _ _ = Refused NotTaken
+
 -- ---- steps
 
 -- Where no truth value waits as a test.
-abbrev pub stepped : Room → Step → List Operand → Made
-stepped r (Number v) hs = put_number v hs
-stepped r (Local i) hs = get_local r i hs
-stepped r (SetLocal i) hs = set_local r i hs
-stepped r Forget hs = forgotten hs
-stepped r (Operate op) hs = operated r op hs
-stepped r (Apply op) hs = applied r op hs
-stepped r (ReadDevice address) hs = read r address hs
-stepped r (WriteDevice address) hs = written address hs
-stepped r (Call q count) hs = called r q count hs
-stepped r Idle hs = Gives TakeInterrupt (only hs)
-stepped r LoadNothing hs = load_nothing hs
-stepped r StoreNothing hs = store_nothing hs
-stepped r (IsWithin first count) hs = is_one_of r first count hs
-stepped r (StopUnlessWithin first count) hs = cast_to r first count hs
-stepped r _ hs = Refused NotTaken
+abbrev pub stepped : Layout → Room → Step → List Operand → Made
+stepped lay r (Number v) hs = put_number v hs
+stepped lay r (Local i) hs = get_local r i hs
+stepped lay r (SetLocal i) hs = set_local r i hs
+stepped lay r Forget hs = forgotten hs
+stepped lay r (Operate op) hs = operated r op hs
+stepped lay r (Apply op) hs = applied r op hs
+stepped lay r (ReadDevice address) hs = read r address hs
+stepped lay r (WriteDevice address) hs = written address hs
+stepped lay r (Call q count) hs = called r q count hs
+stepped lay r Idle hs = Gives TakeInterrupt (only hs)
+stepped lay r (LoadOne home c) hs = load_one r (memory_of home) (slice_get (places_in lay home) c) hs
+stepped lay r (LoadAt home c first) hs = load_of r (memory_of home) first (slice_get (places_in lay home) c) hs
+stepped lay r (StoreOne c width) hs = store_one width (slice_get lay.ram c) hs
+stepped lay r (StoreAt c first width) hs = store_of r first width (slice_get lay.ram c) hs
+stepped lay r (LoadItem e) hs = load_item r e (slice_get (places_in lay e.home) e.column) (slice_get lay.tables e.table) hs
+stepped lay r (Length table) hs = length_of r (slice_get lay.tables table) hs
+stepped lay r LoadNothing hs = load_nothing hs
+stepped lay r StoreNothing hs = store_nothing hs
+stepped lay r (IsWithin first count) hs = is_one_of r first count hs
+stepped lay r (StopUnlessWithin first count) hs = cast_to r first count hs
+stepped lay r _ hs = Refused NotTaken

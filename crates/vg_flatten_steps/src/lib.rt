@@ -2,7 +2,9 @@
 #![tactic(auto)]
 
 pub mod calls;
+pub mod columns;
 pub mod divisions;
+pub mod elements;
 pub mod objects;
 pub mod operators;
 pub mod put;

@@ -4,18 +4,21 @@ ghost use Rattle.vg_flatten_steps.specs.Steps.{stepped, get_local, set_local, re
 ghost use Rattle.vg_flatten_shapes.specs.Laying.{Lays};
 
 use crate::calls::called;
+use crate::columns::{length, load, load_at, store, store_to};
+use crate::elements::load_item;
 use crate::objects::{cast_to, is_one_of, load_nothing, store_nothing};
 use crate::operators::{applied, operated};
 use crate::put::{put_home, put_into, temp};
 use std::alloc::Global;
 use vg_base::Refusal;
 use vg_firm::Step;
-use vg_flatten_shapes::{Fault, Homes, Open, Piece, Room, nothing, one};
+use vg_flatten_shapes::{Fault, Homes, Layout, Open, Piece, Room, nothing, one};
 use vg_lin::{Instr, Operand, Plain};
 
 /// What a step becomes, where no truth value waits as a test.
 pub fn stepped(
     alloc: Global,
+    layout: &Layout,
     room: Room,
     at: u16,
     step: Step,
@@ -23,7 +26,7 @@ pub fn stepped(
 ) -> Result<Piece, Refusal<Fault>>
     requires room { room.locals + room.temps ≤ 252 }
     requires settled { homes.truth ≡ None }
-    ensures { Lays result at (stepped room step homes.homes) }
+    ensures { Lays result at (stepped layout.now room step homes.homes) }
 {
     match step {
         Step::Number(v) => Ok(put_home(alloc, Operand::Known(v), homes)?),
@@ -36,6 +39,16 @@ pub fn stepped(
         Step::WriteDevice(address) => written(alloc, at, address, homes),
         Step::Call(q, count) => called(alloc, room, at, q, count, homes),
         Step::Idle => Ok(one(alloc, Open::Set(Instr::Idle), homes)?),
+        Step::Load(home, column) => load(alloc, layout, room, at, home, column, homes),
+        Step::LoadAt(home, column, first) => {
+            load_at(alloc, layout, room, at, home, column, first, homes)
+        }
+        Step::Store(column, width) => store(alloc, layout, at, column, width, homes),
+        Step::StoreAt(column, first, width) => {
+            store_to(alloc, layout, room, at, column, first, width, homes)
+        }
+        Step::LoadItem(elements) => load_item(alloc, layout, room, at, elements, homes),
+        Step::Length(table) => length(alloc, layout, room, at, table, homes),
         Step::LoadNothing => load_nothing(alloc, at, homes),
         Step::StoreNothing => store_nothing(alloc, at, homes),
         Step::IsWithin(first, count) => is_one_of(alloc, room, at, first, count, homes),

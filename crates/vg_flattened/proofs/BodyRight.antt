@@ -17,6 +17,8 @@ use Rattle.vg_lin.specs.Steps.{Interrupt}
 use Rattle.vg_lin.specs.State.{State}
 use Rattle.vg_lin.specs.Meaning.{language, begun, widths_of, name_of, result_of, call_of}
 use Rattle.vg_lin.specs.Structured.{Step, Deciding, fresh, Caller as LinCaller, with_found, handle as lin_handle, resumed, body as lin_body, called as lin_called, step as lin_step, truth as lin_truth}
+use Rattle.vg_flatten_shapes.specs.declared.layout.Layout.{Layout}
+use Rattle.vg_flatten.specs.Columns.{FlashStands, RamStands}
 use Rattle.vg_flatten_shapes.specs.declared.room.Room.{Room}
 use Rattle.vg_flatten_shapes.specs.Shapes.{Shape, only, empty, is_empty}
 use Rattle.vg_flatten_shapes.specs.Blocks.{Block, Skip, GiveBack, Both, structured}
@@ -35,39 +37,39 @@ use Rattle.vg_flattened.proofs.Begun.{widths_are, zeroed, kept_at_entry}
 
 -- ---- interrupts
 
-pub alike_handling : (p : LinProgram) (f : FirmProgram) (call : FirmCaller History) (go : LinCaller State) → AlikeCalls p call go
+pub alike_handling : (lay : Layout) (p : LinProgram) (f : FirmProgram) (call : FirmCaller History) (go : LinCaller State) → AlikeCalls lay p call go
     → ((vector : ℕ) → p.handler vector ≡ f.handler vector) → (r : Room) (ws : List ℕ)
-    → AlikeHandling r ws (λ vector. firm_handled call (f.handler vector)) (λ vector. lin_handle (language p) go ((language p).handler vector))
-alike_handling p f call go calls handler r ws hs vector s d w i q =
-    subst (λ z. Alike (Held r ws (only hs)) (Leaves r ws) (firm_handled call (f.handler vector) s w) (lin_handle (language p) go z d w)) (sym
+    → AlikeHandling lay r ws (λ vector. firm_handled call (f.handler vector)) (λ vector. lin_handle (language p) go ((language p).handler vector))
+alike_handling lay p f call go calls handler r ws hs vector s d w i q =
+    subst (λ z. Alike (Held lay r ws (only hs)) (Leaves lay r ws) (firm_handled call (f.handler vector) s w) (lin_handle (language p) go z d w)) (sym
     (handler vector))
     (by_handler (f.handler vector))
   where
-    behind : (s1 : Firm) (d1 : Deciding State) (w1 : World History) → IsFair w1 → Returned 0 s s1 d1
-        → Alike (Held r ws (only hs)) (Leaves r ws) (taking (λ v. go_on) s1 w1) (resumed (language p) Interrupt d.state d d1 w1)
-    behind s1 d1 w1 i1 (v, e1, e2, e3, small) =
-        subst (λ z. Alike (Held r ws (only hs)) (Leaves r ws) (take_from z (λ v. go_on) s1 w1) (resumed (language p) Interrupt d.state d d1 w1)) (sym e1)
-        (gives i1 (record { waits = q.waits; kept = subst (λ z. AreKept r ws z d.state.locals) (sym e2) q.kept; none = q.none }))
+    behind : (s1 : Firm) (d1 : Deciding State) (w1 : World History) → IsFair w1 → Returned lay 0 s s1 d1
+        → Alike (Held lay r ws (only hs)) (Leaves lay r ws) (taking (λ v. go_on) s1 w1) (resumed (language p) Interrupt d.state d d1 w1)
+    behind s1 d1 w1 i1 (v, e1, e2, e3, small, held) =
+        subst (λ z. Alike (Held lay r ws (only hs)) (Leaves lay r ws) (take_from z (λ v. go_on) s1 w1) (resumed (language p) Interrupt d.state d d1 w1)) (sym e1)
+        (gives i1 (record { waits = q.waits; kept = subst (λ z. AreKept r ws z d.state.locals) (sym e2) q.kept; none = q.none; ram = held }))
 
-    by_handler : (o : Option ℕ) → Alike (Held r ws (only hs)) (Leaves r ws) (firm_handled call o s w) (lin_handle (language p) go o d w)
+    by_handler : (o : Option ℕ) → Alike (Held lay r ws (only hs)) (Leaves lay r ws) (firm_handled call o s w) (lin_handle (language p) go o d w)
     by_handler None = gives i q
     by_handler (Some h) =
-        alike_behind_both (taking (λ v. go_on)) (resumed (language p) Interrupt d.state d) (calls h 0 s w d.state.ram i) behind
+        alike_behind_both (taking (λ v. go_on)) (resumed (language p) Interrupt d.state d) (calls h 0 s w d.state.ram i q.ram) behind
 
 -- a procedure calls no other than those that it names
-pub alike_guarded : (p : LinProgram) (names : List ℕ) (call : FirmCaller History) (go : LinCaller State) → AlikeCalls p call go
-    → AlikeCalls p (guarded names call) go
-alike_guarded p names call go calls q count s w ram i = by_name (is_among names q)
+pub alike_guarded : (lay : Layout) (p : LinProgram) (names : List ℕ) (call : FirmCaller History) (go : LinCaller State) → AlikeCalls lay p call go
+    → AlikeCalls lay p (guarded names call) go
+alike_guarded lay p names call go calls q count s w ram i held = by_name (is_among names q)
   where
-    by_name : (b : Bool) → Alike (Returned count s) Never (checked b (call q count 0) s w) (go q (fresh (begins p q (arguments count s) ram)) w)
-    by_name true = calls q count s w ram i
+    by_name : (b : Bool) → Alike (Returned lay count s) Never (checked b (call q count 0) s w) (go q (fresh (begins p q (arguments count s) ram)) w)
+    by_name true = calls q count s w ram i held
     by_name false = wrong
 
 -- ---- one body
 
-module _ (k : Codes) (f : FirmProgram) (p : LinProgram) (params : List ℕ) (known : AreParams params p) (call : FirmCaller History) (go : LinCaller State)
-    (calls : AlikeCalls p call go) (handler : (vector : ℕ) → p.handler vector ≡ f.handler vector)
-    (m : FirmProcedure) (lp : LinProcedure) (fit : IsFit m) (is : IsFlat params m lp) where
+module _ (k : Codes) (lay : Layout) (f : FirmProgram) (p : LinProgram) (params : List ℕ) (known : AreParams params p) (call : FirmCaller History) (go : LinCaller State)
+    (calls : AlikeCalls lay p call go) (handler : (vector : ℕ) → p.handler vector ≡ f.handler vector)
+    (flash : FlashStands lay f p) (m : FirmProcedure) (lp : LinProcedure) (fit : IsFit m) (is : IsFlat lay params m lp) where
   abbrev r : Room
   r = is.room
 
@@ -87,27 +89,27 @@ module _ (k : Codes) (f : FirmProgram) (p : LinProgram) (params : List ℕ) (kno
   zeroes_do (suc c) i d w = zeroes_do c (suc i) (record d { state = record d.state { locals = zeroed (suc zero) i d.state.locals } }) w
 
   -- what the end of a body is to its caller
-  finished : (count : ℕ) (s : Firm) (a : Answer Firm History) (b : Answer (Deciding State) History) → Alike (Held r ws empty) (Leaves r ws) a b
-      → Alike (Returned count s) Never (and_then (returned a (put 0)) (taking (of_width m.result (back_in count s))))
+  finished : (count : ℕ) (s : Firm) (a : Answer Firm History) (b : Answer (Deciding State) History) → Alike (Held lay r ws empty) (Leaves lay r ws) a b
+      → Alike (Returned lay count s) Never (and_then (returned a (put 0)) (taking (of_width m.result (back_in count s))))
       (returned (and_then b (linear' (GiveBack (Known 0)))) (over Wrong))
   finished count s _ _ (gives {s = s1} {t = d1} {w = w1} i q) =
-      subst (λ z. Alike (Returned count s) Never (take_from (0 ∷ s1.values) (of_width m.result (back_in count s)) s1 w1)
+      subst (λ z. Alike (Returned lay count s) Never (take_from (0 ∷ s1.values) (of_width m.result (back_in count s)) s1 w1)
       (returned (and_then (with_found (result_of (Known 0) d1.state z) (λ x s2 w2. Gives (record s2 { result = x }) w2) d1 w1)
       (λ s2 w2. Ends Returns s2 w2)) (over Wrong)))
       (sym q.none) (by_width (nat_lt 0 (256 ^ m.result)))
     where
-      by_width : (b : Bool) → Alike (Returned count s) Never (checked b (back_in count s 0) (record s1 { values = s1.values }) w1) (Gives
+      by_width : (b : Bool) → Alike (Returned lay count s) Never (checked b (back_in count s 0) (record s1 { values = s1.values }) w1) (Gives
           (record d1 { result = 0 }) w1)
-      by_width true = gives i (0, refl, refl, refl, omega arith)
+      by_width true = gives i (0, refl, refl, refl, omega arith, q.ram)
       by_width false = wrong
   finished count s _ _ (leaves {why = Breaks} i q) = wrong
   finished count s _ _ (leaves {why = Continues} i q) = wrong
-  finished count s _ _ (leaves {why = Returns} {s = s1} {t = d1} {w = w1} i (v, vs, e, er, small)) =
-      subst (λ z. Alike (Returned count s) Never (take_from z (of_width m.result (back_in count s)) s1 w1) (Gives d1 w1)) (sym e)
+  finished count s _ _ (leaves {why = Returns} {s = s1} {t = d1} {w = w1} i (v, vs, e, er, small, held)) =
+      subst (λ z. Alike (Returned lay count s) Never (take_from z (of_width m.result (back_in count s)) s1 w1) (Gives d1 w1)) (sym e)
       (by_width (nat_lt v (256 ^ m.result)))
     where
-      by_width : (b : Bool) → Alike (Returned count s) Never (checked b (back_in count s v) (record s1 { values = vs }) w1) (Gives d1 w1)
-      by_width true = gives i (v, refl, refl, er, small)
+      by_width : (b : Bool) → Alike (Returned lay count s) Never (checked b (back_in count s v) (record s1 { values = vs }) w1) (Gives d1 w1)
+      by_width true = gives i (v, refl, refl, er, small, held)
       by_width false = wrong
   finished count s _ _ (leaves {why = Over why} i q) = absurd q
   finished count s _ _ overs = overs
@@ -128,14 +130,14 @@ module _ (k : Codes) (f : FirmProgram) (p : LinProgram) (params : List ℕ) (kno
       three false b c ea eb ec h = absurd (grind arith)
 
   -- the body, from the entry
-  pub alike_body : (count : ℕ) (s : Firm) (ram : List ℕ) (w : World History) → IsFair w → may_enter m count s ≡ true
+  pub alike_body : (count : ℕ) (s : Firm) (ram : List ℕ) (w : World History) → IsFair w → may_enter m count s ≡ true → RamStands lay.ram s.columns ram
       → (d : Deciding State) → d ≡ fresh (record { locals = begun ws (arguments count s); waiting = []; ram = ram })
-      → Alike (Returned count s) Never (run_procedure full k f call handle m count 0 s w) (lin_body (language p) go (structured (whole m is.block)) d w)
-  alike_body count s ram w i enter d ed =
-      subst (λ z. Alike (Returned count s) Never (run_procedure full k f call handle m count 0 s w) (returned z (over Wrong)))
+      → Alike (Returned lay count s) Never (run_procedure full k f call handle m count 0 s w) (lin_body (language p) go (structured (whole m is.block)) d w)
+  alike_body count s ram w i enter held d ed =
+      subst (λ z. Alike (Returned lay count s) Never (run_procedure full k f call handle m count 0 s w) (returned z (over Wrong)))
       (sym (ap (λ z. and_then z (linear' (Both is.block (GiveBack (Known 0))))) (zeroes_do (length m.widths - m.params) m.params d w)))
-      (finished count s _ _ (does (right_code k f m (guarded m.calls call) handle p go params r ws (widths_are r m.widths is.locals) known
-      (alike_guarded p m.calls call go calls) (alike_handling p f call go calls handler r ws) m.body empty tt)))
+      (finished count s _ _ (does (right_code k f m (guarded m.calls call) handle p go params lay r ws (widths_are r m.widths is.locals) known
+      (alike_guarded lay p m.calls call go calls) (alike_handling lay p f call go calls handler r ws) flash m.body empty tt)))
     where
       facts : (count ≡ m.params) × (length (arguments count s) ≡ count) × (all_fit m.widths (arguments count s) ≡ true)
       facts = entry_facts count s enter
@@ -150,16 +152,16 @@ module _ (k : Codes) (f : FirmProgram) (p : LinProgram) (params : List ℕ) (kno
           (length m.widths - m.params) m.params z.state.locals)) (sym ed)
           (kept_at_entry r m.widths (arguments count s) m.params is.locals fit.params (facts.1 ∙ facts.0) fit.widths facts.2))
 
-      begin : Held r ws empty (firm_entered m count 0 s) begun_d
-      begin = record { waits = tt; kept = kept; none = ap (λ z. z.state.waiting) ed }
+      begin : Held lay r ws empty (firm_entered m count 0 s) begun_d
+      begin = record { waits = tt; kept = kept; none = ap (λ z. z.state.waiting) ed; ram = subst (λ z. RamStands lay.ram s.columns z.state.ram) (sym ed) held }
 
-      does : Right k f m (guarded m.calls call) handle p go params r ws (widths_are r m.widths is.locals) empty (flat r m.body empty)
-          (packed k f m (guarded m.calls call) handle p go params r ws (widths_are r m.widths is.locals) m.body)
-          → Alike (Held r ws empty) (Leaves r ws)
+      does : Right k f m (guarded m.calls call) handle p go params lay r ws (widths_are r m.widths is.locals) empty (flat lay r m.body empty)
+          (packed k f m (guarded m.calls call) handle p go params lay r ws (widths_are r m.widths is.locals) m.body)
+          → Alike (Held lay r ws empty) (Leaves lay r ws)
           (performed full (firm_step k f m (guarded m.calls call) handle) firm_truth m.body (firm_entered m count 0 s) w) (linear' is.block begun_d w)
       does h =
-          let h1 = subst (λ z. Right k f m (guarded m.calls call) handle p go params r ws (widths_are r m.widths is.locals) empty z
-          (packed k f m (guarded m.calls call) handle p go params r ws (widths_are r m.widths is.locals) m.body)) is.made h in
-          subst (λ z. Alike (Held r ws z) (Leaves r ws)
+          let h1 = subst (λ z. Right k f m (guarded m.calls call) handle p go params lay r ws (widths_are r m.widths is.locals) empty z
+          (packed k f m (guarded m.calls call) handle p go params lay r ws (widths_are r m.widths is.locals) m.body)) is.made h in
+          subst (λ z. Alike (Held lay r ws z) (Leaves lay r ws)
           (performed full (firm_step k f m (guarded m.calls call) handle) firm_truth m.body (firm_entered m count 0 s) w) (linear' is.block begun_d w))
           (empty_is is.shape is.done) (h1.1 is.fits (firm_entered m count 0 s) begun_d w i begin)

@@ -22,6 +22,8 @@ use Rattle.vg_lin.specs.State.{State, value, sets}
 use Rattle.vg_lin.specs.Meaning.{language, operands, values, both_values, begun, widths_of, enter, entry_of, entry_with}
 use Rattle.vg_lin.specs.Structured.{Deciding, fresh, Caller as LinCaller, with_found, entered, resumed}
 use Rattle.vg_flatten_shapes.specs.declared.fault.Fault.TheVariants.{NotTaken}
+use Rattle.vg_flatten.specs.Columns.{RamStands}
+use Rattle.vg_flatten_shapes.specs.declared.layout.Layout.{Layout}
 use Rattle.vg_flatten_shapes.specs.declared.room.Room.{Room}
 use Rattle.vg_flatten_shapes.specs.Shapes.{Shape, only, temp}
 use Rattle.vg_flatten_shapes.specs.Blocks.{Block, CallTo, TakeInterrupt}
@@ -39,22 +41,23 @@ abbrev pub Never : {S T : Type 0} → Signal → S → T → Type 0
 Never why s t = ⊥
 
 -- Behind a call the caller has what it had, but for the arguments, and both have the result.
-abbrev pub Returned : (count : ℕ) → Firm → Firm → Deciding State → Type 0
-Returned count s s1 d1 = (v : ℕ) × (s1.values ≡ v ∷ drop count s.values) × (s1.locals ≡ s.locals) × (d1.result ≡ v) × (v < 2 ^ 32)
+abbrev pub Returned : Layout → (count : ℕ) → Firm → Firm → Deciding State → Type 0
+Returned lay count s s1 d1 = (v : ℕ) × (s1.values ≡ v ∷ drop count s.values) × (s1.locals ≡ s.locals) × (d1.result ≡ v) × (v < 2 ^ 32)
+    × RamStands lay.ram s1.columns d1.state.ram
 
 -- The state in which procedure q begins with these arguments.
 abbrev pub begins : LinProgram → (q : ℕ) → (xs ram : List ℕ) → State
 begins p q xs ram = record { locals = begun (widths_of (slice_get p.procedures q)) xs; waiting = []; ram = ram }
 
-abbrev pub AlikeCalls : LinProgram → FirmCaller History → LinCaller State → Type 0
-AlikeCalls p call go =
-    (q count : ℕ) (s : Firm) (w : World History) (ram : List ℕ) → IsFair w
-    → Alike (Returned count s) Never (call q count 0 s w) (go q (fresh (begins p q (arguments count s) ram)) w)
+abbrev pub AlikeCalls : Layout → LinProgram → FirmCaller History → LinCaller State → Type 0
+AlikeCalls lay p call go =
+    (q count : ℕ) (s : Firm) (w : World History) (ram : List ℕ) → IsFair w → RamStands lay.ram s.columns ram
+    → Alike (Returned lay count s) Never (call q count 0 s w) (go q (fresh (begins p q (arguments count s) ram)) w)
 
 -- What is done for an interrupt keeps the values that wait.
-abbrev pub AlikeHandling : Room → (ws : List ℕ) → (handle : ℕ → Piece Firm History) → (handle' : ℕ → Piece (Deciding State) History) → Type 0
-AlikeHandling r ws handle handle' = (hs : List Operand) (vector : ℕ)
-    → AlikePiece (Held r ws (only hs)) (Held r ws (only hs)) (Leaves r ws) (handle vector) (handle' vector)
+abbrev pub AlikeHandling : Layout → Room → (ws : List ℕ) → (handle : ℕ → Piece Firm History) → (handle' : ℕ → Piece (Deciding State) History) → Type 0
+AlikeHandling lay r ws handle handle' = (hs : List Operand) (vector : ℕ)
+    → AlikePiece (Held lay r ws (only hs)) (Held lay r ws (only hs)) (Leaves lay r ws) (handle vector) (handle' vector)
 
 -- Each number of a procedure has its parameters in the list.
 abbrev pub AreParams : (params : List ℕ) → LinProgram → Type 0
@@ -81,13 +84,13 @@ pub value_first : (a : Operand) (as' : List Operand) (x : ℕ) (xs : List ℕ) (
 value_first a as' x xs t e es = ap (λ z. both_values z (values as' t)) e ∙ ap (λ z. both_values (Some x) z) es
 
 module _ (k : Codes) (f : FirmProgram) (m : FirmProcedure) (call : FirmCaller History) (handle : ℕ → Piece Firm History)
-    (p : LinProgram) (go : LinCaller State) (params : List ℕ) (r : Room) (ws : List ℕ) (wide : AreWidths r m.widths ws)
-    (known : AreParams params p) (calls : AlikeCalls p call go) where
+    (p : LinProgram) (go : LinCaller State) (params : List ℕ) (lay : Layout) (r : Room) (ws : List ℕ) (wide : AreWidths r m.widths ws)
+    (known : AreParams params p) (calls : AlikeCalls lay p call go) where
   abbrev Right' : Shape → Made → Piece Firm History → Type 0
-  Right' = Right k f m call handle p go params r ws wide
+  Right' = Right k f m call handle p go params lay r ws wide
 
   abbrev linear' : Block → Piece (Deciding State) History
-  linear' = linear k f m call handle p go params r ws wide
+  linear' = linear k f m call handle p go params lay r ws wide
 
   abbrev calling : (q : ℕ) → Registers → (to : ℕ) → Calling
   calling q args to = record { callee = ByNumber q; pushed = 0; registers = args; to = Some to }
@@ -111,33 +114,33 @@ module _ (k : Codes) (f : FirmProgram) (m : FirmProcedure) (call : FirmCaller Hi
   right_call : (q count to : ℕ) (args : Registers) (hs : List Operand) → ArePlaced r.locals hs → temp r hs ≡ Some to
       → CallsFit params (CallTo (calling q args to))
       → (s : Firm) (d : Deciding State) (w : World History) → IsFair w → (xs : List ℕ) → arguments count s ≡ xs → length xs ≡ length (operands args)
-      → values (operands args) d.state ≡ Some xs → AreAt hs (drop count s.values) d.state.locals → AreKept r ws s.locals d.state.locals → d.state.waiting ≡ []
-      → Alike (Held r ws (only (Local to ∷ hs))) (Leaves r ws) (call q count 0 s w) (linear' (CallTo (calling q args to)) d w)
-  right_call q count to args hs placed has fit s d w i xs are long vals at kept none = by_procedure (known q (length (operands args)) fit)
+      → values (operands args) d.state ≡ Some xs → AreAt hs (drop count s.values) d.state.locals → AreKept r ws s.locals d.state.locals → d.state.waiting ≡ [] → RamStands lay.ram s.columns d.state.ram
+      → Alike (Held lay r ws (only (Local to ∷ hs))) (Leaves lay r ws) (call q count 0 s w) (linear' (CallTo (calling q args to)) d w)
+  right_call q count to args hs placed has fit s d w i xs are long vals at kept none held = by_procedure (known q (length (operands args)) fit)
     where
-      behind : (s1 : Firm) (d1 : Deciding State) (w1 : World History) → IsFair w1 → Returned count s s1 d1
-          → Alike (Held r ws (only (Local to ∷ hs))) (Leaves r ws) (Gives s1 w1) (resumed (language p) (Result (calling q args to)) d.state d d1 w1)
-      behind s1 d1 w1 i1 (v, e1, e2, e3, small) =
-          gives i1 (subst (λ z. AreSame r ws (Local to ∷ hs) s1 (sets to z (record d.state { ram = d1.state.ram }))) (sym e3)
-          (subst (λ z. AreSame r ws (Local to ∷ hs) (record s1 { values = z }) (sets to v (record d.state { ram = d1.state.ram }))) (sym e1)
-          (put_temp r m.widths ws hs (record s1 { values = drop count s.values }) (record d.state { ram = d1.state.ram }) to v wide placed has small
-          (record { waits = at; kept = subst (λ z. AreKept r ws z d.state.locals) (sym e2) kept; none = none }))))
+      behind : (s1 : Firm) (d1 : Deciding State) (w1 : World History) → IsFair w1 → Returned lay count s s1 d1
+          → Alike (Held lay r ws (only (Local to ∷ hs))) (Leaves lay r ws) (Gives s1 w1) (resumed (language p) (Result (calling q args to)) d.state d d1 w1)
+      behind s1 d1 w1 i1 (v, e1, e2, e3, small, held1) =
+          gives i1 (subst (λ z. AreSame lay r ws (Local to ∷ hs) s1 (sets to z (record d.state { ram = d1.state.ram }))) (sym e3)
+          (subst (λ z. AreSame lay r ws (Local to ∷ hs) (record s1 { values = z }) (sets to v (record d.state { ram = d1.state.ram }))) (sym e1)
+          (put_temp lay r m.widths ws hs (record s1 { values = drop count s.values }) (record d.state { ram = d1.state.ram }) to v wide placed has small
+          (record { waits = at; kept = subst (λ z. AreKept r ws z d.state.locals) (sym e2) kept; none = none; ram = held1 }))))
 
       by_procedure : (mq : LinProcedure) × (slice_get p.procedures q ≡ Some mq) × (mq.params ≡ length (operands args))
-          → Alike (Held r ws (only (Local to ∷ hs))) (Leaves r ws) (call q count 0 s w) (linear' (CallTo (calling q args to)) d w)
+          → Alike (Held lay r ws (only (Local to ∷ hs))) (Leaves lay r ws) (call q count 0 s w) (linear' (CallTo (calling q args to)) d w)
       by_procedure (mq, has1, many) =
-          subst (λ z. Alike (Held r ws (only (Local to ∷ hs))) (Leaves r ws) (call q count 0 s w) (with_found z (entered (language p) go
+          subst (λ z. Alike (Held lay r ws (only (Local to ∷ hs))) (Leaves lay r ws) (call q count 0 s w) (with_found z (entered (language p) go
           (calling q args to)) d w))
           (sym (enters q to args d.state xs mq has1 (many ∙ sym long) vals))
           (alike_behind_call (resumed (language p) (Result (calling q args to)) d.state d)
-          (subst (λ z. Alike (Returned count s) Never (call q count 0 s w) (go q (fresh (begins p q z d.state.ram)) w)) are (calls q count s w d.state.ram i))
+          (subst (λ z. Alike (Returned lay count s) Never (call q count 0 s w) (go q (fresh (begins p q z d.state.ram)) w)) are (calls q count s w d.state.ram i held))
           behind)
 
   -- the same, where the temporary is found
   right_called_with : (q count : ℕ) (args : Registers) (all hs : List Operand) → ArePlaced r.locals hs
       → ((to : ℕ) → temp r hs ≡ Some to → CallsFit params (CallTo (calling q args to)) → (s : Firm) (d : Deciding State) (w : World History) → IsFair w
-      → AreSame r ws all s d.state
-      → Alike (Held r ws (only (Local to ∷ hs))) (Leaves r ws) (call q count 0 s w) (linear' (CallTo (calling q args to)) d w))
+      → AreSame lay r ws all s d.state
+      → Alike (Held lay r ws (only (Local to ∷ hs))) (Leaves lay r ws) (call q count 0 s w) (linear' (CallTo (calling q args to)) d w))
       → Right' (only all) (called_with r q args hs) (call q count 0)
   right_called_with q count args all hs placed does = by_room (temp r hs) refl
     where
@@ -149,7 +152,7 @@ module _ (k : Codes) (f : FirmProgram) (m : FirmProcedure) (call : FirmCaller Hi
   right_none : (q : ℕ) (hs : List Operand) → ArePlaced r.locals hs → Right' (only hs) (called_with r q Empty hs) (call q 0 0)
   right_none q hs placed =
       right_called_with q 0 Empty hs hs placed (λ to has fit s d w i same. right_call q 0 to Empty hs placed has fit s d w i [] refl refl refl same.waits
-      same.kept same.none)
+      same.kept same.none same.ram)
 
   right_one : (q : ℕ) (hs : List Operand) → ArePlaced r.locals hs → Right' (only hs) (with_one r q hs) (call q 1 0)
   right_one q [] placed = tt
@@ -158,13 +161,13 @@ module _ (k : Codes) (f : FirmProgram) (m : FirmProcedure) (call : FirmCaller Hi
     where
       by_values : (to : ℕ) → temp r hs ≡ Some to → CallsFit params (CallTo (calling q (One' a) to)) → (s : Firm) (d : Deciding State) (w : World History)
           → IsFair w
-          → AreSame r ws (a ∷ hs) s d.state → (vs : List ℕ) → s.values ≡ vs → AreAt (a ∷ hs) vs d.state.locals
-          → Alike (Held r ws (only (Local to ∷ hs))) (Leaves r ws) (call q 1 0 s w) (linear' (CallTo (calling q (One' a) to)) d w)
+          → AreSame lay r ws (a ∷ hs) s d.state → (vs : List ℕ) → s.values ≡ vs → AreAt (a ∷ hs) vs d.state.locals
+          → Alike (Held lay r ws (only (Local to ∷ hs))) (Leaves lay r ws) (call q 1 0 s w) (linear' (CallTo (calling q (One' a) to)) d w)
       by_values to has fit s d w i same [] e at = absurd at
       by_values to has fit s d w i same (x ∷ vs) e at =
           right_call q 1 to (One' a) hs placed.1 has fit s d w i (x ∷ []) (ap (λ z. reverse (take 1 z)) e) refl
           (value_first a [] x [] d.state (value_of_home a x d.state at.0.0) refl)
-          (subst (λ z. AreAt hs (drop 1 z) d.state.locals) (sym e) at.1) same.kept same.none
+          (subst (λ z. AreAt hs (drop 1 z) d.state.locals) (sym e) at.1) same.kept same.none same.ram
 
   right_two : (q : ℕ) (hs : List Operand) → ArePlaced r.locals hs → Right' (only hs) (with_two r q hs) (call q 2 0)
   right_two q [] placed = tt
@@ -174,15 +177,15 @@ module _ (k : Codes) (f : FirmProgram) (m : FirmProcedure) (call : FirmCaller Hi
     where
       by_values : (to : ℕ) → temp r hs ≡ Some to → CallsFit params (CallTo (calling q (Two a b) to))
           → (s : Firm) (d : Deciding State) (w : World History) → IsFair w
-          → AreSame r ws (b ∷ a ∷ hs) s d.state → (vs : List ℕ) → s.values ≡ vs → AreAt (b ∷ a ∷ hs) vs d.state.locals
-          → Alike (Held r ws (only (Local to ∷ hs))) (Leaves r ws) (call q 2 0 s w) (linear' (CallTo (calling q (Two a b) to)) d w)
+          → AreSame lay r ws (b ∷ a ∷ hs) s d.state → (vs : List ℕ) → s.values ≡ vs → AreAt (b ∷ a ∷ hs) vs d.state.locals
+          → Alike (Held lay r ws (only (Local to ∷ hs))) (Leaves lay r ws) (call q 2 0 s w) (linear' (CallTo (calling q (Two a b) to)) d w)
       by_values to has fit s d w i same [] e at = absurd at
       by_values to has fit s d w i same (y ∷ []) e at = absurd at.1
       by_values to has fit s d w i same (y ∷ x ∷ vs) e at =
           right_call q 2 to (Two a b) hs placed.1.1 has fit s d w i (x ∷ y ∷ []) (ap (λ z. reverse (take 2 z)) e) refl
           (value_first a (b ∷ []) x (y ∷ []) d.state (value_of_home a x d.state at.1.0.0) (value_first b [] y [] d.state
           (value_of_home b y d.state at.0.0) refl))
-          (subst (λ z. AreAt hs (drop 2 z) d.state.locals) (sym e) at.1.1) same.kept same.none
+          (subst (λ z. AreAt hs (drop 2 z) d.state.locals) (sym e) at.1.1) same.kept same.none same.ram
 
   right_three : (q : ℕ) (hs : List Operand) → ArePlaced r.locals hs → Right' (only hs) (with_three r q hs) (call q 3 0)
   right_three q [] placed = tt
@@ -193,8 +196,8 @@ module _ (k : Codes) (f : FirmProgram) (m : FirmProcedure) (call : FirmCaller Hi
       (λ to has fit s d w i same. by_values to has fit s d w i same s.values refl same.waits)
     where
       by_values : (to : ℕ) → temp r hs ≡ Some to → CallsFit params (CallTo (calling q (Three a b c) to)) → (s : Firm) (d : Deciding State) (w : World History)
-          → IsFair w → AreSame r ws (c ∷ b ∷ a ∷ hs) s d.state → (vs : List ℕ) → s.values ≡ vs → AreAt (c ∷ b ∷ a ∷ hs) vs d.state.locals
-          → Alike (Held r ws (only (Local to ∷ hs))) (Leaves r ws) (call q 3 0 s w) (linear' (CallTo (calling q (Three a b c) to)) d w)
+          → IsFair w → AreSame lay r ws (c ∷ b ∷ a ∷ hs) s d.state → (vs : List ℕ) → s.values ≡ vs → AreAt (c ∷ b ∷ a ∷ hs) vs d.state.locals
+          → Alike (Held lay r ws (only (Local to ∷ hs))) (Leaves lay r ws) (call q 3 0 s w) (linear' (CallTo (calling q (Three a b c) to)) d w)
       by_values to has fit s d w i same [] e at = absurd at
       by_values to has fit s d w i same (z ∷ []) e at = absurd at.1
       by_values to has fit s d w i same (z ∷ y ∷ []) e at = absurd at.1.1
@@ -203,7 +206,7 @@ module _ (k : Codes) (f : FirmProgram) (m : FirmProcedure) (call : FirmCaller Hi
           (value_first a (b ∷ c ∷ []) x (y ∷ z ∷ []) d.state (value_of_home a x d.state at.1.1.0.0)
           (value_first b (c ∷ []) y (z ∷ []) d.state (value_of_home b y d.state at.1.0.0) (value_first c [] z [] d.state
           (value_of_home c z d.state at.0.0) refl)))
-          (subst (λ o. AreAt hs (drop 3 o) d.state.locals) (sym e) at.1.1.1) same.kept same.none
+          (subst (λ o. AreAt hs (drop 3 o) d.state.locals) (sym e) at.1.1.1) same.kept same.none same.ram
 
   right_four : (q : ℕ) (hs : List Operand) → ArePlaced r.locals hs → Right' (only hs) (with_four r q hs) (call q 4 0)
   right_four q [] placed = tt
@@ -216,8 +219,8 @@ module _ (k : Codes) (f : FirmProgram) (m : FirmProcedure) (call : FirmCaller Hi
     where
       by_values : (to : ℕ) → temp r hs ≡ Some to → CallsFit params (CallTo (calling q (Four a b c g) to))
           → (s : Firm) (d : Deciding State) (w : World History)
-          → IsFair w → AreSame r ws (g ∷ c ∷ b ∷ a ∷ hs) s d.state → (vs : List ℕ) → s.values ≡ vs → AreAt (g ∷ c ∷ b ∷ a ∷ hs) vs d.state.locals
-          → Alike (Held r ws (only (Local to ∷ hs))) (Leaves r ws) (call q 4 0 s w) (linear' (CallTo (calling q (Four a b c g) to)) d w)
+          → IsFair w → AreSame lay r ws (g ∷ c ∷ b ∷ a ∷ hs) s d.state → (vs : List ℕ) → s.values ≡ vs → AreAt (g ∷ c ∷ b ∷ a ∷ hs) vs d.state.locals
+          → Alike (Held lay r ws (only (Local to ∷ hs))) (Leaves lay r ws) (call q 4 0 s w) (linear' (CallTo (calling q (Four a b c g) to)) d w)
       by_values to has fit s d w i same [] e at = absurd at
       by_values to has fit s d w i same (u ∷ []) e at = absurd at.1
       by_values to has fit s d w i same (u ∷ z ∷ []) e at = absurd at.1.1
@@ -228,7 +231,7 @@ module _ (k : Codes) (f : FirmProgram) (m : FirmProcedure) (call : FirmCaller Hi
           (value_first b (c ∷ g ∷ []) y (z ∷ u ∷ []) d.state (value_of_home b y d.state at.1.1.0.0)
           (value_first c (g ∷ []) z (u ∷ []) d.state (value_of_home c z d.state at.1.0.0) (value_first g [] u [] d.state
           (value_of_home g u d.state at.0.0) refl))))
-          (subst (λ o. AreAt hs (drop 4 o) d.state.locals) (sym e) at.1.1.1.1) same.kept same.none
+          (subst (λ o. AreAt hs (drop 4 o) d.state.locals) (sym e) at.1.1.1.1) same.kept same.none same.ram
 
   pub right_called : (q count : ℕ) (hs : List Operand) → ArePlaced r.locals hs
       → Right' (only hs) (called r q count hs) (firm_step k f m call handle (Call q count))

@@ -23,6 +23,8 @@ use Rattle.vg_lin.specs.Meaning.{language, result_of}
 use Rattle.vg_lin.specs.Structured.{Deciding, Caller as LinCaller, with_found, handle as lin_handle, lifted, step as lin_step, truth as lin_truth}
 use Rattle.vg_flatten_shapes.specs.declared.fault.Fault.TheVariants.{NotTaken}
 use Rattle.vg_flatten_shapes.specs.declared.open.Truth.{Truth}
+use Rattle.vg_flatten_shapes.specs.declared.layout.Layout.{Layout}
+use Rattle.vg_flatten.specs.Columns.{FlashStands}
 use Rattle.vg_flatten_shapes.specs.declared.room.Room.{Room}
 use Rattle.vg_flatten_shapes.specs.Shapes.{Shape, only, empty, is_empty, is_none, same_operand, same_homes, temp}
 use Rattle.vg_flatten_shapes.specs.Blocks.{Block, Skip, One, TakeInterrupt, GiveBack, BreakOut, GoOn, Both, Choice, Repeat, structured, picked}
@@ -41,6 +43,9 @@ use Rattle.vg_flattened.proofs.Right.{Right, Does, linear, packed, right_after, 
 use Rattle.vg_flattened.proofs.StepRight.{right_number, right_local, right_set, right_forget, right_applied, right_read, right_written}
 use Rattle.vg_flattened.proofs.CombinedRight.{right_operated}
 use Rattle.vg_flattened.proofs.ObjectRight.{right_load_nothing, right_store_nothing, right_one_of, right_cast}
+use Rattle.vg_flattened.proofs.ElementRight.{right_item}
+use Rattle.vg_flattened.proofs.StoreRight.{right_store, right_store_at}
+use Rattle.vg_flattened.proofs.ColumnRight.{right_load, right_load_at, right_length}
 use Rattle.vg_flattened.proofs.CallRight.{AreParams, AlikeCalls, AlikeHandling, right_called}
 
 and_then-and_then : {S : Type 0} (a : Answer S History) (g h : Piece S History) → and_then (and_then a g) h ≡ and_then a (λ s w. and_then (g s w) h)
@@ -85,51 +90,52 @@ empty_is s e = by_truth s.truth s.homes e
     by_truth (Some t) hs e1 = absurd (grind arith)
 
 module _ (k : Codes) (f : FirmProgram) (m : FirmProcedure) (call : FirmCaller History) (handle : ℕ → Piece Firm History)
-    (p : LinProgram) (go : LinCaller State) (params : List ℕ) (r : Room) (ws : List ℕ) (wide : AreWidths r m.widths ws)
-    (known : AreParams params p) (calls : AlikeCalls p call go)
-    (handling : AlikeHandling r ws handle (λ vector. lin_handle (language p) go ((language p).handler vector))) where
+    (p : LinProgram) (go : LinCaller State) (params : List ℕ) (lay : Layout) (r : Room) (ws : List ℕ) (wide : AreWidths r m.widths ws)
+    (known : AreParams params p) (calls : AlikeCalls lay p call go)
+    (handling : AlikeHandling lay r ws handle (λ vector. lin_handle (language p) go ((language p).handler vector)))
+    (flash : FlashStands lay f p) where
   abbrev Right' : Shape → Made → Piece Firm History → Type 0
-  Right' = Right k f m call handle p go params r ws wide
+  Right' = Right k f m call handle p go params lay r ws wide
 
   abbrev Does' : Shape → Shape → Piece Firm History → Block → Type 0
-  Does' = Does k f m call handle p go params r ws wide
+  Does' = Does k f m call handle p go params lay r ws wide
 
   abbrev linear' : Block → Piece (Deciding State) History
-  linear' = linear k f m call handle p go params r ws wide
+  linear' = linear k f m call handle p go params lay r ws wide
 
   abbrev packed' : Code Step → Piece Firm History
-  packed' = packed k f m call handle p go params r ws wide
+  packed' = packed k f m call handle p go params lay r ws wide
 
   right_idle : (hs : List Operand) → ArePlaced r.locals hs → Right' (only hs) (Makes TakeInterrupt (only hs)) (packed' (Do Idle))
   right_idle hs placed = (
     placed,
-    λ fit s d w i q. alike_interrupt {G = Held r ws (only hs)} {J = Held r ws (only hs)} {L = Leaves r ws} handle
+    λ fit s d w i q. alike_interrupt {G = Held lay r ws (only hs)} {J = Held lay r ws (only hs)} {L = Leaves lay r ws} handle
         (λ vector. lin_handle (language p) go ((language p).handler vector)) (handling hs) s d w i q,
   )
 
-  right_stepped : (q : Step) (hs : List Operand) → ArePlaced r.locals hs → Right' (only hs) (stepped r q hs) (packed' (Do q))
-  right_stepped (Number v) hs placed = right_number k f m call handle p go params r ws wide v hs placed
-  right_stepped (GetLocal i) hs placed = right_local k f m call handle p go params r ws wide i hs placed
-  right_stepped (SetLocal i) hs placed = right_set k f m call handle p go params r ws wide i hs placed
-  right_stepped Forget hs placed = right_forget k f m call handle p go params r ws wide hs placed
-  right_stepped (Operate op) hs placed = right_operated k f m call handle p go params r ws wide op hs placed
-  right_stepped (Apply op) hs placed = right_applied k f m call handle p go params r ws wide op hs placed
-  right_stepped (ReadDevice address) hs placed = right_read k f m call handle p go params r ws wide address hs placed
-  right_stepped (WriteDevice address) hs placed = right_written k f m call handle p go params r ws wide address hs placed
-  right_stepped (Call q count) hs placed = right_called k f m call handle p go params r ws wide known calls q count hs placed
+  right_stepped : (q : Step) (hs : List Operand) → ArePlaced r.locals hs → Right' (only hs) (stepped lay r q hs) (packed' (Do q))
+  right_stepped (Number v) hs placed = right_number k f m call handle p go params lay r ws wide v hs placed
+  right_stepped (GetLocal i) hs placed = right_local k f m call handle p go params lay r ws wide i hs placed
+  right_stepped (SetLocal i) hs placed = right_set k f m call handle p go params lay r ws wide i hs placed
+  right_stepped Forget hs placed = right_forget k f m call handle p go params lay r ws wide hs placed
+  right_stepped (Operate op) hs placed = right_operated k f m call handle p go params lay r ws wide op hs placed
+  right_stepped (Apply op) hs placed = right_applied k f m call handle p go params lay r ws wide op hs placed
+  right_stepped (ReadDevice address) hs placed = right_read k f m call handle p go params lay r ws wide address hs placed
+  right_stepped (WriteDevice address) hs placed = right_written k f m call handle p go params lay r ws wide address hs placed
+  right_stepped (Call q count) hs placed = right_called k f m call handle p go params lay r ws wide known calls q count hs placed
   right_stepped Idle hs placed = right_idle hs placed
   right_stepped This hs placed = tt
-  right_stepped (Load h c) hs placed = tt
-  right_stepped (Store c w) hs placed = tt
-  right_stepped (LoadAt h c o) hs placed = tt
-  right_stepped (StoreAt c o w) hs placed = tt
-  right_stepped LoadNothing hs placed = right_load_nothing k f m call handle p go params r ws wide hs placed
-  right_stepped StoreNothing hs placed = right_store_nothing k f m call handle p go params r ws wide hs placed
-  right_stepped (LoadItem e) hs placed = tt
+  right_stepped (Load h c) hs placed = right_load k f m call handle p go params lay r ws wide flash h c hs placed
+  right_stepped (Store c w) hs placed = right_store k f m call handle p go params lay r ws wide flash c w hs placed
+  right_stepped (LoadAt h c o) hs placed = right_load_at k f m call handle p go params lay r ws wide flash h c o hs placed
+  right_stepped (StoreAt c o w) hs placed = right_store_at k f m call handle p go params lay r ws wide flash c o w hs placed
+  right_stepped LoadNothing hs placed = right_load_nothing k f m call handle p go params lay r ws wide hs placed
+  right_stepped StoreNothing hs placed = right_store_nothing k f m call handle p go params lay r ws wide hs placed
+  right_stepped (LoadItem e) hs placed = right_item k f m call handle p go params lay r ws wide flash e hs placed
   right_stepped (StoreItem e) hs placed = tt
-  right_stepped (Length t) hs placed = tt
-  right_stepped (IsWithin a b) hs placed = right_one_of k f m call handle p go params r ws wide a b hs placed
-  right_stepped (StopUnlessWithin a b) hs placed = right_cast k f m call handle p go params r ws wide a b hs placed
+  right_stepped (Length t) hs placed = right_length k f m call handle p go params lay r ws wide flash t hs placed
+  right_stepped (IsWithin a b) hs placed = right_one_of k f m call handle p go params lay r ws wide a b hs placed
+  right_stepped (StopUnlessWithin a b) hs placed = right_cast k f m call handle p go params lay r ws wide a b hs placed
   right_stepped (Bind q) hs placed = tt
   right_stepped (BindFor d) hs placed = tt
   right_stepped (CallFor d c) hs placed = tt
@@ -141,16 +147,16 @@ module _ (k : Codes) (f : FirmProgram) (m : FirmProcedure) (call : FirmCaller Hi
   right_landed_as [] placed = (tt, λ fit s d w i q. gives i q)
   right_landed_as (h ∷ hs) placed = by_room (temp r hs) refl
     where
-      by_values : (to : ℕ) → temp r hs ≡ Some to → (s : Firm) (d : Deciding State) (w : World History) → IsFair w → AreSame r ws (h ∷ hs) s d.state
+      by_values : (to : ℕ) → temp r hs ≡ Some to → (s : Firm) (d : Deciding State) (w : World History) → IsFair w → AreSame lay r ws (h ∷ hs) s d.state
           → (vs : List ℕ) → s.values ≡ vs → AreAt (h ∷ hs) vs d.state.locals
-          → Alike (Held r ws (only (Local to ∷ hs))) (Leaves r ws) (Gives s w) (linear' (One (Copy to h)) d w)
+          → Alike (Held lay r ws (only (Local to ∷ hs))) (Leaves lay r ws) (Gives s w) (linear' (One (Copy to h)) d w)
       by_values to has s d w i q [] e at = absurd at
       by_values to has s d w i q (v ∷ vs) e at =
-          subst (λ z. Alike (Held r ws (only (Local to ∷ hs))) (Leaves r ws) (Gives s w) z)
+          subst (λ z. Alike (Held lay r ws (only (Local to ∷ hs))) (Leaves lay r ws) (Gives s w) z)
           (sym (ap (λ z. lifted (using z (λ x. Goes (sets to x d.state) w.outside)) d w) (value_of_home h v d.state at.0.0)))
-          (gives i (subst (λ z. AreSame r ws (Local to ∷ hs) (record s { values = z }) (sets to v d.state)) (sym e)
-          (put_temp r m.widths ws hs (record s { values = vs }) d.state to v wide placed.1 has at.0.1
-          (record { waits = at.1; kept = q.kept; none = q.none }))))
+          (gives i (subst (λ z. AreSame lay r ws (Local to ∷ hs) (record s { values = z }) (sets to v d.state)) (sym e)
+          (put_temp lay r m.widths ws hs (record s { values = vs }) d.state to v wide placed.1 has at.0.1
+          (record { waits = at.1; kept = q.kept; none = q.none; ram = q.ram }))))
 
       by_same : (to : ℕ) → temp r hs ≡ Some to → (b : Bool)
           → Right' (only (h ∷ hs)) (if b then Makes Skip (only (h ∷ hs)) else Makes (One (Copy to h)) (only (Local to ∷ hs))) go_on
@@ -165,8 +171,8 @@ module _ (k : Codes) (f : FirmProgram) (m : FirmProcedure) (call : FirmCaller Hi
 
   right_landed : (before : Shape) (made : Made) (g : Piece Firm History) → Right' before made g → Right' before (landed r made) g
   right_landed before (Makes a s1) g (placed, ha) =
-      right_last k f m call handle p go params r ws wide before s1 a (after (settled r s1) (λ s2. landed_as r s2.homes)) g ha
-      (right_settled k f m call handle p go params r ws wide s1 (landed_as r) go_on placed right_landed_as)
+      right_last k f m call handle p go params lay r ws wide before s1 a (after (settled r s1) (λ s2. landed_as r s2.homes)) g ha
+      (right_settled k f m call handle p go params lay r ws wide s1 (landed_as r) go_on placed right_landed_as)
   right_landed before (Refused why) g h = tt
 
   -- both ways of a choice
@@ -178,20 +184,20 @@ module _ (k : Codes) (f : FirmProgram) (m : FirmProcedure) (call : FirmCaller Hi
   right_joined shape t e (Makes a s) (Makes b s1) g h hx hy (placed, ha) (placed1, hb) = by_homes (same_homes (reverse s.homes) (reverse s1.homes)) refl
     where
       by_way : s1 ≡ s → CallsFit params a → CallsFit params b → (s2 : Firm) (d : Deciding State) (w : World History) → IsFair w → (c : Bool) (s3 : Firm)
-          → AreSame r ws t.homes s3 d.state
-          → Alike (Held r ws s) (Leaves r ws) (choose (Was c s3) g h s2 w)
-          (way k f m call handle p go params r ws wide c (linear' a) (linear' b) d w)
+          → AreSame lay r ws t.homes s3 d.state
+          → Alike (Held lay r ws s) (Leaves lay r ws) (choose (Was c s3) g h s2 w)
+          (way k f m call handle p go params lay r ws wide c (linear' a) (linear' b) d w)
       by_way is fa fb s2 d w i true s3 q = ha fa s3 (record d { truth = None }) w i q
       by_way is fa fb s2 d w i false s3 q =
-          subst (λ z. Alike (Held r ws z) (Leaves r ws) (h s3 w) (linear' b (record d { truth = None }) w)) is (hb fb s3 (record d { truth = None }) w i q)
+          subst (λ z. Alike (Held lay r ws z) (Leaves lay r ws) (h s3 w) (linear' b (record d { truth = None }) w)) is (hb fb s3 (record d { truth = None }) w i q)
 
       does : s1 ≡ s → CallsFit params a → CallsFit params b → (s2 : Firm) (d : Deciding State) (w : World History) → IsFair w
-          → IsTested k f m call handle p go params r ws wide t s2 d
-          → Alike (Held r ws s) (Leaves r ws) (choose (firm_truth s2) g h s2 w) (linear' (Choice t.truth a b) d w)
+          → IsTested k f m call handle p go params lay r ws wide t s2 d
+          → Alike (Held lay r ws s) (Leaves lay r ws) (choose (firm_truth s2) g h s2 w) (linear' (Choice t.truth a b) d w)
       does is fa fb s2 d w i q =
-          subst (λ z. Alike (Held r ws s) (Leaves r ws) (choose z g h s2 w) (linear' (Choice t.truth a b) d w)) (sym q.takes)
-          (subst (λ z. Alike (Held r ws s) (Leaves r ws) (choose (Was q.b (record s2 { values = q.vs })) g h s2 w) z)
-          (sym (chooses k f m call handle p go params r ws wide t.truth q.b a b d w q.says))
+          subst (λ z. Alike (Held lay r ws s) (Leaves lay r ws) (choose z g h s2 w) (linear' (Choice t.truth a b) d w)) (sym q.takes)
+          (subst (λ z. Alike (Held lay r ws s) (Leaves lay r ws) (choose (Was q.b (record s2 { values = q.vs })) g h s2 w) z)
+          (sym (chooses k f m call handle p go params lay r ws wide t.truth q.b a b d w q.says))
           (by_way is fa fb s2 d w i q.b (record s2 { values = q.vs }) q.rest))
 
       by_homes : (c : Bool) → same_homes (reverse s.homes) (reverse s1.homes) ≡ c
@@ -199,7 +205,7 @@ module _ (k : Codes) (f : FirmProgram) (m : FirmProcedure) (call : FirmCaller Hi
       by_homes true es =
           let is : s1 ≡ s = ap (λ z. record { truth = z; homes = s1.homes }) (hy ∙ sym hx)
           ∙ ap (λ z. record { truth = s.truth; homes = z }) (sym (homes_same s.homes s1.homes es)) in
-          (placed, λ fit s2 d w i q. does is fit.0 fit.1 s2 d w i (is_tested k f m call handle p go params r ws wide shape t s2 d e q))
+          (placed, λ fit s2 d w i q. does is fit.0 fit.1 s2 d w i (is_tested k f m call handle p go params lay r ws wide shape t s2 d e q))
       by_homes false es = tt
 
   right_chosen : (shape : Shape) (x y : Shape → Made) (g h : Piece Firm History)
@@ -227,8 +233,8 @@ module _ (k : Codes) (f : FirmProgram) (m : FirmProcedure) (call : FirmCaller Hi
 
   -- ---- loops
 
-  into_inside : {G : Firm → Deciding State → Type 0} {a : Answer Firm History} {b : Answer (Deciding State) History} → Alike G (Leaves r ws) a b
-      → Alike G (Inside (Held r ws empty) (Leaves r ws)) a b
+  into_inside : {G : Firm → Deciding State → Type 0} {a : Answer Firm History} {b : Answer (Deciding State) History} → Alike G (Leaves lay r ws) a b
+      → Alike G (Inside (Held lay r ws empty) (Leaves lay r ws)) a b
   into_inside (gives i q) = gives i q
   into_inside (leaves {why = Breaks} i q) = leaves i q
   into_inside (leaves {why = Continues} i q) = leaves i q
@@ -239,36 +245,36 @@ module _ (k : Codes) (f : FirmProgram) (m : FirmProcedure) (call : FirmCaller Hi
 
   -- a loop's test, behind what is done before it
   right_condition : (before : Block) (s0 : Shape) (t : Tested) (gc : Piece Firm History) → tested s0 ≡ Some t → t.homes ≡ [] → Does' empty s0 gc before
-      → (g : Piece Firm History) (h : Piece (Deciding State) History) → AlikePiece (Held r ws empty) (Held r ws empty) (Leaves r ws) g h
-      → AlikePiece (Held r ws empty) (Held r ws empty) (Leaves r ws) (where_holds gc firm_truth g)
+      → (g : Piece Firm History) (h : Piece (Deciding State) History) → AlikePiece (Held lay r ws empty) (Held lay r ws empty) (Leaves lay r ws) g h
+      → AlikePiece (Held lay r ws empty) (Held lay r ws empty) (Leaves lay r ws) (where_holds gc firm_truth g)
       (where_holds (performed full (lin_step (language p) go) lin_truth (Then (structured before) (picked t.truth))) lin_truth h)
   right_condition before s0 t gc e none hc g h hyp s d w i q =
-      subst (λ z. Alike (Held r ws empty) (Leaves r ws) (where_holds gc firm_truth g s w) z)
+      subst (λ z. Alike (Held lay r ws empty) (Leaves lay r ws) (where_holds gc firm_truth g s w) z)
       (sym (and_then-and_then (linear' before d w) (performed full (lin_step (language p) go) lin_truth (picked t.truth)) chooses'))
       (alike_then (λ s1 w1. choose (firm_truth s1) g go_on s1 w1)
       (λ d1 w1. and_then (performed full (lin_step (language p) go) lin_truth (picked t.truth) d1 w1) chooses') (hc s d w i q)
-      (λ s1 d1 w1 i1 q1. by_test s1 d1 w1 i1 (is_tested k f m call handle p go params r ws wide s0 t s1 d1 e q1)))
+      (λ s1 d1 w1 i1 q1. by_test s1 d1 w1 i1 (is_tested k f m call handle p go params lay r ws wide s0 t s1 d1 e q1)))
     where
       chooses' : Piece (Deciding State) History
       chooses' = λ d1 w1. choose (lin_truth d1) h go_on d1 w1
 
-      by_way : (s1 : Firm) (d1 : Deciding State) (w1 : World History) → IsFair w1 → (b : Bool) (s3 : Firm) → AreSame r ws [] s3 d1.state
-          → Alike (Held r ws empty) (Leaves r ws) (choose (Was b s3) g go_on s1 w1)
+      by_way : (s1 : Firm) (d1 : Deciding State) (w1 : World History) → IsFair w1 → (b : Bool) (s3 : Firm) → AreSame lay r ws [] s3 d1.state
+          → Alike (Held lay r ws empty) (Leaves lay r ws) (choose (Was b s3) g go_on s1 w1)
           (choose (lin_truth (record d1 { truth = Some b })) h go_on (record d1 { truth = Some b }) w1)
       by_way s1 d1 w1 i1 true s3 q1 = hyp s3 (record d1 { truth = None }) w1 i1 q1
       by_way s1 d1 w1 i1 false s3 q1 = gives i1 q1
 
-      by_test : (s1 : Firm) (d1 : Deciding State) (w1 : World History) → IsFair w1 → IsTested k f m call handle p go params r ws wide t s1 d1
-          → Alike (Held r ws empty) (Leaves r ws) (choose (firm_truth s1) g go_on s1 w1)
+      by_test : (s1 : Firm) (d1 : Deciding State) (w1 : World History) → IsFair w1 → IsTested k f m call handle p go params lay r ws wide t s1 d1
+          → Alike (Held lay r ws empty) (Leaves lay r ws) (choose (firm_truth s1) g go_on s1 w1)
           (and_then (performed full (lin_step (language p) go) lin_truth (picked t.truth) d1 w1) (λ d1 w1. choose (lin_truth d1) h go_on d1 w1))
       by_test s1 d1 w1 i1 x =
-          subst (λ z. Alike (Held r ws empty) (Leaves r ws) (choose z g go_on s1 w1)
+          subst (λ z. Alike (Held lay r ws empty) (Leaves lay r ws) (choose z g go_on s1 w1)
           (and_then (performed full (lin_step (language p) go) lin_truth (picked t.truth) d1 w1) (λ d1 w1. choose (lin_truth d1) h go_on d1 w1)))
           (sym x.takes)
-          (subst (λ z. Alike (Held r ws empty) (Leaves r ws) (choose (Was x.b (record s1 { values = x.vs })) g go_on s1 w1)
+          (subst (λ z. Alike (Held lay r ws empty) (Leaves lay r ws) (choose (Was x.b (record s1 { values = x.vs })) g go_on s1 w1)
           (and_then z (λ d1 w1. choose (lin_truth d1) h go_on d1 w1)))
-          (sym (picks k f m call handle p go params r ws wide t.truth x.b d1 w1 x.says))
-          (by_way s1 d1 w1 i1 x.b (record s1 { values = x.vs }) (subst (λ z. AreSame r ws z (record s1 { values = x.vs }) d1.state) none x.rest)))
+          (sym (picks k f m call handle p go params lay r ws wide t.truth x.b d1 w1 x.says))
+          (by_way s1 d1 w1 i1 x.b (record s1 { values = x.vs }) (subst (λ z. AreSame lay r ws z (record s1 { values = x.vs }) d1.state) none x.rest)))
 
   right_loop : (before body next : Block) (s0 s1 s2 : Shape) (t : Tested) (gc gb gn : Piece Firm History) → tested s0 ≡ Some t → t.homes ≡ [] → s1 ≡ empty
       → s2 ≡ empty → (CallsFit params before → Does' empty s0 gc before) → (CallsFit params body → Does' empty s1 gb body)
@@ -276,12 +282,12 @@ module _ (k : Codes) (f : FirmProgram) (m : FirmProcedure) (call : FirmCaller Hi
       → Right' empty (Makes (Repeat before t.truth body next) empty) (λ s w. turns full w.clock (where_holds gc firm_truth) gb gn s w)
   right_loop before body next s0 s1 s2 t gc gb gn e none e1 e2 hc hb hn = (
     tt,
-    λ fit s d w i q. alike_turns {I = Held r ws empty} {L = Leaves r ws} (where_holds gc firm_truth)
+    λ fit s d w i q. alike_turns {I = Held lay r ws empty} {L = Leaves lay r ws} (where_holds gc firm_truth)
         (where_holds (performed full (lin_step (language p) go) lin_truth (Then (structured before) (picked t.truth))) lin_truth) gb gn (linear' body)
         (linear' next)
         (right_condition before s0 t gc e none (hc fit.0))
-        (λ s3 d3 w3 i3 q3. into_inside (subst (λ z. Alike (Held r ws z) (Leaves r ws) (gb s3 w3) (linear' body d3 w3)) e1 (hb fit.1 s3 d3 w3 i3 q3)))
-        (λ s3 d3 w3 i3 q3. subst (λ z. Alike (Held r ws z) (Leaves r ws) (gn s3 w3) (linear' next d3 w3)) e2 (hn fit.2 s3 d3 w3 i3 q3))
+        (λ s3 d3 w3 i3 q3. into_inside (subst (λ z. Alike (Held lay r ws z) (Leaves lay r ws) (gb s3 w3) (linear' body d3 w3)) e1 (hb fit.1 s3 d3 w3 i3 q3)))
+        (λ s3 d3 w3 i3 q3. subst (λ z. Alike (Held lay r ws z) (Leaves lay r ws) (gn s3 w3) (linear' next d3 w3)) e2 (hn fit.2 s3 d3 w3 i3 q3))
         w.clock s d w i q,
   )
 
@@ -341,32 +347,32 @@ module _ (k : Codes) (f : FirmProgram) (m : FirmProcedure) (call : FirmCaller Hi
   right_given_back (h ∷ a ∷ hs) placed = tt
   right_given_back (h ∷ []) placed = (tt, λ fit s d w i q. by_values s d w i q s.values refl q.waits)
     where
-      by_values : (s : Firm) (d : Deciding State) (w : World History) → IsFair w → AreSame r ws (h ∷ []) s d.state → (vs : List ℕ) → s.values ≡ vs
-          → AreAt (h ∷ []) vs d.state.locals → Alike (Held r ws empty) (Leaves r ws) (Ends Returns s w) (linear' (GiveBack h) d w)
+      by_values : (s : Firm) (d : Deciding State) (w : World History) → IsFair w → AreSame lay r ws (h ∷ []) s d.state → (vs : List ℕ) → s.values ≡ vs
+          → AreAt (h ∷ []) vs d.state.locals → Alike (Held lay r ws empty) (Leaves lay r ws) (Ends Returns s w) (linear' (GiveBack h) d w)
       by_values s d w i q [] e at = absurd at
       by_values s d w i q (v ∷ vs) e at =
-          subst (λ z. Alike (Held r ws empty) (Leaves r ws) (Ends Returns s w) z)
+          subst (λ z. Alike (Held lay r ws empty) (Leaves lay r ws) (Ends Returns s w) z)
           (sym (ap (λ z. and_then (with_found (result_of h d.state z) (λ x s1 w1. Gives (record s1 { result = x }) w1) d w)
           (λ s1 w1. Ends Returns s1 w1)) q.none
           ∙ ap (λ z. and_then (with_found z (λ x s1 w1. Gives (record s1 { result = x }) w1) d w) (λ s1 w1. Ends Returns s1 w1))
           (value_of_home h v d.state at.0.0)))
-          (leaves i (v, vs, e, refl, at.0.1))
+          (leaves i (v, vs, e, refl, at.0.1, q.ram))
 
   -- ---- all code
 
-  pub right_code : (c : Code Step) (shape : Shape) → ArePlaced r.locals shape.homes → Right' shape (flat r c shape) (packed' c)
+  pub right_code : (c : Code Step) (shape : Shape) → ArePlaced r.locals shape.homes → Right' shape (flat lay r c shape) (packed' c)
   right_code Nothing shape placed = (placed, λ fit s d w i q. gives i q)
   right_code (Then a b) shape placed =
-      right_after k f m call handle p go params r ws wide shape (flat r a shape) (flat r b) (packed' a) (packed' b) (right_code a shape placed)
+      right_after k f m call handle p go params lay r ws wide shape (flat lay r a shape) (flat lay r b) (packed' a) (packed' b) (right_code a shape placed)
       (λ s1 placed1. right_code b s1 placed1)
-  right_code (Do q) shape placed = right_settled k f m call handle p go params r ws wide shape (stepped r q) (packed' (Do q)) placed (right_stepped q)
+  right_code (Do q) shape placed = right_settled k f m call handle p go params lay r ws wide shape (stepped lay r q) (packed' (Do q)) placed (right_stepped q)
   right_code (If a b) shape placed =
-      right_chosen shape (flat r a) (flat r b) (packed' a) (packed' b) (λ hs placed1. right_code a (only hs) placed1)
+      right_chosen shape (flat lay r a) (flat lay r b) (packed' a) (packed' b) (λ hs placed1. right_code a (only hs) placed1)
       (λ hs placed1. right_code b (only hs) placed1) placed
   right_code (Loop c body next) shape placed =
-      right_where_empty shape (repeated (flat r c empty) (flat r body empty) (flat r next empty)) (packed' (Loop c body next))
-      (right_repeated (flat r c empty) (flat r body empty) (flat r next empty) (packed' c) (packed' body) (packed' next) (right_code c empty tt)
+      right_where_empty shape (repeated (flat lay r c empty) (flat lay r body empty) (flat lay r next empty)) (packed' (Loop c body next))
+      (right_repeated (flat lay r c empty) (flat lay r body empty) (flat lay r next empty) (packed' c) (packed' body) (packed' next) (right_code c empty tt)
       (right_code body empty tt) (right_code next empty tt))
   right_code Break shape placed = right_where_empty shape (Makes BreakOut empty) (packed' Break) (tt, λ fit s d w i q. leaves i q)
   right_code Continue shape placed = right_where_empty shape (Makes GoOn empty) (packed' Continue) (tt, λ fit s d w i q. leaves i q)
-  right_code Return shape placed = right_settled k f m call handle p go params r ws wide shape given_back (packed' Return) placed right_given_back
+  right_code Return shape placed = right_settled k f m call handle p go params lay r ws wide shape given_back (packed' Return) placed right_given_back

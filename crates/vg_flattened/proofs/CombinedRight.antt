@@ -29,6 +29,7 @@ use Rattle.vg_lin.specs.Structured.{Deciding, Caller as LinCaller}
 use Rattle.vg_flatten_shapes.specs.declared.fault.Fault.TheVariants.{NotTaken}
 use Rattle.vg_flatten_shapes.specs.declared.open.Truth.{Truth}
 use Rattle.vg_flatten_shapes.specs.declared.open.Truth.TheVariants.{Holds}
+use Rattle.vg_flatten_shapes.specs.declared.layout.Layout.{Layout}
 use Rattle.vg_flatten_shapes.specs.declared.room.Room.{Room}
 use Rattle.vg_flatten_shapes.specs.Shapes.{Shape, only, temp}
 use Rattle.vg_flatten_shapes.specs.Blocks.{Block, Skip, One, Both, Choice, stop_where}
@@ -66,12 +67,12 @@ not_zero (Local i) t e h = absurd (grind arith)
 not_zero (Known v) t e h = let is = some_is v 0 h in absurd (grind arith)
 
 module _ (k : Codes) (f : FirmProgram) (m : FirmProcedure) (call : FirmCaller History) (handle : ℕ → Piece Firm History)
-    (p : LinProgram) (go : LinCaller State) (params : List ℕ) (r : Room) (ws : List ℕ) (wide : AreWidths r m.widths ws) where
+    (p : LinProgram) (go : LinCaller State) (params : List ℕ) (lay : Layout) (r : Room) (ws : List ℕ) (wide : AreWidths r m.widths ws) where
   abbrev Right' : Shape → Made → Piece Firm History → Type 0
-  Right' = Right k f m call handle p go params r ws wide
+  Right' = Right k f m call handle p go params lay r ws wide
 
   abbrev linear' : Block → Piece (Deciding State) History
-  linear' = linear k f m call handle p go params r ws wide
+  linear' = linear k f m call handle p go params lay r ws wide
 
   abbrev step' : Step → Piece Firm History
   step' = firm_step k f m call handle
@@ -79,11 +80,11 @@ module _ (k : Codes) (f : FirmProgram) (m : FirmProcedure) (call : FirmCaller Hi
   -- the run stops, or goes on
   pub stopped : (t : Truth) (code : ℕ) (d : Deciding State) (w : World History) → said t d.state ≡ Some true
       → linear' (stop_where code t) d w ≡ over (Stops code None) (record d { truth = None }) w
-  stopped t code d w e = chooses k f m call handle p go params r ws wide t true (One (Stop code)) Skip d w e
+  stopped t code d w e = chooses k f m call handle p go params lay r ws wide t true (One (Stop code)) Skip d w e
 
   pub passed : (t : Truth) (code : ℕ) (d : Deciding State) (w : World History) → said t d.state ≡ Some false
       → linear' (stop_where code t) d w ≡ Gives (record d { truth = None }) w
-  passed t code d w e = chooses k f m call handle p go params r ws wide t false (One (Stop code)) Skip d w e
+  passed t code d w e = chooses k f m call handle p go params lay r ws wide t false (One (Stop code)) Skip d w e
 
   -- ---- divisions
 
@@ -91,30 +92,30 @@ module _ (k : Codes) (f : FirmProgram) (m : FirmProcedure) (call : FirmCaller Hi
       → ((u : ℕ) → firm_computed op u 0 ≡ None) → ((u n : ℕ) → u < 2 ^ 32 → suc n < 2 ^ 32 → Computes op lop 4 u (suc n))
       → Right' (only (y ∷ x ∷ hs)) (divided r lop x y hs) (step' (Operate op))
   right_divided op lop x y hs placed none law =
-      right_block k f m call handle p go params r ws wide op x y hs (λ to. Both (if may_be_zero y then stop_where 3 (Holds (is_zero y)) else Skip) (division to))
+      right_block k f m call handle p go params lay r ws wide op x y hs (λ to. Both (if may_be_zero y then stop_where 3 (Holds (is_zero y)) else Skip) (division to))
       placed (λ to has u v s d w i hu hv lu lv same. by_zero to has u s d w i hu lu same (may_be_zero y) refl v hv lv)
     where
       division : ℕ → Block
       division to = One (Compute (record { operator = lop; width = 4; to = to; left = x; right = y }))
 
       does : (to : ℕ) → temp r hs ≡ Some to → (u n : ℕ) (s : Firm) (d : Deciding State) (w : World History) → IsFair w → value x d.state ≡ Some u
-          → value y d.state ≡ Some (suc n) → u < 2 ^ 32 → suc n < 2 ^ 32 → AreSame r ws hs s d.state
-          → Alike (Held r ws (only (Local to ∷ hs))) (Leaves r ws) (put_computed (firm_computed op u (suc n)) s w) (linear' (division to) d w)
+          → value y d.state ≡ Some (suc n) → u < 2 ^ 32 → suc n < 2 ^ 32 → AreSame lay r ws hs s d.state
+          → Alike (Held lay r ws (only (Local to ∷ hs))) (Leaves lay r ws) (put_computed (firm_computed op u (suc n)) s w) (linear' (division to) d w)
       does to has u n s d w i hu hv lu lv same =
-          does_computed k f m call handle p go params r ws wide op lop 4 x y hs placed to has u (suc n) s d w i hu hv same (law u n lu lv)
+          does_computed k f m call handle p go params lay r ws wide op lop 4 x y hs placed to has u (suc n) s d w i hu hv same (law u n lu lv)
 
       by_zero : (to : ℕ) → temp r hs ≡ Some to → (u : ℕ) (s : Firm) (d : Deciding State) (w : World History) → IsFair w → value x d.state ≡ Some u
-          → u < 2 ^ 32 → AreSame r ws hs s d.state → (b : Bool) → may_be_zero y ≡ b → (v : ℕ) → value y d.state ≡ Some v → v < 2 ^ 32
-          → Alike (Held r ws (only (Local to ∷ hs))) (Leaves r ws) (put_computed (firm_computed op u v) s w)
+          → u < 2 ^ 32 → AreSame lay r ws hs s d.state → (b : Bool) → may_be_zero y ≡ b → (v : ℕ) → value y d.state ≡ Some v → v < 2 ^ 32
+          → Alike (Held lay r ws (only (Local to ∷ hs))) (Leaves lay r ws) (put_computed (firm_computed op u v) s w)
           (linear' (Both (if b then stop_where 3 (Holds (is_zero y)) else Skip) (division to)) d w)
       by_zero to has u s d w i hu lu same true e zero hv lv =
-          subst (λ z. Alike (Held r ws (only (Local to ∷ hs))) (Leaves r ws) (put_computed z s w)
+          subst (λ z. Alike (Held lay r ws (only (Local to ∷ hs))) (Leaves lay r ws) (put_computed z s w)
           (linear' (Both (stop_where 3 (Holds (is_zero y))) (division to)) d w)) (sym (none u))
-          (subst (λ z. Alike (Held r ws (only (Local to ∷ hs))) (Leaves r ws) (stops 3 0 s w) (and_then z (linear' (division to))))
+          (subst (λ z. Alike (Held lay r ws (only (Local to ∷ hs))) (Leaves lay r ws) (stops 3 0 s w) (and_then z (linear' (division to))))
           (sym (stopped (Holds (is_zero y)) 3 d w (says_zero y 0 d.state hv lv)))
           (stops_both 3 s (record d { truth = None }) w i))
       by_zero to has u s d w i hu lu same true e (suc n) hv lv =
-          subst (λ z. Alike (Held r ws (only (Local to ∷ hs))) (Leaves r ws) (put_computed (firm_computed op u (suc n)) s w) (and_then z (linear' (division to))))
+          subst (λ z. Alike (Held lay r ws (only (Local to ∷ hs))) (Leaves lay r ws) (put_computed (firm_computed op u (suc n)) s w) (and_then z (linear' (division to))))
           (sym (passed (Holds (is_zero y)) 3 d w (says_zero y (suc n) d.state hv lv ∙ ap Some (eqb-suc-zero n))))
           (does to has u n s (record d { truth = None }) w i hu hv lu lv same)
       by_zero to has u s d w i hu lu same false e zero hv lv = absurd (not_zero y d.state e hv)
@@ -126,7 +127,7 @@ module _ (k : Codes) (f : FirmProgram) (m : FirmProcedure) (call : FirmCaller Hi
       → Right' (only (y ∷ x ∷ hs)) (masked r bits o x y hs) (step' (Operate (ShiftLeft bits)))
   right_masked bits x y hs placed None e = tt
   right_masked bits x y hs placed (Some width) e =
-      right_block k f m call handle p go params r ws wide (ShiftLeft bits) x y hs (λ to. Both (shift to) (mask to)) placed
+      right_block k f m call handle p go params lay r ws wide (ShiftLeft bits) x y hs (λ to. Both (shift to) (mask to)) placed
       (λ to has u v s d w i hu hv lu lv same. does to has u v s d w i hu hv lv same)
     where
       shift : ℕ → Block
@@ -156,21 +157,21 @@ module _ (k : Codes) (f : FirmProgram) (m : FirmProcedure) (call : FirmCaller Hi
       within n v e1 = grind arith
 
       does : (to : ℕ) → temp r hs ≡ Some to → (u v : ℕ) (s : Firm) (d : Deciding State) (w : World History) → IsFair w → value x d.state ≡ Some u
-          → value y d.state ≡ Some v → v < 2 ^ 32 → AreSame r ws hs s d.state
-          → Alike (Held r ws (only (Local to ∷ hs))) (Leaves r ws) (put_computed (firm_computed (ShiftLeft bits) u v) s w)
+          → value y d.state ≡ Some v → v < 2 ^ 32 → AreSame lay r ws hs s d.state
+          → Alike (Held lay r ws (only (Local to ∷ hs))) (Leaves lay r ws) (put_computed (firm_computed (ShiftLeft bits) u v) s w)
           (linear' (Both (shift to) (mask to)) d w)
       does to has u v s d w i hu hv lv same =
-          subst (λ z. Alike (Held r ws (only (Local to ∷ hs))) (Leaves r ws) (put_computed z s w) (linear' (Both (shift to) (mask to)) d w))
+          subst (λ z. Alike (Held lay r ws (only (Local to ∷ hs))) (Leaves lay r ws) (put_computed z s w) (linear' (Both (shift to) (mask to)) d w))
           (sym (left_is bits u v lv (within bits width e)))
-          (subst (λ z. Alike (Held r ws (only (Local to ∷ hs))) (Leaves r ws) (put (left_in bits u v) s w) (and_then z (linear' (mask to))))
-          (sym (plain_goes k f m call handle p go params r ws wide (Compute (record { operator = LeftShift; width = width; to = to; left = x; right = y })) d w
+          (subst (λ z. Alike (Held lay r ws (only (Local to ∷ hs))) (Leaves lay r ws) (put (left_in bits u v) s w) (and_then z (linear' (mask to))))
+          (sym (plain_goes k f m call handle p go params lay r ws wide (Compute (record { operator = LeftShift; width = width; to = to; left = x; right = y })) d w
           (sets to wide' d.state)
-          (computes_to k f m call handle p go params r ws wide LeftShift width to x y u v wide' d.state w.outside hu hv refl)))
-          (into_temp k f m call handle p go params r ws wide hs to (left_in bits u v)
+          (computes_to k f m call handle p go params lay r ws wide LeftShift width to x y u v wide' d.state w.outside hu hv refl)))
+          (into_temp k f m call handle p go params lay r ws wide hs to (left_in bits u v)
           (Compute (record { operator = Both'; width = width; to = to; left = Local to; right = Known (2 ^ bits - 1) })) s
           (record d { state = sets to wide' d.state }) w i placed has small-in
-          (record { waits = there.waits.1; kept = there.kept; none = there.none })
-          (computes_to k f m call handle p go params r ws wide Both' width to (Local to) (Known (2 ^ bits - 1)) wide' (2 ^ bits - 1) (left_in bits u v)
+          (record { waits = there.waits.1; kept = there.kept; none = there.none; ram = there.ram })
+          (computes_to k f m call handle p go params lay r ws wide Both' width to (Local to) (Known (2 ^ bits - 1)) wide' (2 ^ bits - 1) (left_in bits u v)
           (sets to wide' d.state) w.outside there.waits.0.0 refl (ap Some (left_masked bits width u v (few bits width e) (bytes bits width e))))))
         where
           wide' : ℕ
@@ -185,21 +186,21 @@ module _ (k : Codes) (f : FirmProgram) (m : FirmProcedure) (call : FirmCaller Hi
           small-in : left_in bits u v < 2 ^ 32
           small-in = left_in_small bits u v (within bits width e)
 
-          there : AreSame r ws (Local to ∷ hs) (record s { values = wide' ∷ s.values }) (sets to wide' d.state)
-          there = put_temp r m.widths ws hs s d.state to wide' wide placed has small-wide same
+          there : AreSame lay r ws (Local to ∷ hs) (record s { values = wide' ∷ s.values }) (sets to wide' d.state)
+          there = put_temp lay r m.widths ws hs s d.state to wide' wide placed has small-wide same
 
   right_left : (bits : ℕ) (x y : Operand) (hs : List Operand) → ArePlaced r.locals hs → (o : Option ℕ) → bytes_of bits ≡ o
       → Right' (only (y ∷ x ∷ hs)) (shifted_left r bits o x y hs) (step' (Operate (ShiftLeft bits)))
   right_left bits x y hs placed None e = right_masked bits x y hs placed (bytes_around bits) refl
   right_left bits x y hs placed (Some width) e =
-      right_binary k f m call handle p go params r ws wide (ShiftLeft bits) LeftShift width x y hs placed
+      right_binary k f m call handle p go params lay r ws wide (ShiftLeft bits) LeftShift width x y hs placed
       (λ u v t hv lu lv. left_whole bits width u v e lv)
 
   -- by an amount that is not known
   right_where : (bits : ℕ) (x y : Operand) (hs : List Operand) → ArePlaced r.locals hs → bits ≤ 32
       → Right' (only (y ∷ x ∷ hs)) (shifted_where r bits x y hs) (step' (Operate (ShiftRight bits)))
   right_where bits x y hs placed le =
-      right_block k f m call handle p go params r ws wide (ShiftRight bits) x y hs (λ to. Choice (Holds test) (shift to) (One (Copy to (Known 0)))) placed
+      right_block k f m call handle p go params lay r ws wide (ShiftRight bits) x y hs (λ to. Choice (Holds test) (shift to) (One (Copy to (Known 0)))) placed
       (λ to has u v s d w i hu hv lu lv same. by_size to has u v s d w i hu hv lu lv same (nat_lt v bits) refl)
     where
       test : Test
@@ -212,20 +213,20 @@ module _ (k : Codes) (f : FirmProgram) (m : FirmProcedure) (call : FirmCaller Hi
       says v d b hv lv e = holds_of Below y (Known bits) v bits d.state hv refl ∙ ap Some (below_same v bits lv (omega (arith, le)) ∙ e)
 
       by_size : (to : ℕ) → temp r hs ≡ Some to → (u v : ℕ) (s : Firm) (d : Deciding State) (w : World History) → IsFair w → value x d.state ≡ Some u
-          → value y d.state ≡ Some v → u < 2 ^ 32 → v < 2 ^ 32 → AreSame r ws hs s d.state → (b : Bool) → nat_lt v bits ≡ b
-          → Alike (Held r ws (only (Local to ∷ hs))) (Leaves r ws) (put_computed (firm_computed (ShiftRight bits) u v) s w)
+          → value y d.state ≡ Some v → u < 2 ^ 32 → v < 2 ^ 32 → AreSame lay r ws hs s d.state → (b : Bool) → nat_lt v bits ≡ b
+          → Alike (Held lay r ws (only (Local to ∷ hs))) (Leaves lay r ws) (put_computed (firm_computed (ShiftRight bits) u v) s w)
           (linear' (Choice (Holds test) (shift to) (One (Copy to (Known 0)))) d w)
       by_size to has u v s d w i hu hv lu lv same true e =
-          subst (λ z. Alike (Held r ws (only (Local to ∷ hs))) (Leaves r ws) (put_computed (firm_computed (ShiftRight bits) u v) s w) z)
-          (sym (chooses k f m call handle p go params r ws wide (Holds test) true (shift to) (One (Copy to (Known 0))) d w (says v d true hv lv e)))
-          (does_computed k f m call handle p go params r ws wide (ShiftRight bits) RightShift 4 x y hs placed to has u v s (record d { truth = None }) w i hu hv
+          subst (λ z. Alike (Held lay r ws (only (Local to ∷ hs))) (Leaves lay r ws) (put_computed (firm_computed (ShiftRight bits) u v) s w) z)
+          (sym (chooses k f m call handle p go params lay r ws wide (Holds test) true (shift to) (One (Copy to (Known 0))) d w (says v d true hv lv e)))
+          (does_computed k f m call handle p go params lay r ws wide (ShiftRight bits) RightShift 4 x y hs placed to has u v s (record d { truth = None }) w i hu hv
           same (right_below bits u v lu lv le e))
       by_size to has u v s d w i hu hv lu lv same false e =
-          subst (λ z. Alike (Held r ws (only (Local to ∷ hs))) (Leaves r ws) (put_computed (firm_computed (ShiftRight bits) u v) s w) z)
-          (sym (chooses k f m call handle p go params r ws wide (Holds test) false (shift to) (One (Copy to (Known 0))) d w (says v d false hv lv e)))
-          (subst (λ z. Alike (Held r ws (only (Local to ∷ hs))) (Leaves r ws) (put_computed z s w) (linear' (One (Copy to (Known 0))) (record d { truth = None }) w))
+          subst (λ z. Alike (Held lay r ws (only (Local to ∷ hs))) (Leaves lay r ws) (put_computed (firm_computed (ShiftRight bits) u v) s w) z)
+          (sym (chooses k f m call handle p go params lay r ws wide (Holds test) false (shift to) (One (Copy to (Known 0))) d w (says v d false hv lv e)))
+          (subst (λ z. Alike (Held lay r ws (only (Local to ∷ hs))) (Leaves lay r ws) (put_computed z s w) (linear' (One (Copy to (Known 0))) (record d { truth = None }) w))
           (sym (right_none bits u v lv le e))
-          (into_temp k f m call handle p go params r ws wide hs to 0 (Copy to (Known 0)) s (record d { truth = None }) w i placed has (omega arith) same refl))
+          (into_temp k f m call handle p go params lay r ws wide hs to 0 (Copy to (Known 0)) s (record d { truth = None }) w i placed has (omega arith) same refl))
 
   right_by : (bits : ℕ) (x y : Operand) (hs : List Operand) → ArePlaced r.locals hs
       → Right' (only (y ∷ x ∷ hs)) (shifted_by r bits x y hs) (step' (Operate (ShiftRight bits)))
@@ -241,7 +242,7 @@ module _ (k : Codes) (f : FirmProgram) (m : FirmProcedure) (call : FirmCaller Hi
           (step' (Operate (ShiftRight bits)))
       by_whole true e =
           let is : bits ≡ 32 = grind arith in
-          right_binary k f m call handle p go params r ws wide (ShiftRight bits) RightShift 4 x y hs placed
+          right_binary k f m call handle p go params lay r ws wide (ShiftRight bits) RightShift 4 x y hs placed
           (λ u v t hv lu lv. subst (λ n. Computes (ShiftRight n) RightShift 4 u v) (sym is) (right_whole u v lu lv))
       by_whole false e = by_size (nat_lt bits 32) refl
 
@@ -250,16 +251,16 @@ module _ (k : Codes) (f : FirmProgram) (m : FirmProcedure) (call : FirmCaller Hi
       → Right' (only (Known n ∷ x ∷ hs)) (Makes Skip (only (Known 0 ∷ hs))) (step' (Operate (ShiftRight bits)))
   right_nothing bits x n hs placed le e = ((tt, placed), λ fit s d w i q. by_values s d w i q s.values q.waits)
     where
-      by_values : (s : Firm) (d : Deciding State) (w : World History) → IsFair w → AreSame r ws (Known n ∷ x ∷ hs) s d.state → (vs : List ℕ)
+      by_values : (s : Firm) (d : Deciding State) (w : World History) → IsFair w → AreSame lay r ws (Known n ∷ x ∷ hs) s d.state → (vs : List ℕ)
           → AreAt (Known n ∷ x ∷ hs) vs d.state.locals
-          → Alike (Held r ws (only (Known 0 ∷ hs))) (Leaves r ws)
+          → Alike (Held lay r ws (only (Known 0 ∷ hs))) (Leaves lay r ws)
           (take_from vs (λ v. taking (λ u. put_computed (firm_computed (ShiftRight bits) u v))) s w) (Gives d w)
       by_values s d w i q [] at = absurd at
       by_values s d w i q (v ∷ []) at = absurd at.1
       by_values s d w i q (v ∷ u ∷ vs) at =
-          subst (λ z. Alike (Held r ws (only (Known 0 ∷ hs))) (Leaves r ws) (put_computed z (record s { values = vs }) w) (Gives d w))
+          subst (λ z. Alike (Held lay r ws (only (Known 0 ∷ hs))) (Leaves lay r ws) (put_computed z (record s { values = vs }) w) (Gives d w))
           (sym (right_none bits u v at.0.1 le (ap (λ z. nat_lt z bits) (sym at.0.0) ∙ e)))
-          (gives i (record { waits = ((refl, omega arith), at.1.1); kept = q.kept; none = q.none }))
+          (gives i (record { waits = ((refl, omega arith), at.1.1); kept = q.kept; none = q.none; ram = q.ram }))
 
   right_known : (bits : ℕ) (x : Operand) (n : ℕ) (hs : List Operand) → ArePlaced r.locals hs
       → Right' (only (Known n ∷ x ∷ hs)) (shifted_right r bits x (Known n) hs) (step' (Operate (ShiftRight bits)))
@@ -269,7 +270,7 @@ module _ (k : Codes) (f : FirmProgram) (m : FirmProcedure) (call : FirmCaller Hi
           → Right' (only (Known n ∷ x ∷ hs)) (if b then computed r RightShift 4 x (Known n) hs else Makes Skip (only (Known 0 ∷ hs)))
           (step' (Operate (ShiftRight bits)))
       by_amount le true e =
-          right_binary k f m call handle p go params r ws wide (ShiftRight bits) RightShift 4 x (Known n) hs placed
+          right_binary k f m call handle p go params lay r ws wide (ShiftRight bits) RightShift 4 x (Known n) hs placed
           (λ u v t hv lu lv. right_below bits u v lu lv le (ap (λ z. nat_lt z bits) (sym (some_is n v hv)) ∙ e))
       by_amount le false e = right_nothing bits x n hs placed le e
 
@@ -310,6 +311,6 @@ module _ (k : Codes) (f : FirmProgram) (m : FirmProcedure) (call : FirmCaller Hi
       by_kind : (o : Option LinOperator) → computing op ≡ o → (t : Option Truth) → comparing op x y ≡ t
           → Right' (only (y ∷ x ∷ hs)) (operated_as r op o t x y hs) (step' (Operate op))
       by_kind (Some lop) e t e1 =
-          right_binary k f m call handle p go params r ws wide op lop 4 x y hs placed.1.1 (λ u v s hv lu lv. computes op lop u v lu lv e)
-      by_kind None e (Some t) e1 = right_compared k f m call handle p go params r ws wide op x y hs placed.1.1 t e1
+          right_binary k f m call handle p go params lay r ws wide op lop 4 x y hs placed.1.1 (λ u v s hv lu lv. computes op lop u v lu lv e)
+      by_kind None e (Some t) e1 = right_compared k f m call handle p go params lay r ws wide op x y hs placed.1.1 t e1
       by_kind None e None e1 = right_combined op x y hs placed.1.1

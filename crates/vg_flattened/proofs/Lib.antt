@@ -10,6 +10,10 @@ pub mod StepRight
 pub mod Shifting
 pub mod CombinedRight
 pub mod ObjectRight
+pub mod Writing
+pub mod ColumnRight
+pub mod StoreRight
+pub mod ElementRight
 pub mod CallRight
 pub mod CodeRight
 pub mod Standing

@@ -7,6 +7,7 @@ use Rattle.vg_lin.specs.declared.instr.Operand.{Operand}
 use Rattle.vg_lin.specs.declared.instr.Operand.TheVariants.{Local, Known}
 use Rattle.vg_lin.specs.Values.{low}
 use Rattle.vg_lin.specs.State.{LocalState, State, value_in, value, with_local, sets}
+use Rattle.vg_flatten_shapes.specs.declared.layout.Layout.{Layout}
 use Rattle.vg_flatten_shapes.specs.declared.room.Room.{Room}
 use Rattle.vg_flatten_shapes.specs.Shapes.{temp}
 use Rattle.vg_flatten_shapes.proofs.Temps.{some_is, none_is_not, temp_is}
@@ -79,17 +80,17 @@ kept_behind_temp r ws vs ls k x kept =
 -- ---- temporaries
 
 -- A number of four bytes is put into the temporary above what waits.
-pub put_temp : (r : Room) (widths ws : List ℕ) (hs : List Operand) (s : Firm) (t : State) (to z : ℕ) → AreWidths r widths ws → ArePlaced r.locals hs
-    → temp r hs ≡ Some to → z < 2 ^ 32 → AreSame r ws hs s t → AreSame r ws (Local to ∷ hs) (record s { values = z ∷ s.values }) (sets to z t)
-put_temp r widths ws hs s t to z wide placed e small same = by_temp (temp_is r hs to e).0 (temp_is r hs to e).1
+pub put_temp : (lay : Layout) (r : Room) (widths ws : List ℕ) (hs : List Operand) (s : Firm) (t : State) (to z : ℕ) → AreWidths r widths ws → ArePlaced r.locals hs
+    → temp r hs ≡ Some to → z < 2 ^ 32 → AreSame lay r ws hs s t → AreSame lay r ws (Local to ∷ hs) (record s { values = z ∷ s.values }) (sets to z t)
+put_temp lay r widths ws hs s t to z wide placed e small same = by_temp (temp_is r hs to e).0 (temp_is r hs to e).1
   where
     is_there : (o : Option ℕ) × (slice_get t.locals (r.locals + length hs) ≡ Some (record { width = 4; value = o }))
         → value_in (slice_get (with_local t.locals (r.locals + length hs) z) (r.locals + length hs)) ≡ Some z
     is_there (o, at) = ap value_in (written_is t.locals (r.locals + length hs) z _ at) ∙ ap Some (low_same z small)
 
-    by_temp : to ≡ r.locals + length hs → length hs < r.temps → AreSame r ws (Local to ∷ hs) (record s { values = z ∷ s.values }) (sets to z t)
+    by_temp : to ≡ r.locals + length hs → length hs < r.temps → AreSame lay r ws (Local to ∷ hs) (record s { values = z ∷ s.values }) (sets to z t)
     by_temp is lt =
-        subst (λ x. AreSame r ws (Local x ∷ hs) (record s { values = z ∷ s.values }) (sets x z t)) (sym is)
+        subst (λ x. AreSame lay r ws (Local x ∷ hs) (record s { values = z ∷ s.values }) (sets x z t)) (sym is)
         (record {
           waits = (
             (is_there (same.kept.there (r.locals + length hs) 4 (wide.temps (length hs) lt)), small),
@@ -97,6 +98,7 @@ put_temp r widths ws hs s t to z wide placed e small same = by_temp (temp_is r h
           );
           kept = kept_behind_temp r ws s.locals t.locals (length hs) z same.kept;
           none = same.none;
+          ram = same.ram;
         })
 
 pub placed_temp : (r : Room) (hs : List Operand) (to : ℕ) → temp r hs ≡ Some to → ArePlaced r.locals hs → ArePlaced r.locals (Local to ∷ hs)

@@ -10,6 +10,8 @@ use Rattle.vg_lin.specs.State.{LocalState, State, value_in, holds}
 use Rattle.vg_lin.specs.Structured.{Deciding}
 use Rattle.vg_flatten_shapes.specs.declared.open.Truth.{Truth}
 use Rattle.vg_flatten_shapes.specs.declared.open.Truth.TheVariants.{Holds, Fails}
+use Rattle.vg_flatten.specs.Columns.{RamStands}
+use Rattle.vg_flatten_shapes.specs.declared.layout.Layout.{Layout}
 use Rattle.vg_flatten_shapes.specs.declared.room.Room.{Room}
 use Rattle.vg_flatten_shapes.specs.Shapes.{Shape, only, empty}
 
@@ -49,10 +51,11 @@ pub record AreKept (r : Room) (ws vs : List ℕ) (ls : List LocalState) : Type 0
 -- ---- states
 
 -- The states where no test waits.
-pub record AreSame (r : Room) (ws : List ℕ) (hs : List Operand) (s : Firm) (t : State) : Type 0 where
+pub record AreSame (lay : Layout) (r : Room) (ws : List ℕ) (hs : List Operand) (s : Firm) (t : State) : Type 0 where
   pub waits : AreAt hs s.values t.locals
   pub kept : AreKept r ws s.locals t.locals
   pub none : t.waiting ≡ []
+  pub ram : RamStands lay.ram s.columns t.ram
 
 -- What a test that waits says.
 abbrev pub said : Truth → State → Option Bool
@@ -60,27 +63,27 @@ said (Holds t) s = holds t s
 said (Fails t) s = option_map not (holds t s)
 
 -- Where a test waits, it says what the newest value is.
-pub record IsSaid (r : Room) (ws : List ℕ) (x : Truth) (hs : List Operand) (s : Firm) (t : State) : Type 0 where
+pub record IsSaid (lay : Layout) (r : Room) (ws : List ℕ) (x : Truth) (hs : List Operand) (s : Firm) (t : State) : Type 0 where
   pub b : Bool
   pub vs : List ℕ
   pub newest : s.values ≡ as_number b ∷ vs
   pub says : said x t ≡ Some b
-  pub rest : AreSame r ws hs (record s { values = vs }) t
+  pub rest : AreSame lay r ws hs (record s { values = vs }) t
 
-abbrev pub AreSameBy : Room → (ws : List ℕ) → Option Truth → List Operand → Firm → State → Type 0
-AreSameBy r ws None hs s t = AreSame r ws hs s t
-AreSameBy r ws (Some x) hs s t = IsSaid r ws x hs s t
+abbrev pub AreSameBy : Layout → Room → (ws : List ℕ) → Option Truth → List Operand → Firm → State → Type 0
+AreSameBy lay r ws None hs s t = AreSame lay r ws hs s t
+AreSameBy lay r ws (Some x) hs s t = IsSaid lay r ws x hs s t
 
-abbrev pub Held : Room → (ws : List ℕ) → Shape → Firm → Deciding State → Type 0
-Held r ws shape s d = AreSameBy r ws shape.truth shape.homes s d.state
+abbrev pub Held : Layout → Room → (ws : List ℕ) → Shape → Firm → Deciding State → Type 0
+Held lay r ws shape s d = AreSameBy lay r ws shape.truth shape.homes s d.state
 
 -- A value that is returned waits on one side, and is the result on the other.
-abbrev pub IsResult : Firm → Deciding State → Type 0
-IsResult s d = (v : ℕ) × (vs : List ℕ) × (s.values ≡ v ∷ vs) × (d.result ≡ v) × (v < 2 ^ 32)
+abbrev pub IsResult : Layout → Firm → Deciding State → Type 0
+IsResult lay s d = (v : ℕ) × (vs : List ℕ) × (s.values ≡ v ∷ vs) × (d.result ≡ v) × (v < 2 ^ 32) × RamStands lay.ram s.columns d.state.ram
 
 -- How the states are where code leaves.
-abbrev pub Leaves : Room → (ws : List ℕ) → Signal → Firm → Deciding State → Type 0
-Leaves r ws Breaks s d = Held r ws empty s d
-Leaves r ws Continues s d = Held r ws empty s d
-Leaves r ws Returns s d = IsResult s d
-Leaves r ws (Over why) s d = ⊥
+abbrev pub Leaves : Layout → Room → (ws : List ℕ) → Signal → Firm → Deciding State → Type 0
+Leaves lay r ws Breaks s d = Held lay r ws empty s d
+Leaves lay r ws Continues s d = Held lay r ws empty s d
+Leaves lay r ws Returns s d = IsResult lay s d
+Leaves lay r ws (Over why) s d = ⊥

@@ -25,6 +25,7 @@ use Rattle.vg_lin.specs.Meaning.{language}
 use Rattle.vg_lin.specs.Structured.{Deciding, Caller as LinCaller, with_found, with_truth, step as lin_step, truth as lin_truth}
 use Rattle.vg_flatten_shapes.specs.declared.open.Truth.{Truth}
 use Rattle.vg_flatten_shapes.specs.declared.open.Truth.TheVariants.{Holds, Fails}
+use Rattle.vg_flatten_shapes.specs.declared.layout.Layout.{Layout}
 use Rattle.vg_flatten_shapes.specs.declared.room.Room.{Room}
 use Rattle.vg_flatten_shapes.specs.Shapes.{Shape, only, empty, is_empty, is_none, temp}
 use Rattle.vg_flatten_shapes.specs.Blocks.{Block, Skip, One, Both, Choice, structured, picked}
@@ -42,7 +43,7 @@ unit_behind (Gives s w) = refl
 unit_behind (Ends why s w) = refl
 
 module _ (k : Codes) (f : FirmProgram) (m : FirmProcedure) (call : FirmCaller History) (handle : ℕ → Piece Firm History)
-    (p : LinProgram) (go : LinCaller State) (params : List ℕ) (r : Room) (ws : List ℕ) (wide : AreWidths r m.widths ws) where
+    (p : LinProgram) (go : LinCaller State) (params : List ℕ) (lay : Layout) (r : Room) (ws : List ℕ) (wide : AreWidths r m.widths ws) where
   -- what the packed code does, and what a block does
   abbrev pub packed : Code Step → Piece Firm History
   packed c = performed full (firm_step k f m call handle) firm_truth c
@@ -52,7 +53,7 @@ module _ (k : Codes) (f : FirmProgram) (m : FirmProcedure) (call : FirmCaller Hi
 
   -- the block does what the piece does, from states of the one shape to states of the other
   abbrev pub Does : Shape → Shape → Piece Firm History → Block → Type 0
-  Does before behind' g b = AlikePiece (Held r ws before) (Held r ws behind') (Leaves r ws) g (linear b)
+  Does before behind' g b = AlikePiece (Held lay r ws before) (Held lay r ws behind') (Leaves lay r ws) g (linear b)
 
   -- what was made does what the piece does, where its calls fit
   abbrev pub Right : Shape → Made → Piece Firm History → Type 0
@@ -79,7 +80,7 @@ module _ (k : Codes) (f : FirmProgram) (m : FirmProcedure) (call : FirmCaller Hi
       → Right s1 made go_on → Right before (behind a made) g
   right_last before s1 a (Makes b s2) g ha (placed, hb) = (
     placed,
-    λ fit s t w i q. subst (λ z. Alike (Held r ws s2) (Leaves r ws) z (and_then (linear a t w) (linear b))) (unit_behind (g s w))
+    λ fit s t w i q. subst (λ z. Alike (Held lay r ws s2) (Leaves lay r ws) z (and_then (linear a t w) (linear b))) (unit_behind (g s w))
         (alike_then go_on (linear b) (ha fit.0 s t w i q) (hb fit.1)),
   )
   right_last before s1 a (Refused why) g ha hb = tt
@@ -117,17 +118,17 @@ module _ (k : Codes) (f : FirmProgram) (m : FirmProcedure) (call : FirmCaller Hi
   number_made x hs to e placed s d w i q = by_truth q.b q.says q.newest
     where
       by_truth : (b : Bool) → said x d.state ≡ Some b → s.values ≡ as_number b ∷ q.vs
-          → Alike (Held r ws (only (Local to ∷ hs))) (Leaves r ws) (Gives s w) (linear (Choice x (One (Copy to (Known 1))) (One (Copy to (Known 0)))) d w)
+          → Alike (Held lay r ws (only (Local to ∷ hs))) (Leaves lay r ws) (Gives s w) (linear (Choice x (One (Copy to (Known 1))) (One (Copy to (Known 0)))) d w)
       by_truth true says new =
-          subst (λ z. Alike (Held r ws (only (Local to ∷ hs))) (Leaves r ws) (Gives s w) z)
+          subst (λ z. Alike (Held lay r ws (only (Local to ∷ hs))) (Leaves lay r ws) (Gives s w) z)
           (sym (chooses x true (One (Copy to (Known 1))) (One (Copy to (Known 0))) d w says))
-          (gives i (subst (λ z. AreSame r ws (Local to ∷ hs) (record s { values = z }) (sets to 1 d.state)) (sym new)
-          (put_temp r m.widths ws hs (record s { values = q.vs }) d.state to 1 wide placed e (omega arith) q.rest)))
+          (gives i (subst (λ z. AreSame lay r ws (Local to ∷ hs) (record s { values = z }) (sets to 1 d.state)) (sym new)
+          (put_temp lay r m.widths ws hs (record s { values = q.vs }) d.state to 1 wide placed e (omega arith) q.rest)))
       by_truth false says new =
-          subst (λ z. Alike (Held r ws (only (Local to ∷ hs))) (Leaves r ws) (Gives s w) z)
+          subst (λ z. Alike (Held lay r ws (only (Local to ∷ hs))) (Leaves lay r ws) (Gives s w) z)
           (sym (chooses x false (One (Copy to (Known 1))) (One (Copy to (Known 0))) d w says))
-          (gives i (subst (λ z. AreSame r ws (Local to ∷ hs) (record s { values = z }) (sets to 0 d.state)) (sym new)
-          (put_temp r m.widths ws hs (record s { values = q.vs }) d.state to 0 wide placed e (omega arith) q.rest)))
+          (gives i (subst (λ z. AreSame lay r ws (Local to ∷ hs) (record s { values = z }) (sets to 0 d.state)) (sym new)
+          (put_temp lay r m.widths ws hs (record s { values = q.vs }) d.state to 0 wide placed e (omega arith) q.rest)))
 
   -- no test waits behind it
   pub right_settled : (s : Shape) (more : List Operand → Made) (h : Piece Firm History) → ArePlaced r.locals s.homes
@@ -148,7 +149,7 @@ module _ (k : Codes) (f : FirmProgram) (m : FirmProcedure) (call : FirmCaller Hi
       by_shape : (o : Option Truth) → s.truth ≡ o → Right s (after (settled_as r o s.homes) (λ s1. more s1.homes)) h
       by_shape None is =
           right_first s (only s.homes) Skip (more s.homes) h
-          (λ fit s1 d w i q. gives i (subst (λ z. Held r ws (record { truth = z; homes = s.homes }) s1 d) is q)) (hm s.homes placed)
+          (λ fit s1 d w i q. gives i (subst (λ z. Held lay r ws (record { truth = z; homes = s.homes }) s1 d) is q)) (hm s.homes placed)
       by_shape (Some x) is = by_room x is (temp r s.homes) refl
 
   -- the truth value that waits, on both sides
@@ -157,9 +158,9 @@ module _ (k : Codes) (f : FirmProgram) (m : FirmProcedure) (call : FirmCaller Hi
     pub vs : List ℕ
     pub takes : firm_truth s ≡ Was b (record s { values = vs })
     pub says : said t.truth d.state ≡ Some b
-    pub rest : AreSame r ws t.homes (record s { values = vs }) d.state
+    pub rest : AreSame lay r ws t.homes (record s { values = vs }) d.state
 
-  pub is_tested : (shape : Shape) (t : Tested) (s : Firm) (d : Deciding State) → tested shape ≡ Some t → Held r ws shape s d → IsTested t s d
+  pub is_tested : (shape : Shape) (t : Tested) (s : Firm) (d : Deciding State) → tested shape ≡ Some t → Held lay r ws shape s d → IsTested t s d
   is_tested shape t s d e q = by_shape shape.truth shape.homes e q
     where
       number_of : (b : Bool) (vs : List ℕ) → s.values ≡ as_number b ∷ vs → firm_truth s ≡ Was b (record s { values = vs })
@@ -170,7 +171,7 @@ module _ (k : Codes) (f : FirmProgram) (m : FirmProcedure) (call : FirmCaller Hi
       said_zero h v at small = ap (λ z. option_map not (both z (Some 0) (compared Same 4))) at ∙ ap (λ z. Some (not z)) (same_same v 0 small (omega arith))
 
       number_tested : (h : Operand) (hs : List Operand) (vs : List ℕ) → s.values ≡ vs → AreAt (h ∷ hs) vs d.state.locals
-          → AreSame r ws (h ∷ hs) s d.state → IsTested (record { truth = Fails (is_zero h); homes = hs }) s d
+          → AreSame lay r ws (h ∷ hs) s d.state → IsTested (record { truth = Fails (is_zero h); homes = hs }) s d
       number_tested h hs [] is at same = absurd at
       number_tested h hs (zero ∷ vs) is at same =
           record {
@@ -178,7 +179,7 @@ module _ (k : Codes) (f : FirmProgram) (m : FirmProcedure) (call : FirmCaller Hi
             vs = vs;
             takes = ap (λ z. truth_in z s) is;
             says = said_zero h zero (value_of_home h zero d.state at.0.0) (omega arith);
-            rest = record { waits = at.1; kept = same.kept; none = same.none };
+            rest = record { waits = at.1; kept = same.kept; none = same.none; ram = same.ram };
           }
       number_tested h hs (suc v ∷ vs) is at same =
           record {
@@ -186,10 +187,10 @@ module _ (k : Codes) (f : FirmProgram) (m : FirmProcedure) (call : FirmCaller Hi
             vs = vs;
             takes = ap (λ z. truth_in z s) is;
             says = said_zero h (suc v) (value_of_home h (suc v) d.state at.0.0) at.0.1 ∙ ap (λ z. Some (not z)) (eqb-suc-zero v);
-            rest = record { waits = at.1; kept = same.kept; none = same.none };
+            rest = record { waits = at.1; kept = same.kept; none = same.none; ram = same.ram };
           }
 
-      by_shape : (o : Option Truth) (hs : List Operand) → tested_as o hs ≡ Some t → Held r ws (record { truth = o; homes = hs }) s d → IsTested t s d
+      by_shape : (o : Option Truth) (hs : List Operand) → tested_as o hs ≡ Some t → Held lay r ws (record { truth = o; homes = hs }) s d → IsTested t s d
       by_shape (Some x) hs e1 q1 =
           subst (λ z. IsTested z s d) (some_is _ t e1)
           (record { b = q1.b; vs = q1.vs; takes = number_of q1.b q1.vs q1.newest; says = q1.says; rest = q1.rest })

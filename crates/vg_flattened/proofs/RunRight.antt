@@ -24,6 +24,7 @@ use Rattle.vg_lin.specs.Follows.{IsLegal}
 use Rattle.vg_lin.specs.Sessions.{world}
 use Rattle.vg_lin.proofs.Followed.{follows_sessions}
 use Rattle.vg_flatten_shapes.specs.declared.open.Open.{Open}
+use Rattle.vg_flatten_shapes.specs.declared.layout.Layout.{Layout}
 use Rattle.vg_flatten_shapes.specs.declared.room.Room.{Room}
 use Rattle.vg_flatten_shapes.specs.Shapes.{only}
 use Rattle.vg_flatten_shapes.specs.Blocks.{Block, Skip, structured, open_code}
@@ -86,7 +87,7 @@ over_same _ _ t v why no' legal (wrong {s = s1} {w = w1}) e =
     reason_in (Some x) = reason_of x
     reason_in None = None
 
-module _ (k : Codes) (f : FirmProgram) (params : List ℕ) (p : LinProgram) (flat : AreFlat k f params p) where
+module _ (k : Codes) (lay : Layout) (f : FirmProgram) (params : List ℕ) (p : LinProgram) (flat : AreFlat k lay f params p) where
   -- the block of each procedure
   abbrev pub block_at : (q : ℕ) (o : Option FirmProcedure) → slice_get f.procedures q ≡ o → Block
   block_at q (Some m) e = whole m (flat.flats q m e).3.block
@@ -124,9 +125,9 @@ module _ (k : Codes) (f : FirmProgram) (params : List ℕ) (p : LinProgram) (fla
 
   -- ---- calls
 
-  calls : (n : ℕ) → AlikeCalls p (firm_called full k f n) (lin_called (language p) bodies n)
-  calls zero q count s w ram i = overs
-  calls (suc n) q count s w ram i = by_found (calls n) (slice_get f.procedures q) refl
+  calls : (n : ℕ) → AlikeCalls lay p (firm_called full k f n) (lin_called (language p) bodies n)
+  calls zero q count s w ram i held = overs
+  calls (suc n) q count s w ram i held = by_found (calls n) (slice_get f.procedures q) refl
     where
       start : Deciding State
       start = fresh (begins p q (arguments count s) ram)
@@ -134,36 +135,36 @@ module _ (k : Codes) (f : FirmProgram) (params : List ℕ) (p : LinProgram) (fla
       Start : Firm → Deciding State → Type 0
       Start s1 d1 = (s1 ≡ s) × (d1 ≡ start)
 
-      by_enter : AlikeCalls p (firm_called full k f n) (lin_called (language p) bodies n)
+      by_enter : AlikeCalls lay p (firm_called full k f n) (lin_called (language p) bodies n)
           → (m : FirmProcedure) (e : slice_get f.procedures q ≡ Some m) (b : Bool)
           → may_enter m count s ≡ b
-          → Alike (Returned count s) Never
+          → Alike (Returned lay count s) Never
           (checked b (opened full (Calling m.method) (run_procedure full k f (firm_called full k f n) (λ vector. firm_handled (firm_called full k f n)
           (f.handler vector)) m count 0)) s w)
           (with_found ((language p).named q) (λ a. opened full a (lin_body (language p) (lin_called (language p) bodies n) (structured (block_at q
           (Some m) e)))) start w)
       by_enter hn m e false enters = wrong
       by_enter hn m e true enters =
-          subst (λ z. Alike (Returned count s) Never
+          subst (λ z. Alike (Returned lay count s) Never
           (opened full (Calling m.method) (run_procedure full k f (firm_called full k f n) (λ vector. firm_handled (firm_called full k f n)
           (f.handler vector)) m count 0) s w)
           (with_found z (λ a. opened full a (lin_body (language p) (lin_called (language p) bodies n) (structured (block_at q (Some m) e)))) start w))
           (sym (ap name_of (flat.flats q m e).1 ∙ ap call_of (flat.flats q m e).3.method))
-          (alike_opened {G = Start} {J = Returned count s} {L = Never} (Calling m.method)
+          (alike_opened {G = Start} {J = Returned lay count s} {L = Never} (Calling m.method)
           (run_procedure full k f (firm_called full k f n) (λ vector. firm_handled (firm_called full k f n) (f.handler vector)) m count 0)
           (lin_body (language p) (lin_called (language p) bodies n) (structured (block_at q (Some m) e)))
-          (λ s1 d1 w1 i1 st. subst (λ z. Alike (Returned count s) Never
+          (λ s1 d1 w1 i1 st. subst (λ z. Alike (Returned lay count s) Never
           (run_procedure full k f (firm_called full k f n) (λ vector. firm_handled (firm_called full k f n) (f.handler vector)) m count 0 z w1)
           (lin_body (language p) (lin_called (language p) bodies n) (structured (block_at q (Some m) e)) d1 w1)) (sym st.0)
-          (alike_body k f p params known (firm_called full k f n) (lin_called (language p) bodies n) hn flat.handler m (flat.flats q m e).0
+          (alike_body k lay f p params known (firm_called full k f n) (lin_called (language p) bodies n) hn flat.handler flat.flash m (flat.flats q m e).0
           (flat.flats q m e).2
-          (flat.flats q m e).3 count s ram w1 i1 enters d1
+          (flat.flats q m e).3 count s ram w1 i1 enters held d1
           (st.1 ∙ ap (λ z. fresh (record { locals = begun (widths_of z) (arguments count s); waiting = []; ram = ram })) (flat.flats q m e).1
           ∙ ap (λ z. fresh (record { locals = begun z (arguments count s); waiting = []; ram = ram })) (flat.flats q m e).3.widths)))
           s start w i (refl, refl))
 
-      by_found : AlikeCalls p (firm_called full k f n) (lin_called (language p) bodies n) → (o : Option FirmProcedure) (e : slice_get f.procedures q ≡ o)
-          → Alike (Returned count s) Never
+      by_found : AlikeCalls lay p (firm_called full k f n) (lin_called (language p) bodies n) → (o : Option FirmProcedure) (e : slice_get f.procedures q ≡ o)
+          → Alike (Returned lay count s) Never
           (firm_found o (λ m. checked (may_enter m count s) (opened full (Calling m.method)
           (run_procedure full k f (firm_called full k f n) (λ vector. firm_handled (firm_called full k f n) (f.handler vector)) m count 0))) s w)
           (with_found ((language p).named q) (λ a. opened full a (lin_body (language p) (lin_called (language p) bodies n) (structured
@@ -178,7 +179,7 @@ module _ (k : Codes) (f : FirmProgram) (params : List ℕ) (p : LinProgram) (fla
   bare = record { locals = 0; temps = 0 }
 
   abbrev Top : Firm → Deciding State → Type 0
-  Top = Held bare [] (only [])
+  Top = Held lay bare [] (only [])
 
   enters_main : (t : State) → enter p (calls_main f.main) t ≡ Some (record { proc = f.main; state = begins p f.main [] t.ram; kept = t })
   enters_main t =
@@ -192,17 +193,17 @@ module _ (k : Codes) (f : FirmProgram) (params : List ℕ) (p : LinProgram) (fla
       fits : (l : ℕ) → l ≡ 0 → (0 + 0 == l) && true ≡ true
       fits l e = grind arith
 
-  alike_main : (n : ℕ) → AlikePiece Top Top (Leaves bare []) (firm_handled (firm_called full k f n) (Some f.main))
+  alike_main : (n : ℕ) → AlikePiece Top Top (Leaves lay bare []) (firm_handled (firm_called full k f n) (Some f.main))
       (lin_step (language p) (lin_called (language p) bodies n) (To (calls_main f.main)))
   alike_main n s d w i q =
-      subst (λ z. Alike Top (Leaves bare []) (firm_handled (firm_called full k f n) (Some f.main) s w)
+      subst (λ z. Alike Top (Leaves lay bare []) (firm_handled (firm_called full k f n) (Some f.main) s w)
       (with_found z (entered (language p) (lin_called (language p) bodies n) (calls_main f.main)) d w)) (sym (enters_main d.state))
-      (alike_behind_both (taking (λ v. go_on)) (resumed (language p) (Result (calls_main f.main)) d.state d) (calls n f.main 0 s w d.state.ram i) behind)
+      (alike_behind_both (taking (λ v. go_on)) (resumed (language p) (Result (calls_main f.main)) d.state d) (calls n f.main 0 s w d.state.ram i q.ram) behind)
     where
-      behind : (s1 : Firm) (d1 : Deciding State) (w1 : World History) → IsFair w1 → Returned 0 s s1 d1
-          → Alike Top (Leaves bare []) (taking (λ v. go_on) s1 w1) (resumed (language p) (Result (calls_main f.main)) d.state d d1 w1)
-      behind s1 d1 w1 i1 (v, e1, e2, e3, small) =
-          subst (λ z. Alike Top (Leaves bare []) (take_from z (λ v. go_on) s1 w1) (resumed (language p) (Result (calls_main f.main)) d.state d d1 w1))
+      behind : (s1 : Firm) (d1 : Deciding State) (w1 : World History) → IsFair w1 → Returned lay 0 s s1 d1
+          → Alike Top (Leaves lay bare []) (taking (λ v. go_on) s1 w1) (resumed (language p) (Result (calls_main f.main)) d.state d d1 w1)
+      behind s1 d1 w1 i1 (v, e1, e2, e3, small, held) =
+          subst (λ z. Alike Top (Leaves lay bare []) (take_from z (λ v. go_on) s1 w1) (resumed (language p) (Result (calls_main f.main)) d.state d d1 w1))
           (sym e1)
           (gives i1 (record {
             waits = q.waits;
@@ -212,17 +213,18 @@ module _ (k : Codes) (f : FirmProgram) (params : List ℕ) (p : LinProgram) (fla
                   (arith, lt));
             };
             none = q.none;
+            ram = held;
           }))
 
   alike_run : (n : ℕ) (s : Firm) (d : Deciding State) (w : World History) → IsFair w → Top s d
-      → Alike Top (Leaves bare []) (firm_running full k f n s w) (lin_running (language p) bodies (calls_main f.main) n d w)
+      → Alike Top (Leaves lay bare []) (firm_running full k f n s w) (lin_running (language p) bodies (calls_main f.main) n d w)
   alike_run n s d w i q =
-      alike_then {G = Top} {J = Top} {L = Leaves bare []} (idles n (λ vector s1 w1. firm_handled (firm_called full k f w1.clock) (f.handler vector) s1 w1))
+      alike_then {G = Top} {J = Top} {L = Leaves lay bare []} (idles n (λ vector s1 w1. firm_handled (firm_called full k f w1.clock) (f.handler vector) s1 w1))
       (λ d1 w1. idles n (λ v d2 w2. lin_handle (language p) (lin_called (language p) bodies w2.clock) ((language p).handler v) d2 w2) d1 w1)
       (alike_main w.clock s d w i q)
-      (λ s1 d1 w1 i1 q1. alike_idles {G = Top} {L = Leaves bare []} n (λ vector s2 w2. firm_handled (firm_called full k f w2.clock) (f.handler vector) s2 w2)
+      (λ s1 d1 w1 i1 q1. alike_idles {G = Top} {L = Leaves lay bare []} n (λ vector s2 w2. firm_handled (firm_called full k f w2.clock) (f.handler vector) s2 w2)
       (λ v d2 w2. lin_handle (language p) (lin_called (language p) bodies w2.clock) ((language p).handler v) d2 w2)
-      (λ vector s2 d2 w2 i2 q2. alike_handling p f (firm_called full k f w2.clock) (lin_called (language p) bodies w2.clock)
+      (λ vector s2 d2 w2 i2 q2. alike_handling lay p f (firm_called full k f w2.clock) (lin_called (language p) bodies w2.clock)
       (calls w2.clock) flat.handler bare [] [] vector
       s2 d2 w2 i2 q2) s1 d1 w1 i1 q1)
 
@@ -232,5 +234,5 @@ module _ (k : Codes) (f : FirmProgram) (params : List ℕ) (p : LinProgram) (fla
       (lin_running (language p) bodies (calls_main f.main) (length interrupts) (fresh (first_state p)) (world clock deepest reads interrupts)) t v why
       (λ x s1 d1 z. z) legal
       (alike_run (length interrupts) (firm_first f) (fresh (first_state p)) (world clock deepest reads interrupts) (record { running = refl; reads = are })
-      (record { waits = tt; kept = record { there = λ j u h. none_is_not u h; locals = λ j u lt h. absurd (omega (arith, lt)) }; none = refl })) is in
+      (record { waits = tt; kept = record { there = λ j u h. none_is_not u h; locals = λ j u lt h. absurd (omega (arith, lt)) }; none = refl; ram = flat.ram })) is in
       follows_sessions p bodies (calls_main f.main) all_stand first (ap name_of flat.start) clock deepest reads interrupts d v why legal e

@@ -34,6 +34,7 @@ use Rattle.vg_lin.specs.Structured.{Deciding, Caller as LinCaller, lifted}
 use Rattle.vg_flatten_shapes.specs.declared.fault.Fault.TheVariants.{NotTaken}
 use Rattle.vg_flatten_shapes.specs.declared.open.Truth.{Truth}
 use Rattle.vg_flatten_shapes.specs.declared.open.Truth.TheVariants.{Holds}
+use Rattle.vg_flatten_shapes.specs.declared.layout.Layout.{Layout}
 use Rattle.vg_flatten_shapes.specs.declared.room.Room.{Room}
 use Rattle.vg_flatten_shapes.specs.Shapes.{Shape, only, is_free, temp}
 use Rattle.vg_flatten_shapes.specs.Blocks.{Block, Skip, One}
@@ -51,12 +52,12 @@ use Rattle.vg_flattened.proofs.Operating.{Computes, Compares, compares, holds_of
 use Rattle.vg_flattened.proofs.Right.{Right, Does, linear}
 
 module _ (k : Codes) (f : FirmProgram) (m : FirmProcedure) (call : FirmCaller History) (handle : ℕ → Piece Firm History)
-    (p : LinProgram) (go : LinCaller State) (params : List ℕ) (r : Room) (ws : List ℕ) (wide : AreWidths r m.widths ws) where
+    (p : LinProgram) (go : LinCaller State) (params : List ℕ) (lay : Layout) (r : Room) (ws : List ℕ) (wide : AreWidths r m.widths ws) where
   abbrev Right' : Shape → Made → Piece Firm History → Type 0
-  Right' = Right k f m call handle p go params r ws wide
+  Right' = Right k f m call handle p go params lay r ws wide
 
   abbrev linear' : Block → Piece (Deciding State) History
-  linear' = linear k f m call handle p go params r ws wide
+  linear' = linear k f m call handle p go params lay r ws wide
 
   abbrev step' : Step → Piece Firm History
   step' = firm_step k f m call handle
@@ -68,11 +69,11 @@ module _ (k : Codes) (f : FirmProgram) (m : FirmProcedure) (call : FirmCaller Hi
 
   -- a number goes to a temporary
   pub into_temp : (hs : List Operand) (to z : ℕ) (i : Plain) (s : Firm) (d : Deciding State) (w : World History) → IsFair w → ArePlaced r.locals hs
-      → temp r hs ≡ Some to → z < 2 ^ 32 → AreSame r ws hs s d.state → plain p i d.state w.outside ≡ Goes (sets to z d.state) w.outside
-      → Alike (Held r ws (only (Local to ∷ hs))) (Leaves r ws) (put z s w) (linear' (One i) d w)
+      → temp r hs ≡ Some to → z < 2 ^ 32 → AreSame lay r ws hs s d.state → plain p i d.state w.outside ≡ Goes (sets to z d.state) w.outside
+      → Alike (Held lay r ws (only (Local to ∷ hs))) (Leaves lay r ws) (put z s w) (linear' (One i) d w)
   into_temp hs to z i s d w fair placed e small same goes =
-      subst (λ x. Alike (Held r ws (only (Local to ∷ hs))) (Leaves r ws) (put z s w) x) (sym (plain_goes i d w (sets to z d.state) goes))
-      (gives fair (put_temp r m.widths ws hs s d.state to z wide placed e small same))
+      subst (λ x. Alike (Held lay r ws (only (Local to ∷ hs))) (Leaves lay r ws) (put z s w) x) (sym (plain_goes i d w (sets to z d.state) goes))
+      (gives fair (put_temp lay r m.widths ws hs s d.state to z wide placed e small same))
 
   pub computes_to : (op : LinOperator) (width to : ℕ) (a b : Operand) (x y z : ℕ) (t : State) (o : Outside) → value a t ≡ Some x → value b t ≡ Some y
       → lin_computed op width x y ≡ Some z
@@ -91,17 +92,17 @@ module _ (k : Codes) (f : FirmProgram) (m : FirmProcedure) (call : FirmCaller Hi
           → Right' (only hs) (if b then Makes Skip (only (Known v ∷ hs)) else Refused NotTaken) (step' (Number v))
       by_size true e = (
         (tt, placed),
-        λ fit s d w i q. gives i (record { waits = ((refl, grind arith), q.waits); kept = q.kept; none = q.none }),
+        λ fit s d w i q. gives i (record { waits = ((refl, grind arith), q.waits); kept = q.kept; none = q.none; ram = q.ram }),
       )
       by_size false e = tt
 
   pub right_local : (j : ℕ) (hs : List Operand) → ArePlaced r.locals hs → Right' (only hs) (get_local r j hs) (step' (GetLocal j))
   right_local j hs placed = by_size (nat_lt j r.locals) refl
     where
-      by_value : (s : Firm) (d : Deciding State) (w : World History) → IsFair w → j < r.locals → AreSame r ws hs s d.state
+      by_value : (s : Firm) (d : Deciding State) (w : World History) → IsFair w → j < r.locals → AreSame lay r ws hs s d.state
           → (o : Option ℕ) → slice_get s.locals j ≡ o
-          → Alike (Held r ws (only (Local j ∷ hs))) (Leaves r ws) (with_found o put s w) (Gives d w)
-      by_value s d w i lt q (Some v) e = gives i (record { waits = (q.kept.locals j v lt e, q.waits); kept = q.kept; none = q.none })
+          → Alike (Held lay r ws (only (Local j ∷ hs))) (Leaves lay r ws) (with_found o put s w) (Gives d w)
+      by_value s d w i lt q (Some v) e = gives i (record { waits = (q.kept.locals j v lt e, q.waits); kept = q.kept; none = q.none; ram = q.ram })
       by_value s d w i lt q None e = wrong
 
       by_size : (b : Bool) → nat_lt j r.locals ≡ b
@@ -114,16 +115,17 @@ module _ (k : Codes) (f : FirmProgram) (m : FirmProcedure) (call : FirmCaller Hi
   right_set j (h ∷ hs) placed = by_size (nat_lt j r.locals && is_free j (reverse hs)) refl
     where
       by_fit : (s : Firm) (d : Deciding State) (w : World History) → IsFair w → is_free j (reverse hs) ≡ true → (v : ℕ) (vs : List ℕ)
-          → AreAt (h ∷ hs) (v ∷ vs) d.state.locals → AreSame r ws (h ∷ hs) s d.state → (width : ℕ) → slice_get m.widths j ≡ Some width
+          → AreAt (h ∷ hs) (v ∷ vs) d.state.locals → AreSame lay r ws (h ∷ hs) s d.state → (width : ℕ) → slice_get m.widths j ≡ Some width
           → (b : Bool) → nat_lt v (256 ^ width) ≡ b
-          → Alike (Held r ws (only hs)) (Leaves r ws) (checked b (set_local j v) (record s { values = vs }) w) (linear' (One (Copy j h)) d w)
+          → Alike (Held lay r ws (only hs)) (Leaves lay r ws) (checked b (set_local j v) (record s { values = vs }) w) (linear' (One (Copy j h)) d w)
       by_fit s d w i free v vs at q width has true e =
-          subst (λ x. Alike (Held r ws (only hs)) (Leaves r ws) (set_local j v (record s { values = vs }) w) x)
+          subst (λ x. Alike (Held lay r ws (only hs)) (Leaves lay r ws) (set_local j v (record s { values = vs }) w) x)
           (sym (plain_goes (Copy j h) d w (sets j v d.state) (ap (λ z. using z (λ x. Goes (sets j x d.state) w.outside)) (value_of_home h v d.state at.0.0))))
           (gives i (record {
             waits = homes_beside j v hs vs d.state.locals free at.1;
             kept = kept_behind_set r ws s.locals d.state.locals j width v (wide.locals j width has) (fits width v e) at.0.1 q.kept;
             none = q.none;
+            ram = q.ram;
           }))
         where
           fits : (n x : ℕ) → nat_lt x (256 ^ n) ≡ true → low n x ≡ x
@@ -131,15 +133,15 @@ module _ (k : Codes) (f : FirmProgram) (m : FirmProcedure) (call : FirmCaller Hi
       by_fit s d w i free v vs at q width has false e = wrong
 
       by_width : (s : Firm) (d : Deciding State) (w : World History) → IsFair w → is_free j (reverse hs) ≡ true → (v : ℕ) (vs : List ℕ)
-          → AreAt (h ∷ hs) (v ∷ vs) d.state.locals → AreSame r ws (h ∷ hs) s d.state → (o : Option ℕ) → slice_get m.widths j ≡ o
-          → Alike (Held r ws (only hs)) (Leaves r ws) (with_found o (λ width. of_width width (set_local j) v) (record s { values = vs }) w)
+          → AreAt (h ∷ hs) (v ∷ vs) d.state.locals → AreSame lay r ws (h ∷ hs) s d.state → (o : Option ℕ) → slice_get m.widths j ≡ o
+          → Alike (Held lay r ws (only hs)) (Leaves lay r ws) (with_found o (λ width. of_width width (set_local j) v) (record s { values = vs }) w)
           (linear' (One (Copy j h)) d w)
       by_width s d w i free v vs at q (Some width) has = by_fit s d w i free v vs at q width has (nat_lt v (256 ^ width)) refl
       by_width s d w i free v vs at q None has = wrong
 
-      by_values : (s : Firm) (d : Deciding State) (w : World History) → IsFair w → is_free j (reverse hs) ≡ true → AreSame r ws (h ∷ hs) s d.state
+      by_values : (s : Firm) (d : Deciding State) (w : World History) → IsFair w → is_free j (reverse hs) ≡ true → AreSame lay r ws (h ∷ hs) s d.state
           → (vs : List ℕ) → AreAt (h ∷ hs) vs d.state.locals
-          → Alike (Held r ws (only hs)) (Leaves r ws) (take_from vs (λ v. with_found (slice_get m.widths j) (λ width. of_width width (set_local j) v)) s w)
+          → Alike (Held lay r ws (only hs)) (Leaves lay r ws) (take_from vs (λ v. with_found (slice_get m.widths j) (λ width. of_width width (set_local j) v)) s w)
           (linear' (One (Copy j h)) d w)
       by_values s d w i free q [] at = absurd at
       by_values s d w i free q (v ∷ vs) at = by_width s d w i free v vs at q (slice_get m.widths j) refl
@@ -153,30 +155,30 @@ module _ (k : Codes) (f : FirmProgram) (m : FirmProcedure) (call : FirmCaller Hi
   right_forget [] placed = tt
   right_forget (h ∷ hs) placed = (placed.1, λ fit s d w i q. by_values s d w i q s.values q.waits)
     where
-      by_values : (s : Firm) (d : Deciding State) (w : World History) → IsFair w → AreSame r ws (h ∷ hs) s d.state → (vs : List ℕ)
-          → AreAt (h ∷ hs) vs d.state.locals → Alike (Held r ws (only hs)) (Leaves r ws) (take_from vs (λ v. go_on) s w) (Gives d w)
+      by_values : (s : Firm) (d : Deciding State) (w : World History) → IsFair w → AreSame lay r ws (h ∷ hs) s d.state → (vs : List ℕ)
+          → AreAt (h ∷ hs) vs d.state.locals → Alike (Held lay r ws (only hs)) (Leaves lay r ws) (take_from vs (λ v. go_on) s w) (Gives d w)
       by_values s d w i q [] at = absurd at
-      by_values s d w i q (v ∷ vs) at = gives i (record { waits = at.1; kept = q.kept; none = q.none })
+      by_values s d w i q (v ∷ vs) at = gives i (record { waits = at.1; kept = q.kept; none = q.none; ram = q.ram })
 
   -- ---- operators
 
   -- an operator of two numbers becomes a block
   pub right_block : (op : Operator) (x y : Operand) (hs : List Operand) (b : ℕ → Block) → ArePlaced r.locals hs
       → ((to : ℕ) → temp r hs ≡ Some to → (u v : ℕ) (s : Firm) (d : Deciding State) (w : World History) → IsFair w
-      → value x d.state ≡ Some u → value y d.state ≡ Some v → u < 2 ^ 32 → v < 2 ^ 32 → AreSame r ws hs s d.state
-      → Alike (Held r ws (only (Local to ∷ hs))) (Leaves r ws) (put_computed (firm_computed op u v) s w) (linear' (b to) d w))
+      → value x d.state ≡ Some u → value y d.state ≡ Some v → u < 2 ^ 32 → v < 2 ^ 32 → AreSame lay r ws hs s d.state
+      → Alike (Held lay r ws (only (Local to ∷ hs))) (Leaves lay r ws) (put_computed (firm_computed op u v) s w) (linear' (b to) d w))
       → Right' (only (y ∷ x ∷ hs)) (by_temp (temp r hs) (λ to. Makes (b to) (only (Local to ∷ hs)))) (step' (Operate op))
   right_block op x y hs b placed law = by_room (temp r hs) refl
     where
-      by_values : (to : ℕ) → temp r hs ≡ Some to → (s : Firm) (d : Deciding State) (w : World History) → IsFair w → AreSame r ws (y ∷ x ∷ hs) s d.state
+      by_values : (to : ℕ) → temp r hs ≡ Some to → (s : Firm) (d : Deciding State) (w : World History) → IsFair w → AreSame lay r ws (y ∷ x ∷ hs) s d.state
           → (vs : List ℕ) → AreAt (y ∷ x ∷ hs) vs d.state.locals
-          → Alike (Held r ws (only (Local to ∷ hs))) (Leaves r ws) (take_from vs (λ v. taking (λ u. put_computed (firm_computed op u v))) s w)
+          → Alike (Held lay r ws (only (Local to ∷ hs))) (Leaves lay r ws) (take_from vs (λ v. taking (λ u. put_computed (firm_computed op u v))) s w)
           (linear' (b to) d w)
       by_values to has s d w i q [] at = absurd at
       by_values to has s d w i q (v ∷ []) at = absurd at.1
       by_values to has s d w i q (v ∷ u ∷ vs) at =
           law to has u v (record s { values = vs }) d w i (value_of_home x u d.state at.1.0.0) (value_of_home y v d.state at.0.0) at.1.0.1 at.0.1
-          (record { waits = at.1.1; kept = q.kept; none = q.none })
+          (record { waits = at.1.1; kept = q.kept; none = q.none; ram = q.ram })
 
       by_room : (o : Option ℕ) → temp r hs ≡ o → Right' (only (y ∷ x ∷ hs)) (by_temp o (λ to. Makes (b to) (only (Local to ∷ hs)))) (step' (Operate op))
       by_room (Some to) has = (placed_temp r hs to has placed, λ fit s d w i q. by_values to has s d w i q s.values q.waits)
@@ -185,11 +187,11 @@ module _ (k : Codes) (f : FirmProgram) (m : FirmProcedure) (call : FirmCaller Hi
   -- one computation does it
   pub does_computed : (op : Operator) (lop : LinOperator) (width : ℕ) (x y : Operand) (hs : List Operand) → ArePlaced r.locals hs
       → (to : ℕ) → temp r hs ≡ Some to → (u v : ℕ) (s : Firm) (d : Deciding State) (w : World History) → IsFair w
-      → value x d.state ≡ Some u → value y d.state ≡ Some v → AreSame r ws hs s d.state → Computes op lop width u v
-      → Alike (Held r ws (only (Local to ∷ hs))) (Leaves r ws) (put_computed (firm_computed op u v) s w)
+      → value x d.state ≡ Some u → value y d.state ≡ Some v → AreSame lay r ws hs s d.state → Computes op lop width u v
+      → Alike (Held lay r ws (only (Local to ∷ hs))) (Leaves lay r ws) (put_computed (firm_computed op u v) s w)
       (linear' (One (Compute (record { operator = lop; width = width; to = to; left = x; right = y }))) d w)
   does_computed op lop width x y hs placed to has u v s d w i hu hv same c =
-      subst (λ z. Alike (Held r ws (only (Local to ∷ hs))) (Leaves r ws) (put_computed z s w)
+      subst (λ z. Alike (Held lay r ws (only (Local to ∷ hs))) (Leaves lay r ws) (put_computed z s w)
       (linear' (One (Compute (record { operator = lop; width = width; to = to; left = x; right = y }))) d w)) (sym c.packed)
       (into_temp hs to c.z (Compute (record { operator = lop; width = width; to = to; left = x; right = y })) s d w i placed has c.small same
       (computes_to lop width to x y u v c.z d.state w.outside hu hv c.linear))
@@ -206,23 +208,23 @@ module _ (k : Codes) (f : FirmProgram) (m : FirmProcedure) (call : FirmCaller Hi
   right_compared op x y hs placed t e = (placed, λ fit s d w i q. by_values s d w i q s.values q.waits)
     where
       by_result : (s : Firm) (d : Deciding State) (w : World History) → IsFair w → (b a : ℕ) (vs : List ℕ)
-          → AreSame r ws hs (record s { values = vs }) d.state
+          → AreSame lay r ws hs (record s { values = vs }) d.state
           → Compares op t a b d.state
-          → Alike (Held r ws (record { truth = Some t; homes = hs })) (Leaves r ws) (put_computed (firm_computed op a b) (record s { values = vs }) w)
+          → Alike (Held lay r ws (record { truth = Some t; homes = hs })) (Leaves lay r ws) (put_computed (firm_computed op a b) (record s { values = vs }) w)
           (Gives d w)
       by_result s d w i b a vs q c =
-          subst (λ z. Alike (Held r ws (record { truth = Some t; homes = hs })) (Leaves r ws) (put_computed z (record s { values = vs }) w) (Gives d w))
+          subst (λ z. Alike (Held lay r ws (record { truth = Some t; homes = hs })) (Leaves lay r ws) (put_computed z (record s { values = vs }) w) (Gives d w))
           (sym c.packed)
           (gives i (record { b = c.b; vs = vs; newest = refl; says = c.linear; rest = q }))
 
-      by_values : (s : Firm) (d : Deciding State) (w : World History) → IsFair w → AreSame r ws (y ∷ x ∷ hs) s d.state
+      by_values : (s : Firm) (d : Deciding State) (w : World History) → IsFair w → AreSame lay r ws (y ∷ x ∷ hs) s d.state
           → (vs : List ℕ) → AreAt (y ∷ x ∷ hs) vs d.state.locals
-          → Alike (Held r ws (record { truth = Some t; homes = hs })) (Leaves r ws) (take_from vs (λ b. taking (λ a. put_computed
+          → Alike (Held lay r ws (record { truth = Some t; homes = hs })) (Leaves lay r ws) (take_from vs (λ b. taking (λ a. put_computed
           (firm_computed op a b))) s w) (Gives d w)
       by_values s d w i q [] at = absurd at
       by_values s d w i q (b ∷ []) at = absurd at.1
       by_values s d w i q (b ∷ a ∷ vs) at =
-          by_result s d w i b a vs (record { waits = at.1.1; kept = q.kept; none = q.none })
+          by_result s d w i b a vs (record { waits = at.1.1; kept = q.kept; none = q.none; ram = q.ram })
           (compares x y a b d.state (value_of_home x a d.state at.1.0.0) (value_of_home y b d.state at.0.0) at.1.0.1 at.0.1 op t e)
 
   -- one number becomes another
@@ -234,29 +236,29 @@ module _ (k : Codes) (f : FirmProgram) (m : FirmProcedure) (call : FirmCaller Hi
   right_unary op width a b h g q' hs placed is law = by_room (temp r hs) refl
     where
       by_law : (to : ℕ) → temp r hs ≡ Some to → (s : Firm) (d : Deciding State) (w : World History) → IsFair w → (x : ℕ) (vs : List ℕ)
-          → AreSame r ws hs (record s { values = vs }) d.state
+          → AreSame lay r ws hs (record s { values = vs }) d.state
           → (y z : ℕ) × (value a d.state ≡ Some y) × (value b d.state ≡ Some z) × (lin_computed op width y z ≡ Some (g x)) × (g x < 2 ^ 32)
-          → Alike (Held r ws (only (Local to ∷ hs))) (Leaves r ws) (put (g x) (record s { values = vs }) w)
+          → Alike (Held lay r ws (only (Local to ∷ hs))) (Leaves lay r ws) (put (g x) (record s { values = vs }) w)
           (linear' (One (Compute (record { operator = op; width = width; to = to; left = a; right = b }))) d w)
       by_law to has s d w i x vs same (y, z, ea, eb, e, small) =
           into_temp hs to (g x) (Compute (record { operator = op; width = width; to = to; left = a; right = b }))
           (record s { values = vs }) d w i placed has small same
           (computes_to op width to a b y z (g x) d.state w.outside ea eb e)
 
-      by_values : (to : ℕ) → temp r hs ≡ Some to → (s : Firm) (d : Deciding State) (w : World History) → IsFair w → AreSame r ws (h ∷ hs) s d.state
+      by_values : (to : ℕ) → temp r hs ≡ Some to → (s : Firm) (d : Deciding State) (w : World History) → IsFair w → AreSame lay r ws (h ∷ hs) s d.state
           → (vs : List ℕ) → AreAt (h ∷ hs) vs d.state.locals
-          → Alike (Held r ws (only (Local to ∷ hs))) (Leaves r ws) (take_from vs (λ x. put (g x)) s w)
+          → Alike (Held lay r ws (only (Local to ∷ hs))) (Leaves lay r ws) (take_from vs (λ x. put (g x)) s w)
           (linear' (One (Compute (record { operator = op; width = width; to = to; left = a; right = b }))) d w)
       by_values to has s d w i q [] at = absurd at
       by_values to has s d w i q (x ∷ vs) at =
-          by_law to has s d w i x vs (record { waits = at.1; kept = q.kept; none = q.none }) (law x d.state at.0.1 (value_of_home h x d.state at.0.0))
+          by_law to has s d w i x vs (record { waits = at.1; kept = q.kept; none = q.none; ram = q.ram }) (law x d.state at.0.1 (value_of_home h x d.state at.0.0))
 
       by_room : (o : Option ℕ) → temp r hs ≡ o
           → Right' (only (h ∷ hs))
           (by_temp o (λ to. Makes (One (Compute (record { operator = op; width = width; to = to; left = a; right = b }))) (only (Local to ∷ hs)))) (step' q')
       by_room (Some to) has = (
         placed_temp r hs to has placed,
-        λ fit s d w i q. subst (λ z. Alike (Held r ws (only (Local to ∷ hs))) (Leaves r ws) z
+        λ fit s d w i q. subst (λ z. Alike (Held lay r ws (only (Local to ∷ hs))) (Leaves lay r ws) z
             (linear' (One (Compute (record { operator = op; width = width; to = to; left = a; right = b }))) d w)) (sym (is s w))
             (by_values to has s d w i q s.values q.waits),
       )
@@ -312,9 +314,9 @@ module _ (k : Codes) (f : FirmProgram) (m : FirmProcedure) (call : FirmCaller Hi
       → Right' (only (h ∷ hs)) (Makes Skip (record { truth = Some (Holds (is_zero h)); homes = hs })) (step' (Apply Not))
   right_not h hs placed = (placed, λ fit s d w i q. by_values s d w i q s.values q.waits)
     where
-      by_values : (s : Firm) (d : Deciding State) (w : World History) → IsFair w → AreSame r ws (h ∷ hs) s d.state → (vs : List ℕ)
+      by_values : (s : Firm) (d : Deciding State) (w : World History) → IsFair w → AreSame lay r ws (h ∷ hs) s d.state → (vs : List ℕ)
           → AreAt (h ∷ hs) vs d.state.locals
-          → Alike (Held r ws (record { truth = Some (Holds (is_zero h)); homes = hs })) (Leaves r ws) (take_from vs (λ x. put (firm_applied Not x)) s w)
+          → Alike (Held lay r ws (record { truth = Some (Holds (is_zero h)); homes = hs })) (Leaves lay r ws) (take_from vs (λ x. put (firm_applied Not x)) s w)
           (Gives d w)
       by_values s d w i q [] at = absurd at
       by_values s d w i q (x ∷ vs) at =
@@ -323,7 +325,7 @@ module _ (k : Codes) (f : FirmProgram) (m : FirmProcedure) (call : FirmCaller Hi
             vs = vs;
             newest = refl;
             says = holds_of Same h (Known 0) x 0 d.state (value_of_home h x d.state at.0.0) refl ∙ ap Some (same_same x 0 at.0.1 (omega arith));
-            rest = record { waits = at.1; kept = q.kept; none = q.none };
+            rest = record { waits = at.1; kept = q.kept; none = q.none; ram = q.ram };
           })
 
   pub right_applied : (op : Prefix) (hs : List Operand) → ArePlaced r.locals hs → Right' (only hs) (applied r op hs) (step' (Apply op))
@@ -358,14 +360,14 @@ module _ (k : Codes) (f : FirmProgram) (m : FirmProcedure) (call : FirmCaller Hi
   pub right_read : (address : ℕ) (hs : List Operand) → ArePlaced r.locals hs → Right' (only hs) (read r address hs) (step' (ReadDevice address))
   right_read address hs placed = by_room (temp r hs) refl
     where
-      by_reads : (to : ℕ) → temp r hs ≡ Some to → (s : Firm) (d : Deciding State) (w : World History) → w.phase ≡ Running → AreSame r ws hs s d.state
+      by_reads : (to : ℕ) → temp r hs ≡ Some to → (s : Firm) (d : Deciding State) (w : World History) → w.phase ≡ Running → AreSame lay r ws hs s d.state
           → (vs : List ℕ) → AreReads vs
-          → Alike (Held r ws (only (Local to ∷ hs))) (Leaves r ws) (read_from Running vs address put s w)
+          → Alike (Held lay r ws (only (Local to ∷ hs))) (Leaves lay r ws) (read_from Running vs address put s w)
           (lifted (reads_from vs to address d.state w.outside) d w)
       by_reads to has s d w e q [] are = overs
       by_reads to has s d w e q (v ∷ vs) are =
           gives (record { running = e; reads = are.1 })
-          (put_temp r m.widths ws hs s d.state to v wide placed has (byte v are.0) q)
+          (put_temp lay r m.widths ws hs s d.state to v wide placed has (byte v are.0) q)
         where
           byte : (x : ℕ) → IsRead x → x < 2 ^ 32
           byte x lt = omega arith
@@ -374,7 +376,7 @@ module _ (k : Codes) (f : FirmProgram) (m : FirmProcedure) (call : FirmCaller Hi
           → Right' (only hs) (by_temp o (λ to. Makes (One (ReadsDevice to address)) (only (Local to ∷ hs)))) (step' (ReadDevice address))
       by_room (Some to) has = (
         placed_temp r hs to has placed,
-        λ fit s d w i q. subst (λ z. Alike (Held r ws (only (Local to ∷ hs))) (Leaves r ws) (read_from z w.outside.reads address put s w)
+        λ fit s d w i q. subst (λ z. Alike (Held lay r ws (only (Local to ∷ hs))) (Leaves lay r ws) (read_from z w.outside.reads address put s w)
             (linear' (One (ReadsDevice to address)) d w)) (sym i.running) (by_reads to has s d w i.running q w.outside.reads i.reads),
       )
       by_room None has = tt
@@ -384,14 +386,14 @@ module _ (k : Codes) (f : FirmProgram) (m : FirmProcedure) (call : FirmCaller Hi
   right_written address (h ∷ hs) placed = (placed.1, λ fit s d w i q. by_values s d w i q s.values q.waits)
     where
       by_fit : (s : Firm) (d : Deciding State) (w : World History) → IsFair w → (v : ℕ) (vs : List ℕ) → AreAt (h ∷ hs) (v ∷ vs) d.state.locals
-          → AreSame r ws (h ∷ hs) s d.state → (b : Bool) → nat_lt v (256 ^ 1) ≡ b
-          → Alike (Held r ws (only hs)) (Leaves r ws) (checked b (write_device address v) (record s { values = vs }) w) (linear' (One
+          → AreSame lay r ws (h ∷ hs) s d.state → (b : Bool) → nat_lt v (256 ^ 1) ≡ b
+          → Alike (Held lay r ws (only hs)) (Leaves lay r ws) (checked b (write_device address v) (record s { values = vs }) w) (linear' (One
           (WritesDevice address h)) d w)
       by_fit s d w i v vs at q true e =
-          subst (λ z. Alike (Held r ws (only hs)) (Leaves r ws) (write_in z address v (record s { values = vs }) w) (linear' (One
+          subst (λ z. Alike (Held lay r ws (only hs)) (Leaves lay r ws) (write_in z address v (record s { values = vs }) w) (linear' (One
           (WritesDevice address h)) d w)) (sym i.running)
-          (subst (λ z. Alike (Held r ws (only hs)) (Leaves r ws) (write_in Running address v (record s { values = vs }) w) z) (sym goes)
-          (gives (record { running = i.running; reads = i.reads }) (record { waits = at.1; kept = q.kept; none = q.none })))
+          (subst (λ z. Alike (Held lay r ws (only hs)) (Leaves lay r ws) (write_in Running address v (record s { values = vs }) w) z) (sym goes)
+          (gives (record { running = i.running; reads = i.reads }) (record { waits = at.1; kept = q.kept; none = q.none; ram = q.ram })))
         where
           byte : low 1 v ≡ v
           byte = grind arith
@@ -402,8 +404,8 @@ module _ (k : Codes) (f : FirmProgram) (m : FirmProcedure) (call : FirmCaller Hi
               ∙ ap (λ z. Gives d (record w { outside = with_event w.outside (Write address z) })) byte
       by_fit s d w i v vs at q false e = wrong
 
-      by_values : (s : Firm) (d : Deciding State) (w : World History) → IsFair w → AreSame r ws (h ∷ hs) s d.state → (vs : List ℕ)
+      by_values : (s : Firm) (d : Deciding State) (w : World History) → IsFair w → AreSame lay r ws (h ∷ hs) s d.state → (vs : List ℕ)
           → AreAt (h ∷ hs) vs d.state.locals
-          → Alike (Held r ws (only hs)) (Leaves r ws) (take_from vs (of_width 1 (write_device address)) s w) (linear' (One (WritesDevice address h)) d w)
+          → Alike (Held lay r ws (only hs)) (Leaves lay r ws) (take_from vs (of_width 1 (write_device address)) s w) (linear' (One (WritesDevice address h)) d w)
       by_values s d w i q [] at = absurd at
       by_values s d w i q (v ∷ vs) at = by_fit s d w i v vs at q (nat_lt v (256 ^ 1)) refl

@@ -13,7 +13,7 @@ pub new-requires : goal.new-requires
 new-requires c =
     let n = c.len-count.ensures in
     let few = c.temps_beside-temps.ensures.few in
-    procedure_sound (procedure_of c.args.procedure.now) (record { locals = c.len-count.result; temps = c.temps_beside-temps.result }) c.args.params.now n few
+    procedure_sound c.args.layout.now (procedure_of c.args.procedure.now) (record { locals = c.len-count.result; temps = c.temps_beside-temps.result }) c.args.params.now n few
     c.requires.params c.requires.widths c.in_ok-code.code c.in_ok-instrs.instrs c.in_ok-widths.widths c.in_ok-code.ensures
     (c.in_ok-instrs.ensures.0 ∙ ap (map (set_in 0 0)) c.as_slice-2.ensures) (subst AllSet c.as_slice-2.ensures c.in_ok-instrs.ensures.1)
     (c.in_ok-widths.ensures ∙ ap (λ z. z ++ replicate c.temps_beside-temps.result 4) c.as_slice-3.ensures)
@@ -24,8 +24,8 @@ returns c =
     let few = c.temps_beside-temps.ensures.few in
     record {
       flat =
-          subst (IsFlat c.args.params.now (procedure_of c.args.procedure.now)) (sym c.new.ensures)
-          (procedure_flat (procedure_of c.args.procedure.now) (record { locals = c.len-count.result; temps = c.temps_beside-temps.result })
+          subst (IsFlat c.args.layout.now c.args.params.now (procedure_of c.args.procedure.now)) (sym c.new.ensures)
+          (procedure_flat c.args.layout.now (procedure_of c.args.procedure.now) (record { locals = c.len-count.result; temps = c.temps_beside-temps.result })
           c.args.params.now n few
           c.requires.params c.requires.widths c.in_ok-code.code c.in_ok-instrs.instrs c.in_ok-widths.widths c.in_ok-code.ensures
           (c.in_ok-instrs.ensures.0 ∙ ap (map (set_in 0 0)) c.as_slice-2.ensures) (subst AllSet c.as_slice-2.ensures c.in_ok-instrs.ensures.1)
@@ -33,7 +33,7 @@ returns c =
           (subst (AllFit c.args.params.now) c.as_slice.ensures (c.all_fit.ensures.0 c.if-not-all_fit.false)));
       onward =
           subst (λ z. has_loop (code_of c.args.procedure.now.body) ≡ false → all_lead_on 0 z.code ≡ true) (sym c.new.ensures)
-          (procedure_onward (procedure_of c.args.procedure.now) (record { locals = c.len-count.result; temps = c.temps_beside-temps.result })
+          (procedure_onward c.args.layout.now (procedure_of c.args.procedure.now) (record { locals = c.len-count.result; temps = c.temps_beside-temps.result })
           c.args.params.now n few
           c.requires.params c.requires.widths c.in_ok-code.code c.in_ok-instrs.instrs c.in_ok-widths.widths c.in_ok-code.ensures
           (c.in_ok-instrs.ensures.0 ∙ ap (map (set_in 0 0)) c.as_slice-2.ensures) (subst AllSet c.as_slice-2.ensures c.in_ok-instrs.ensures.1)

@@ -46,4 +46,4 @@ decreases-repeated_parts l = 4 * (weight l.body.now + weight l.next.now) + 1
 
 abbrev pub invariant-row-parts : goal.invariant-row-parts
 invariant-row-parts l =
-    Along l.at (flat l.room (list_of l.fn.codes) l.fn.homes) (flat l.room (list_of (drop l.part-index l.codes)) l.homes) l.code
+    Along l.at (flat l.layout l.room (list_of l.fn.codes) l.fn.homes) (flat l.layout l.room (list_of (drop l.part-index l.codes)) l.homes) l.code

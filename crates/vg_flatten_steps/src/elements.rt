@@ -1,0 +1,199 @@
+// What loads of elements become.
+ghost use Rattle.std.specs.Prelude.{◌≡◌, ◌+◌, ◌≤◌, Some, None, slice_get};
+ghost use Rattle.vg_flatten_shapes.specs.Blocks.{open_code};
+ghost use Rattle.vg_flatten_shapes.specs.Laying.{Lays, LaysCode};
+ghost use Rattle.vg_flatten_steps.specs.Steps.{is_place, timed, place_of, bounded, reached, element_of, load_element, load_item, places_in};
+
+use crate::columns::{is_width, load_from, memory_of, places_in};
+use crate::operators::{is_zero, test_of};
+use crate::put::temp;
+use std::alloc::Global;
+use vg_base::{Refusal, Row};
+use vg_firm::Elements;
+use vg_flatten_shapes::{
+    Fault, Homes, Layout, Open, Piece, Place, Room, Truth, append, place_behind, stop_where,
+};
+use vg_lin::{Comparison, Computation, Instr, Memory, Operand, Operator, Plain};
+
+/// How an element is reached: by two temporaries and the address of a table, from an array's number and an index.
+#[derive(Clone, Copy)]
+pub struct Reach {
+    pub first: u8,
+    pub second: u8,
+    pub table: u16,
+    /// How many bytes an element has.
+    pub width: u8,
+    pub home: Operand,
+    pub index: Operand,
+}
+
+fn is_place(elements: Elements, place: Place) -> bool
+    ensures { result ≡ is_place elements place }
+{
+    elements.address == place.address && elements.width == place.width
+}
+
+fn timed(to: u8, by: u8, home: Operand) -> Plain
+    ensures { result ≡ timed to by home }
+{
+    Plain::Compute(Computation {
+        operator: Operator::Times,
+        width: 4,
+        to,
+        left: home,
+        right: Operand::Known(by as u32),
+    })
+}
+
+/// What is done with the address of an element, which is so many times its width behind that of the array.
+fn place_of(alloc: Global, at: u16, reach: Reach, last: Plain) -> Result<Row<Open>, Refusal<Fault>>
+    requires { 4 ≤ reach.table }
+    ensures { LaysCode result (open_code (place_of reach last) at) }
+{
+    let first = Operand::Local(reach.first);
+    let address = load_from(Memory::Flash, 2, reach.first, reach.table - 4, first);
+    let sum = Computation {
+        operator: Operator::Plus,
+        width: 4,
+        to: reach.first,
+        left: first,
+        right: Operand::Local(reach.second),
+    };
+    let mut code = Row::new(alloc);
+    code.push(Open::Set(Instr::Plain(address)))?;
+    code.push(Open::Set(Instr::Plain(timed(reach.second, reach.width, reach.index))))?;
+    code.push(Open::Set(Instr::Plain(Plain::Compute(sum))))?;
+    code.push(Open::Set(Instr::Plain(last)))?;
+    Ok(code)
+}
+
+/// The same behind the bounds check.
+fn bounded(alloc: Global, at: u16, reach: Reach, last: Plain) -> Result<Row<Open>, Refusal<Fault>>
+    requires { 4 ≤ reach.table }
+    ensures { LaysCode result (open_code (bounded reach last) at) }
+{
+    let within = test_of(Comparison::Below, reach.index, Operand::Local(reach.second));
+    let check = stop_where(alloc, at, 2, Truth::Fails(within))?;
+    let inside = place_behind(at, check.len())?;
+    let rest = place_of(alloc, inside, reach, last)?;
+    Ok(append(check, rest.as_slice())?)
+}
+
+/// The same behind a load of the length of the array.
+fn reached(alloc: Global, at: u16, reach: Reach, last: Plain) -> Result<Row<Open>, Refusal<Fault>>
+    requires { 4 ≤ reach.table }
+    ensures { LaysCode result (open_code (reached reach last) at) }
+{
+    let first = Operand::Local(reach.first);
+    let length = load_from(Memory::Flash, 2, reach.second, reach.table - 2, first);
+    let mut code = Row::new(alloc);
+    code.push(Open::Set(Instr::Plain(timed(reach.first, 4, reach.home))))?;
+    code.push(Open::Set(Instr::Plain(length)))?;
+    let length_at = place_behind(at, 1)?;
+    let inside = place_behind(length_at, 1)?;
+    let rest = bounded(alloc, inside, reach, last)?;
+    Ok(append(code, rest.as_slice())?)
+}
+
+/// The same behind the null check.
+fn element_of(
+    alloc: Global,
+    at: u16,
+    reach: Reach,
+    last: Plain,
+) -> Result<Row<Open>, Refusal<Fault>>
+    requires { 4 ≤ reach.table }
+    ensures { LaysCode result (open_code (element_of reach last) at) }
+{
+    let check = stop_where(alloc, at, 1, Truth::Holds(is_zero(reach.home)))?;
+    let inside = place_behind(at, check.len())?;
+    let rest = reached(alloc, inside, reach, last)?;
+    Ok(append(check, rest.as_slice())?)
+}
+
+fn load_element(
+    alloc: Global,
+    room: Room,
+    at: u16,
+    elements: Elements,
+    table: u16,
+    home: Operand,
+    index: Operand,
+    homes: Homes,
+) -> Result<Piece, Refusal<Fault>>
+    requires room { room.locals + room.temps ≤ 252 }
+    requires settled { homes.truth ≡ None }
+    requires table { 4 ≤ table }
+    ensures { Lays result at (load_element room elements table home index homes.homes) }
+{
+    let to = temp(room, &homes)?;
+    let mut homes = homes;
+    homes.push(home)?;
+    homes.push(index)?;
+    let first = temp(room, &homes)?;
+    homes.push(Operand::Local(first))?;
+    let second = temp(room, &homes)?;
+    homes.pop();
+    homes.pop();
+    homes.pop();
+    let reach = Reach {
+        first,
+        second,
+        table,
+        width: elements.width,
+        home,
+        index,
+    };
+    let memory = memory_of(elements.home);
+    let load = load_from(memory, elements.width, to, 0, Operand::Local(first));
+    let code = element_of(alloc, at, reach, load)?;
+    homes.push(Operand::Local(to))?;
+    Ok(Piece { code, homes })
+}
+
+fn load_item_at(
+    alloc: Global,
+    room: Room,
+    at: u16,
+    elements: Elements,
+    place: Place,
+    table: u16,
+    homes: Homes,
+) -> Result<Piece, Refusal<Fault>>
+    requires room { room.locals + room.temps ≤ 252 }
+    requires settled { homes.truth ≡ None }
+    ensures { Lays result at (load_item room elements (Some place) (Some table) homes.homes) }
+{
+    let mut homes = homes;
+    match (homes.pop(), homes.pop()) {
+        (Some(index), Some(home)) => {
+            if is_width(elements.width) && is_place(elements, place) && table >= 4 {
+                return load_element(alloc, room, at, elements, table, home, index, homes);
+            }
+            Err(Refusal::Fault(Fault::NotTaken))
+        }
+        _ => Err(Refusal::Fault(Fault::NotTaken)),
+    }
+}
+
+/// An element, by the array's number and the index.
+pub(crate) fn load_item(
+    alloc: Global,
+    layout: &Layout,
+    room: Room,
+    at: u16,
+    elements: Elements,
+    homes: Homes,
+) -> Result<Piece, Refusal<Fault>>
+    requires room { room.locals + room.temps ≤ 252 }
+    requires settled { homes.truth ≡ None }
+    ensures { Lays result at (load_item room elements (slice_get (places_in layout.now elements.home) elements.column) (slice_get layout.now.tables elements.table) homes.homes) }
+{
+    match places_in(layout, elements.home).get(elements.column as usize) {
+        Some(place) => match layout.tables.as_slice().get(elements.table as usize) {
+            Some(table) => load_item_at(alloc, room, at, elements, *place, *table, homes),
+            None => Err(Refusal::Fault(Fault::NotTaken)),
+        },
+        None => Err(Refusal::Fault(Fault::NotTaken)),
+    }
+}
