@@ -3,10 +3,11 @@ use Rattle.std.specs.Prelude.{◌≡◌, ℕ, Bool, [], ◌∷◌, Result, Ok, E
 use Rattle.vg_meaning.specs.Loops.{Test, Tested, Untested}
 use Rattle.vg_meaning.specs.World.{World}
 use Rattle.vg_meaning.specs.Answer as answer
-use Rattle.vg_meaning.specs.Answer.{End, Over, Breaks, Continues, Returns, Answer, Gives, Ends, Piece, kept}
+use Rattle.vg_meaning.specs.Answer.{End, Over, Breaks, Continues, Returns, Answer, Gives, Ends, Piece, kept, over}
 use Rattle.vg_core.specs.declared.value.CoreValue.{CoreValue}
 use Rattle.vg_core.specs.Heap.{Place, OfArray}
 use Rattle.vg_core.specs.State.{State}
+use Rattle.vg_core.specs.Meaning.{Caller}
 use Rattle.vg_run.specs.declared.run.Run.{Run}
 use Rattle.vg_run.specs.declared.run.Element.{Element}
 use Rattle.vg_run.specs.declared.signal.Signal.{Signal}
@@ -19,6 +20,10 @@ state r = record { values = r.frames.values; locals = r.frames.locals; self = r.
 -- Its world.
 abbrev pub world : Run → World ℕ
 world r = r.around
+
+-- A caller for the steps that call nothing.
+abbrev pub uncalled : Caller ℕ
+uncalled target count self s w = over answer.Wrong s w
 
 -- What a body keeps of a run: what lies below it.
 abbrev pub Kept : (before now : Run) → Type 0

@@ -17,6 +17,7 @@ ghost use Rattle.vg_run.specs.Run.{state, world, Kept};
 use crate::around::Phase;
 use crate::run::Run;
 use crate::signal::Signal;
+use vg_base::NoMemory;
 use vg_core::{Body, CoreType, CoreValue, Tables, Target};
 use vg_frames::Mark;
 use vg_interp_values::default_of;
@@ -54,7 +55,7 @@ pub fn has_arguments(run: &Run, tables: &Tables, params: &[CoreType], count: u16
 }
 
 /// Enters a body.
-pub fn enter(run: &mut Run, body: &Body, call: Call) -> Result<Outside, Signal>
+pub fn enter(run: &mut Run, body: &Body, call: Call) -> Result<Outside, NoMemory>
     requires { call.count ≤ length (state run.old).values }
     ensures { IfOk result (λ outside. Opened outside (body_at body.now) call.count call.receiver run.old run.new) }
 {
@@ -69,7 +70,7 @@ pub fn enter(run: &mut Run, body: &Body, call: Call) -> Result<Outside, Signal>
 }
 
 // The other locals of a body have their defaults.
-fn push_locals(run: &mut Run, others: &[CoreType]) -> Result<(), Signal>
+fn push_locals(run: &mut Run, others: &[CoreType]) -> Result<(), NoMemory>
     requires { (state run.old).values ≡ [] }
     ensures { OnOk result (run.new ≡ record run.old { frames = record run.old.frames { locals = run.old.frames.locals ++ map default others.now } }) }
 {
