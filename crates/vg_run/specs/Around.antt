@@ -1,14 +1,14 @@
 -- What is around a run, as its world, and how it changes.
 use Rattle.std.specs.Prelude.{◌≡◌, ℕ, suc, true, false, List, [], ◌∷◌, drop, Option, Result, Ok, Err}
 use Rattle.vg_meaning.specs.declared.event.Event.{Event}
-use Rattle.vg_meaning.specs.declared.event.Event.TheVariants.{Read, Write}
+use Rattle.vg_meaning.specs.declared.event.Event.TheVariants.{Enter, Read, Write}
 use Rattle.vg_meaning.specs.World.{World, Phase, Starting, Running}
 use Rattle.vg_meaning.specs.Outside.{with_event}
 use Rattle.vg_meaning.specs.Answer.{passes}
 use Rattle.vg_run.specs.declared.around.Phase.{Phase as HeldPhase}
 use Rattle.vg_run.specs.declared.around.Phase.TheVariants.{Starting as IsStarting, Running as IsRunning}
 use Rattle.vg_run.specs.declared.signal.Signal.{Signal}
-use Rattle.vg_run.specs.declared.signal.Signal.TheVariants.{Wants, Touches, OutOfClock, OutOfDepth, NoMemory}
+use Rattle.vg_run.specs.declared.signal.Signal.TheVariants.{Wants, Touches, Done, OutOfClock, OutOfDepth, NoMemory}
 
 -- The phase.
 abbrev pub phase_of : HeldPhase → Phase
@@ -61,3 +61,12 @@ Writes (Ok u) a x w v = (w.phase ≡ Running) × (v ≡ record w { outside = wit
 Writes (Err (Touches b)) a x w v = (b ≡ a) × (w.phase ≡ Starting) × (v ≡ w)
 Writes (Err NoMemory) a x w v = Unit {0}
 Writes (Err _) a x w v = ⊥
+
+-- An interrupt was taken, or none is left.
+abbrev pub Interrupts : Result ℕ Signal → (before now : World ℕ) → Type 0
+Interrupts (Ok vector) w v =
+    (w.outside.interrupts ≡ vector ∷ v.outside.interrupts)
+    × (v ≡ record w { outside = with_event (record w.outside { interrupts = v.outside.interrupts }) (Enter vector) })
+Interrupts (Err Done) w v = (w.outside.interrupts ≡ []) × (v ≡ w)
+Interrupts (Err NoMemory) w v = Unit {0}
+Interrupts (Err _) w v = ⊥

@@ -1,12 +1,13 @@
 -- A run as the state and the world of the meaning, and what functions of the code answer.
-use Rattle.std.specs.Prelude.{◌≡◌, ℕ, List, [], ◌∷◌, drop, Result, Ok, Err}
+use Rattle.std.specs.Prelude.{◌≡◌, ℕ, Bool, [], ◌∷◌, Result, Ok, Err}
+use Rattle.vg_meaning.specs.Loops.{Test, Tested, Untested}
 use Rattle.vg_meaning.specs.World.{World}
 use Rattle.vg_meaning.specs.Answer as answer
-use Rattle.vg_meaning.specs.Answer.{End, Over, Breaks, Continues, Returns, Answer, Gives, Ends, Piece, kept}
+use Rattle.vg_meaning.specs.Answer.{End, Over, Breaks, Continues, Returns, Answer, Gives, Ends, Piece, kept, over}
 use Rattle.vg_core.specs.declared.value.CoreValue.{CoreValue}
 use Rattle.vg_core.specs.Heap.{Place, OfArray}
 use Rattle.vg_core.specs.State.{State}
-use Rattle.vg_frames.specs.Frame.{Frame}
+use Rattle.vg_core.specs.Meaning.{Caller}
 use Rattle.vg_run.specs.declared.run.Run.{Run}
 use Rattle.vg_run.specs.declared.run.Element.{Element}
 use Rattle.vg_run.specs.declared.signal.Signal.{Signal}
@@ -20,9 +21,13 @@ state r = record { values = r.frames.values; locals = r.frames.locals; self = r.
 abbrev pub world : Run → World ℕ
 world r = r.around
 
--- What a body keeps of a run: what lies below it, and how deep calls may nest.
+-- A caller for the steps that call nothing.
+abbrev pub uncalled : Caller ℕ
+uncalled target count self s w = over answer.Wrong s w
+
+-- What a body keeps of a run: what lies below it.
 abbrev pub Kept : (before now : Run) → Type 0
-Kept before now = (now.frames.below ≡ before.frames.below) × (now.most ≡ before.most)
+Kept before now = now.frames.below ≡ before.frames.below
 
 -- The run is Wrong.
 abbrev pub IsWrong : Answer State ℕ → Type 0
@@ -66,3 +71,14 @@ Pops (Err _) before now = ⊥
 abbrev pub Reaches : Result Element Signal → (Place → Piece State ℕ) → State → World ℕ → Answer State ℕ → Type 0
 Reaches (Ok e) go s w a = a ≡ go (OfArray e.array e.index) s w
 Reaches (Err why) go s w a = Signals why s w a
+
+-- A truth value was taken, or there is none.
+abbrev pub Tests : Result Bool Signal → State → Test State → Type 0
+Tests (Ok b) s t = t ≡ Tested b s
+Tests (Err Wrong) s t = t ≡ Untested
+Tests (Err _) s t = ⊥
+
+-- The value below others was taken, or there is none.
+abbrev pub TakesBelow : Result CoreValue Signal → (CoreValue → Piece State ℕ) → State → World ℕ → Answer State ℕ → Type 0
+TakesBelow (Ok v) go s w a = a ≡ go v s w
+TakesBelow (Err why) go s w a = Signals why s w a

@@ -3,9 +3,11 @@ ghost use Rattle.std.specs.Prelude.{◌≡◌, OnOk};
 ghost use Rattle.vg_meaning.specs.Answer.{passes};
 ghost use Rattle.vg_meaning.specs.History.{one_less};
 ghost use Rattle.vg_meaning.specs.Outside.{with_event};
-ghost use Rattle.vg_run.specs.Around.{phase_of, Opens, Reads, Ticks, Writes};
+ghost use Rattle.vg_source.specs.Session.{running_world, starting_world};
+ghost use Rattle.vg_run.specs.Around.{phase_of, Interrupts, Opens, Reads, Ticks, Writes};
 
 use crate::signal::Signal;
+use std::alloc::Global;
 use std::marker::Model;
 use vg_base::NoMemory;
 use vg_meaning::Event;
@@ -39,6 +41,7 @@ pub struct Around {
 impl Model for Around {
     ghost use Rattle.std.specs.Prelude.{ℕ, drop};
     ghost use Rattle.vg_meaning.specs.World.{World};
+    ghost use Rattle.vg_source.specs.Session.{running_world, starting_world};
     ghost use Rattle.vg_run.specs.Around.{phase_of, world_of};
 
     ghost Value = { World ℕ };
@@ -48,6 +51,63 @@ impl Model for Around {
 }
 
 impl Around {
+    /// Around initialisation: at most 400 active calls and 60,000 stored values. It takes no memory.
+    pub fn starting(alloc: Global, clock: u32) -> Self
+        ensures { result ≡ starting_world 0 clock }
+    {
+        Around {
+            phase: Phase::Starting,
+            deepest: Some(400),
+            largest: Some(60_000),
+            clock,
+            reads: Vec::new(alloc),
+            read: 0,
+            interrupts: Vec::new(alloc),
+            taken: 0,
+            trace: Vec::new(alloc),
+            depth: 0,
+        }
+    }
+
+    /// Around a run, with these reads and interrupts to come. It takes no memory.
+    pub fn running(
+        alloc: Global,
+        deepest: Option<u32>,
+        reads: Vec<u8>,
+        interrupts: Vec<u8>,
+        clock: u32,
+    ) -> Self
+        ensures { result ≡ running_world 0 deepest reads.items interrupts.items clock }
+    {
+        Around {
+            phase: Phase::Running,
+            deepest,
+            largest: None,
+            clock,
+            reads,
+            read: 0,
+            interrupts,
+            taken: 0,
+            trace: Vec::new(alloc),
+            depth: 0,
+        }
+    }
+
+    /// Takes the next interrupt, and notes it.
+    pub fn interrupt(&mut self) -> Result<u8, Signal>
+        ensures { Interrupts result self.old self.new }
+    {
+        match self.interrupts.get(self.taken) {
+            Some(vector) => {
+                let vector = *vector;
+                self.taken += 1;
+                self.note(Event::Enter(vector))?;
+                Ok(vector)
+            }
+            None => Err(Signal::Done),
+        }
+    }
+
     /// The clock.
     pub fn clock(&self) -> u32
         ensures { result ≡ self.now.clock }

@@ -1,9 +1,7 @@
 // Device registers.
-ghost use Rattle.std.specs.Prelude.{ℕ};
 ghost use Rattle.vg_core.specs.declared.step.Step.TheVariants as steps;
 ghost use Rattle.vg_core.specs.Meaning as meaning;
-ghost use Rattle.vg_core.specs.Meaning.{Caller};
-ghost use Rattle.vg_run.specs.Run.{state, world, Answers, Kept};
+ghost use Rattle.vg_run.specs.Run.{state, uncalled, world, Answers, Kept};
 
 use crate::run::Run;
 use crate::signal::Signal;
@@ -11,8 +9,7 @@ use vg_core::{CoreValue, Tables};
 
 /// A read of the device register at this address.
 pub fn register(run: &mut Run, tables: &Tables, address: u8) -> Result<(), Signal>
-    ensures answers { (call : Caller ℕ)
-        → Answers result (state run.new) (world run.new) (meaning.step tables.now call (steps.Register address) (state run.old) (world run.old)) }
+    ensures answers { Answers result (state run.new) (world run.new) (meaning.step tables.now uncalled (steps.Register address) (state run.old) (world run.old)) }
     ensures kept { Kept run.old run.new }
 {
     let value = run.around.read(address)?;
@@ -21,8 +18,7 @@ pub fn register(run: &mut Run, tables: &Tables, address: u8) -> Result<(), Signa
 
 /// A write of the device register at this address.
 pub fn set_register(run: &mut Run, tables: &Tables, address: u8) -> Result<(), Signal>
-    ensures answers { (call : Caller ℕ)
-        → Answers result (state run.new) (world run.new) (meaning.step tables.now call (steps.SetRegister address) (state run.old) (world run.old)) }
+    ensures answers { Answers result (state run.new) (world run.new) (meaning.step tables.now uncalled (steps.SetRegister address) (state run.old) (world run.old)) }
     ensures kept { Kept run.old run.new }
 {
     match run.pop()? {

@@ -2,6 +2,7 @@
 #![tactic(auto)]
 
 pub mod around;
+pub mod calling;
 pub mod devices;
 pub mod methods;
 pub mod operators;
@@ -11,5 +12,6 @@ pub mod signal;
 pub mod values;
 
 pub use around::{Around, Phase};
+pub use calling::{Call, Outside};
 pub use run::{Element, Run};
 pub use signal::Signal;

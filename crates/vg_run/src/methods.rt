@@ -1,13 +1,13 @@
 // Methods as values, and new arrays.
-ghost use Rattle.std.specs.Prelude.{ℕ, Some, replicate, slice_get};
+ghost use Rattle.std.specs.Prelude.{Some, replicate, slice_get};
 ghost use Rattle.vg_core.specs.declared.value.CoreValue.TheVariants.{Arr, Bound};
 ghost use Rattle.vg_core.specs.declared.heap.Cell.TheVariants.{Array};
 ghost use Rattle.vg_core.specs.Heap.{default};
 ghost use Rattle.vg_core.specs.Tables as tables_of;
 ghost use Rattle.vg_core.specs.declared.step.Step.TheVariants as steps;
 ghost use Rattle.vg_core.specs.Meaning as meaning;
-ghost use Rattle.vg_core.specs.Meaning.{Caller, adding, checked, put, with_class, with_found};
-ghost use Rattle.vg_run.specs.Run.{state, world, Answers, Kept};
+ghost use Rattle.vg_core.specs.Meaning.{adding, checked, put, with_class, with_found};
+ghost use Rattle.vg_run.specs.Run.{state, uncalled, world, Answers, Kept};
 
 use crate::around::Phase;
 use crate::run::Run;
@@ -24,8 +24,7 @@ pub fn method_of(
     class: u16,
     selector: u16,
 ) -> Result<(), Signal>
-    ensures answers { (call : Caller ℕ)
-        → Answers result (state run.new) (world run.new) (meaning.step tables.now call (steps.MethodOf at class selector) (state run.old) (world run.old)) }
+    ensures answers { Answers result (state run.new) (world run.new) (meaning.step tables.now uncalled (steps.MethodOf at class selector) (state run.old) (world run.old)) }
     ensures kept { Kept run.old run.new }
 {
     match run.pop()? {
@@ -61,8 +60,7 @@ fn bind(run: &mut Run, tables: &Tables, class: u16, selector: u16, k: u32) -> Re
 
 /// A new array of elements of the type of this number.
 pub fn new_array(run: &mut Run, tables: &Tables, at: u32, t: u32) -> Result<(), Signal>
-    ensures answers { (call : Caller ℕ)
-        → Answers result (state run.new) (world run.new) (meaning.step tables.now call (steps.NewArray at t) (state run.old) (world run.old)) }
+    ensures answers { Answers result (state run.new) (world run.new) (meaning.step tables.now uncalled (steps.NewArray at t) (state run.old) (world run.old)) }
     ensures kept { Kept run.old run.new }
 {
     match run.around.phase() {

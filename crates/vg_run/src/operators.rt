@@ -1,9 +1,7 @@
 // Operators, casts and class tests.
-ghost use Rattle.std.specs.Prelude.{ℕ};
 ghost use Rattle.vg_core.specs.declared.step.Step.TheVariants as steps;
 ghost use Rattle.vg_core.specs.Meaning as meaning;
-ghost use Rattle.vg_core.specs.Meaning.{Caller};
-ghost use Rattle.vg_run.specs.Run.{state, world, Answers, Kept};
+ghost use Rattle.vg_run.specs.Run.{state, uncalled, world, Answers, Kept};
 
 use crate::run::Run;
 use crate::signal::Signal;
@@ -14,8 +12,7 @@ use vg_shape::lookup::{is_below, one_hierarchy};
 /// An operator on one value of a type.
 #[tactic(auto, using(crate::proofs::Steps::looked_up))]
 pub fn apply(run: &mut Run, tables: &Tables, op: Prefix, type_: CoreType) -> Result<(), Signal>
-    ensures answers { (call : Caller ℕ)
-        → Answers result (state run.new) (world run.new) (meaning.step tables.now call (steps.Apply op type_) (state run.old) (world run.old)) }
+    ensures answers { Answers result (state run.new) (world run.new) (meaning.step tables.now uncalled (steps.Apply op type_) (state run.old) (world run.old)) }
     ensures kept { Kept run.old run.new }
 {
     let value = run.pop()?;
@@ -34,8 +31,7 @@ pub fn operate(
     left: CoreType,
     right: CoreType,
 ) -> Result<(), Signal>
-    ensures answers { (call : Caller ℕ)
-        → Answers result (state run.new) (world run.new) (meaning.step tables.now call (steps.Operate at op left right) (state run.old) (world run.old)) }
+    ensures answers { Answers result (state run.new) (world run.new) (meaning.step tables.now uncalled (steps.Operate at op left right) (state run.old) (world run.old)) }
     ensures kept { Kept run.old run.new }
 {
     let y = run.pop()?;
@@ -94,8 +90,7 @@ pub fn cast_to(
     from: CoreType,
     to: CoreType,
 ) -> Result<(), Signal>
-    ensures answers { (call : Caller ℕ)
-        → Answers result (state run.new) (world run.new) (meaning.step tables.now call (steps.CastTo at from to) (state run.old) (world run.old)) }
+    ensures answers { Answers result (state run.new) (world run.new) (meaning.step tables.now uncalled (steps.CastTo at from to) (state run.old) (world run.old)) }
     ensures kept { Kept run.old run.new }
 {
     let value = run.pop()?;
@@ -167,8 +162,7 @@ fn cast_to_class(
 
 /// Whether an object is of a class or below it.
 pub fn test_class(run: &mut Run, tables: &Tables, class: u16) -> Result<(), Signal>
-    ensures answers { (call : Caller ℕ)
-        → Answers result (state run.new) (world run.new) (meaning.step tables.now call (steps.IsBelow class) (state run.old) (world run.old)) }
+    ensures answers { Answers result (state run.new) (world run.new) (meaning.step tables.now uncalled (steps.IsBelow class) (state run.old) (world run.old)) }
     ensures kept { Kept run.old run.new }
 {
     match run.pop()? {

@@ -1,12 +1,12 @@
 // Fields and elements.
-ghost use Rattle.std.specs.Prelude.{ℕ, pos, slice_get};
+ghost use Rattle.std.specs.Prelude.{pos, slice_get};
 ghost use Rattle.vg_core.specs.declared.value.CoreValue.TheVariants.{Int};
 ghost use Rattle.vg_core.specs.Tables as tables_of;
 ghost use Rattle.vg_core.specs.declared.step.Step.TheVariants as steps;
 ghost use Rattle.vg_core.specs.Heap.{OfArray, OfObject};
 ghost use Rattle.vg_core.specs.Meaning as meaning;
-ghost use Rattle.vg_core.specs.Meaning.{Caller, put};
-ghost use Rattle.vg_run.specs.Run.{state, world, Answers, Kept};
+ghost use Rattle.vg_core.specs.Meaning.{put};
+ghost use Rattle.vg_run.specs.Run.{state, uncalled, world, Answers, Kept};
 
 use crate::run::{Element, Run};
 use crate::signal::Signal;
@@ -15,8 +15,7 @@ use vg_shape::lookup::field_type;
 
 /// The value of a field of a component.
 pub fn component_field(run: &mut Run, tables: &Tables, field: u32) -> Result<(), Signal>
-    ensures answers { (call : Caller ℕ)
-        → Answers result (state run.new) (world run.new) (meaning.step tables.now call (steps.ComponentField field) (state run.old) (world run.old)) }
+    ensures answers { Answers result (state run.new) (world run.new) (meaning.step tables.now uncalled (steps.ComponentField field) (state run.old) (world run.old)) }
     ensures kept { Kept run.old run.new }
 {
     let found = run.store.component_field(tables, field);
@@ -25,8 +24,7 @@ pub fn component_field(run: &mut Run, tables: &Tables, field: u32) -> Result<(),
 
 /// A field of a component is set.
 pub fn set_component_field(run: &mut Run, tables: &Tables, field: u32) -> Result<(), Signal>
-    ensures answers { (call : Caller ℕ)
-        → Answers result (state run.new) (world run.new) (meaning.step tables.now call (steps.SetComponentField field) (state run.old) (world run.old)) }
+    ensures answers { Answers result (state run.new) (world run.new) (meaning.step tables.now uncalled (steps.SetComponentField field) (state run.old) (world run.old)) }
     ensures kept { Kept run.old run.new }
 {
     let value = run.pop()?;
@@ -47,8 +45,7 @@ pub fn set_component_field(run: &mut Run, tables: &Tables, field: u32) -> Result
 
 /// The value of a field of an object.
 pub fn field(run: &mut Run, tables: &Tables, at: u32, field: u32) -> Result<(), Signal>
-    ensures answers { (call : Caller ℕ)
-        → Answers result (state run.new) (world run.new) (meaning.step tables.now call (steps.Field at field) (state run.old) (world run.old)) }
+    ensures answers { Answers result (state run.new) (world run.new) (meaning.step tables.now uncalled (steps.Field at field) (state run.old) (world run.old)) }
     ensures kept { Kept run.old run.new }
 {
     match run.pop()? {
@@ -68,8 +65,7 @@ pub fn field(run: &mut Run, tables: &Tables, at: u32, field: u32) -> Result<(), 
 
 /// A field of an object is set.
 pub fn set_field(run: &mut Run, tables: &Tables, at: u32, field: u32) -> Result<(), Signal>
-    ensures answers { (call : Caller ℕ)
-        → Answers result (state run.new) (world run.new) (meaning.step tables.now call (steps.SetField at field) (state run.old) (world run.old)) }
+    ensures answers { Answers result (state run.new) (world run.new) (meaning.step tables.now uncalled (steps.SetField at field) (state run.old) (world run.old)) }
     ensures kept { Kept run.old run.new }
 {
     let value = run.pop()?;
@@ -114,8 +110,7 @@ fn store_field(
 
 /// An element of an array.
 pub fn item(run: &mut Run, tables: &Tables, at: u32, t: u32) -> Result<(), Signal>
-    ensures answers { (call : Caller ℕ)
-        → Answers result (state run.new) (world run.new) (meaning.step tables.now call (steps.Item at t) (state run.old) (world run.old)) }
+    ensures answers { Answers result (state run.new) (world run.new) (meaning.step tables.now uncalled (steps.Item at t) (state run.old) (world run.old)) }
     ensures kept { Kept run.old run.new }
 {
     let index = run.pop()?;
@@ -136,8 +131,7 @@ fn load_element(run: &mut Run, tables: &Tables, element: Element) -> Result<(), 
 
 /// An element of an array is set.
 pub fn set_item(run: &mut Run, tables: &Tables, at: u32, t: u32) -> Result<(), Signal>
-    ensures answers { (call : Caller ℕ)
-        → Answers result (state run.new) (world run.new) (meaning.step tables.now call (steps.SetItem at t) (state run.old) (world run.old)) }
+    ensures answers { Answers result (state run.new) (world run.new) (meaning.step tables.now uncalled (steps.SetItem at t) (state run.old) (world run.old)) }
     ensures kept { Kept run.old run.new }
 {
     let value = run.pop()?;
@@ -176,8 +170,7 @@ fn store_element(
 
 /// The length of an array.
 pub fn length(run: &mut Run, tables: &Tables, at: u32, t: u32) -> Result<(), Signal>
-    ensures answers { (call : Caller ℕ)
-        → Answers result (state run.new) (world run.new) (meaning.step tables.now call (steps.Length at t) (state run.old) (world run.old)) }
+    ensures answers { Answers result (state run.new) (world run.new) (meaning.step tables.now uncalled (steps.Length at t) (state run.old) (world run.old)) }
     ensures kept { Kept run.old run.new }
 {
     match run.pop()? {

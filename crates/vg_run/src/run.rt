@@ -1,17 +1,20 @@
 // A run.
 ghost use Rattle.std.specs.Prelude.{◌≡◌, ◌+◌, ℕ, IfOk, not};
 ghost use Rattle.vg_source.specs.Operators.{Computed};
+ghost use Rattle.vg_core.specs.declared.value.CoreValue.{CoreValue};
 ghost use Rattle.vg_core.specs.State as state_of;
 ghost use Rattle.vg_core.specs.Heap.{OfArray, Place, stored_values};
 ghost use Rattle.vg_core.specs.State.{State};
-ghost use Rattle.vg_core.specs.Meaning.{computed, put, put_found, with_index, with_int, with_item};
+ghost use Rattle.vg_core.specs.Meaning.{computed, from_below, put, put_found, truth, with_index, with_int, with_item};
+ghost use Rattle.vg_core.specs.Session.{with_heap};
 ghost use Rattle.vg_meaning.specs.World.{World};
 ghost use Rattle.vg_meaning.specs.Answer.{Piece, passes};
 ghost use Rattle.vg_interp_values.specs.Made.{Makes};
-ghost use Rattle.vg_run.specs.Run.{state, world, Answers, Kept, Pops, Reaches};
+ghost use Rattle.vg_run.specs.Run.{state, world, Answers, Kept, Pops, Reaches, TakesBelow, Tests};
 
 use crate::around::Around;
 use crate::signal::Signal;
+use std::alloc::Global;
 use vg_base::NoMemory;
 use vg_core::{CoreType, CoreValue, Tables};
 use vg_frames::Frames;
@@ -27,8 +30,6 @@ pub struct Run {
     pub receiver: CoreValue,
     pub store: Store,
     pub around: Around,
-    /// How deep calls may still nest: no less than the ticks that are left.
-    pub most: u32,
 }
 
 /// An element of an array: the array's cell, and the index.
@@ -39,6 +40,19 @@ pub struct Element {
 }
 
 impl Run {
+    /// A run with nothing in hand but a heap. It takes no memory.
+    pub fn new(alloc: Global, store: Store, around: Around) -> Self
+        ensures state { state result ≡ with_heap store }
+        ensures world { world result ≡ around }
+    {
+        Run {
+            frames: Frames::new(alloc),
+            receiver: CoreValue::Null,
+            store,
+            around,
+        }
+    }
+
     /// Puts a value in front of those that wait.
     pub fn push(&mut self, value: CoreValue) -> Result<(), Signal>
         ensures answers { Answers result (state self.new) (world self.new) (put value (state self.old) (world self.old)) }
@@ -78,6 +92,18 @@ impl Run {
         ensures { Pops result self.old self.new }
     {
         match self.frames.pop() {
+            Some(value) => Ok(value),
+            None => Err(Signal::Wrong),
+        }
+    }
+
+    /// Takes the value that waits below so many others away from there.
+    pub fn take_below(&mut self, count: u16) -> Result<CoreValue, Signal>
+        ensures takes { (go : CoreValue → Piece State ℕ)
+            → TakesBelow result go (state self.new) (world self.new) (from_below count go (state self.old) (world self.old)) }
+        ensures kept { Kept self.old self.new }
+    {
+        match self.frames.take_below(count) {
             Some(value) => Ok(value),
             None => Err(Signal::Wrong),
         }
@@ -126,6 +152,26 @@ impl Run {
             | CoreValue::Char(_)
             | CoreValue::Raw(_, _)
             | CoreValue::Obj(_)
+            | CoreValue::Bound(_, _) => Err(Signal::Wrong),
+        }
+    }
+}
+
+impl Run {
+    /// Takes the truth value that waits in front.
+    pub fn test(&mut self) -> Result<bool, Signal>
+        ensures tests { Tests result (state self.new) (truth (state self.old)) }
+        ensures world { world self.new ≡ world self.old }
+        ensures kept { Kept self.old self.new }
+    {
+        match self.pop()? {
+            CoreValue::Bool(holds) => Ok(holds),
+            CoreValue::Int(_)
+            | CoreValue::Char(_)
+            | CoreValue::Raw(_, _)
+            | CoreValue::Null
+            | CoreValue::Obj(_)
+            | CoreValue::Arr(_)
             | CoreValue::Bound(_, _) => Err(Signal::Wrong),
         }
     }

@@ -1,9 +1,7 @@
 // Values and locals.
-ghost use Rattle.std.specs.Prelude.{ℕ};
 ghost use Rattle.vg_core.specs.declared.step.Step.TheVariants as steps;
 ghost use Rattle.vg_core.specs.Meaning as meaning;
-ghost use Rattle.vg_core.specs.Meaning.{Caller};
-ghost use Rattle.vg_run.specs.Run.{state, world, Answers, Kept};
+ghost use Rattle.vg_run.specs.Run.{state, uncalled, world, Answers, Kept};
 
 use crate::run::Run;
 use crate::signal::Signal;
@@ -11,8 +9,7 @@ use vg_core::{CoreType, CoreValue, Tables};
 
 /// A value that is no reference to a cell.
 pub fn put(run: &mut Run, tables: &Tables, value: CoreValue) -> Result<(), Signal>
-    ensures answers { (call : Caller ℕ)
-        → Answers result (state run.new) (world run.new) (meaning.step tables.now call (steps.Put value) (state run.old) (world run.old)) }
+    ensures answers { Answers result (state run.new) (world run.new) (meaning.step tables.now uncalled (steps.Put value) (state run.old) (world run.old)) }
     ensures kept { Kept run.old run.new }
 {
     run.push(value)
@@ -20,8 +17,7 @@ pub fn put(run: &mut Run, tables: &Tables, value: CoreValue) -> Result<(), Signa
 
 /// The array of a literal.
 pub fn literal(run: &mut Run, tables: &Tables, number: u32) -> Result<(), Signal>
-    ensures answers { (call : Caller ℕ)
-        → Answers result (state run.new) (world run.new) (meaning.step tables.now call (steps.Literal number) (state run.old) (world run.old)) }
+    ensures answers { Answers result (state run.new) (world run.new) (meaning.step tables.now uncalled (steps.Literal number) (state run.old) (world run.old)) }
     ensures kept { Kept run.old run.new }
 {
     match tables.literals.as_slice().get(number as usize) {
@@ -32,8 +28,7 @@ pub fn literal(run: &mut Run, tables: &Tables, number: u32) -> Result<(), Signal
 
 /// The receiver.
 pub fn receiver(run: &mut Run, tables: &Tables) -> Result<(), Signal>
-    ensures answers { (call : Caller ℕ)
-        → Answers result (state run.new) (world run.new) (meaning.step tables.now call steps.This (state run.old) (world run.old)) }
+    ensures answers { Answers result (state run.new) (world run.new) (meaning.step tables.now uncalled steps.This (state run.old) (world run.old)) }
     ensures kept { Kept run.old run.new }
 {
     run.push(run.receiver)
@@ -41,8 +36,7 @@ pub fn receiver(run: &mut Run, tables: &Tables) -> Result<(), Signal>
 
 /// A parameter or local.
 pub fn local(run: &mut Run, tables: &Tables, number: u8) -> Result<(), Signal>
-    ensures answers { (call : Caller ℕ)
-        → Answers result (state run.new) (world run.new) (meaning.step tables.now call (steps.Local number) (state run.old) (world run.old)) }
+    ensures answers { Answers result (state run.new) (world run.new) (meaning.step tables.now uncalled (steps.Local number) (state run.old) (world run.old)) }
     ensures kept { Kept run.old run.new }
 {
     let found = run.frames.local(number);
@@ -51,8 +45,7 @@ pub fn local(run: &mut Run, tables: &Tables, number: u8) -> Result<(), Signal>
 
 /// A parameter or local is set.
 pub fn set_local(run: &mut Run, tables: &Tables, number: u8, type_: CoreType) -> Result<(), Signal>
-    ensures answers { (call : Caller ℕ)
-        → Answers result (state run.new) (world run.new) (meaning.step tables.now call (steps.SetLocal number type_) (state run.old) (world run.old)) }
+    ensures answers { Answers result (state run.new) (world run.new) (meaning.step tables.now uncalled (steps.SetLocal number type_) (state run.old) (world run.old)) }
     ensures kept { Kept run.old run.new }
 {
     let value = run.pop()?;
@@ -70,8 +63,7 @@ pub fn set_local(run: &mut Run, tables: &Tables, number: u8, type_: CoreType) ->
 
 /// A method of a component, as a value.
 pub fn component_method(run: &mut Run, tables: &Tables, method: u16) -> Result<(), Signal>
-    ensures answers { (call : Caller ℕ)
-        → Answers result (state run.new) (world run.new) (meaning.step tables.now call (steps.ComponentMethod method) (state run.old) (world run.old)) }
+    ensures answers { Answers result (state run.new) (world run.new) (meaning.step tables.now uncalled (steps.ComponentMethod method) (state run.old) (world run.old)) }
     ensures kept { Kept run.old run.new }
 {
     run.push(CoreValue::Bound(None, method))
@@ -79,8 +71,7 @@ pub fn component_method(run: &mut Run, tables: &Tables, method: u16) -> Result<(
 
 /// The newest value is dropped.
 pub fn forget(run: &mut Run, tables: &Tables) -> Result<(), Signal>
-    ensures answers { (call : Caller ℕ)
-        → Answers result (state run.new) (world run.new) (meaning.step tables.now call steps.Forget (state run.old) (world run.old)) }
+    ensures answers { Answers result (state run.new) (world run.new) (meaning.step tables.now uncalled steps.Forget (state run.old) (world run.old)) }
     ensures kept { Kept run.old run.new }
 {
     run.pop()?;

@@ -1,0 +1,99 @@
+use Rattle.std.proofs.Common.{◌≡◌, ◌+◌, ◌-◌, ◌*◌, drop}
+use Rattle.vg_meaning.specs.History.{depth_alone}
+use Rattle.vg_meaning.specs.Loops.{turns, where_holds}
+use Rattle.vg_core.specs.HeldProgram.{code_of, code_chain, code_row, program_at}
+use Rattle.vg_core.specs.Meaning.{truth}
+use Rattle.vg_run.specs.Run.{state, world}
+use Rattle.vg_interp.specs.Running.{does}
+use Rattle.vg_interp.specs.Weights.{arms_list, weight, weights, whole}
+use Rattle.vg_interp.proofs.execution.+exec.Given as goal
+
+abbrev pub decreases-exec : goal.decreases-exec
+decreases-exec l = l.most * whole l.program.now + 8 * weight l.code.now + 1
+
+abbrev pub decreases-row : goal.decreases-row
+decreases-row l = l.most * whole l.program.now + 8 * weights l.codes.now
+
+abbrev pub decreases-chain : goal.decreases-chain
+decreases-chain l = l.most * whole l.program.now + 8 * weights l.codes.now
+
+abbrev pub decreases-arms : goal.decreases-arms
+decreases-arms l = l.most * whole l.program.now + 8 * (weights l.all.now + weight l.last.now) + 2
+
+abbrev pub decreases-arm : goal.decreases-arm
+decreases-arm l = l.most * whole l.program.now + 8 * (weight l.condition.now + weight l.block.now) + 2
+
+abbrev pub decreases-repeat : goal.decreases-repeat
+decreases-repeat l = l.most * whole l.program.now + 8 * (weight l.condition.now + weight l.body.now + weight l.next.now) + 3
+
+abbrev pub decreases-holds : goal.decreases-holds
+decreases-holds l = l.most * whole l.program.now + 8 * weight l.condition.now + 2
+
+abbrev pub decreases-turn : goal.decreases-turn
+decreases-turn l = l.most * whole l.program.now + 8 * (weight l.body.now + weight l.next.now) + 2
+
+abbrev pub decreases-perform : goal.decreases-perform
+decreases-perform l = l.most * whole l.program.now + 8
+
+abbrev pub decreases-construct : goal.decreases-construct
+decreases-construct l = l.most * whole l.program.now + 7
+
+abbrev pub decreases-build : goal.decreases-build
+decreases-build l = l.most * whole l.program.now + 6
+
+abbrev pub decreases-construct_above : goal.decreases-construct_above
+decreases-construct_above l = l.most * whole l.program.now + 6
+
+abbrev pub decreases-call : goal.decreases-call
+decreases-call l = l.most * whole l.program.now + 5
+
+abbrev pub decreases-find : goal.decreases-find
+decreases-find l = l.most * whole l.program.now + 4
+
+abbrev pub decreases-find_method : goal.decreases-find_method
+decreases-find_method l = l.most * whole l.program.now + 3
+
+abbrev pub decreases-find_making : goal.decreases-find_making
+decreases-find_making l = l.most * whole l.program.now + 3
+
+abbrev pub decreases-find_start : goal.decreases-find_start
+decreases-find_start l = l.most * whole l.program.now + 3
+
+abbrev pub decreases-open : goal.decreases-open
+decreases-open l = l.most * whole l.program.now + 2
+
+abbrev pub decreases-run_body : goal.decreases-run_body
+decreases-run_body l = l.most * whole l.program.now + 1
+
+abbrev pub decreases-value_of : goal.decreases-value_of
+decreases-value_of l = l.most * whole l.program.now
+
+-- the codes that are left do what all do
+abbrev pub invariant-row-loop-code : goal.invariant-row-loop-code
+invariant-row-loop-code l =
+    let p = program_at l.program in
+    (does p l.most (code_row l.codes) (state l.fn.run) (world l.fn.run) ≡ does p l.most (code_row (drop l.code-index l.codes)) (state l.run) (world l.run))
+    × (l.run.frames.below ≡ l.fn.run.frames.below)
+
+abbrev pub invariant-chain-loop-code : goal.invariant-chain-loop-code
+invariant-chain-loop-code l =
+    let p = program_at l.program in
+    (does p l.most (code_chain l.codes) (state l.fn.run) (world l.fn.run) ≡ does p l.most (code_chain (drop l.code-index l.codes)) (state l.run) (world l.run))
+    × (l.run.frames.below ≡ l.fn.run.frames.below)
+
+abbrev pub invariant-arms-loop-code : goal.invariant-arms-loop-code
+invariant-arms-loop-code l =
+    let p = program_at l.program in
+    (does p l.most (arms_list l.all (code_of l.last)) (state l.fn.run) (world l.fn.run)
+    ≡ does p l.most (arms_list (drop l.code-index l.all) (code_of l.last)) (state l.run) (world l.run))
+    × (l.run.frames.below ≡ l.fn.run.frames.below)
+
+-- the turns that are left do what all do
+abbrev pub invariant-repeat-loop-turn : goal.invariant-repeat-loop-turn
+invariant-repeat-loop-turn l =
+    let p = program_at l.program in
+    let test = where_holds (does p l.most (code_of l.condition)) truth in
+    let body = does p l.most (code_of l.body) in
+    let next = does p l.most (code_of l.next) in
+    (turns depth_alone l.all test body next (state l.fn.run) (world l.fn.run) ≡ turns depth_alone (l.all - l._turn) test body next (state l.run) (world l.run))
+    × (l.run.frames.below ≡ l.fn.run.frames.below)

@@ -1,0 +1,563 @@
+// Code, loops and calls.
+ghost use Rattle.std.specs.Prelude.{◌≡◌, ◌*◌, ◌+◌, ◌-◌, ◌<◌, ◌≤◌, ℕ, length};
+ghost use Rattle.vg_meaning.specs.Answer.{Piece, and_then};
+ghost use Rattle.vg_meaning.specs.Code.{If, Loop, Nothing, Then};
+ghost use Rattle.vg_meaning.specs.Calls.{returned};
+ghost use Rattle.vg_meaning.specs.Clock.{ticked};
+ghost use Rattle.vg_meaning.specs.History.{depth_alone};
+ghost use Rattle.vg_meaning.specs.Loops.{turned, where_holds};
+ghost use Rattle.vg_core.specs.declared.program.Target.TheVariants as targets;
+ghost use Rattle.vg_core.specs.Heap as heap;
+ghost use Rattle.vg_core.specs.HeldProgram.{body_at, code_of, code_chain, code_row, program_at};
+ghost use Rattle.vg_core.specs.Meaning as meaning;
+ghost use Rattle.vg_core.specs.Meaning.{put, truth};
+ghost use Rattle.vg_core.specs.State.{State};
+ghost use Rattle.vg_run.specs.Run.{state, world, Answers};
+ghost use Rattle.vg_interp.specs.Running.{calling, does, looks_up, opens, runs, Chooses, GoesOn};
+ghost use Rattle.vg_interp.specs.Weights.{arms_list, weight, whole};
+
+use crate::bodies::{class_at, is_component, making_body, method_at, method_body, start_body};
+use vg_core::{Body, Code, CoreType, CoreValue, Program, Step, Target};
+use vg_interp_values::default_of;
+use vg_run::calling::{Call, enter, has_arguments, leave, method_call, new_object, value_call};
+use vg_run::{Run, Signal, devices, methods, operators, places, values};
+
+/// Runs code of a program; its calls are at most so deep.
+#[cycle(exec)]
+pub fn exec(run: &mut Run, program: &Program, most: u32, code: &Code) -> Result<(), Signal>
+    ensures answers { Answers result (state run.new) (world run.new)
+        (does (program_at program.now) most (code_of code.now) (state run.old) (world run.old)) }
+    ensures kept { GoesOn result run.old run.new }
+{
+    match code {
+        Code::Row(codes) => row(run, program, most, codes.as_slice()),
+        Code::Chain(codes) => chain(run, program, most, codes.as_slice()),
+        Code::Do(step) => perform(run, program, most, *step),
+        Code::If(first, rest) => {
+            if run.test()? {
+                exec(run, program, most, first)
+            } else {
+                exec(run, program, most, rest)
+            }
+        }
+        Code::Arms(all, last) => arms(run, program, most, all.as_slice(), last),
+        Code::Arm(condition, block) => arm(run, program, most, condition, block),
+        Code::Loop(condition, body, next) => repeat(run, program, most, condition, body, next),
+        Code::Break => Err(Signal::Break),
+        Code::Continue => Err(Signal::Continue),
+        Code::Return => Err(Signal::Return),
+    }
+}
+
+// Runs one code behind another.
+#[cycle(exec)]
+fn row(run: &mut Run, program: &Program, most: u32, codes: &[Code]) -> Result<(), Signal>
+    ensures answers { Answers result (state run.new) (world run.new)
+        (does (program_at program.now) most (code_row codes.now) (state run.old) (world run.old)) }
+    ensures kept { GoesOn result run.old run.new }
+{
+    for code in codes {
+        exec(run, program, most, code)?;
+    }
+    Ok(())
+}
+
+// Runs one code behind another, of which the last ends it.
+#[cycle(exec)]
+fn chain(run: &mut Run, program: &Program, most: u32, codes: &[Code]) -> Result<(), Signal>
+    ensures answers { Answers result (state run.new) (world run.new)
+        (does (program_at program.now) most (code_chain codes.now) (state run.old) (world run.old)) }
+    ensures kept { GoesOn result run.old run.new }
+{
+    for code in codes {
+        exec(run, program, most, code)?;
+    }
+    Ok(())
+}
+
+// Runs the block of the first arm whose condition holds, or what is done where none does.
+#[cycle(exec)]
+fn arms(
+    run: &mut Run,
+    program: &Program,
+    most: u32,
+    all: &[Code],
+    last: &Code,
+) -> Result<(), Signal>
+    ensures answers { Answers result (state run.new) (world run.new)
+        (does (program_at program.now) most (arms_list all.now (code_of last.now)) (state run.old) (world run.old)) }
+    ensures kept { GoesOn result run.old run.new }
+{
+    for code in all {
+        match code {
+            Code::Arm(condition, block) => {
+                exec(run, program, most, condition)?;
+                if run.test()? {
+                    return exec(run, program, most, block);
+                }
+            }
+            Code::Row(_)
+            | Code::Chain(_)
+            | Code::Do(_)
+            | Code::If(_, _)
+            | Code::Arms(_, _)
+            | Code::Loop(_, _, _)
+            | Code::Break
+            | Code::Continue
+            | Code::Return => exec(run, program, most, code)?,
+        }
+    }
+    exec(run, program, most, last)
+}
+
+// Runs an arm alone.
+#[cycle(exec)]
+fn arm(
+    run: &mut Run,
+    program: &Program,
+    most: u32,
+    condition: &Code,
+    block: &Code,
+) -> Result<(), Signal>
+    ensures answers { Answers result (state run.new) (world run.new)
+        (does (program_at program.now) most (Then (code_of condition.now) (If (code_of block.now) Nothing)) (state run.old) (world run.old)) }
+    ensures kept { GoesOn result run.old run.new }
+{
+    exec(run, program, most, condition)?;
+    if run.test()? {
+        exec(run, program, most, block)
+    } else {
+        Ok(())
+    }
+}
+
+// Runs a loop.
+#[cycle(exec)]
+fn repeat(
+    run: &mut Run,
+    program: &Program,
+    most: u32,
+    condition: &Code,
+    body: &Code,
+    next: &Code,
+) -> Result<(), Signal>
+    ensures answers { Answers result (state run.new) (world run.new)
+        (does (program_at program.now) most (Loop (code_of condition.now) (code_of body.now) (code_of next.now)) (state run.old) (world run.old)) }
+    ensures kept { GoesOn result run.old run.new }
+{
+    let all = run.around.clock();
+    for _turn in 0..all {
+        let goes = match holds(run, program, most, condition) {
+            Ok(goes) => goes,
+            Err(why) => return Err(why),
+        };
+        if !goes {
+            return Ok(());
+        }
+        let stays = match turn(run, program, most, body, next) {
+            Ok(stays) => stays,
+            Err(why) => return Err(why),
+        };
+        if !stays {
+            return Ok(());
+        }
+    }
+    let goes = match holds(run, program, most, condition) {
+        Ok(goes) => goes,
+        Err(why) => return Err(why),
+    };
+    if goes {
+        Err(Signal::OutOfClock)
+    } else {
+        Ok(())
+    }
+}
+
+// Whether the condition of a loop holds.
+#[cycle(exec)]
+fn holds(run: &mut Run, program: &Program, most: u32, condition: &Code) -> Result<bool, Signal>
+    ensures answers { (go : Piece State ℕ) → Chooses result go (state run.new) (world run.new)
+        (where_holds (does (program_at program.now) most (code_of condition.now)) truth go (state run.old) (world run.old)) }
+    ensures kept { GoesOn result run.old run.new }
+{
+    exec(run, program, most, condition)?;
+    run.test()
+}
+
+// One turn of a loop behind its condition: whether the loop goes on.
+#[cycle(exec)]
+fn turn(
+    run: &mut Run,
+    program: &Program,
+    most: u32,
+    body: &Code,
+    next: &Code,
+) -> Result<bool, Signal>
+    ensures answers { (rest : Piece State ℕ) → Chooses result rest (state run.new) (world run.new)
+        (ticked depth_alone (λ s w. turned (does (program_at program.now) most (code_of body.now) s w)
+        (λ t v. and_then (does (program_at program.now) most (code_of next.now) t v) rest)) (state run.old) (world run.old)) }
+    ensures kept { GoesOn result run.old run.new }
+{
+    run.around.tick()?;
+    match exec(run, program, most, body) {
+        Ok(()) | Err(Signal::Continue) => {
+            exec(run, program, most, next)?;
+            Ok(true)
+        }
+        Err(Signal::Break) => Ok(false),
+        Err(Signal::Return) => Err(Signal::Return),
+        Err(Signal::Stops(code, at)) => Err(Signal::Stops(code, at)),
+        Err(Signal::Wants(address)) => Err(Signal::Wants(address)),
+        Err(Signal::Touches(address)) => Err(Signal::Touches(address)),
+        Err(Signal::Done) => Err(Signal::Done),
+        Err(Signal::OutOfClock) => Err(Signal::OutOfClock),
+        Err(Signal::OutOfDepth) => Err(Signal::OutOfDepth),
+        Err(Signal::OutOfRoom) => Err(Signal::OutOfRoom),
+        Err(Signal::Wrong) => Err(Signal::Wrong),
+        Err(Signal::NoMemory) => Err(Signal::NoMemory),
+    }
+}
+
+// Performs one step.
+#[cycle(exec)]
+fn perform(run: &mut Run, program: &Program, most: u32, step: Step) -> Result<(), Signal>
+    ensures answers { Answers result (state run.new) (world run.new)
+        (meaning.step program.now.tables (calling (program_at program.now) most) step (state run.old) (world run.old)) }
+    ensures kept { GoesOn result run.old run.new }
+{
+    let tables = &program.tables;
+    match step {
+        Step::CallMethod(at, class, selector, count) => {
+            match method_call(run, tables, at, class, selector, count) {
+                Ok(found) => call(run, program, most, found),
+                Err(why) => Err(why),
+            }
+        }
+        Step::CallValue(at, count, type_) => {
+            match value_call(run, tables, at, count, type_) {
+                Ok(found) => call(run, program, most, found),
+                Err(why) => Err(why),
+            }
+        }
+        Step::CallComponent(method, count) => {
+            let found = Call {
+                target: Target::Run(method),
+                count,
+                receiver: CoreValue::Null,
+            };
+            call(run, program, most, found)
+        }
+        Step::NewObject(at, class, count) => construct(run, program, most, at, class, count),
+        Step::Super(class, count) => construct_above(run, program, most, class, count),
+        Step::Put(value) => values::put(run, tables, value),
+        Step::Literal(number) => values::literal(run, tables, number),
+        Step::This => values::receiver(run, tables),
+        Step::Local(number) => values::local(run, tables, number),
+        Step::ComponentField(field) => places::component_field(run, tables, field),
+        Step::Register(address) => devices::register(run, tables, address),
+        Step::ComponentMethod(method) => values::component_method(run, tables, method),
+        Step::Apply(op, type_) => operators::apply(run, tables, op, type_),
+        Step::Operate(at, op, left, right) => operators::operate(run, tables, at, op, left, right),
+        Step::CastTo(at, from, to) => operators::cast_to(run, tables, at, from, to),
+        Step::IsBelow(class) => operators::test_class(run, tables, class),
+        Step::Field(at, field) => places::field(run, tables, at, field),
+        Step::Item(at, t) => places::item(run, tables, at, t),
+        Step::Length(at, t) => places::length(run, tables, at, t),
+        Step::MethodOf(at, class, selector) => methods::method_of(run, tables, at, class, selector),
+        Step::NewArray(at, t) => methods::new_array(run, tables, at, t),
+        Step::SetLocal(number, type_) => values::set_local(run, tables, number, type_),
+        Step::SetComponentField(field) => places::set_component_field(run, tables, field),
+        Step::SetRegister(address) => devices::set_register(run, tables, address),
+        Step::SetField(at, field) => places::set_field(run, tables, at, field),
+        Step::SetItem(at, t) => places::set_item(run, tables, at, t),
+        Step::Forget => values::forget(run, tables),
+    }
+}
+
+// A new object, constructed.
+#[cycle(exec)]
+fn construct(
+    run: &mut Run,
+    program: &Program,
+    most: u32,
+    at: u32,
+    class: u16,
+    count: u16,
+) -> Result<(), Signal>
+    ensures answers { Answers result (state run.new) (world run.new)
+        (meaning.make_object program.now.tables (calling (program_at program.now) most) at class count (state run.old) (world run.old)) }
+    ensures kept { GoesOn result run.old run.new }
+{
+    match new_object(run, &program.tables, at, class) {
+        Ok(cell) => build(run, program, most, class, count, cell),
+        Err(why) => Err(why),
+    }
+}
+
+// The construction of the object in this cell, which is then the value.
+#[cycle(exec)]
+fn build(
+    run: &mut Run,
+    program: &Program,
+    most: u32,
+    class: u16,
+    count: u16,
+    cell: u32,
+) -> Result<(), Signal>
+    ensures answers { Answers result (state run.new) (world run.new)
+        (meaning.constructing (calling (program_at program.now) most) class count cell (state run.old) (world run.old)) }
+    ensures kept { GoesOn result run.old run.new }
+{
+    let receiver = CoreValue::Obj(cell);
+    call(
+        run,
+        program,
+        most,
+        Call {
+            target: Target::Construct(class),
+            count,
+            receiver,
+        },
+    )?;
+    run.pop()?;
+    run.push(receiver)
+}
+
+// The construction of the class above, in that of a class.
+#[cycle(exec)]
+fn construct_above(
+    run: &mut Run,
+    program: &Program,
+    most: u32,
+    class: u16,
+    count: u16,
+) -> Result<(), Signal>
+    ensures answers { Answers result (state run.new) (world run.new)
+        (meaning.forgetting (calling (program_at program.now) most (targets.Construct class) count (state run.old).self) (state run.old) (world run.old)) }
+    ensures kept { GoesOn result run.old run.new }
+{
+    call(
+        run,
+        program,
+        most,
+        Call {
+            target: Target::Construct(class),
+            count,
+            receiver: run.receiver,
+        },
+    )?;
+    run.pop()?;
+    Ok(())
+}
+
+/// Calls a target with so many of the newest values; the call's value comes in their place. Calls are at most so deep.
+#[cycle(exec)]
+pub fn call(run: &mut Run, program: &Program, most: u32, call: Call) -> Result<(), Signal>
+    ensures answers { Answers result (state run.new) (world run.new)
+        (calling (program_at program.now) most call.target call.count call.receiver (state run.old) (world run.old)) }
+    ensures kept { GoesOn result run.old run.new }
+{
+    if most == 0 {
+        return Err(Signal::OutOfClock);
+    }
+    find(run, program, most, call)
+}
+
+// Calls a target, where it is there.
+#[cycle(exec)]
+fn find(run: &mut Run, program: &Program, most: u32, call: Call) -> Result<(), Signal>
+    requires { 0 < most }
+    ensures answers { Answers result (state run.new) (world run.new)
+        (looks_up (program_at program.now) (most - 1) call.target call.count call.receiver (state run.old) (world run.old)) }
+    ensures kept { GoesOn result run.old run.new }
+{
+    match call.target {
+        Target::Run(method) => find_method(run, program, most, method, call),
+        Target::Construct(class) => find_making(run, program, most, class, call),
+        Target::Start(component) => find_start(run, program, most, component, call),
+    }
+}
+
+// Calls a method, where it is there.
+#[cycle(exec)]
+fn find_method(
+    run: &mut Run,
+    program: &Program,
+    most: u32,
+    method: u16,
+    call: Call,
+) -> Result<(), Signal>
+    requires { 0 < most }
+    ensures answers { Answers result (state run.new) (world run.new)
+        (looks_up (program_at program.now) (most - 1) (targets.Run method) call.count call.receiver (state run.old) (world run.old)) }
+    ensures kept { GoesOn result run.old run.new }
+{
+    let Some(found) = method_at(&program.tables, method) else {
+        return Err(Signal::Wrong);
+    };
+    let Some(body) = method_body(program, method) else {
+        return Err(Signal::Wrong);
+    };
+    let opened = Call {
+        target: Target::Run(method),
+        count: call.count,
+        receiver: call.receiver,
+    };
+    open(
+        run,
+        program,
+        most,
+        found.params.as_slice(),
+        found.result,
+        body,
+        opened,
+    )
+}
+
+// Calls the construction of a class, where it is there.
+#[cycle(exec)]
+fn find_making(
+    run: &mut Run,
+    program: &Program,
+    most: u32,
+    class: u16,
+    call: Call,
+) -> Result<(), Signal>
+    requires { 0 < most }
+    ensures answers { Answers result (state run.new) (world run.new)
+        (looks_up (program_at program.now) (most - 1) (targets.Construct class) call.count call.receiver (state run.old) (world run.old)) }
+    ensures kept { GoesOn result run.old run.new }
+{
+    let Some(found) = class_at(&program.tables, class) else {
+        return Err(Signal::Wrong);
+    };
+    let Some(body) = making_body(program, class) else {
+        return Err(Signal::Wrong);
+    };
+    let opened = Call {
+        target: Target::Construct(class),
+        count: call.count,
+        receiver: call.receiver,
+    };
+    open(
+        run,
+        program,
+        most,
+        found.params.as_slice(),
+        CoreType::NoType,
+        body,
+        opened,
+    )
+}
+
+// Calls the initialisation of a component, where it is there.
+#[cycle(exec)]
+fn find_start(
+    run: &mut Run,
+    program: &Program,
+    most: u32,
+    component: u16,
+    call: Call,
+) -> Result<(), Signal>
+    requires { 0 < most }
+    ensures answers { Answers result (state run.new) (world run.new)
+        (looks_up (program_at program.now) (most - 1) (targets.Start component) call.count call.receiver (state run.old) (world run.old)) }
+    ensures kept { GoesOn result run.old run.new }
+{
+    if !is_component(&program.tables, component) {
+        return Err(Signal::Wrong);
+    }
+    let Some(body) = start_body(program, component) else {
+        return Err(Signal::Wrong);
+    };
+    let opened = Call {
+        target: Target::Start(component),
+        count: call.count,
+        receiver: call.receiver,
+    };
+    open(run, program, most, &[], CoreType::NoType, body, opened)
+}
+
+// Opens a call of this body, with parameters and a result of these types.
+#[cycle(exec)]
+fn open(
+    run: &mut Run,
+    program: &Program,
+    most: u32,
+    params: &[CoreType],
+    result_type: CoreType,
+    body: &Body,
+    call: Call,
+) -> Result<(), Signal>
+    requires deep { 0 < most }
+    requires light { 8 * weight body.now.code + 8 ≤ whole program.now }
+    ensures answers { Answers result (state run.new) (world run.new)
+        (opens (program_at program.now) (most - 1) call.target params.now result_type (body_at body.now) call.count call.receiver
+        (state run.old) (world run.old)) }
+    ensures kept { GoesOn result run.old run.new }
+{
+    if !has_arguments(run, &program.tables, params, call.count) {
+        return Err(Signal::Wrong);
+    }
+    run.around.open()?;
+    match run_body(run, program, most, result_type, body, call) {
+        Ok(()) => {
+            run.around.close();
+            Ok(())
+        }
+        Err(why) => Err(why),
+    }
+}
+
+// Runs a body as a call of it.
+#[cycle(exec)]
+fn run_body(
+    run: &mut Run,
+    program: &Program,
+    most: u32,
+    result_type: CoreType,
+    body: &Body,
+    call: Call,
+) -> Result<(), Signal>
+    requires deep { 0 < most }
+    requires light { 8 * weight body.now.code + 8 ≤ whole program.now }
+    requires enough { call.count ≤ length (state run.old).values }
+    ensures answers { Answers result (state run.new) (world run.new)
+        (runs (program_at program.now) (most - 1) result_type (body_at body.now) call.count call.receiver (state run.old) (world run.old)) }
+    ensures kept { GoesOn result run.old run.new }
+{
+    let outside = enter(run, body, call)?;
+    value_of(run, program, most, result_type, &body.code)?;
+    leave(run, &program.tables, result_type, outside)
+}
+
+// Runs a body up to its value: an end without return gives the default of the result.
+#[cycle(exec)]
+fn value_of(
+    run: &mut Run,
+    program: &Program,
+    most: u32,
+    result_type: CoreType,
+    code: &Code,
+) -> Result<(), Signal>
+    requires deep { 0 < most }
+    requires light { 8 * weight code.now + 8 ≤ whole program.now }
+    ensures answers { Answers result (state run.new) (world run.new)
+        (returned (does (program_at program.now) (most - 1) (code_of code.now) (state run.old) (world run.old)) (put (heap.default result_type))) }
+    ensures kept { GoesOn result run.old run.new }
+{
+    match exec(run, program, most - 1, code) {
+        Ok(()) => run.push(default_of(result_type)),
+        Err(Signal::Return) => Ok(()),
+        Err(Signal::Break) | Err(Signal::Continue) => Err(Signal::Wrong),
+        Err(Signal::Stops(code, at)) => Err(Signal::Stops(code, at)),
+        Err(Signal::Wants(address)) => Err(Signal::Wants(address)),
+        Err(Signal::Touches(address)) => Err(Signal::Touches(address)),
+        Err(Signal::Done) => Err(Signal::Done),
+        Err(Signal::OutOfClock) => Err(Signal::OutOfClock),
+        Err(Signal::OutOfDepth) => Err(Signal::OutOfDepth),
+        Err(Signal::OutOfRoom) => Err(Signal::OutOfRoom),
+        Err(Signal::Wrong) => Err(Signal::Wrong),
+        Err(Signal::NoMemory) => Err(Signal::NoMemory),
+    }
+}
