@@ -9,7 +9,7 @@ mod making;
 mod params;
 mod settled;
 
-pub use array::{array_keeps, array_made, is_int};
+pub use array::array_made;
 pub use call::{Called, call_of};
 pub use indexed::{element, element_target};
 pub use making::making_of;
