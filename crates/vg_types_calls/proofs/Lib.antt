@@ -1,2 +1,4 @@
 pub mod Calling
 pub mod Arrays
+pub mod Elements
+pub mod Settling

@@ -83,8 +83,8 @@ pub fn array_made(
     }
 }
 
-/// Whether the type of the arrays of these elements is written rightly.
-pub fn array_keeps(names: &Names, root: &Node, declared: &Declared, element: &TypeTree) -> bool
+// Whether the type of the arrays of these elements is written rightly.
+fn array_keeps(names: &Names, root: &Node, declared: &Declared, element: &TypeTree) -> bool
     requires declares { Declares names.now root.now declared.now }
     ensures { result ≡ type_keeps (declarations_at names.now root.now) (SpecArrayType (type_at names.now element.now)) }
 {
@@ -107,7 +107,7 @@ fn element_number(
 }
 
 /// Whether a type is that of ints.
-pub fn is_int(type_: CoreType) -> bool
+pub(crate) fn is_int(type_: CoreType) -> bool
     ensures is { IsTrue result → type_ ≡ IntType }
     ensures keeps { (texts : List (List ℕ)) (d : SpecDeclared) → result ≡ is_int (IsValue (type_view texts d type_)) }
 {

@@ -1,6 +1,6 @@
 -- What the target of an assignment is: the place of its last suffix, behind what is in front of that. What is in front changes no store
 -- and no head, and its code comes in front of what the place does before the right side.
-use Rattle.std.proofs.Common.{◌≡◌, ℕ, List, [], ◌∷◌, ◌++◌, slice_get, Some, None, refl, sym, ap, ◌∙◌, subst}
+use Rattle.std.proofs.Common.{◌≡◌, ℕ, List, [], ◌∷◌, ◌++◌, Some, None, refl, sym, ap, ◌∙◌, subst}
 use Rattle.vg_meaning.specs.Code.{Code, Then}
 use Rattle.vg_meaning.specs.Shapes.{Fits}
 use Rattle.vg_syntax.specs.Tree.{Node, Spot}
@@ -11,39 +11,29 @@ use Rattle.vg_syntax.specs.declared.kind.Kind.{Kind}
 use Rattle.vg_syntax.specs.declared.kind.Kind.TheVariants as kind
 use Rattle.vg_source.specs.Types as source_type
 use Rattle.vg_source.specs.Types.{StaticType}
-use Rattle.vg_source.specs.Steps as source
 use Rattle.vg_source.specs.Resolved as resolved
 use Rattle.vg_source.specs.Resolved.{Resolved, Scope, Head as SourceHead, Fresh, Onto, IsValue, OwnMethod, ItsMethod, settled, settled_as}
 use Rattle.vg_source.specs.Resolved.{index_suffix, call_suffix, part, type_part}
-use Rattle.vg_rules.specs.Breach.{asks, ◌or◌}
-use Rattle.vg_rules.specs.Bodies.{breach, primary_breach, index_keeps, is_int}
-use Rattle.vg_core.specs.declared.types.CoreType.{CoreType}
-use Rattle.vg_core.specs.declared.types.CoreType.TheVariants.{IntType, ArrayType}
+use Rattle.vg_rules.specs.Breach.{◌or◌}
+use Rattle.vg_rules.specs.Bodies.{breach, primary_breach}
 use Rattle.vg_core.specs.declared.step.Step.{Step}
-use Rattle.vg_core.specs.declared.step.Step.TheVariants as step
 use Rattle.vg_core.specs.declared.code.Code as held
 use Rattle.vg_core.specs.HeldProgram.{code_of, code_chain}
 use Rattle.vg_core.specs.Naming.{named_code}
-use Rattle.vg_core.specs.Typing.{known, Takes, Sub, t_set_item}
+use Rattle.vg_core.specs.Typing.{known, Takes, Sub}
 use Rattle.vg_types_tables.specs.declared.declared.Declared.{Declared}
 use Rattle.vg_types_tables.specs.declared.locals.Locals.{Locals}
 use Rattle.vg_types_tables.specs.declared.body.BodyKind.{BodyKind}
 use Rattle.vg_types_tables.specs.declared.judged.Head.{Head}
-use Rattle.vg_types_tables.specs.declared.judged.Head.TheVariants as head
 use Rattle.vg_types_tables.specs.declared.judged.Judged.{Judged}
 use Rattle.vg_types_tables.specs.declared.judged.Standing.{Standing}
 use Rattle.vg_types_tables.specs.declared.judged.Storing.{Storing}
 use Rattle.vg_types_tables.specs.Views.{declarations_at, naming, type_view, step_view, head_view, body_view, scope_view, code_view}
-use Rattle.vg_types_tables.specs.Declares.{Declares, IsKnown}
-use Rattle.vg_types_tables.specs.Promises.{waiting, meant, whole, Leads, Puts, Stores, Leaves, Stands, IsPlace}
-use Rattle.vg_types_tables.proofs.TypeViews.{number_named}
-use Rattle.vg_types_leaves.specs.Judgements.{ShowsPlace}
-use Rattle.vg_types_leaves.proofs.Types.{number_view}
-use Rattle.vg_types_operators.specs.Judged.{value_of}
+use Rattle.vg_types_tables.specs.Declares.{IsKnown}
+use Rattle.vg_types_tables.specs.Promises.{waiting, meant, whole, Leads, Stores, Leaves, Stands, IsPlace}
 use Rattle.vg_types_expressions.specs.Nodes.{postfix_node, chain_node}
 use Rattle.vg_types_expressions.specs.Links.{code_behind, behind_all, Linking}
 use Rattle.vg_types_expressions.proofs.Linking.{chain_behind, behind_head}
-use Rattle.vg_types_expressions.proofs.Wholes.{entry_known}
 
 module _ (texts : List (List ℕ)) (d : Declared) where
   behind_store : (cs : List held.Code) (m : Resolved) → (behind_all texts d cs m).store ≡ m.store
@@ -182,37 +172,6 @@ module _ (texts : List (List ℕ)) (root : held_node.Node) (d : Declared) (k : B
       ∙ ap (λ z. breach (declarations_at texts root) (body_view texts d k) (numbered z p) (Onto (IsValue (type_view texts d f.type_)))
       (scope_view texts d ls)) (sym en)
       ∙ kp
-
-  -- an element of an array
-  pub element_place : (id n : ℕ) (h : Head) (t : CoreType) (i : Judged) (s : Storing) → Declares texts root d → h ≡ head.Value (ArrayType n)
-      → slice_get d.tables.types n ≡ Some t → code_of s.aims ≡ code_of i.code → s.store ≡ step.SetItem id n → s.type_ ≡ t
-      → ShowsPlace texts d (index_suffix id (value_of texts d ls i) (head_view texts d h)) s
-  element_place id n h t i s all eh et ea es ek =
-      let is = ap (λ z. index_suffix id (value_of texts d ls i) (head_view texts d z)) eh in record {
-        head = ap (λ z. z.head) is ∙ ap IsValue (number_named d.tables (naming texts d) all.formed n t et) ∙ ap (λ z. IsValue (type_view texts d z)) (sym ek);
-        aims = ap (named_code (naming texts d) d.tables) ea ∙ sym (ap (λ z. z.aims) is);
-        store = ap (λ z. z.store) is ∙ ap (λ z. Some (source.SetItem id z)) (number_view (naming texts d) d.tables all.formed n (t, et))
-            ∙ ap (λ z. Some (step_view texts d z)) (sym es);
-        known = subst (IsKnown d.tables) (sym ek) (entry_known d.tables all.formed n t et);
-      }
-
-  pub element_stores : (id n : ℕ) (h : Head) (t : CoreType) (i : Judged) (s : Storing) → h ≡ head.Value (ArrayType n) → slice_get d.tables.types n ≡ Some t
-      → i.type_ ≡ IntType → code_of s.aims ≡ code_of i.code → s.store ≡ step.SetItem id n → s.type_ ≡ t → Puts d.tables k ls (code_of i.code) i.type_
-      → Stores d.tables k ls h s
-  element_stores id n h t i s eh et ei ea es ek puts o x sees = (
-    IntType ∷ ArrayType n ∷ x,
-    subst (λ z. Fits (known d.tables ls.declared o k.result) k.in_loop z (waiting h x) (IntType ∷ ArrayType n ∷ x)) (sym ea)
-        (subst (λ z. Fits (known d.tables ls.declared o k.result) k.in_loop (code_of i.code) (waiting z x) (IntType ∷ ArrayType n ∷ x)) (sym eh)
-        (subst (λ z. Fits (known d.tables ls.declared o k.result) k.in_loop (code_of i.code) (ArrayType n ∷ x) (z ∷ ArrayType n ∷ x)) ei
-        (puts o (ArrayType n ∷ x) sees))),
-    λ u sub. subst (λ z. Takes d.tables ls.declared o z (u ∷ IntType ∷ ArrayType n ∷ x) x) (sym es) (t_set_item et (subst (Sub d.tables u) ek sub)),
-  )
-
-  pub element_kept : (n : ℕ) (spot : Spot) (h : Head) (i : Judged) → h ≡ head.Value (ArrayType n) → i.type_ ≡ IntType
-      → asks (index_keeps (head_view texts d h) (IsValue (type_view texts d i.type_))) 20 spot ≡ None
-  element_kept n spot h i eh ei =
-      ap (λ z. asks (index_keeps (head_view texts d z) (IsValue (type_view texts d i.type_))) 20 spot) eh
-      ∙ ap (λ z. asks (is_int (IsValue (type_view texts d z))) 20 spot) ei
 
 -- what is called is no place
 pub call_no_place : (at n : ℕ) (m : Resolved) (h : SourceHead) → (call_suffix at n m h).store ≡ None

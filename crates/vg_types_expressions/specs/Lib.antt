@@ -1,4 +1,3 @@
 pub mod Nodes
-pub mod Settled
 pub mod Links
 pub mod Arguments

@@ -12,12 +12,12 @@ ghost use Rattle.vg_types_tables.specs.Declares.{Declares};
 ghost use Rattle.vg_types_tables.specs.Promises.{AreDeclared, IsBody, IsHead, Aims, Stores};
 ghost use Rattle.vg_types_expressions.specs.Nodes.{postfix_node, chain_node, index_node};
 
-use crate::indexed::element_target;
 use crate::rows::row_of;
 use crate::whole::{call_behind, expression, front_links, operand, part_behind, plain};
 use std::alloc::Global;
 use vg_base::{Names, Place, Refusal};
 use vg_tree::Node;
+use vg_types_calls::element_target;
 use vg_types_leaves::{member_target, name_target};
 use vg_types_operators::type_part;
 use vg_types_tables::{Aimed, BodyKind, Declared, Head, Locals, Storing, chain, two};

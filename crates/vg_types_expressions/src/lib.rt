@@ -4,9 +4,7 @@
 mod aimed;
 mod argued;
 mod called;
-mod indexed;
 mod rows;
-mod settled;
 mod whole;
 
 pub use aimed::target;

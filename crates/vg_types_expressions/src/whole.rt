@@ -18,15 +18,13 @@ ghost use Rattle.vg_types_expressions.specs.Links.{JudgesFront, Linking};
 
 use crate::argued::arguments;
 use crate::called::{called, made};
-use crate::indexed::element;
 use crate::rows::{as_name, begins_with_member, row_of};
-use crate::settled::settle;
 use std::alloc::Global;
 use vg_base::{Name, Names, Place, Refusal};
 use vg_core::{Code, CoreType, CoreValue, Step};
 use vg_syntax::Kind;
 use vg_tree::{Node, TypeTree};
-use vg_types_calls::{array_made, making_params, params_behind};
+use vg_types_calls::{array_made, element, making_params, params_behind, settle};
 use vg_types_leaves::{
     character, member_behind, name_alone, name_in_front, number, put, string, this_object,
 };

@@ -10,7 +10,7 @@ ghost use Rattle.vg_types_tables.specs.Views.{type_view, head_view, code_view};
 ghost use Rattle.vg_types_tables.specs.Declares.{Declares, IsKnown};
 ghost use Rattle.vg_types_tables.specs.Promises.{IsHead, Leads};
 ghost use Rattle.vg_types_leaves.specs.Judgements.{HasValue};
-ghost use Rattle.vg_types_expressions.specs.Settled.{settled_head, settled_code};
+ghost use Rattle.vg_types_calls.specs.Settled.{settled_head, settled_code};
 
 use std::alloc::Global;
 use vg_base::{Names, NoMemory};
@@ -19,7 +19,7 @@ use vg_tree::Node;
 use vg_types_tables::{BodyKind, Declared, Head, Judged, Locals, Standing, two, type_of_number};
 
 /// What is left where no suffix follows: a method that is not called is a value.
-pub(crate) fn settle(
+pub fn settle(
     alloc: Global,
     names: &Names,
     root: &Node,

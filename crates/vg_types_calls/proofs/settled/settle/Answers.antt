@@ -1,8 +1,8 @@
 use Rattle.std.proofs.Common.{subst}
 use Rattle.vg_core.specs.HeldProgram.{code_of}
 use Rattle.vg_types_tables.specs.Promises.{Leads}
-use Rattle.vg_types_expressions.proofs.Settling.{own_typed, its_typed, own_head, its_head, function_known}
-use Rattle.vg_types_expressions.proofs.settled.settle.Goals as goal
+use Rattle.vg_types_calls.proofs.Settling.{own_typed, its_typed, own_head, its_head, function_known}
+use Rattle.vg_types_calls.proofs.settled.settle.Goals as goal
 
 pub returns-in-Value-clause-typed : goal.returns-in-Value-clause-typed
 returns-in-Value-clause-typed c = λ h l.

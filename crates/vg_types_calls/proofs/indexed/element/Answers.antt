@@ -4,8 +4,8 @@ use Rattle.vg_syntax.specs.Numbering.{with_id}
 use Rattle.vg_core.specs.declared.types.CoreType.TheVariants.{IntType}
 use Rattle.vg_types_tables.specs.declared.judged.Standing.{Standing}
 use Rattle.vg_types_tables.specs.declared.judged.Head.TheVariants.{Value}
-use Rattle.vg_types_expressions.proofs.Wholes.{element_shows, element_leads, element_breaks}
-use Rattle.vg_types_expressions.proofs.indexed.element.Goals as goal
+use Rattle.vg_types_calls.proofs.Elements.{element_shows, element_leads, element_breaks}
+use Rattle.vg_types_calls.proofs.indexed.element.Goals as goal
 
 pub returns-in_ok-code-in-Some-type_of_number-clause-judged : goal.returns-in_ok-code-in-Some-type_of_number-clause-judged
 returns-in_ok-code-in-Some-type_of_number-clause-judged c =

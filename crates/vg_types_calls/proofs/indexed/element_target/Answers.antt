@@ -4,9 +4,8 @@ use Rattle.vg_syntax.specs.Numbering.{with_id}
 use Rattle.vg_core.specs.declared.types.CoreType.TheVariants.{IntType}
 use Rattle.vg_core.specs.declared.step.Step.TheVariants.{SetItem}
 use Rattle.vg_types_tables.specs.declared.judged.Storing.{Storing}
-use Rattle.vg_types_expressions.proofs.Wholes.{element_breaks}
-use Rattle.vg_types_expressions.proofs.Aiming.{element_place, element_stores, element_kept}
-use Rattle.vg_types_expressions.proofs.indexed.element_target.Goals as goal
+use Rattle.vg_types_calls.proofs.Elements.{element_breaks, element_place, element_stores, element_kept}
+use Rattle.vg_types_calls.proofs.indexed.element_target.Goals as goal
 
 pub returns-in-Some-type_of_number-clause-judged : goal.returns-in-Some-type_of_number-clause-judged
 returns-in-Some-type_of_number-clause-judged c =

@@ -2,7 +2,7 @@
 ghost use Rattle.std.specs.Prelude.{◌≡◌, ℕ, List, false, IfOk, IfSome, IfNone};
 ghost use Rattle.vg_syntax.specs.Reads.{spot};
 ghost use Rattle.vg_syntax.specs.Numbering.{with_id};
-ghost use Rattle.vg_source.specs.Resolved.{IsValue, index_suffix, Head as SpecHead};
+ghost use Rattle.vg_source.specs.Resolved.{IsValue, doing, index_suffix, Head as SpecHead};
 ghost use Rattle.vg_rules.specs.Breach.{asks};
 ghost use Rattle.vg_rules.specs.Bodies.{index_keeps};
 ghost use Rattle.vg_core.specs.declared.types.CoreType.TheVariants.{ArrayType};
@@ -10,24 +10,23 @@ ghost use Rattle.vg_core.specs.HeldProgram.{code_of};
 ghost use Rattle.vg_types_tables.specs.declared.declared.Declared.{Declared as SpecDeclared};
 ghost use Rattle.vg_types_tables.specs.declared.judged.Head.TheVariants.{Value};
 ghost use Rattle.vg_types_views.specs.Judges.{Judges};
-ghost use Rattle.vg_types_tables.specs.Views.{type_view, head_view};
+ghost use Rattle.vg_types_tables.specs.Views.{type_view, head_view, code_view, scope_view};
 ghost use Rattle.vg_types_tables.specs.Declares.{Declares};
 ghost use Rattle.vg_types_tables.specs.Promises.{IsHead, Puts, Leads, Stores};
 ghost use Rattle.vg_types_leaves.specs.Judgements.{HasValue, Shows, AimsAt};
-ghost use Rattle.vg_types_operators.specs.Judged.{value_of};
 
+use crate::array::is_int;
 use std::alloc::Global;
 use vg_base::{Names, NodeId, Place, Refusal};
 use vg_core::{Code, CoreType, Step};
 use vg_tree::Node;
-use vg_types_calls::is_int;
 use vg_types_tables::{
     Aimed, BodyKind, Declared, Head, Judged, Locals, Standing, Storing, two, type_of_number,
 };
 use vg_types_views::Broken;
 
 /// An element of the array that waits, by an index that was judged: rule 20.
-pub(crate) fn element(
+pub fn element(
     alloc: Global,
     names: &Names,
     root: &Node,
@@ -43,7 +42,8 @@ pub(crate) fn element(
     requires head { IsHead names.now declared.now head }
     requires typed { Puts declared.now.tables body locals.now (code_of index.code) index.type_ }
     ensures judged { Judges (Shows names.now declared.now locals.now
-        (index_suffix id (value_of names.now declared.now locals.now index) (head_view names.now declared.now head))) result
+        (index_suffix id (doing (code_view names.now declared.now index.code)
+        (IsValue (type_view names.now declared.now index.type_)) (scope_view names.now declared.now locals.now)) (head_view names.now declared.now head))) result
         (asks (index_keeps (head_view names.now declared.now head) (IsValue (type_view names.now declared.now index.type_))) 20 (with_id id (spot place))) }
     ensures typed { IfOk result (λ j. Leads declared.now.tables body locals.now head (code_of j.code) j.head) }
     ensures value { IfOk result (λ j. HasValue j.head) }
@@ -101,7 +101,7 @@ fn elements(head: Head) -> Option<u32>
 }
 
 /// An element of the array that waits as the target of an assignment, by an index that was judged: rule 20.
-pub(crate) fn element_target(
+pub fn element_target(
     names: &Names,
     root: &Node,
     declared: &Declared,
@@ -116,7 +116,8 @@ pub(crate) fn element_target(
     requires head { IsHead names.now declared.now head }
     requires typed { Puts declared.now.tables body locals.now (code_of index.code) index.type_ }
     ensures judged { Judges (λ j. AimsAt names.now declared.now
-        (index_suffix id (value_of names.now declared.now locals.now index) (head_view names.now declared.now head)) j.place) result
+        (index_suffix id (doing (code_view names.now declared.now index.code)
+        (IsValue (type_view names.now declared.now index.type_)) (scope_view names.now declared.now locals.now)) (head_view names.now declared.now head)) j.place) result
         (asks (index_keeps (head_view names.now declared.now head) (IsValue (type_view names.now declared.now index.type_))) 20 (with_id id (spot place))) }
     ensures typed { IfOk result (λ j. IfSome j.place (Stores declared.now.tables body locals.now head)) }
     ensures next { IfOk result (λ j. j.next ≡ index.next) }
