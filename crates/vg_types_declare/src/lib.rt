@@ -3,6 +3,7 @@
 
 mod heads;
 mod made;
+mod members;
 mod parts;
 mod pass;
 

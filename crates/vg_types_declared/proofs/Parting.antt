@@ -1,9 +1,10 @@
--- Where the members of a class have different names, no field stands under the name of one of its methods: when a field is added its name is new, so no
--- method has it, and what is added later has another name.
-use Rattle.std.proofs.Common.{◌≡◌, ℕ, ◌&&◌, ◌||◌, not, Bool, true, false, List, [], ◌∷◌, ◌++◌, length, Option, Some, None, is_some, slice_get, bytes_eq}
+-- Where the members of a class have different names, no field stands under the name of one of its methods: when a field is added its name is new, so
+-- no method has it, and what is added later has another name.
+use Rattle.std.proofs.Common.{◌≡◌, ℕ, ◌+◌, ◌&&◌, ◌||◌, not, Bool, true, false, List, [], ◌∷◌, ◌++◌, length, Option, Some, None, is_some, slice_get, bytes_eq}
 use Rattle.std.proofs.Common.{if◌then◌else◌, Decides, refl, sym, ap, ◌∙◌, subst}
 use Rattle.std.proofs.lemmas.Slice.Eq.{bytes_eq-Decides}
 use Rattle.vg_syntax.specs.Tree.{Spot, Node, Then, FieldDecl, MethodDecl, ConstructorDecl, ClassDecl, ComponentDecl, DeviceDecl}
+use Rattle.vg_syntax.specs.Numbering.{count_nodes, numbered}
 use Rattle.vg_source.specs.Names.{Name, is_among}
 use Rattle.vg_source.specs.Types.{StaticType}
 use Rattle.vg_source.specs.Declared.{or_else, written_type}
@@ -22,7 +23,7 @@ use Rattle.vg_types_members.specs.Members.{MethodView, HomeView, with_field, wit
 use Rattle.vg_types_members.proofs.Growing.{found_added}
 use Rattle.vg_types_homes.specs.Homes.{HomesView, no_view, home_starts, with_class, with_component, with_declarations}
 use Rattle.vg_types_declared.specs.Dispatch.{named_first, Leads}
-use Rattle.vg_types_declared.specs.Apart.{is_member, are_members, have_members, IsApart, AreApart}
+use Rattle.vg_types_declared.specs.Apart.{is_member, are_members, has_members, have_members, IsApart, AreApart}
 use Rattle.vg_types_declared.proofs.Dispatching.{count_push, Pushed, inside, at_end, pushed, last_is, first_with, HomeLeads, field_leads, method_leads, Kept}
 use Rattle.vg_types_declared.proofs.Dispatching.{members_keep, AllLead, class_leads, component_leads}
 
@@ -197,3 +198,24 @@ all_apart ds _ v b m l a = a
 pub parted : (ds : Node) → signatures_breach ds ds ≡ None → have_members ds ≡ true → AreApart (with_declarations ds no_view)
 parted ds b m =
     all_apart ds ds no_view b m (record { leads = λ c y. refl; within = λ c. tt; counts = refl }) (record { apart = λ c y. tt })
+
+-- the numbers of nodes say nothing of which are members
+member_same : (i : ℕ) (m : Node) → is_member (numbered i m) ≡ is_member m
+member_same i (FieldDecl at n t e) = refl
+member_same i (MethodDecl at n ps t body) = refl
+member_same i (ConstructorDecl at ps calls arguments body) = refl
+member_same i _ = refl
+
+members_same : (i : ℕ) (ms : Node) → are_members (numbered i ms) ≡ are_members ms
+members_same i (Then m rest) =
+    ap (λ b. b && are_members (numbered (i + count_nodes m) rest)) (member_same i m) ∙ ap (λ b. is_member m && b) (members_same (i + count_nodes m) rest)
+members_same i _ = refl
+
+has_same : (i : ℕ) (d : Node) → has_members (numbered i d) ≡ has_members d
+has_same i (ClassDecl at c above ms) = members_same (i + 1) ms
+has_same i _ = refl
+
+pub have_same : (i : ℕ) (ds : Node) → have_members (numbered i ds) ≡ have_members ds
+have_same i (Then d rest) =
+    ap (λ b. b && have_members (numbered (i + count_nodes d) rest)) (has_same i d) ∙ ap (λ b. has_members d && b) (have_same (i + count_nodes d) rest)
+have_same i _ = refl

@@ -20,10 +20,13 @@ abbrev pub are_members : Node → Bool
 are_members (Then m rest) = is_member m && are_members rest
 are_members _ = true
 
--- In the classes of these declarations stand members alone.
+-- Where a declaration is a class, members alone stand in it; and so it is for all declarations of a row.
+abbrev pub has_members : Node → Bool
+has_members (ClassDecl at c above members) = are_members members
+has_members _ = true
+
 abbrev pub have_members : Node → Bool
-have_members (Then (ClassDecl at c above members) rest) = are_members members && have_members rest
-have_members (Then d rest) = have_members rest
+have_members (Then d rest) = has_members d && have_members rest
 have_members _ = true
 
 -- Where the map of a class has a field of a name, none of its own methods has the name.
