@@ -45,7 +45,7 @@ use Rattle.vg_flatten_control.specs.Flat.{repeated_body, repeated_next, given_ba
 use Rattle.vg_flatten_steps.specs.Steps.{bytes_around, may_be_zero, divisor_checked, divided, masked, shifted_left, shifted_where, shifted_by, shifted_right, combined}
 use Rattle.vg_flatten_steps.specs.Steps.{load_nothing, store_nothing, is_near, is_one_of, cast_to}
 use Rattle.vg_flatten_steps.specs.Steps.{is_width, load_from, multiplied, multiple, fetched, load_one, load_of, length_of, places_in, memory_of}
-use Rattle.vg_flatten_steps.specs.Steps.{store_at, store_one, put_of, store_of, is_place, timed, element_of, load_element, load_item}
+use Rattle.vg_flatten_steps.specs.Steps.{store_at, store_one, put_of, store_of, is_place, timed, element_of, load_element, load_item, store_element, store_item}
 use Rattle.vg_flatten_steps.specs.declared.elements.Reach.{Reach}
 use Rattle.vg_firm.specs.declared.step.Elements.{Elements}
 use Rattle.vg_flatten_shapes.specs.declared.layout.Place.{Place}
@@ -503,6 +503,29 @@ module _ (L : Type 0) (lay : Layout) (r : Room) where
       by_width true false d is = tt
       by_width false c d is = tt
 
+  in_store_item : (e : Elements) (o : Option Place) (u : Option ℕ) (hs : List Operand) → AreIn size hs → MadeIn L size (store_item r e o u hs)
+  in_store_item e None u hs h = tt
+  in_store_item e (Some place) None hs h = tt
+  in_store_item e (Some place) (Some table) [] h = tt
+  in_store_item e (Some place) (Some table) (v ∷ []) h = tt
+  in_store_item e (Some place) (Some table) (v ∷ i ∷ []) h = tt
+  in_store_item e (Some place) (Some table) (v ∷ i ∷ a ∷ hs) h = by_width (is_width e.width) (is_place e place) (nat_le 4 table) refl
+    where
+      made : is_width e.width ≡ true → MadeIn L size (store_element r e.width table v a i hs)
+      made is =
+          in_by_temp (v ∷ i ∷ a ∷ hs) _ (λ first l1. in_by_temp (Local first ∷ v ∷ i ∷ a ∷ hs) _ (λ second l2. (
+            in_element (record { first = first; second = second; table = table; width = e.width; home = a; index = i })
+                (store_at e.width 0 (Local first) v) l1 l2 h.1.1.0 h.1.0 (width_low e.width is, width_high e.width is, l1, h.0),
+            (h.1.1.1, tt),
+          )))
+
+      by_width : (b c d : Bool) → is_width e.width ≡ b
+          → MadeIn L size (if b && c && d then store_element r e.width table v a i hs else Refused NotTaken)
+      by_width true true true is = made is
+      by_width true true false is = tt
+      by_width true false d is = tt
+      by_width false c d is = tt
+
   in_stepped : (q : Step) (hs : List Operand) → AreIn size hs → MadeIn L size (stepped lay r q hs)
   in_stepped (Number v) hs h = in_number v hs h
   in_stepped (GetLocal i) hs h = in_local i hs h
@@ -522,7 +545,7 @@ module _ (L : Type 0) (lay : Layout) (r : Room) where
   in_stepped LoadNothing hs h = in_load_nothing hs h
   in_stepped StoreNothing hs h = in_store_nothing hs h
   in_stepped (LoadItem e) hs h = in_load_item e (slice_get (places_in lay e.home) e.column) (slice_get lay.tables e.table) hs h
-  in_stepped (StoreItem e) hs h = tt
+  in_stepped (StoreItem e) hs h = in_store_item e (slice_get lay.ram e.column) (slice_get lay.tables e.table) hs h
   in_stepped (Length t) hs h = in_length_of (slice_get lay.tables t) hs h
   in_stepped (IsWithin a b) hs h = in_one_of a b hs h
   in_stepped (StopUnlessWithin a b) hs h = in_cast a b hs h

@@ -297,15 +297,22 @@ element : flattened_in layout 4 (procedure 3 (2 ∷ 4 ∷ 1 ∷ []) (steps (Get 
     ∷ sum 4 5 (Local 5) (Local 6) ∷ Plain (LoadsBytes InRam 1 3 (record { base = 0; index = Local 5 })) ∷ Plain (Copy 2 (Local 3)) ∷ Return (Known 0) ∷ [])
 element = refl
 
+-- a[i] = b[i]; of bytes in RAM
+copied_element : flattened_in layout 8 (procedure 3 (2 ∷ 2 ∷ 4 ∷ []) (steps (Get 0 ∷ Get 2 ∷ Get 1 ∷ Get 2 ∷ LoadItem bytes ∷ StoreItem bytes ∷ []) Nothing))
+    ≡ Some (
+    Unless (is_zero (Local 1)) 2 ∷ Plain (Stop 1) ∷ computes Product 4 7 (Local 1) (Known 4) ∷ loads 2 8 178 (Local 7)
+    ∷ When (below (Local 2) (Local 8)) 6 ∷ Plain (Stop 2) ∷ loads 2 7 176 (Local 7) ∷ computes Product 4 8 (Local 2) (Known 1)
+    ∷ sum 4 7 (Local 7) (Local 8) ∷ Plain (LoadsBytes InRam 1 5 (record { base = 0; index = Local 7 }))
+    ∷ Unless (is_zero (Local 0)) 12 ∷ Plain (Stop 1) ∷ computes Product 4 6 (Local 0) (Known 4) ∷ loads 2 7 178 (Local 6)
+    ∷ When (below (Local 2) (Local 7)) 16 ∷ Plain (Stop 2) ∷ loads 2 6 176 (Local 6) ∷ computes Product 4 7 (Local 2) (Known 1)
+    ∷ sum 4 6 (Local 6) (Local 7) ∷ Plain (StoresBytes 1 (record { base = 0; index = Local 6 }) (Local 5)) ∷ Return (Known 0) ∷ [])
+copied_element = refl
+
 -- ---- what is not taken yet
 
 -- a delegate in a local, called with no argument
 delegate_call : flattened 4 (procedure 1 (4 ∷ []) (steps (Get 0 ∷ CallValue 0 ∷ Forget ∷ []) Nothing)) ≡ None
 delegate_call = refl
-
--- a[i] = b[i];
-copied_element : flattened_in layout 4 (procedure 3 (2 ∷ 2 ∷ 4 ∷ []) (steps (Get 0 ∷ Get 2 ∷ Get 1 ∷ Get 2 ∷ LoadItem bytes ∷ StoreItem bytes ∷ []) Nothing)) ≡ None
-copied_element = refl
 
 -- ---- a high body
 

@@ -12,7 +12,7 @@ use Rattle.vg_firm.specs.declared.step.Prefix.{Prefix}
 use Rattle.vg_firm.specs.declared.step.Prefix.TheVariants.{Negative, Not, Complement, Cut}
 use Rattle.vg_firm.specs.declared.step.Step.{Step}
 use Rattle.vg_firm.specs.declared.step.Step.TheVariants.{Number, Local, SetLocal, Forget, Operate, Apply, ReadDevice, WriteDevice}
-use Rattle.vg_firm.specs.declared.step.Step.TheVariants.{Load as LoadOne, Store as StoreOne, LoadAt, StoreAt, LoadItem, Length, LoadNothing, StoreNothing, IsWithin, StopUnlessWithin, Call, Idle}
+use Rattle.vg_firm.specs.declared.step.Step.TheVariants.{Load as LoadOne, Store as StoreOne, LoadAt, StoreAt, LoadItem, StoreItem, Length, LoadNothing, StoreNothing, IsWithin, StopUnlessWithin, Call, Idle}
 use Rattle.vg_lin.specs.declared.instr.Operand.{Operand}
 use Rattle.vg_lin.specs.declared.instr.Operand.TheVariants.{Local as InLocal, Known}
 use Rattle.vg_lin.specs.declared.instr.Operator.{Operator as LinOperator}
@@ -354,6 +354,17 @@ load_item r e (Some place) (Some table) (i ∷ h ∷ hs) =
     if is_width e.width && is_place e place && nat_le 4 table then load_element r e table h i hs else Refused NotTaken
 load_item r e _ _ _ = Refused NotTaken
 
+abbrev pub store_element : Room → (width table : ℕ) → (v h i : Operand) → List Operand → Made
+store_element r width table v h i hs =
+    by_two r (v ∷ i ∷ h ∷ hs) (λ first second.
+    Gives (element_of (record { first = first; second = second; table = table; width = width; home = h; index = i })
+    (store_at width 0 (InLocal first) v)) (only hs))
+
+abbrev pub store_item : Room → Elements → Option Place → Option ℕ → List Operand → Made
+store_item r e (Some place) (Some table) (v ∷ i ∷ h ∷ hs) =
+    if is_width e.width && is_place e place && nat_le 4 table then store_element r e.width table v h i hs else Refused NotTaken
+store_item r e _ _ _ = Refused NotTaken
+
 -- ---- steps
 
 -- Where no truth value waits as a test.
@@ -373,6 +384,7 @@ stepped lay r (LoadAt home c first) hs = load_of r (memory_of home) first (slice
 stepped lay r (StoreOne c width) hs = store_one width (slice_get lay.ram c) hs
 stepped lay r (StoreAt c first width) hs = store_of r first width (slice_get lay.ram c) hs
 stepped lay r (LoadItem e) hs = load_item r e (slice_get (places_in lay e.home) e.column) (slice_get lay.tables e.table) hs
+stepped lay r (StoreItem e) hs = store_item r e (slice_get lay.ram e.column) (slice_get lay.tables e.table) hs
 stepped lay r (Length table) hs = length_of r (slice_get lay.tables table) hs
 stepped lay r LoadNothing hs = load_nothing hs
 stepped lay r StoreNothing hs = store_nothing hs

@@ -245,7 +245,7 @@ pub(crate) fn length(
     }
 }
 
-fn store_at(width: u8, base: u16, index: Operand, value: Operand) -> Plain
+pub(crate) fn store_at(width: u8, base: u16, index: Operand, value: Operand) -> Plain
     ensures { result ≡ store_at width base index value }
 {
     Plain::Store(width, Address { base, index }, value)

@@ -1,10 +1,11 @@
-// What loads of elements become.
+// What loads of elements, and stores to them, become.
 ghost use Rattle.std.specs.Prelude.{◌≡◌, ◌+◌, ◌≤◌, Some, None, slice_get};
 ghost use Rattle.vg_flatten_shapes.specs.Blocks.{open_code};
 ghost use Rattle.vg_flatten_shapes.specs.Laying.{Lays, LaysCode};
 ghost use Rattle.vg_flatten_steps.specs.Steps.{is_place, timed, place_of, bounded, reached, element_of, load_element, load_item, places_in};
+ghost use Rattle.vg_flatten_steps.specs.Steps.{store_element, store_item};
 
-use crate::columns::{is_width, load_from, memory_of, places_in};
+use crate::columns::{is_width, load_from, memory_of, places_in, store_at};
 use crate::operators::{is_zero, test_of};
 use crate::put::temp;
 use std::alloc::Global;
@@ -192,6 +193,94 @@ pub(crate) fn load_item(
     match places_in(layout, elements.home).get(elements.column as usize) {
         Some(place) => match layout.tables.as_slice().get(elements.table as usize) {
             Some(table) => load_item_at(alloc, room, at, elements, *place, *table, homes),
+            None => Err(Refusal::Fault(Fault::NotTaken)),
+        },
+        None => Err(Refusal::Fault(Fault::NotTaken)),
+    }
+}
+
+fn store_element(
+    alloc: Global,
+    room: Room,
+    at: u16,
+    width: u8,
+    table: u16,
+    value: Operand,
+    home: Operand,
+    index: Operand,
+    homes: Homes,
+) -> Result<Piece, Refusal<Fault>>
+    requires room { room.locals + room.temps ≤ 252 }
+    requires settled { homes.truth ≡ None }
+    requires table { 4 ≤ table }
+    ensures { Lays result at (store_element room width table value home index homes.homes) }
+{
+    let mut homes = homes;
+    homes.push(home)?;
+    homes.push(index)?;
+    homes.push(value)?;
+    let first = temp(room, &homes)?;
+    homes.push(Operand::Local(first))?;
+    let second = temp(room, &homes)?;
+    homes.pop();
+    homes.pop();
+    homes.pop();
+    homes.pop();
+    let reach = Reach {
+        first,
+        second,
+        table,
+        width,
+        home,
+        index,
+    };
+    let store = store_at(width, 0, Operand::Local(first), value);
+    let code = element_of(alloc, at, reach, store)?;
+    Ok(Piece { code, homes })
+}
+
+fn store_item_at(
+    alloc: Global,
+    room: Room,
+    at: u16,
+    elements: Elements,
+    place: Place,
+    table: u16,
+    homes: Homes,
+) -> Result<Piece, Refusal<Fault>>
+    requires room { room.locals + room.temps ≤ 252 }
+    requires settled { homes.truth ≡ None }
+    ensures { Lays result at (store_item room elements (Some place) (Some table) homes.homes) }
+{
+    let mut homes = homes;
+    match (homes.pop(), homes.pop(), homes.pop()) {
+        (Some(value), Some(index), Some(home)) => {
+            if is_width(elements.width) && is_place(elements, place) && table >= 4 {
+                let width = elements.width;
+                return store_element(alloc, room, at, width, table, value, home, index, homes);
+            }
+            Err(Refusal::Fault(Fault::NotTaken))
+        }
+        _ => Err(Refusal::Fault(Fault::NotTaken)),
+    }
+}
+
+/// An element gets a value, by the array's number and the index.
+pub(crate) fn store_item(
+    alloc: Global,
+    layout: &Layout,
+    room: Room,
+    at: u16,
+    elements: Elements,
+    homes: Homes,
+) -> Result<Piece, Refusal<Fault>>
+    requires room { room.locals + room.temps ≤ 252 }
+    requires settled { homes.truth ≡ None }
+    ensures { Lays result at (store_item room elements (slice_get layout.now.ram elements.column) (slice_get layout.now.tables elements.table) homes.homes) }
+{
+    match layout.ram.as_slice().get(elements.column as usize) {
+        Some(place) => match layout.tables.as_slice().get(elements.table as usize) {
+            Some(table) => store_item_at(alloc, room, at, elements, *place, *table, homes),
             None => Err(Refusal::Fault(Fault::NotTaken)),
         },
         None => Err(Refusal::Fault(Fault::NotTaken)),

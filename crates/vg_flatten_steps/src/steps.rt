@@ -5,7 +5,7 @@ ghost use Rattle.vg_flatten_shapes.specs.Laying.{Lays};
 
 use crate::calls::called;
 use crate::columns::{length, load, load_at, store, store_to};
-use crate::elements::load_item;
+use crate::elements::{load_item, store_item};
 use crate::objects::{cast_to, is_one_of, load_nothing, store_nothing};
 use crate::operators::{applied, operated};
 use crate::put::{put_home, put_into, temp};
@@ -48,6 +48,7 @@ pub fn stepped(
             store_to(alloc, layout, room, at, column, first, width, homes)
         }
         Step::LoadItem(elements) => load_item(alloc, layout, room, at, elements, homes),
+        Step::StoreItem(elements) => store_item(alloc, layout, room, at, elements, homes),
         Step::Length(table) => length(alloc, layout, room, at, table, homes),
         Step::LoadNothing => load_nothing(alloc, at, homes),
         Step::StoreNothing => store_nothing(alloc, at, homes),

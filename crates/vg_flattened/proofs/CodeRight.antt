@@ -44,6 +44,7 @@ use Rattle.vg_flattened.proofs.StepRight.{right_number, right_local, right_set, 
 use Rattle.vg_flattened.proofs.CombinedRight.{right_operated}
 use Rattle.vg_flattened.proofs.ObjectRight.{right_load_nothing, right_store_nothing, right_one_of, right_cast}
 use Rattle.vg_flattened.proofs.ElementRight.{right_item}
+use Rattle.vg_flattened.proofs.ElementStoreRight.{right_store_item}
 use Rattle.vg_flattened.proofs.StoreRight.{right_store, right_store_at}
 use Rattle.vg_flattened.proofs.ColumnRight.{right_load, right_load_at, right_length}
 use Rattle.vg_flattened.proofs.CallRight.{AreParams, AlikeCalls, AlikeHandling, right_called}
@@ -132,7 +133,7 @@ module _ (k : Codes) (f : FirmProgram) (m : FirmProcedure) (call : FirmCaller Hi
   right_stepped LoadNothing hs placed = right_load_nothing k f m call handle p go params lay r ws wide hs placed
   right_stepped StoreNothing hs placed = right_store_nothing k f m call handle p go params lay r ws wide hs placed
   right_stepped (LoadItem e) hs placed = right_item k f m call handle p go params lay r ws wide flash e hs placed
-  right_stepped (StoreItem e) hs placed = tt
+  right_stepped (StoreItem e) hs placed = right_store_item k f m call handle p go params lay r ws wide flash e hs placed
   right_stepped (Length t) hs placed = right_length k f m call handle p go params lay r ws wide flash t hs placed
   right_stepped (IsWithin a b) hs placed = right_one_of k f m call handle p go params lay r ws wide a b hs placed
   right_stepped (StopUnlessWithin a b) hs placed = right_cast k f m call handle p go params lay r ws wide a b hs placed

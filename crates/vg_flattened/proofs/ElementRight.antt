@@ -54,7 +54,7 @@ use Rattle.vg_flattened.proofs.ColumnRight.{width_high, four_bytes, null_then, l
 -- ---- the place of an element
 
 -- The elements of an array stand in the column of its type, a whole number of them behind its first.
-whole_behind : (address first w i : ℕ) → first ≤ address → (address - first) % w ≡ 0 → w * ((address - first) / w + i) ≡ address - first + w * i
+pub whole_behind : (address first w i : ℕ) → first ≤ address → (address - first) % w ≡ 0 → w * ((address - first) / w + i) ≡ address - first + w * i
 whole_behind address first w i le e =
     mul-add w ((address - first) / w) i ∙ ap (λ z. z + w * i) (sym (from_zero ((address - first) % w) (w * ((address - first) / w)) e)
     ∙ mod-add-div (address - first) w)
@@ -63,16 +63,16 @@ whole_behind address first w i le e =
     from_zero a b e1 = omega (arith, e1)
 
 -- over plain numbers: d is how far the array is behind the column, t how far the element is behind the array
-sum_small : (address first t all : ℕ) → first ≤ address → first + all ≤ 65536 → address - first + t ≤ all → address + t < 2 ^ 32
+pub sum_small : (address first t all : ℕ) → first ≤ address → first + all ≤ 65536 → address - first + t ≤ all → address + t < 2 ^ 32
 sum_small address first t all h1 h2 h3 = omega (arith, h1, h2, h3)
 
-times_small : (d t all first : ℕ) → first + all ≤ 65536 → d + t ≤ all → t < 2 ^ 32
+pub times_small : (d t all first : ℕ) → first + all ≤ 65536 → d + t ≤ all → t < 2 ^ 32
 times_small d t all first h1 h2 = omega (arith, h1, h2)
 
-sum_behind : (low' address first t : ℕ) → low' ≤ first → first ≤ address → low' ≤ 0 + (address + t)
+pub sum_behind : (low' address first t : ℕ) → low' ≤ first → first ≤ address → low' ≤ 0 + (address + t)
 sum_behind low' address first t h1 h2 = omega (arith, h1, h2)
 
-sum_is : (low' address first t : ℕ) → low' ≤ first → first ≤ address → 0 + (address + t) - low' ≡ first - low' + (address - first + t)
+pub sum_is : (low' address first t : ℕ) → low' ≤ first → first ≤ address → 0 + (address + t) - low' ≡ first - low' + (address - first + t)
 sum_is low' address first t h1 h2 = omega (arith, h1, h2)
 
 module _ (k : Codes) (f : FirmProgram) (m : FirmProcedure) (call : FirmCaller History) (handle : ℕ → Piece Firm History)
@@ -93,19 +93,19 @@ module _ (k : Codes) (f : FirmProgram) (m : FirmProcedure) (call : FirmCaller Hi
   columns_same InFlash s xs ys = refl
 
   -- one instruction before more
-  step_then : {G : Firm → Deciding State → Type 0} {L : Signal → Firm → Deciding State → Type 0} (i : Plain) (b : Block) (a : Answer Firm History)
+  pub step_then : {G : Firm → Deciding State → Type 0} {L : Signal → Firm → Deciding State → Type 0} (i : Plain) (b : Block) (a : Answer Firm History)
       (d : Deciding State) (w : World History) (t : State) → plain p i d.state w.outside ≡ Goes t w.outside
       → Alike G L a (linear' b (record d { state = t }) w) → Alike G L a (linear' (Both (One i) b) d w)
   step_then {G} {L} i b a d w t e h =
       subst (λ z. Alike G L a (and_then z (linear' b))) (sym (plain_goes k f m call handle p go params lay r ws wide i d w t e)) h
 
-  times_is : (to by : ℕ) (h : Operand) (n : ℕ) (t : State) (o : Outside) → value h t ≡ Some n → n * by < 2 ^ 32
+  pub times_is : (to by : ℕ) (h : Operand) (n : ℕ) (t : State) (o : Outside) → value h t ≡ Some n → n * by < 2 ^ 32
       → plain p (timed to by h) t o ≡ Goes (sets to (n * by) t) o
   times_is to by h n t o hv few =
       computes_to k f m call handle p go params lay r ws wide Product 4 to h (Known by) n by (n * by) t o hv refl (ap Some (low_same (n * by) few))
 
   -- the newest value is left out
-  less : (h : Operand) (hs : List Operand) (v : ℕ) (vs : List ℕ) (s : Firm) (t : State) → AreSame lay r ws (h ∷ hs) (record s { values = v ∷ vs }) t
+  pub less : (h : Operand) (hs : List Operand) (v : ℕ) (vs : List ℕ) (s : Firm) (t : State) → AreSame lay r ws (h ∷ hs) (record s { values = v ∷ vs }) t
       → AreSame lay r ws hs (record s { values = vs }) t
   less h hs v vs s t q = record { waits = q.waits.1; kept = q.kept; none = q.none; ram = q.ram }
 

@@ -14,6 +14,7 @@ pub mod Writing
 pub mod ColumnRight
 pub mod StoreRight
 pub mod ElementRight
+pub mod ElementStoreRight
 pub mod CallRight
 pub mod CodeRight
 pub mod Standing

@@ -64,7 +64,7 @@ module _ (k : Codes) (f : FirmProgram) (m : FirmProcedure) (call : FirmCaller Hi
       ∙ ap (λ q. stores t o width x (Some q)) e ∙ ap (λ q. using q (λ y. Goes (record t { ram = with_number t.ram width j x }) o)) there
 
   -- an entry of a column gets it
-  does_store : (hs : List Operand) (c i x old n base : ℕ) (place : Place) (vs : List ℕ) (index from : Operand) (s : Firm) (d : Deciding State)
+  pub does_store : (hs : List Operand) (c i x old n base : ℕ) (place : Place) (vs : List ℕ) (index from : Operand) (s : Firm) (d : Deciding State)
       (w : World History) → IsFair w → slice_get lay.ram c ≡ Some place → slice_get s.columns c ≡ Some vs → slice_get vs i ≡ Some old
       → x < 256 ^ place.width → value index d.state ≡ Some n → value from d.state ≡ Some x → first_address Ram ≤ base + n
       → base + n - first_address Ram ≡ place.address - first_address Ram + place.width * i → AreSame lay r ws hs s d.state
