@@ -1,7 +1,26 @@
 -- Values above others.
 use Rattle.std.proofs.Common.{◌≡◌, ℕ, zero, suc, set, get_or, Option, Some, ◌+◌, ◌-◌, ◌<◌, ◌≤◌, List, [], ◌∷◌, ◌++◌, length, take, drop, reverse, refl, sym, ap, ◌∙◌, subst, arith, append_assoc}
-use Rattle.std.proofs.lemmas.List.{take-append-le, drop-append-le, reverse-append, length-drop, take-set-le, drop-set-add, drop-set-lt,
-  take_at, drop_at, take_rest, take-append-drop, take-take, drop_more, length-take-le, length-reverse, reverse-reverse, drop-drop, length-append, drop_all}
+use Rattle.std.proofs.lemmas.List.{
+  take-append-le,
+  drop-append-le,
+  reverse-append,
+  length-drop,
+  take-set-le,
+  drop-set-add,
+  drop-set-lt,
+  take_at,
+  drop_at,
+  take_rest,
+  take-append-drop,
+  take-take,
+  drop_more,
+  length-take-le,
+  length-reverse,
+  reverse-reverse,
+  drop-drop,
+  length-append,
+  drop_all,
+}
 use Rattle.std.proofs.Math.Seq.{take-add}
 use Rattle.std.specs.List.{remove}
 use Rattle.std.specs.Prelude.{slice_get}
@@ -87,14 +106,14 @@ removed xs start base count place x h k below at is =
     let split : xs ≡ A ++ (x ∷ B) = sym (take-append-drop place xs) ∙ ap (λ l. A ++ l) (drop_more xs place x within ∙ ap (λ y. y ∷ B) (sym is)) in
     let fits : base ≤ length A = omega (arith, long, high) in
     let old : frame_of xs start base ≡ made (take start A) (take (base - start) (drop start A)) (reverse B ++ (x ∷ R)) =
-        ap (λ l. frame_of l start base) split ∙ above A (x ∷ B) start base h fits
-        ∙ ap (λ l. made (take start A) (take (base - start) (drop start A)) (l ++ R)) (reverse-append (x ∷ []) B)
-        ∙ ap (made (take start A) (take (base - start) (drop start A))) (append_assoc (reverse B) (x ∷ []) R) in
+    ap (λ l. frame_of l start base) split ∙ above A (x ∷ B) start base h fits
+    ∙ ap (λ l. made (take start A) (take (base - start) (drop start A)) (l ++ R)) (reverse-append (x ∷ []) B)
+    ∙ ap (made (take start A) (take (base - start) (drop start A))) (append_assoc (reverse B) (x ∷ []) R) in
     let new : frame_of (remove xs place) start base ≡ made (take start A) (take (base - start) (drop start A)) (reverse B ++ R) =
-        ap (λ n. frame_of (A ++ drop n xs) start base) (sym next) ∙ above A B start base h fits in
+    ap (λ n. frame_of (A ++ drop n xs) start base) (sym next) ∙ above A B start base h fits in
     subst (λ f. IsTaken count x f (frame_of (remove xs place) start base)) (sym old)
-        (subst (λ g. IsTaken count x (made (take start A) (take (base - start) (drop start A)) (reverse B ++ (x ∷ R))) g) (sym new)
-            (taken (take start A) (take (base - start) (drop start A)) (reverse B) x R count few))
+    (subst (λ g. IsTaken count x (made (take start A) (take (base - start) (drop start A)) (reverse B ++ (x ∷ R))) g) (sym new)
+    (taken (take start A) (take (base - start) (drop start A)) (reverse B) x R count few))
 
 -- The newest of the values that wait, and those below them.
 newest_of : (vs : List CoreValue) (count : ℕ) → count ≤ length vs → reverse (take count (reverse vs)) ≡ drop (length vs - count) vs
@@ -131,9 +150,9 @@ entered_at xs start base count s h k =
     let place : length xs - count ≡ base + (length vs - count) = omega (arith, long, h, k) in
     let up : start + (base - start) ≡ base = omega (arith, s) in
     let low : take (length xs - count) xs ≡ take start xs ++ take (base - start) (drop start xs) ++ reverse (drop count (reverse vs)) =
-        ap (λ n. take n xs) place ∙ take-add base (length vs - count) xs
-        ∙ ap (λ l. l ++ take (length vs - count) vs) (ap (λ n. take n xs) (sym up) ∙ take-add start (base - start) xs)
-        ∙ ap (λ l. take start xs ++ take (base - start) (drop start xs) ++ l) (sym (below_newest vs count few)) in
+    ap (λ n. take n xs) place ∙ take-add base (length vs - count) xs
+    ∙ ap (λ l. l ++ take (length vs - count) vs) (ap (λ n. take n xs) (sym up) ∙ take-add start (base - start) xs)
+    ∙ ap (λ l. take start xs ++ take (base - start) (drop start xs) ++ l) (sym (below_newest vs count few)) in
     ap (λ b. made b (take (length xs - (length xs - count)) (drop (length xs - count) xs)) (reverse (drop (length xs) xs))) low
     ∙ ap (λ l. made (take start xs ++ take (base - start) (drop start xs) ++ reverse (drop count (reverse vs))) l (reverse (drop (length xs) xs))) (last_ones xs base count h k)
     ∙ ap (λ l. made (take start xs ++ take (base - start) (drop start xs) ++ reverse (drop count (reverse vs))) (reverse (take count (reverse vs))) (reverse l)) (drop_all (length xs) xs (omega arith))

@@ -1,5 +1,5 @@
 // What is around a run.
-ghost use Rattle.std.specs.Prelude.{◌≡◌, OnOk};
+ghost use Rattle.std.specs.Prelude.{◌≡◌, OnOk, length};
 ghost use Rattle.vg_meaning.specs.Answer.{passes};
 ghost use Rattle.vg_meaning.specs.History.{one_less};
 ghost use Rattle.vg_meaning.specs.Outside.{with_event};
@@ -91,6 +91,13 @@ impl Around {
             trace: Vec::new(alloc),
             depth: 0,
         }
+    }
+
+    /// How many interrupts are left.
+    pub fn interrupts_left(&self) -> usize
+        ensures { result ≡ length self.now.outside.interrupts }
+    {
+        self.interrupts.len().saturating_sub(self.taken)
     }
 
     /// Takes the next interrupt, and notes it.

@@ -8,7 +8,7 @@ pub returns : goal.returns
 returns c =
     let items = c.self.inside.items.items in
     let waiting : length c.args.self.now.values ≡ length items - c.self.inside.base =
-        sym (ap (λ f. length f.values) c.self.view_is) ∙ length-reverse (drop c.self.inside.base items) ∙ length-drop c.self.inside.base items in
+    sym (ap (λ f. length f.values) c.self.view_is) ∙ length-reverse (drop c.self.inside.base items) ∙ length-drop c.self.inside.base items in
     let few : c.args.count ≤ length items - c.self.inside.base = omega (arith, waiting, c.requires) in
     let long : c.len.result ≡ length items = search rules in
     let long_too : c.len-self-inside.result ≡ length items = search rules in

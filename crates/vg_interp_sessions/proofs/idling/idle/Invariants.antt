@@ -1,0 +1,12 @@
+use Rattle.std.proofs.Common.{◌≡◌, ◌-◌}
+use Rattle.vg_meaning.specs.History.{depth_alone}
+use Rattle.vg_meaning.specs.Interrupts.{idles}
+use Rattle.vg_core.specs.HeldProgram.{program_at}
+use Rattle.vg_core.specs.Session.{handle}
+use Rattle.vg_run.specs.Run.{state, world}
+use Rattle.vg_interp_sessions.proofs.idling.idle.Given as goal
+
+abbrev pub invariant-loop-turn : goal.invariant-loop-turn
+invariant-loop-turn l =
+    let handles = handle depth_alone (program_at l.program) in
+    idles l.count handles (state l.fn.run) (world l.fn.run) ≡ idles (l.count - l._turn) handles (state l.run) (world l.run)
