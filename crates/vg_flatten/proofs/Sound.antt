@@ -127,7 +127,8 @@ module _ (L : Type 0) (lay : Layout) (r : Room) where
   in_behind a (Gives b s) ha hm = ((ha, hm.0), hm.1)
   in_behind a (Refused why) ha hm = tt
 
-  in_after : (made : Made) (more : Shape → Made) → MadeIn L size made → ((s : Shape) → ShapeIn size s → MadeIn L size (more s)) → MadeIn L size (after made more)
+  in_after : (made : Made) (more : Shape → Made) → MadeIn L size made → ((s : Shape) → ShapeIn size s → MadeIn L size (more s))
+      → MadeIn L size (after made more)
   in_after (Gives a s) more hm h = in_behind a (more s) hm.0 (h s hm.1)
   in_after (Refused why) more hm h = tt
 
@@ -422,7 +423,8 @@ module _ (L : Type 0) (lay : Layout) (r : Room) where
   in_length_of None hs h = tt
   in_length_of (Some table) [] h = tt
   in_length_of (Some table) (a ∷ hs) h =
-      in_if (nat_le 2 table) (fetched r Flash 2 4 (table - 2) a hs) (Refused NotTaken) (in_fetched Flash 2 4 (table - 2) a hs (omega arith) (omega arith) h.0 h.1) tt
+      in_if (nat_le 2 table) (fetched r Flash 2 4 (table - 2) a hs) (Refused NotTaken) (in_fetched Flash 2 4 (table - 2) a hs (omega arith)
+      (omega arith) h.0 h.1) tt
 
   in_store_one : (width : ℕ) (o : Option Place) (hs : List Operand) → AreIn size hs → MadeIn L size (store_one width o hs)
   in_store_one width None hs h = tt
@@ -597,7 +599,8 @@ module _ (L : Type 0) (lay : Layout) (r : Room) where
   in_next l p t b (Refused why) hp ht hb hz = tt
   in_next l p t b (Gives n s) hp ht hb hz = in_if (is_empty s) (Gives (Repeat p t b n) empty) (Refused NotTaken) ((ht, hp, hb, hz.0, l), (tt, tt)) tt
 
-  in_body : L → (p : Block) (t : Truth) (y z : Made) → BlockIn L size p → IsTruthIn size t → MadeIn L size y → MadeIn L size z → MadeIn L size (repeated_body p t y z)
+  in_body : L → (p : Block) (t : Truth) (y z : Made) → BlockIn L size p → IsTruthIn size t → MadeIn L size y → MadeIn L size z
+      → MadeIn L size (repeated_body p t y z)
   in_body l p t (Refused why) z hp ht hy hz = tt
   in_body l p t (Gives b s) z hp ht hy hz = in_if (is_empty s) (repeated_next p t b z) (Refused NotTaken) (in_next l p t b z hp ht hy.0 hz) tt
 

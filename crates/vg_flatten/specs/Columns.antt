@@ -34,6 +34,7 @@ pub record TableStands (bytes : List ℕ) (address : ℕ) (arrays : List ArrayPl
 
 -- Those of a program in flash, at the places of a layout.
 pub record FlashStands (lay : Layout) (f : FirmProgram) (p : Program) : Type 0 where
-  pub columns : (c : ℕ) (place : Place) (vs : List ℕ) → slice_get lay.flash c ≡ Some place → slice_get f.flash c ≡ Some vs → ColumnStands Flash p.tables place vs
+  pub columns : (c : ℕ) (place : Place) (vs : List ℕ) → slice_get lay.flash c ≡ Some place → slice_get f.flash c ≡ Some vs
+      → ColumnStands Flash p.tables place vs
   pub tables : (t address : ℕ) (arrays : List ArrayPlace) → slice_get lay.tables t ≡ Some address → slice_get f.tables t ≡ Some arrays
       → TableStands p.tables address arrays

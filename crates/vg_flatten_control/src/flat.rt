@@ -317,7 +317,8 @@ fn repeated(
     next: &Code,
 ) -> Result<Piece, Refusal<Fault>>
     requires { room.locals + room.temps ≤ 252 }
-    ensures { Lays result at (repeated (flat layout.now room (code_of condition.now) empty) (flat layout.now room (code_of body.now) empty) (flat layout.now room (code_of next.now) empty)) }
+    ensures { Lays result at (repeated (flat layout.now room (code_of condition.now) empty) (flat layout.now room (code_of body.now) empty)
+        (flat layout.now room (code_of next.now) empty)) }
 {
     let before = flat(alloc, layout, room, at, condition, Homes::new(alloc))?;
     let mut homes = before.homes;
@@ -345,7 +346,8 @@ fn repeated_parts(
     next: &Code,
 ) -> Result<Piece, Refusal<Fault>>
     requires { room.locals + room.temps ≤ 252 }
-    ensures { (b : Block) → before ≡ open_code b at → Lays result at (repeated_body b truth (flat layout.now room (code_of body.now) empty) (flat layout.now room (code_of next.now) empty)) }
+    ensures { (b : Block) → before ≡ open_code b at → Lays result at (repeated_body b truth (flat layout.now room (code_of body.now) empty)
+        (flat layout.now room (code_of next.now) empty)) }
 {
     let test_at = place_behind(at, before.len())?;
     let body_at = place_behind(test_at, 1)?;

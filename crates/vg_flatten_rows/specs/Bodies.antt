@@ -98,7 +98,8 @@ conjunction = refl
 
 -- if (x < 3) y = 1; else y = 2;
 either : flattened 4 (procedure 1 (4 ∷ 4 ∷ [])
-    (Then (steps (Get 0 ∷ Number 3 ∷ Operate (Less Signed) ∷ []) Nothing) (If (steps (Number 1 ∷ SetLocal 1 ∷ []) Nothing) (steps (Number 2 ∷ SetLocal 1 ∷ []) Nothing))))
+    (Then (steps (Get 0 ∷ Number 3 ∷ Operate (Less Signed) ∷ []) Nothing) (If (steps (Number 1 ∷ SetLocal 1 ∷ []) Nothing)
+    (steps (Number 2 ∷ SetLocal 1 ∷ []) Nothing))))
     ≡ Some (
     Plain (Copy 1 (Known 0)) ∷ Unless (less (Local 0) (Known 3)) 4 ∷ Plain (Copy 1 (Known 1)) ∷ Jump 5 ∷ Plain (Copy 1 (Known 2))
     ∷ Return (Known 0) ∷ [])

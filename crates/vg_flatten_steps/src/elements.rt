@@ -188,7 +188,8 @@ pub(crate) fn load_item(
 ) -> Result<Piece, Refusal<Fault>>
     requires room { room.locals + room.temps ≤ 252 }
     requires settled { homes.truth ≡ None }
-    ensures { Lays result at (load_item room elements (slice_get (places_in layout.now elements.home) elements.column) (slice_get layout.now.tables elements.table) homes.homes) }
+    ensures { Lays result at (load_item room elements (slice_get (places_in layout.now elements.home) elements.column)
+        (slice_get layout.now.tables elements.table) homes.homes) }
 {
     match places_in(layout, elements.home).get(elements.column as usize) {
         Some(place) => match layout.tables.as_slice().get(elements.table as usize) {

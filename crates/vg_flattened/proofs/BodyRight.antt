@@ -48,7 +48,8 @@ alike_handling lay p f call go calls handler r ws hs vector s d w i q =
     behind : (s1 : Firm) (d1 : Deciding State) (w1 : World History) → IsFair w1 → Returned lay 0 s s1 d1
         → Alike (Held lay r ws (only hs)) (Leaves lay r ws) (taking (λ v. go_on) s1 w1) (resumed (language p) Interrupt d.state d d1 w1)
     behind s1 d1 w1 i1 (v, e1, e2, e3, small, held) =
-        subst (λ z. Alike (Held lay r ws (only hs)) (Leaves lay r ws) (take_from z (λ v. go_on) s1 w1) (resumed (language p) Interrupt d.state d d1 w1)) (sym e1)
+        subst (λ z. Alike (Held lay r ws (only hs)) (Leaves lay r ws) (take_from z (λ v. go_on) s1 w1) (resumed (language p) Interrupt d.state d d1 w1))
+        (sym e1)
         (gives i1 (record { waits = q.waits; kept = subst (λ z. AreKept r ws z d.state.locals) (sym e2) q.kept; none = q.none; ram = held }))
 
     by_handler : (o : Option ℕ) → Alike (Held lay r ws (only hs)) (Leaves lay r ws) (firm_handled call o s w) (lin_handle (language p) go o d w)
@@ -67,7 +68,8 @@ alike_guarded lay p names call go calls q count s w ram i held = by_name (is_amo
 
 -- ---- one body
 
-module _ (k : Codes) (lay : Layout) (f : FirmProgram) (p : LinProgram) (params : List ℕ) (known : AreParams params p) (call : FirmCaller History) (go : LinCaller State)
+module _ (k : Codes) (lay : Layout) (f : FirmProgram) (p : LinProgram) (params : List ℕ) (known : AreParams params p) (call : FirmCaller History)
+    (go : LinCaller State)
     (calls : AlikeCalls lay p call go) (handler : (vector : ℕ) → p.handler vector ≡ f.handler vector)
     (flash : FlashStands lay f p) (m : FirmProcedure) (lp : LinProcedure) (fit : IsFit m) (is : IsFlat lay params m lp) where
   abbrev r : Room

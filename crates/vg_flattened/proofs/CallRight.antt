@@ -114,7 +114,8 @@ module _ (k : Codes) (f : FirmProgram) (m : FirmProcedure) (call : FirmCaller Hi
   right_call : (q count to : ℕ) (args : Registers) (hs : List Operand) → ArePlaced r.locals hs → temp r hs ≡ Some to
       → CallsFit params (CallTo (calling q args to))
       → (s : Firm) (d : Deciding State) (w : World History) → IsFair w → (xs : List ℕ) → arguments count s ≡ xs → length xs ≡ length (operands args)
-      → values (operands args) d.state ≡ Some xs → AreAt hs (drop count s.values) d.state.locals → AreKept r ws s.locals d.state.locals → d.state.waiting ≡ [] → RamStands lay.ram s.columns d.state.ram
+      → values (operands args) d.state ≡ Some xs → AreAt hs (drop count s.values) d.state.locals → AreKept r ws s.locals d.state.locals → d.state.waiting ≡ []
+      → RamStands lay.ram s.columns d.state.ram
       → Alike (Held lay r ws (only (Local to ∷ hs))) (Leaves lay r ws) (call q count 0 s w) (linear' (CallTo (calling q args to)) d w)
   right_call q count to args hs placed has fit s d w i xs are long vals at kept none held = by_procedure (known q (length (operands args)) fit)
     where
@@ -133,7 +134,8 @@ module _ (k : Codes) (f : FirmProgram) (m : FirmProcedure) (call : FirmCaller Hi
           (calling q args to)) d w))
           (sym (enters q to args d.state xs mq has1 (many ∙ sym long) vals))
           (alike_behind_call (resumed (language p) (Result (calling q args to)) d.state d)
-          (subst (λ z. Alike (Returned lay count s) Never (call q count 0 s w) (go q (fresh (begins p q z d.state.ram)) w)) are (calls q count s w d.state.ram i held))
+          (subst (λ z. Alike (Returned lay count s) Never (call q count 0 s w) (go q (fresh (begins p q z d.state.ram)) w)) are
+          (calls q count s w d.state.ram i held))
           behind)
 
   -- the same, where the temporary is found

@@ -190,7 +190,10 @@ module _ (k : Codes) (f : FirmProgram) (m : FirmProcedure) (call : FirmCaller Hi
           (way k f m call handle p go params lay r ws wide c (linear' a) (linear' b) d w)
       by_way is fa fb s2 d w i true s3 q = ha fa s3 (record d { truth = None }) w i q
       by_way is fa fb s2 d w i false s3 q =
-          subst (λ z. Alike (Held lay r ws z) (Leaves lay r ws) (h s3 w) (linear' b (record d { truth = None }) w)) is (hb fb s3 (record d { truth = None }) w i q)
+          subst (λ z. Alike (Held lay r ws z) (Leaves lay r ws) (h s3 w) (linear' b (record d {
+            truth =
+                None;
+          }) w)) is (hb fb s3 (record d { truth = None }) w i q)
 
       does : s1 ≡ s → CallsFit params a → CallsFit params b → (s2 : Firm) (d : Deciding State) (w : World History) → IsFair w
           → IsTested k f m call handle p go params lay r ws wide t s2 d

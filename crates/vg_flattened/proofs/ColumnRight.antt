@@ -174,13 +174,15 @@ module _ (k : Codes) (f : FirmProgram) (m : FirmProcedure) (call : FirmCaller Hi
     where
       does : is_width place.width ≡ true → (to : ℕ) → temp r hs ≡ Some to → (s : Firm) (d : Deciding State) (w : World History) → IsFair w
           → AreSame lay r ws hs s d.state → (vs : List ℕ) → slice_get (columns_in f home s) c ≡ Some vs → (v : ℕ) → slice_get vs 0 ≡ Some v
-          → Alike (Held lay r ws (only (Local to ∷ hs))) (Leaves lay r ws) (put v s w) (linear' (One (load_from (memory_of home) place.width to place.address (Known 0))) d w)
+          → Alike (Held lay r ws (only (Local to ∷ hs))) (Leaves lay r ws) (put v s w) (linear'
+          (One (load_from (memory_of home) place.width to place.address (Known 0))) d w)
       does is to has s d w i q vs hc v he =
           let stands = stands_in home hs s d.state q c place vs e hc in
           let behind = stands.behind in
           into_temp k f m call handle p go params lay r ws wide hs to v (load_from (memory_of home) place.width to place.address (Known 0)) s d w i placed has
           (four_bytes place.width v (width_high place.width is) (stands.held 0 v he).1) q
-          (loads (memory_of home) place.width to place.address 0 (place.address - first_address (memory_of home) + place.width * 0) v (Known 0) d.state w.outside refl
+          (loads (memory_of home) place.width to place.address 0 (place.address - first_address (memory_of home) + place.width * 0) v
+          (Known 0) d.state w.outside refl
           (reached place.address (first_address (memory_of home)) behind)
           (first_is place.address (first_address (memory_of home)) place.width behind) (stands.held 0 v he).0)
 
@@ -199,12 +201,14 @@ module _ (k : Codes) (f : FirmProgram) (m : FirmProcedure) (call : FirmCaller Hi
       by_column is to has s d w i q None hc = wrong
 
       by_room : is_width place.width ≡ true → (o : Option ℕ) → temp r hs ≡ o
-          → Right' (only hs) (by_temp o (λ to. Makes (One (load_from (memory_of home) place.width to place.address (Known 0))) (only (Local to ∷ hs)))) (step' (LoadOne home c))
+          → Right' (only hs) (by_temp o (λ to. Makes (One (load_from (memory_of home) place.width to place.address (Known 0))) (only (Local to ∷ hs))))
+          (step' (LoadOne home c))
       by_room is (Some to) has = (placed_temp r hs to has placed, λ fit s d w i q. by_column is to has s d w i q (slice_get (columns_in f home s) c) refl)
       by_room is None has = tt
 
       by_width : (b : Bool) → is_width place.width ≡ b
-          → Right' (only hs) (if b then by_temp (temp r hs) (λ to. Makes (One (load_from (memory_of home) place.width to place.address (Known 0))) (only (Local to ∷ hs)))
+          → Right' (only hs) (if b then by_temp (temp r hs) (λ to. Makes (One (load_from (memory_of home) place.width to place.address (Known 0)))
+          (only (Local to ∷ hs)))
           else Refused NotTaken) (step' (LoadOne home c))
       by_width true is = by_room is (temp r hs) refl
       by_width false is = tt
@@ -309,9 +313,11 @@ module _ (k : Codes) (f : FirmProgram) (m : FirmProcedure) (call : FirmCaller Hi
       by_first is le to has n s d w i hv same false ge = wrong
 
       by_width : (b : Bool) → is_width place.width ≡ b → (b1 : Bool) → nat_le (place.width * first) place.address ≡ b1
-          → Right' (only (h ∷ hs)) (if b && b1 then fetched r (memory_of home) place.width place.width base h hs else Refused NotTaken) (step' (LoadAt home c first))
+          → Right' (only (h ∷ hs)) (if b && b1 then fetched r (memory_of home) place.width place.width base h hs else Refused NotTaken)
+          (step' (LoadAt home c first))
       by_width true is true le =
-          right_fetched (memory_of home) place.width place.width base h hs (LoadAt home c first) (λ n. checked (nat_le first n) (load f home c (n - first))) placed.1
+          right_fetched (memory_of home) place.width place.width base h hs (LoadAt home c first)
+          (λ n. checked (nat_le first n) (load f home c (n - first))) placed.1
           (λ s w. refl) (λ to has n above s d w i hv same. by_first is (grind arith) to has n s d w i hv same (nat_le first n) refl)
       by_width true is false le = tt
       by_width false is b1 le = tt
@@ -354,7 +360,8 @@ module _ (k : Codes) (f : FirmProgram) (m : FirmProcedure) (call : FirmCaller Hi
 
       by_table : 2 ≤ table → (to : ℕ) → temp r hs ≡ Some to → (n : ℕ) → 0 < n → (s : Firm) (d : Deciding State) (w : World History) → IsFair w
           → value h d.state ≡ Some n → AreSame lay r ws hs s d.state → (o : Option (List ArrayPlace)) → slice_get f.tables t ≡ o
-          → Alike (Held lay r ws (only (Local to ∷ hs))) (Leaves lay r ws) (with_found (slice_get (arrays_of o) (n - 1)) put_length s w) (linear' (inside to) d w)
+          → Alike (Held lay r ws (only (Local to ∷ hs))) (Leaves lay r ws) (with_found (slice_get (arrays_of o) (n - 1)) put_length s w)
+          (linear' (inside to) d w)
       by_table le to has n above s d w i hv same (Some arrays) hc = by_array le to has n above s d w i hv same arrays hc (slice_get arrays (n - 1)) refl
       by_table le to has n above s d w i hv same None hc = wrong
 

@@ -92,7 +92,8 @@ module _ (k : Codes) (f : FirmProgram) (m : FirmProcedure) (call : FirmCaller Hi
       → ((u : ℕ) → firm_computed op u 0 ≡ None) → ((u n : ℕ) → u < 2 ^ 32 → suc n < 2 ^ 32 → Computes op lop 4 u (suc n))
       → Right' (only (y ∷ x ∷ hs)) (divided r lop x y hs) (step' (Operate op))
   right_divided op lop x y hs placed none law =
-      right_block k f m call handle p go params lay r ws wide op x y hs (λ to. Both (if may_be_zero y then stop_where 3 (Holds (is_zero y)) else Skip) (division to))
+      right_block k f m call handle p go params lay r ws wide op x y hs (λ to. Both (if may_be_zero y then stop_where 3 (Holds (is_zero y)) else Skip)
+      (division to))
       placed (λ to has u v s d w i hu hv lu lv same. by_zero to has u s d w i hu lu same (may_be_zero y) refl v hv lv)
     where
       division : ℕ → Block
@@ -115,7 +116,8 @@ module _ (k : Codes) (f : FirmProgram) (m : FirmProcedure) (call : FirmCaller Hi
           (sym (stopped (Holds (is_zero y)) 3 d w (says_zero y 0 d.state hv lv)))
           (stops_both 3 s (record d { truth = None }) w i))
       by_zero to has u s d w i hu lu same true e (suc n) hv lv =
-          subst (λ z. Alike (Held lay r ws (only (Local to ∷ hs))) (Leaves lay r ws) (put_computed (firm_computed op u (suc n)) s w) (and_then z (linear' (division to))))
+          subst (λ z. Alike (Held lay r ws (only (Local to ∷ hs))) (Leaves lay r ws) (put_computed (firm_computed op u (suc n)) s w)
+          (and_then z (linear' (division to))))
           (sym (passed (Holds (is_zero y)) 3 d w (says_zero y (suc n) d.state hv lv ∙ ap Some (eqb-suc-zero n))))
           (does to has u n s (record d { truth = None }) w i hu hv lu lv same)
       by_zero to has u s d w i hu lu same false e zero hv lv = absurd (not_zero y d.state e hv)
@@ -164,7 +166,8 @@ module _ (k : Codes) (f : FirmProgram) (m : FirmProcedure) (call : FirmCaller Hi
           subst (λ z. Alike (Held lay r ws (only (Local to ∷ hs))) (Leaves lay r ws) (put_computed z s w) (linear' (Both (shift to) (mask to)) d w))
           (sym (left_is bits u v lv (within bits width e)))
           (subst (λ z. Alike (Held lay r ws (only (Local to ∷ hs))) (Leaves lay r ws) (put (left_in bits u v) s w) (and_then z (linear' (mask to))))
-          (sym (plain_goes k f m call handle p go params lay r ws wide (Compute (record { operator = LeftShift; width = width; to = to; left = x; right = y })) d w
+          (sym (plain_goes k f m call handle p go params lay r ws wide
+          (Compute (record { operator = LeftShift; width = width; to = to; left = x; right = y })) d w
           (sets to wide' d.state)
           (computes_to k f m call handle p go params lay r ws wide LeftShift width to x y u v wide' d.state w.outside hu hv refl)))
           (into_temp k f m call handle p go params lay r ws wide hs to (left_in bits u v)
@@ -219,14 +222,17 @@ module _ (k : Codes) (f : FirmProgram) (m : FirmProcedure) (call : FirmCaller Hi
       by_size to has u v s d w i hu hv lu lv same true e =
           subst (λ z. Alike (Held lay r ws (only (Local to ∷ hs))) (Leaves lay r ws) (put_computed (firm_computed (ShiftRight bits) u v) s w) z)
           (sym (chooses k f m call handle p go params lay r ws wide (Holds test) true (shift to) (One (Copy to (Known 0))) d w (says v d true hv lv e)))
-          (does_computed k f m call handle p go params lay r ws wide (ShiftRight bits) RightShift 4 x y hs placed to has u v s (record d { truth = None }) w i hu hv
+          (does_computed k f m call handle p go params lay r ws wide (ShiftRight bits) RightShift 4 x y hs placed to has u v s
+          (record d { truth = None }) w i hu hv
           same (right_below bits u v lu lv le e))
       by_size to has u v s d w i hu hv lu lv same false e =
           subst (λ z. Alike (Held lay r ws (only (Local to ∷ hs))) (Leaves lay r ws) (put_computed (firm_computed (ShiftRight bits) u v) s w) z)
           (sym (chooses k f m call handle p go params lay r ws wide (Holds test) false (shift to) (One (Copy to (Known 0))) d w (says v d false hv lv e)))
-          (subst (λ z. Alike (Held lay r ws (only (Local to ∷ hs))) (Leaves lay r ws) (put_computed z s w) (linear' (One (Copy to (Known 0))) (record d { truth = None }) w))
+          (subst (λ z. Alike (Held lay r ws (only (Local to ∷ hs))) (Leaves lay r ws) (put_computed z s w)
+          (linear' (One (Copy to (Known 0))) (record d { truth = None }) w))
           (sym (right_none bits u v lv le e))
-          (into_temp k f m call handle p go params lay r ws wide hs to 0 (Copy to (Known 0)) s (record d { truth = None }) w i placed has (omega arith) same refl))
+          (into_temp k f m call handle p go params lay r ws wide hs to 0 (Copy to (Known 0)) s (record d { truth = None }) w i placed has
+          (omega arith) same refl))
 
   right_by : (bits : ℕ) (x y : Operand) (hs : List Operand) → ArePlaced r.locals hs
       → Right' (only (y ∷ x ∷ hs)) (shifted_by r bits x y hs) (step' (Operate (ShiftRight bits)))

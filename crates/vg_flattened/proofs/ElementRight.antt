@@ -143,11 +143,13 @@ module _ (k : Codes) (f : FirmProgram) (m : FirmProcedure) (call : FirmCaller Hi
         → slice_get arrays (n - 1) ≡ Some a → e.address ≤ a.address → (a.address - e.address) % e.width ≡ 0
         → (s : Firm) (vs : List ℕ) (d : Deciding State) (w : World History) → IsFair w
         → AreSame lay r ws (Local first ∷ i ∷ h ∷ hs) (record s { values = n * 4 ∷ x ∷ n ∷ vs }) d.state
-        → (us : List ℕ) → slice_get (columns_in f e.home (record s { values = vs })) e.column ≡ Some us → (v : ℕ) → slice_get us ((a.address - e.address) / e.width + x) ≡ Some v
+        → (us : List ℕ) → slice_get (columns_in f e.home (record s { values = vs })) e.column ≡ Some us → (v : ℕ)
+        → slice_get us ((a.address - e.address) / e.width + x) ≡ Some v
         → Alike G L (put v (record s { values = vs }) w) (linear' (place_of reach last) d w)
     does_last arrays tabled n x above a found low' whole s vs d w fair q us hc v he =
         step_then (load_from Flash 2 first (table - 4) (Local first)) (Both (One (timed second e.width i)) (Both (One sum) (One last))) answer d w t1
-        (loads k f m call handle p go params lay r ws wide flash Flash 2 first (table - 4) (n * 4) (table - first_address Flash + 4 * (n - 1)) a.address (Local first) d.state w.outside q.waits.0.0
+        (loads k f m call handle p go params lay r ws wide flash Flash 2 first (table - 4) (n * 4) (table - first_address Flash + 4 * (n - 1)) a.address
+        (Local first) d.state w.outside q.waits.0.0
         (omega (arith, t_behind, above, four)) (omega (arith, t_behind, above, four)) (stood.addresses (n - 1) a found).0)
         (step_then (timed second e.width i) (Both (One sum) (One last)) answer (record d { state = t1 }) w t2
         (times_is second e.width i x t1 w.outside (value_of_home i x t1 q1.waits.1.0.0) few)
@@ -157,7 +159,8 @@ module _ (k : Codes) (f : FirmProgram) (m : FirmProcedure) (call : FirmCaller Hi
         (into_temp k f m call handle p go params lay r ws wide hs to v last (record s { values = vs }) (record d { state = t3 }) w fair placed.1.1 has0
         (four_bytes e.width v (width_high e.width is) (subst (λ z. v < 256 ^ z) (sym same_width) (stands.held index v he).1))
         (less h hs n vs s t3 (less i (h ∷ hs) x (n ∷ vs) s t3 (less (Local first) (i ∷ h ∷ hs) (a.address + x * e.width) (x ∷ n ∷ vs) s t3 q3)))
-        (loads k f m call handle p go params lay r ws wide flash (memory_of e.home) e.width to 0 (a.address + x * e.width) (place.address - first_address (memory_of e.home) + place.width * index) v
+        (loads k f m call handle p go params lay r ws wide flash (memory_of e.home) e.width to 0 (a.address + x * e.width)
+        (place.address - first_address (memory_of e.home) + place.width * index) v
         (Local first) t3 w.outside q3.waits.0.0 (sum_behind (first_address (memory_of e.home)) a.address e.address (x * e.width) c_behind low')
         place_is (subst (λ z. number_at (bytes_of p (memory_of e.home) t3) z (place.address - first_address (memory_of e.home) + place.width * index) ≡ Some v)
         (sym same_width) (stands.held index v he).0)))))
@@ -221,7 +224,10 @@ module _ (k : Codes) (f : FirmProgram) (m : FirmProcedure) (call : FirmCaller Hi
 
         q2 : AreSame lay r ws (Local second ∷ Local first ∷ i ∷ h ∷ hs) (record s { values = (x * e.width) ∷ a.address ∷ x ∷ n ∷ vs }) t2
         q2 =
-            put_temp lay r m.widths ws (Local first ∷ i ∷ h ∷ hs) (record s { values = a.address ∷ x ∷ n ∷ vs }) t1 second (x * e.width) wide placed1 has2 few q1
+            put_temp lay r m.widths ws (Local first ∷ i ∷ h ∷ hs) (record s {
+              values =
+                  a.address ∷ x ∷ n ∷ vs;
+            }) t1 second (x * e.width) wide placed1 has2 few q1
 
         t3 : State
         t3 = sets first (a.address + x * e.width) t2
@@ -250,7 +256,8 @@ module _ (k : Codes) (f : FirmProgram) (m : FirmProcedure) (call : FirmCaller Hi
         → slice_get arrays (n - 1) ≡ Some a → e.address ≤ a.address → (a.address - e.address) % e.width ≡ 0
         → (s : Firm) (vs : List ℕ) (d : Deciding State) (w : World History) → IsFair w
         → AreSame lay r ws (Local first ∷ i ∷ h ∷ hs) (record s { values = n * 4 ∷ x ∷ n ∷ vs }) d.state
-        → (us : List ℕ) → slice_get (columns_in f e.home (record s { values = vs })) e.column ≡ Some us → (o : Option ℕ) → slice_get us ((a.address - e.address) / e.width + x) ≡ o
+        → (us : List ℕ) → slice_get (columns_in f e.home (record s { values = vs })) e.column ≡ Some us → (o : Option ℕ)
+        → slice_get us ((a.address - e.address) / e.width + x) ≡ o
         → Alike G L (with_found o put (record s { values = vs }) w) (linear' (place_of reach last) d w)
     by_entry arrays tabled n x above a found low' whole s vs d w fair q us hc (Some v) he =
         does_last arrays tabled n x above a found low' whole s vs d w fair q us hc v he
@@ -273,7 +280,10 @@ module _ (k : Codes) (f : FirmProgram) (m : FirmProcedure) (call : FirmCaller Hi
         → (b b1 : Bool) → nat_le e.address a.address ≡ b → ((a.address - e.address) % e.width == 0) ≡ b1
         → Alike G L (checked (b && b1) (load f e.home e.column (item_index e a.address x)) (record s { values = vs }) w) (linear' (place_of reach last) d w)
     by_place arrays tabled n x above a found s vs d w fair q true true c1 c2 =
-        by_column arrays tabled n x above a found (grind arith) (grind arith) s vs d w fair q (slice_get (columns_in f e.home (record s { values = vs })) e.column) refl
+        by_column arrays tabled n x above a found (grind arith) (grind arith) s vs d w fair q (slice_get (columns_in f e.home (record s {
+          values =
+              vs;
+        })) e.column) refl
     by_place arrays tabled n x above a found s vs d w fair q true false c1 c2 = wrong
     by_place arrays tabled n x above a found s vs d w fair q false b1 c1 c2 = wrong
 
@@ -303,16 +313,19 @@ module _ (k : Codes) (f : FirmProgram) (m : FirmProcedure) (call : FirmCaller Hi
 
     -- the length of the array
     by_array : (arrays : List ArrayPlace) → slice_get f.tables e.table ≡ Some arrays → (n x : ℕ) → 0 < n
-        → (s : Firm) (vs : List ℕ) (d : Deciding State) (w : World History) → IsFair w → AreSame lay r ws (i ∷ h ∷ hs) (record s { values = x ∷ n ∷ vs }) d.state
+        → (s : Firm) (vs : List ℕ) (d : Deciding State) (w : World History) → IsFair w
+        → AreSame lay r ws (i ∷ h ∷ hs) (record s { values = x ∷ n ∷ vs }) d.state
         → (o : Option ArrayPlace) → slice_get arrays (n - 1) ≡ o
         → Alike G L
         (with_found o (λ a. stop_unless (nat_lt x a.length) 2 (checked (is_in e a.address) (load f e.home e.column (item_index e a.address x))))
         (record s { values = vs }) w) (linear' (reached reach last) d w)
     by_array arrays tabled n x above s vs d w fair q None found = wrong
     by_array arrays tabled n x above s vs d w fair q (Some a) found =
-        step_then (timed first 4 h) (Both (One (load_from Flash 2 second (table - 2) (Local first))) (bounded reach last)) answer d w t1 (times_is first 4 h n d.state w.outside (value_of_home h n d.state q.waits.1.0.0) few)
+        step_then (timed first 4 h) (Both (One (load_from Flash 2 second (table - 2) (Local first))) (bounded reach last)) answer d w t1
+        (times_is first 4 h n d.state w.outside (value_of_home h n d.state q.waits.1.0.0) few)
         (step_then (load_from Flash 2 second (table - 2) (Local first)) (bounded reach last) answer (record d { state = t1 }) w t2
-        (loads k f m call handle p go params lay r ws wide flash Flash 2 second (table - 2) (n * 4) (table - first_address Flash + 4 * (n - 1) + 2) a.length (Local first) t1 w.outside q1.waits.0.0
+        (loads k f m call handle p go params lay r ws wide flash Flash 2 second (table - 2) (n * 4) (table - first_address Flash + 4 * (n - 1) + 2) a.length
+        (Local first) t1 w.outside q1.waits.0.0
         (omega (arith, t_behind, above)) (omega (arith, t_behind, above)) (stood.lengths (n - 1) a found).0)
         (by_bound arrays tabled n x above a found short s vs (record d { state = t2 }) w fair q2 (nat_lt x a.length) refl))
       where

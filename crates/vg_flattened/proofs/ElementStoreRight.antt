@@ -101,8 +101,10 @@ module _ (k : Codes) (f : FirmProgram) (m : FirmProcedure) (call : FirmCaller Hi
         → Alike G L (Gives (record s { values = vs; columns = set_entry s.columns e.column ((a.address - e.address) / e.width + x) y }) w)
         (linear' (place_of reach last) d w)
     does_last arrays tabled n x y small-y above a found low' whole s vs d w fair q us hc old he =
-        step_then k f m call handle p go params lay r ws wide flash (load_from Flash 2 first (table - 4) (Local first)) (Both (One (timed second e.width i)) (Both (One sum) (One last))) answer d w t1
-        (loads k f m call handle p go params lay r ws wide flash Flash 2 first (table - 4) (n * 4) (table - first_address Flash + 4 * (n - 1)) a.address (Local first) d.state w.outside q.waits.0.0
+        step_then k f m call handle p go params lay r ws wide flash (load_from Flash 2 first (table - 4) (Local first))
+        (Both (One (timed second e.width i)) (Both (One sum) (One last))) answer d w t1
+        (loads k f m call handle p go params lay r ws wide flash Flash 2 first (table - 4) (n * 4) (table - first_address Flash + 4 * (n - 1)) a.address
+        (Local first) d.state w.outside q.waits.0.0
         (omega (arith, t_behind, above, four)) (omega (arith, t_behind, above, four)) (stood.addresses (n - 1) a found).0)
         (step_then k f m call handle p go params lay r ws wide flash (timed second e.width i) (Both (One sum) (One last)) answer (record d { state = t1 }) w t2
         (times_is k f m call handle p go params lay r ws wide flash second e.width i x t1 w.outside (value_of_home i x t1 q1.waits.1.1.0.0) few)
@@ -113,7 +115,8 @@ module _ (k : Codes) (f : FirmProgram) (m : FirmProcedure) (call : FirmCaller Hi
         (does_store k f m call handle p go params lay r ws wide flash hs e.column index y old (a.address + x * e.width) 0 place us (Local first) from
         (record s { values = vs }) (record d { state = t3 }) w fair column_at hc he (subst (λ z. y < 256 ^ z) same_width small-y) q3.waits.0.0
         (value_of_home from y t3 q3.waits.1.0.0) (sum_behind (first_address Ram) a.address e.address (x * e.width) c_behind low') place_is
-        (less k f m call handle p go params lay r ws wide flash h hs n vs s t3 (less k f m call handle p go params lay r ws wide flash i (h ∷ hs) x (n ∷ vs) s t3
+        (less k f m call handle p go params lay r ws wide flash h hs n vs s t3 (less k f m call handle p go params lay r ws wide flash i (h ∷ hs) x
+        (n ∷ vs) s t3
         (less k f m call handle p go params lay r ws wide flash from (i ∷ h ∷ hs) y (x ∷ n ∷ vs) s t3
         (less k f m call handle p go params lay r ws wide flash (Local first) (from ∷ i ∷ h ∷ hs) (a.address + x * e.width) (y ∷ x ∷ n ∷ vs) s t3 q3))))))))
       where
@@ -138,7 +141,10 @@ module _ (k : Codes) (f : FirmProgram) (m : FirmProcedure) (call : FirmCaller Hi
         q1 : AreSame lay r ws (Local first ∷ from ∷ i ∷ h ∷ hs) (record s { values = a.address ∷ y ∷ x ∷ n ∷ vs }) t1
         q1 =
             let small = (stood.addresses (n - 1) a found).1 in
-            put_temp lay r m.widths ws (from ∷ i ∷ h ∷ hs) (record s { values = y ∷ x ∷ n ∷ vs }) d.state first a.address wide placed has1 (omega (arith, small))
+            put_temp lay r m.widths ws (from ∷ i ∷ h ∷ hs) (record s {
+              values =
+                  y ∷ x ∷ n ∷ vs;
+            }) d.state first a.address wide placed has1 (omega (arith, small))
             (less k f m call handle p go params lay r ws wide flash (Local first) (from ∷ i ∷ h ∷ hs) (n * 4) (y ∷ x ∷ n ∷ vs) s d.state q)
 
         before : ColumnStands Ram d.state.ram place us
@@ -174,7 +180,10 @@ module _ (k : Codes) (f : FirmProgram) (m : FirmProcedure) (call : FirmCaller Hi
 
         q2 : AreSame lay r ws (Local second ∷ Local first ∷ from ∷ i ∷ h ∷ hs) (record s { values = (x * e.width) ∷ a.address ∷ y ∷ x ∷ n ∷ vs }) t2
         q2 =
-            put_temp lay r m.widths ws (Local first ∷ from ∷ i ∷ h ∷ hs) (record s { values = a.address ∷ y ∷ x ∷ n ∷ vs }) t1 second (x * e.width) wide placed1 has2 few q1
+            put_temp lay r m.widths ws (Local first ∷ from ∷ i ∷ h ∷ hs) (record s {
+              values =
+                  a.address ∷ y ∷ x ∷ n ∷ vs;
+            }) t1 second (x * e.width) wide placed1 has2 few q1
 
         t3 : State
         t3 = sets first (a.address + x * e.width) t2
@@ -183,7 +192,8 @@ module _ (k : Codes) (f : FirmProgram) (m : FirmProcedure) (call : FirmCaller Hi
         q3 =
             put_temp lay r m.widths ws (from ∷ i ∷ h ∷ hs) (record s { values = y ∷ x ∷ n ∷ vs }) t2 first (a.address + x * e.width) wide placed has1 sum_few
             (less k f m call handle p go params lay r ws wide flash (Local first) (from ∷ i ∷ h ∷ hs) a.address (y ∷ x ∷ n ∷ vs) s t2
-            (less k f m call handle p go params lay r ws wide flash (Local second) (Local first ∷ from ∷ i ∷ h ∷ hs) (x * e.width) (a.address ∷ y ∷ x ∷ n ∷ vs) s t2 q2))
+            (less k f m call handle p go params lay r ws wide flash (Local second) (Local first ∷ from ∷ i ∷ h ∷ hs) (x * e.width)
+            (a.address ∷ y ∷ x ∷ n ∷ vs) s t2 q2))
 
         place_is : 0 + (a.address + x * e.width) - first_address Ram ≡ place.address - first_address Ram + place.width * index
         place_is =
@@ -208,7 +218,8 @@ module _ (k : Codes) (f : FirmProgram) (m : FirmProcedure) (call : FirmCaller Hi
         → (s : Firm) (vs : List ℕ) (d : Deciding State) (w : World History) → IsFair w
         → AreSame lay r ws (Local first ∷ from ∷ i ∷ h ∷ hs) (record s { values = n * 4 ∷ y ∷ x ∷ n ∷ vs }) d.state
         → (o : Option (List ℕ)) → slice_get s.columns e.column ≡ o
-        → Alike G L (set_found e.column ((a.address - e.address) / e.width + x) y (slice_get (column_of o) ((a.address - e.address) / e.width + x)) (record s { values = vs }) w)
+        → Alike G L (set_found e.column ((a.address - e.address) / e.width + x) y (slice_get (column_of o) ((a.address - e.address) / e.width + x))
+        (record s { values = vs }) w)
         (linear' (place_of reach last) d w)
     by_column arrays tabled n x y small-y above a found low' whole s vs d w fair q (Some us) hc =
         by_entry arrays tabled n x y small-y above a found low' whole s vs d w fair q us hc (slice_get us ((a.address - e.address) / e.width + x)) refl
@@ -239,7 +250,8 @@ module _ (k : Codes) (f : FirmProgram) (m : FirmProcedure) (call : FirmCaller Hi
         (ap (option_map not) (holds_of Below i (Local second) x a.length d.state (value_of_home i x d.state q.waits.1.1.1.0.0) q.waits.0.0
         ∙ ap Some (below_same x a.length q.waits.1.1.1.0.1 (omega (arith, short)) ∙ c)))))
         (by_place arrays tabled n x y small-y above a found s vs (record d { truth = None }) w fair
-        (less k f m call handle p go params lay r ws wide flash (Local second) (Local first ∷ from ∷ i ∷ h ∷ hs) a.length (n * 4 ∷ y ∷ x ∷ n ∷ vs) s d.state q) (nat_le e.address a.address)
+        (less k f m call handle p go params lay r ws wide flash (Local second) (Local first ∷ from ∷ i ∷ h ∷ hs) a.length
+        (n * 4 ∷ y ∷ x ∷ n ∷ vs) s d.state q) (nat_le e.address a.address)
         ((a.address - e.address) % e.width == 0) refl refl)
     by_bound arrays tabled n x y small-y above a found short s vs d w fair q false c =
         subst (λ z. Alike G L (stops 2 0 (record s { values = vs }) w) (and_then z (linear' (place_of reach last))))
@@ -250,16 +262,21 @@ module _ (k : Codes) (f : FirmProgram) (m : FirmProcedure) (call : FirmCaller Hi
 
     -- the length of the array
     by_array : (arrays : List ArrayPlace) → slice_get f.tables e.table ≡ Some arrays → (n x y : ℕ) → y < 256 ^ e.width → 0 < n
-        → (s : Firm) (vs : List ℕ) (d : Deciding State) (w : World History) → IsFair w → AreSame lay r ws (from ∷ i ∷ h ∷ hs) (record s { values = y ∷ x ∷ n ∷ vs }) d.state
+        → (s : Firm) (vs : List ℕ) (d : Deciding State) (w : World History) → IsFair w
+        → AreSame lay r ws (from ∷ i ∷ h ∷ hs) (record s { values = y ∷ x ∷ n ∷ vs }) d.state
         → (o : Option ArrayPlace) → slice_get arrays (n - 1) ≡ o
         → Alike G L
         (with_found o (λ a. stop_unless (nat_lt x a.length) 2 (checked (is_in e a.address) (store e.column (item_index e a.address x) y)))
         (record s { values = vs }) w) (linear' (reached reach last) d w)
     by_array arrays tabled n x y small-y above s vs d w fair q None found = wrong
     by_array arrays tabled n x y small-y above s vs d w fair q (Some a) found =
-        step_then k f m call handle p go params lay r ws wide flash (timed first 4 h) (Both (One (load_from Flash 2 second (table - 2) (Local first))) (bounded reach last)) answer d w t1 (times_is k f m call handle p go params lay r ws wide flash first 4 h n d.state w.outside (value_of_home h n d.state q.waits.1.1.0.0) few)
-        (step_then k f m call handle p go params lay r ws wide flash (load_from Flash 2 second (table - 2) (Local first)) (bounded reach last) answer (record d { state = t1 }) w t2
-        (loads k f m call handle p go params lay r ws wide flash Flash 2 second (table - 2) (n * 4) (table - first_address Flash + 4 * (n - 1) + 2) a.length (Local first) t1 w.outside q1.waits.0.0
+        step_then k f m call handle p go params lay r ws wide flash (timed first 4 h) (Both (One (load_from Flash 2 second (table - 2) (Local first)))
+        (bounded reach last)) answer d w t1 (times_is k f m call handle p go params lay r ws wide flash first 4 h n d.state w.outside
+        (value_of_home h n d.state q.waits.1.1.0.0) few)
+        (step_then k f m call handle p go params lay r ws wide flash (load_from Flash 2 second (table - 2) (Local first)) (bounded reach last) answer
+        (record d { state = t1 }) w t2
+        (loads k f m call handle p go params lay r ws wide flash Flash 2 second (table - 2) (n * 4) (table - first_address Flash + 4 * (n - 1) + 2) a.length
+        (Local first) t1 w.outside q1.waits.0.0
         (omega (arith, t_behind, above)) (omega (arith, t_behind, above)) (stood.lengths (n - 1) a found).0)
         (by_bound arrays tabled n x y small-y above a found short s vs (record d { state = t2 }) w fair q2 (nat_lt x a.length) refl))
       where
@@ -301,7 +318,8 @@ module _ (k : Codes) (f : FirmProgram) (m : FirmProcedure) (call : FirmCaller Hi
         → Alike G L
         (with_found (slice_get (arrays_of o) (n - 1)) (λ a. stop_unless (nat_lt x a.length) 2
         (checked (is_in e a.address) (store e.column (item_index e a.address x) y))) (record s { values = vs }) w) (linear' (reached reach last) d w)
-    by_table n x y small-y above s vs d w fair q (Some arrays) tabled = by_array arrays tabled n x y small-y above s vs d w fair q (slice_get arrays (n - 1)) refl
+    by_table n x y small-y above s vs d w fair q (Some arrays) tabled =
+        by_array arrays tabled n x y small-y above s vs d w fair q (slice_get arrays (n - 1)) refl
     by_table n x y small-y above s vs d w fair q None tabled = wrong
 
     by_fit : (s : Firm) (d : Deciding State) (w : World History) → IsFair w → AreSame lay r ws (from ∷ i ∷ h ∷ hs) s d.state → (y x n : ℕ) (vs : List ℕ)

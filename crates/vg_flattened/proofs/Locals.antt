@@ -80,7 +80,8 @@ kept_behind_temp r ws vs ls k x kept =
 -- ---- temporaries
 
 -- A number of four bytes is put into the temporary above what waits.
-pub put_temp : (lay : Layout) (r : Room) (widths ws : List ℕ) (hs : List Operand) (s : Firm) (t : State) (to z : ℕ) → AreWidths r widths ws → ArePlaced r.locals hs
+pub put_temp : (lay : Layout) (r : Room) (widths ws : List ℕ) (hs : List Operand) (s : Firm) (t : State) (to z : ℕ) → AreWidths r widths ws
+    → ArePlaced r.locals hs
     → temp r hs ≡ Some to → z < 2 ^ 32 → AreSame lay r ws hs s t → AreSame lay r ws (Local to ∷ hs) (record s { values = z ∷ s.values }) (sets to z t)
 put_temp lay r widths ws hs s t to z wide placed e small same = by_temp (temp_is r hs to e).0 (temp_is r hs to e).1
   where

@@ -70,7 +70,8 @@ module _ (k : Codes) (f : FirmProgram) (m : FirmProcedure) (call : FirmCaller Hi
     where
       by_values : (s : Firm) (d : Deciding State) (w : World History) → IsFair w → AreSame lay r ws (h ∷ hs) s d.state → (vs : List ℕ)
           → AreAt (h ∷ hs) vs d.state.locals
-          → Alike (Held lay r ws (only (Known 0 ∷ hs))) (Leaves lay r ws) (take_from vs (not_null (λ n. put 0)) s w) (linear' (stop_where 1 (Holds (is_zero h))) d w)
+          → Alike (Held lay r ws (only (Known 0 ∷ hs))) (Leaves lay r ws) (take_from vs (not_null (λ n. put 0)) s w)
+          (linear' (stop_where 1 (Holds (is_zero h))) d w)
       by_values s d w i q [] at = absurd at
       by_values s d w i q (x ∷ vs) at =
           null_check h x (λ n. put 0) (record s { values = vs }) d w i (value_of_home h x d.state at.0.0) at.0.1
@@ -83,7 +84,8 @@ module _ (k : Codes) (f : FirmProgram) (m : FirmProcedure) (call : FirmCaller Hi
     where
       by_values : (s : Firm) (d : Deciding State) (w : World History) → IsFair w → AreSame lay r ws (v ∷ h ∷ hs) s d.state → (vs : List ℕ)
           → AreAt (v ∷ h ∷ hs) vs d.state.locals
-          → Alike (Held lay r ws (only hs)) (Leaves lay r ws) (take_from vs (λ y. taking (not_null (λ n. go_on))) s w) (linear' (stop_where 1 (Holds (is_zero h))) d w)
+          → Alike (Held lay r ws (only hs)) (Leaves lay r ws) (take_from vs (λ y. taking (not_null (λ n. go_on))) s w)
+          (linear' (stop_where 1 (Holds (is_zero h))) d w)
       by_values s d w i q [] at = absurd at
       by_values s d w i q (y ∷ []) at = absurd at.1
       by_values s d w i q (y ∷ x ∷ vs) at =
@@ -132,7 +134,10 @@ module _ (k : Codes) (f : FirmProgram) (m : FirmProcedure) (call : FirmCaller Hi
         where
           there : AreSame lay r ws (Local to ∷ hs) (record s { values = distance_of n first ∷ vs }) (sets to (distance_of n first) d.state)
           there =
-              put_temp lay r m.widths ws hs (record s { values = vs }) d.state to (distance_of n first) wide placed.1 has (low_small (n + (256 ^ 4 - low 4 first)))
+              put_temp lay r m.widths ws hs (record s {
+                values =
+                    vs;
+              }) d.state to (distance_of n first) wide placed.1 has (low_small (n + (256 ^ 4 - low 4 first)))
               (record { waits = at.1; kept = q.kept; none = q.none; ram = q.ram })
 
       by_room : first + count < 2 ^ 32 → (o : Option ℕ) → temp r hs ≡ o
@@ -161,7 +166,8 @@ module _ (k : Codes) (f : FirmProgram) (m : FirmProcedure) (call : FirmCaller Hi
       says n t b at lt e = ap (option_map not) (says_zero h n t at lt) ∙ ap (λ z. Some (not z)) e
 
       -- the number of an object, whose distance was measured
-      by_near : (to n : ℕ) (s : Firm) (d : Deciding State) (w : World History) → IsFair w → AreSame lay r ws (h ∷ hs) (record s { values = n ∷ s.values }) d.state
+      by_near : (to n : ℕ) (s : Firm) (d : Deciding State) (w : World History) → IsFair w
+          → AreSame lay r ws (h ∷ hs) (record s { values = n ∷ s.values }) d.state
           → (b : Bool) → holds (is_near to count) d.state ≡ Some b
           → Alike (Held lay r ws (only (h ∷ hs))) (Leaves lay r ws) (stop_unless b 4 (put n) s w) (linear' (stop_where 4 (Fails (is_near to count))) d w)
       by_near to n s d w i q true e =

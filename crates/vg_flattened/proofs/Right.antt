@@ -118,7 +118,8 @@ module _ (k : Codes) (f : FirmProgram) (m : FirmProcedure) (call : FirmCaller Hi
   number_made x hs to e placed s d w i q = by_truth q.b q.says q.newest
     where
       by_truth : (b : Bool) → said x d.state ≡ Some b → s.values ≡ as_number b ∷ q.vs
-          → Alike (Held lay r ws (only (Local to ∷ hs))) (Leaves lay r ws) (Gives s w) (linear (Choice x (One (Copy to (Known 1))) (One (Copy to (Known 0)))) d w)
+          → Alike (Held lay r ws (only (Local to ∷ hs))) (Leaves lay r ws) (Gives s w) (linear
+          (Choice x (One (Copy to (Known 1))) (One (Copy to (Known 0)))) d w)
       by_truth true says new =
           subst (λ z. Alike (Held lay r ws (only (Local to ∷ hs))) (Leaves lay r ws) (Gives s w) z)
           (sym (chooses x true (One (Copy to (Known 1))) (One (Copy to (Known 0))) d w says))

@@ -222,7 +222,8 @@ module _ (k : Codes) (lay : Layout) (f : FirmProgram) (params : List ℕ) (p : L
       alike_then {G = Top} {J = Top} {L = Leaves lay bare []} (idles n (λ vector s1 w1. firm_handled (firm_called full k f w1.clock) (f.handler vector) s1 w1))
       (λ d1 w1. idles n (λ v d2 w2. lin_handle (language p) (lin_called (language p) bodies w2.clock) ((language p).handler v) d2 w2) d1 w1)
       (alike_main w.clock s d w i q)
-      (λ s1 d1 w1 i1 q1. alike_idles {G = Top} {L = Leaves lay bare []} n (λ vector s2 w2. firm_handled (firm_called full k f w2.clock) (f.handler vector) s2 w2)
+      (λ s1 d1 w1 i1 q1. alike_idles {G = Top} {L = Leaves lay bare []} n (λ vector s2 w2. firm_handled (firm_called full k f w2.clock)
+      (f.handler vector) s2 w2)
       (λ v d2 w2. lin_handle (language p) (lin_called (language p) bodies w2.clock) ((language p).handler v) d2 w2)
       (λ vector s2 d2 w2 i2 q2. alike_handling lay p f (firm_called full k f w2.clock) (lin_called (language p) bodies w2.clock)
       (calls w2.clock) flat.handler bare [] [] vector
@@ -234,5 +235,14 @@ module _ (k : Codes) (lay : Layout) (f : FirmProgram) (params : List ℕ) (p : L
       (lin_running (language p) bodies (calls_main f.main) (length interrupts) (fresh (first_state p)) (world clock deepest reads interrupts)) t v why
       (λ x s1 d1 z. z) legal
       (alike_run (length interrupts) (firm_first f) (fresh (first_state p)) (world clock deepest reads interrupts) (record { running = refl; reads = are })
-      (record { waits = tt; kept = record { there = λ j u h. none_is_not u h; locals = λ j u lt h. absurd (omega (arith, lt)) }; none = refl; ram = flat.ram })) is in
+      (record {
+        waits = tt;
+        kept = record {
+          there = λ j u h. none_is_not u h;
+          locals = λ j u lt h. absurd
+              (omega (arith, lt));
+        };
+        none = refl;
+        ram = flat.ram;
+      })) is in
       follows_sessions p bodies (calls_main f.main) all_stand first (ap name_of flat.start) clock deepest reads interrupts d v why legal e

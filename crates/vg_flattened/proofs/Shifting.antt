@@ -114,7 +114,8 @@ module _ (bits width x y : ℕ) (wide : bits < 8 * width) (bytes : 256 ^ width �
       by_width : (b : Bool) → nat_lt y (8 * width) ≡ b → (if b then low width (x * 2 ^ y) else 0) % 2 ^ bits ≡ left_in bits x y
       by_width true e = low_is (x * 2 ^ y) ∙ by_bits (nat_lt y bits) refl
       by_width false e =
-          let ge : 8 * width ≤ y = grind arith in mod-eq_of_lt (pow_pos bits) ∙ ap (λ b. if b then x * 2 ^ y % 2 ^ bits else 0) (sym (is_not y bits (omega (arith, ge, wide))))
+          let ge : 8 * width ≤ y =
+          grind arith in mod-eq_of_lt (pow_pos bits) ∙ ap (λ b. if b then x * 2 ^ y % 2 ^ bits else 0) (sym (is_not y bits (omega (arith, ge, wide))))
 
   pub left_masked : low width (bit_and (left_wide width x y) (2 ^ bits - 1)) ≡ left_in bits x y
   left_masked =

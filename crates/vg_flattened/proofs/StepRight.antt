@@ -141,7 +141,8 @@ module _ (k : Codes) (f : FirmProgram) (m : FirmProcedure) (call : FirmCaller Hi
 
       by_values : (s : Firm) (d : Deciding State) (w : World History) → IsFair w → is_free j (reverse hs) ≡ true → AreSame lay r ws (h ∷ hs) s d.state
           → (vs : List ℕ) → AreAt (h ∷ hs) vs d.state.locals
-          → Alike (Held lay r ws (only hs)) (Leaves lay r ws) (take_from vs (λ v. with_found (slice_get m.widths j) (λ width. of_width width (set_local j) v)) s w)
+          → Alike (Held lay r ws (only hs)) (Leaves lay r ws) (take_from vs (λ v. with_found (slice_get m.widths j)
+          (λ width. of_width width (set_local j) v)) s w)
           (linear' (One (Copy j h)) d w)
       by_values s d w i free q [] at = absurd at
       by_values s d w i free q (v ∷ vs) at = by_width s d w i free v vs at q (slice_get m.widths j) refl
@@ -251,7 +252,13 @@ module _ (k : Codes) (f : FirmProgram) (m : FirmProcedure) (call : FirmCaller Hi
           (linear' (One (Compute (record { operator = op; width = width; to = to; left = a; right = b }))) d w)
       by_values to has s d w i q [] at = absurd at
       by_values to has s d w i q (x ∷ vs) at =
-          by_law to has s d w i x vs (record { waits = at.1; kept = q.kept; none = q.none; ram = q.ram }) (law x d.state at.0.1 (value_of_home h x d.state at.0.0))
+          by_law to has s d w i x vs (record {
+            waits =
+                at.1;
+            kept = q.kept;
+            none = q.none;
+            ram = q.ram;
+          }) (law x d.state at.0.1 (value_of_home h x d.state at.0.0))
 
       by_room : (o : Option ℕ) → temp r hs ≡ o
           → Right' (only (h ∷ hs))
@@ -406,6 +413,7 @@ module _ (k : Codes) (f : FirmProgram) (m : FirmProcedure) (call : FirmCaller Hi
 
       by_values : (s : Firm) (d : Deciding State) (w : World History) → IsFair w → AreSame lay r ws (h ∷ hs) s d.state → (vs : List ℕ)
           → AreAt (h ∷ hs) vs d.state.locals
-          → Alike (Held lay r ws (only hs)) (Leaves lay r ws) (take_from vs (of_width 1 (write_device address)) s w) (linear' (One (WritesDevice address h)) d w)
+          → Alike (Held lay r ws (only hs)) (Leaves lay r ws) (take_from vs (of_width 1 (write_device address)) s w)
+          (linear' (One (WritesDevice address h)) d w)
       by_values s d w i q [] at = absurd at
       by_values s d w i q (v ∷ vs) at = by_fit s d w i v vs at q (nat_lt v (256 ^ 1)) refl

@@ -80,7 +80,8 @@ number_here bytes (suc w) j x old e h =
         power n = grind arith
 
     by_parts : ((above : ℕ) → number_at first w (suc j) ≡ Some above → x / 256 < 256 ^ w
-        → number_at (with_number first w (suc j) (x / 256)) w (suc j) ≡ Some (x / 256)) → (a : Option ℕ) → slice_get bytes j ≡ a → (b : Option ℕ) → number_at bytes w (suc j) ≡ b → joined a b ≡ Some old
+        → number_at (with_number first w (suc j) (x / 256)) w (suc j) ≡ Some (x / 256)) → (a : Option ℕ) → slice_get bytes j ≡ a →
+        (b : Option ℕ) → number_at bytes w (suc j) ≡ b → joined a b ≡ Some old
         → number_at (with_number bytes (suc w) j x) (suc w) j ≡ Some x
     by_parts more (Some byte) ea (Some above) eb e1 =
         ap (λ z. joined z (number_at (with_number first w (suc j) (x / 256)) w (suc j)))

@@ -13,7 +13,11 @@ pub new-requires : goal.new-requires
 new-requires c =
     let n = c.len-count.ensures in
     let few = c.temps_beside-temps.ensures.few in
-    procedure_sound c.args.layout.now (procedure_of c.args.procedure.now) (record { locals = c.len-count.result; temps = c.temps_beside-temps.result }) c.args.params.now n few
+    procedure_sound c.args.layout.now (procedure_of c.args.procedure.now) (record {
+      locals =
+          c.len-count.result;
+      temps = c.temps_beside-temps.result;
+    }) c.args.params.now n few
     c.requires.params c.requires.widths c.in_ok-code.code c.in_ok-instrs.instrs c.in_ok-widths.widths c.in_ok-code.ensures
     (c.in_ok-instrs.ensures.0 ∙ ap (map (set_in 0 0)) c.as_slice-2.ensures) (subst AllSet c.as_slice-2.ensures c.in_ok-instrs.ensures.1)
     (c.in_ok-widths.ensures ∙ ap (λ z. z ++ replicate c.temps_beside-temps.result 4) c.as_slice-3.ensures)

@@ -37,7 +37,8 @@ repeated_parts-returns t c =
     let e3 = c.in_ok-next_at.ensures in
     let n = c.len.ensures in
     let n2 = c.len-2.ensures in
-    loop_laid c.args.at b c.args.truth c.args.before e (flat c.args.layout.now c.args.room (code_of c.args.body.now) empty) (flat c.args.layout.now c.args.room (code_of c.args.next.now) empty)
+    loop_laid c.args.at b c.args.truth c.args.before e (flat c.args.layout.now c.args.room (code_of c.args.body.now) empty)
+    (flat c.args.layout.now c.args.room (code_of c.args.next.now) empty)
     c.in_ok-body.body c.in_ok-next.next c.in_ok-code.code c.new-3.result c.in_ok-body_at.body_at c.in_ok-next_at.next_at
     c.is_empty.result c.is_empty-2.result (omega (arith, e1, e2, n)) (omega (arith, e3, n2)) (subst
     (λ z. IsPiece c.in_ok-body.body c.in_ok-body_at.body_at (flat c.args.layout.now c.args.room
@@ -54,9 +55,11 @@ row-flat-requires t c =
 pub row-parts-preserved : goal.row-parts-preserved
 row-parts-preserved t c =
     along_on c.args.at c.in_ok-part_at.part_at (flat c.args.layout.now c.args.room (list_of c.args.codes.now) c.args.homes)
-    (flat c.args.layout.now c.args.room (code_of c.part-item.result) c.parts.homes) (flat c.args.layout.now c.args.room (list_of (drop (c.parts.part-index + 1) c.args.codes.now)))
+    (flat c.args.layout.now c.args.room (code_of c.part-item.result) c.parts.homes) (flat c.args.layout.now c.args.room
+    (list_of (drop (c.parts.part-index + 1) c.args.codes.now)))
     c.parts.code c.in_ok-code.code c.in_ok-piece.piece
-    (subst (λ z. Along c.args.at (flat c.args.layout.now c.args.room (list_of c.args.codes.now) c.args.homes) (flat c.args.layout.now c.args.room (list_of z) c.parts.homes) c.parts.code)
+    (subst (λ z. Along c.args.at (flat c.args.layout.now c.args.room (list_of c.args.codes.now) c.args.homes)
+    (flat c.args.layout.now c.args.room (list_of z) c.parts.homes) c.parts.code)
     (left_of c.args.codes.now c.parts.part-index c.part-item.result c.parts-test.true (sym c.part-item.is)) c.parts.invariant)
     (c.in_ok-part_at.ensures ∙ ap (λ z. c.args.at + z) c.len.ensures) c.in_ok-piece.ensures
     (c.in_ok-code.ensures ∙ ap (λ z. c.parts.code ++ z) c.as_slice.ensures)
