@@ -2,16 +2,16 @@ pub mod Maps
 pub mod Devices
 pub mod Picking
 pub mod Listing
-mod Chaining
-mod Members
-mod Homes
-mod Inheriting
-mod Dispatching
-mod Slotting
-mod Standing
-mod Forming
-mod Naming
-mod Looking
-mod Owning
-mod Numbered
-mod Making
+pub mod Chaining
+pub mod Members
+pub mod Homes
+pub mod Inheriting
+pub mod Dispatching
+pub mod Slotting
+pub mod Standing
+pub mod Forming
+pub mod Naming
+pub mod Looking
+pub mod Owning
+pub mod Numbered
+pub mod Making
