@@ -1,0 +1,20 @@
+// Tables with names in place of numbers.
+ghost use Rattle.std.specs.Prelude.{◌≡◌, ℕ, List};
+ghost use Rattle.vg_syntax.specs.Tree.{Node};
+ghost use Rattle.vg_source.specs.Program.{classes_in, components_in, globals_in};
+ghost use Rattle.vg_core.specs.Naming.{keyed, named_classes, named_components};
+ghost use Rattle.vg_core.specs.Meaning.{defaults};
+ghost use Rattle.vg_types_tables.specs.declared.declared.Declared.{Declared};
+ghost use Rattle.vg_types_tables.specs.Views.{naming};
+ghost use Rattle.vg_types_declared.specs.Named.{Keeps};
+ghost use Rattle.vg_types_named.specs.Left.{Left};
+
+/// The components, the classes and the fields of components that stand in the tables are those of the declarations, with names in place of numbers.
+pub fn tables_named()
+    ensures components { (texts : List (List ℕ)) (ds : Node) (d : Declared) → Keeps ds → Left texts ds d
+        → named_components (naming texts d) d.tables 0 d.tables.components ≡ components_in ds }
+    ensures classes { (texts : List (List ℕ)) (ds : Node) (d : Declared) → Keeps ds → Left texts ds d
+        → named_classes (naming texts d) d.tables 0 d.tables.classes ≡ classes_in ds ds }
+    ensures globals { (texts : List (List ℕ)) (ds : Node) (d : Declared) → Keeps ds → Left texts ds d
+        → keyed (naming texts d) d.tables d.tables.globals (defaults d.tables d.tables.globals) ≡ globals_in ds }
+{}

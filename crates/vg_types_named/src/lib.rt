@@ -1,0 +1,6 @@
+//! That tables with names in place of numbers are those of the source program.
+#![tactic(auto)]
+
+mod laws;
+
+pub use laws::tables_named;
