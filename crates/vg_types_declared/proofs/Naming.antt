@@ -154,7 +154,7 @@ module _ (texts : List (List ℕ)) (ds : Node) (types : Types) (heads : Heads) (
 
   -- ---- types, fields and methods
 
-  view_same : (t : CoreType) → type_view texts d t ≡ view_of texts types t
+  pub view_same : (t : CoreType) → type_view texts d t ≡ view_of texts types t
   view_same t =
       ap (λ z. named_type_in (naming texts d) (named_types (naming texts d) [] z) t) left.built.type_table
       ∙ ap (λ z. named_type_in (naming texts d) z t) (types_same (naming texts d) (class_names types.classes) all_named [] types.numbers.keys)

@@ -1,3 +1,5 @@
 pub mod Lists
 pub mod Fields
 pub mod Tables
+pub mod Targets
+pub mod Signed

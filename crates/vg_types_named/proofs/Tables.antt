@@ -140,7 +140,7 @@ module _ (texts : List (List ℕ)) (ds : Node) (types : Types) (heads : Heads) (
   -- ---- classes
 
   -- the class of a number in the text
-  class_there : (c : ℕ) → c < length heads.class_names
+  pub class_there : (c : ℕ) → c < length heads.class_names
       → (p : ClassParts) × (class_named ds ((naming texts d).class c) ≡ Some p) × (slice_get (class_list ds) c ≡ Some ((naming texts d).class c, p))
   class_there c h =
       (listed texts ds types heads homes d kept left).class_at ((naming texts d).class c) c (of_class texts ds types heads homes d kept left c h)

@@ -8,6 +8,7 @@ ghost use Rattle.vg_types_tables.specs.declared.declared.Declared.{Declared};
 ghost use Rattle.vg_types_tables.specs.Views.{naming};
 ghost use Rattle.vg_types_declared.specs.Named.{Keeps};
 ghost use Rattle.vg_types_named.specs.Left.{Left};
+ghost use Rattle.vg_types_named.specs.Targets.{targets_from, AreSigned};
 
 /// The components, the classes and the fields of components that stand in the tables are those of the declarations, with names in place of numbers.
 pub fn tables_named()
@@ -17,4 +18,11 @@ pub fn tables_named()
         → named_classes (naming texts d) d.tables 0 d.tables.classes ≡ classes_in ds ds }
     ensures globals { (texts : List (List ℕ)) (ds : Node) (d : Declared) → Keeps ds → Left texts ds d
         → keyed (naming texts d) d.tables d.tables.globals (defaults d.tables d.tables.globals) ≡ globals_in ds }
+{}
+
+/// What can be called is what the declarations have to call, in order of the text: each class and each component, and then its methods, whose numbers
+/// follow one another. Its signatures are those that are written.
+pub fn targets_agree()
+    ensures targets { (texts : List (List ℕ)) (ds : Node) (d : Declared) → Keeps ds → Left texts ds d → d.tables.targets ≡ targets_from 0 0 0 ds }
+    ensures signatures { (texts : List (List ℕ)) (ds : Node) (d : Declared) → Keeps ds → Left texts ds d → AreSigned texts d 0 0 0 ds }
 {}
