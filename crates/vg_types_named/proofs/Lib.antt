@@ -3,3 +3,4 @@ pub mod Fields
 pub mod Tables
 pub mod Targets
 pub mod Signed
+pub mod Routines

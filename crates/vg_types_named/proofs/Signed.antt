@@ -1,25 +1,25 @@
 -- The signatures of all that can be called are those that are written.
-use Rattle.std.proofs.Common.{◌≡◌, ℕ, zero, suc, ◌+◌, ◌<◌, List, [], ◌∷◌, ◌++◌, length, map, Option, Some, None, slice_get, refl, sym, ap, ◌∙◌, subst, arith}
+use Rattle.std.proofs.Common.{◌≡◌, ℕ, suc, ◌+◌, ◌<◌, List, [], ◌∷◌, ◌++◌, length, map, Option, Some, None, slice_get, refl, sym, ap, ◌∙◌, subst, arith}
 use Rattle.std.specs.Option.{option_map}
 use Rattle.std.proofs.lemmas.List.{append_assoc, length-map}
 use Rattle.std.proofs.lemmas.Option.{slice_get-map, slice_get_within}
 use Rattle.vg_syntax.specs.Tree.{TypeTree, Param, Node, Nothing, Then, ClassDecl, ComponentDecl, MethodDecl}
-use Rattle.vg_syntax.specs.Classes.{ClassParts, class_named}
+use Rattle.vg_syntax.specs.Classes.{ClassParts}
 use Rattle.vg_tree.specs.Held as tree
 use Rattle.vg_source.specs.Names.{Name}
-use Rattle.vg_source.specs.Declared.{row_of, written_type, members_in, length_of}
+use Rattle.vg_source.specs.Declared.{row_of, members_in, length_of}
 use Rattle.vg_source.specs.Program.{constructor_in}
 use Rattle.vg_core.specs.Naming.{component_name, owner_name, method_key}
 use Rattle.vg_core.specs.declared.program.Owner.{Owner}
 use Rattle.vg_core.specs.declared.program.Owner.TheVariants.{InClass, InComponent}
 use Rattle.vg_types_interned.specs.declared.table.Types.{Types}
-use Rattle.vg_types_members.specs.Members.{method_view, view_of, written_params}
+use Rattle.vg_types_members.specs.Members.{method_view}
 use Rattle.vg_types_hierarchy.specs.Classes.{above_number, the_class}
 use Rattle.vg_types_heads.specs.declared.heads.Heads.{Heads}
 use Rattle.vg_types_homes.specs.declared.homes.Homes.{Homes}
 use Rattle.vg_types_homes.specs.Homes.{homes_view}
 use Rattle.vg_types_tables.specs.declared.declared.Declared.{Declared}
-use Rattle.vg_types_tables.specs.Views.{naming, type_view, row_view}
+use Rattle.vg_types_tables.specs.Views.{naming}
 use Rattle.vg_types_declared.specs.Lists.{class_list, component_list}
 use Rattle.vg_types_declared.specs.Members.{row_from}
 use Rattle.vg_types_declared.specs.Named.{Keeps, IsLeft}
@@ -122,21 +122,27 @@ module _ (texts : List (List ℕ)) (ds : Node) (types : Types) (heads : Heads) (
       → AllWritten (homes_view texts types homes).methods c k m rest → AreSigned texts d c k m rest
   all_signed (Then (ClassDecl at x above ms) rest) es ks c k m b w =
       let p : ClassParts = record { at = at; above = above; members = ms } in
-      let e = made x p c (ap (λ z. slice_get z c) b.classes ∙ at_behind es (x, p) (class_list rest) c b.class_count) in
-      (e, all_of (InClass c) x m ms e.named w.0, all_signed rest (es ++ (x, p) ∷ []) ks (suc c) k (m + count_methods ms) (record {
-        classes = b.classes ∙ sym (append_assoc es ((x, p) ∷ []) (class_list rest));
-        components = b.components;
-        class_count = count_push es (x, p) ∙ ap suc b.class_count;
-        component_count = b.component_count;
-      }) w.1)
+      let e = made x p c (ap (λ z. slice_get z c) b.classes ∙ at_behind es (x, p) (class_list rest) c b.class_count) in (
+        e,
+        all_of (InClass c) x m ms e.named w.0,
+        all_signed rest (es ++ (x, p) ∷ []) ks (suc c) k (m + count_methods ms) (record {
+          classes = b.classes ∙ sym (append_assoc es ((x, p) ∷ []) (class_list rest));
+          components = b.components;
+          class_count = count_push es (x, p) ∙ ap suc b.class_count;
+          component_count = b.component_count;
+        }) w.1,
+      )
   all_signed (Then (ComponentDecl at x ms) rest) es ks c k m b w =
-      let e = started x ms k (ap (λ z. slice_get z k) b.components ∙ at_behind ks (x, ms) (component_list rest) k b.component_count) in
-      (e, all_of (InComponent k) x m ms e.named w.0, all_signed rest es (ks ++ (x, ms) ∷ []) c (suc k) (m + count_methods ms) (record {
-        classes = b.classes;
-        components = b.components ∙ sym (append_assoc ks ((x, ms) ∷ []) (component_list rest));
-        class_count = b.class_count;
-        component_count = count_push ks (x, ms) ∙ ap suc b.component_count;
-      }) w.1)
+      let e = started x ms k (ap (λ z. slice_get z k) b.components ∙ at_behind ks (x, ms) (component_list rest) k b.component_count) in (
+        e,
+        all_of (InComponent k) x m ms e.named w.0,
+        all_signed rest es (ks ++ (x, ms) ∷ []) c (suc k) (m + count_methods ms) (record {
+          classes = b.classes;
+          components = b.components ∙ sym (append_assoc ks ((x, ms) ∷ []) (component_list rest));
+          class_count = b.class_count;
+          component_count = count_push ks (x, ms) ∙ ap suc b.component_count;
+        }) w.1,
+      )
   all_signed (Then _ rest) es ks c k m b w =
       all_signed rest es ks c k m (record {
         classes = b.classes;

@@ -1,12 +1,11 @@
 -- All that can be called, in order of the text: methods are numbered one by one.
-use Rattle.std.proofs.Common.{◌≡◌, ℕ, zero, suc, ◌+◌, List, [], ◌∷◌, ◌++◌, length, map, Some, slice_get, refl, sym, ap, ◌∙◌, subst, arith}
+use Rattle.std.proofs.Common.{◌≡◌, ℕ, suc, ◌+◌, List, [], ◌∷◌, ◌++◌, length, map, Some, slice_get, refl, sym, ap, ◌∙◌, subst, arith}
 use Rattle.std.proofs.lemmas.List.{append_assoc}
 use Rattle.vg_syntax.specs.Tree.{TypeTree, Param, Node, Then, ClassDecl, ComponentDecl, FieldDecl, MethodDecl}
 use Rattle.vg_source.specs.Names.{Name}
 use Rattle.vg_source.specs.Declared.{written_type}
 use Rattle.vg_core.specs.declared.program.Owner.{Owner}
 use Rattle.vg_core.specs.declared.program.Owner.TheVariants.{InClass, InComponent}
-use Rattle.vg_core.specs.declared.program.Target.{Target}
 use Rattle.vg_core.specs.declared.program.Target.TheVariants.{Run, Construct, Start}
 use Rattle.vg_types_members.specs.declared.member.Home.{Home}
 use Rattle.vg_types_members.specs.Members.{MethodView, HomeView, with_field, with_method, with_members, written_params}

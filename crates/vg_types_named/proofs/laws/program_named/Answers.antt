@@ -1,0 +1,8 @@
+use Rattle.vg_types_named.proofs.Routines.{routines, whole}
+use Rattle.vg_types_named.proofs.laws.program_named.Goals as goal
+
+pub returns-clause-routines : goal.returns-clause-routines
+returns-clause-routines c = routines
+
+pub returns-clause-whole : goal.returns-clause-whole
+returns-clause-whole c = whole
