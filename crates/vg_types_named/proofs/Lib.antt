@@ -4,3 +4,6 @@ pub mod Tables
 pub mod Targets
 pub mod Signed
 pub mod Routines
+pub mod Methods
+pub mod Apart
+pub mod Telling

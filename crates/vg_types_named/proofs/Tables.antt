@@ -95,7 +95,7 @@ module _ (texts : List (List ℕ)) (ds : Node) (types : Types) (heads : Heads) (
       (λ i y e. let q : 0 + i ≡ i = omega arith in ap (naming texts d).component q ∙ ap (component_name texts) e ∙ text_same texts y)
       ∙ ap (map (tree.text_at texts)) left.component_table ∙ (listed texts ds types heads homes d kept left).component_names ∙ sym (components_listed ds)
 
-  fields : AllFields (class_rows ds) (component_list ds) (globals_in ds) (homes_view texts types homes)
+  pub fields : AllFields (class_rows ds) (component_list ds) (globals_in ds) (homes_view texts types homes)
   fields = subst (AllFields (class_rows ds) (component_list ds) (globals_in ds)) (sym left.homes_left) (all_fields ds)
 
   -- fields with names in place of numbers

@@ -1,8 +1,15 @@
 // Tables with names in place of numbers.
-ghost use Rattle.std.specs.Prelude.{◌≡◌, ℕ, List};
+ghost use Rattle.std.specs.Prelude.{◌≡◌, ℕ, ◌==◌, List, true, Some, slice_get, bytes_eq};
 ghost use Rattle.vg_syntax.specs.Tree.{Node};
 ghost use Rattle.vg_source.specs.Program.{classes_in, components_in, globals_in, routines_in, with_numbers, program_of};
-ghost use Rattle.vg_core.specs.Program.{Program};
+ghost use Rattle.vg_core.specs.Program.{Program, Signature, signature_of};
+ghost use Rattle.vg_core.specs.Tables.{is_below, dispatch};
+ghost use Rattle.vg_core.specs.declared.program.Owner.TheVariants.{InClass};
+ghost use Rattle.vg_core.specs.declared.program.Class.{Class};
+ghost use Rattle.vg_core.specs.declared.program.Method.{Method};
+ghost use Rattle.vg_core.specs.declared.program.Target.{Target};
+ghost use Rattle.vg_renamed.specs.NamesTell.{Inherited};
+ghost use Rattle.vg_types_tables.specs.Declares.{IsClass};
 ghost use Rattle.vg_core.specs.Naming.{Naming, keyed, named, named_classes, named_components, routines_at};
 ghost use Rattle.vg_core.specs.Meaning.{defaults};
 ghost use Rattle.vg_types_tables.specs.declared.declared.Declared.{Declared};
@@ -36,4 +43,25 @@ pub fn program_named()
         → routines_at n p (targets_from 0 0 0 ds) ≡ with_numbers 0 (routines_in ds ds) }
     ensures whole { (texts : List (List ℕ)) (ds : Node) (d : Declared) (p : Program) → Keeps ds → Left texts ds d → p.tables ≡ d.tables
         → IsAdded (naming texts d) p ds → program_of ds ≡ named (naming texts d) p }
+{}
+
+/// Names tell numbers apart, and what is inherited is what the first class of a chain declares.
+pub fn names_tell()
+    ensures classes { (texts : List (List ℕ)) (ds : Node) (d : Declared) → Keeps ds → Left texts ds d
+        → (c e : ℕ) (k l : Class) → slice_get d.tables.classes c ≡ Some k → slice_get d.tables.classes e ≡ Some l
+        → bytes_eq ((naming texts d).class c) ((naming texts d).class e) ≡ (c == e) }
+    ensures above { (texts : List (List ℕ)) (ds : Node) (d : Declared) → Keeps ds → Left texts ds d
+        → (c e : ℕ) → is_below d.tables c e ≡ true → IsClass d.tables e }
+    ensures components { (texts : List (List ℕ)) (ds : Node) (d : Declared) → Keeps ds → Left texts ds d
+        → (j k x y : ℕ) → slice_get d.tables.components j ≡ Some x → slice_get d.tables.components k ≡ Some y
+        → bytes_eq ((naming texts d).component j) ((naming texts d).component k) ≡ (j == k) }
+    ensures owners { (texts : List (List ℕ)) (ds : Node) (d : Declared) → Keeps ds → Left texts ds d
+        → (i c : ℕ) (x : Method) → slice_get d.tables.methods i ≡ Some x → x.owner ≡ InClass c
+        → ((naming texts d).method i).owner ≡ (naming texts d).class c }
+    ensures selectors { (texts : List (List ℕ)) (ds : Node) (d : Declared) → Keeps ds → Left texts ds d
+        → (i : ℕ) (x : Method) → slice_get d.tables.methods i ≡ Some x → (naming texts d).selector x.selector ≡ ((naming texts d).method i).name }
+    ensures inherits { (texts : List (List ℕ)) (ds : Node) (d : Declared) → Keeps ds → Left texts ds d
+        → (c s m : ℕ) → dispatch d.tables c s ≡ Some m → Inherited d.tables c s m }
+    ensures targets { (texts : List (List ℕ)) (ds : Node) (d : Declared) → Keeps ds → Left texts ds d
+        → (t : Target) (g : Signature) → signature_of d.tables t ≡ Some g → (i : ℕ) × (slice_get d.tables.targets i ≡ Some t) }
 {}
