@@ -7,3 +7,5 @@ pub mod Routines
 pub mod Methods
 pub mod Apart
 pub mod Telling
+pub mod Keys
+pub mod Tell

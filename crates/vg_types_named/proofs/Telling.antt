@@ -107,7 +107,7 @@ module _ (p : Tables) (s : ℕ) where
   along : (own : List (List ℕ))
       → ((c j m : ℕ) → slice_get (own_at (slice_get own c)) j ≡ Some m → (y : Method) × (slice_get p.methods m ≡ Some y) × (y.owner ≡ InClass c))
       → ((m c : ℕ) (y : Method) → slice_get p.methods m ≡ Some y → y.owner ≡ InClass c
-        → (j : ℕ) × (slice_get (own_at (slice_get own c)) j ≡ Some m))
+      → (j : ℕ) × (slice_get (own_at (slice_get own c)) j ≡ Some m))
       → (cs : List ℕ) (m : ℕ) → find_selector p (methods_on own cs) s ≡ Some m → Leading cs m
   along own back forth [] m e = cc
   along own back forth (c ∷ cs) m e =

@@ -1,14 +1,17 @@
 // Tables with names in place of numbers.
-ghost use Rattle.std.specs.Prelude.{◌≡◌, ℕ, ◌==◌, List, true, Some, slice_get, bytes_eq};
+ghost use Rattle.std.specs.Prelude.{◌≡◌, ℕ, ◌==◌, List, true, None, Some, slice_get, bytes_eq};
 ghost use Rattle.vg_syntax.specs.Tree.{Node};
 ghost use Rattle.vg_source.specs.Program.{classes_in, components_in, globals_in, routines_in, with_numbers, program_of};
-ghost use Rattle.vg_core.specs.Program.{Program, Signature, signature_of};
+ghost use Rattle.vg_core.specs.Program.{Body, Program, Signature, signature_of, body_of};
 ghost use Rattle.vg_core.specs.Tables.{is_below, dispatch};
 ghost use Rattle.vg_core.specs.declared.program.Owner.TheVariants.{InClass};
 ghost use Rattle.vg_core.specs.declared.program.Class.{Class};
 ghost use Rattle.vg_core.specs.declared.program.Method.{Method};
 ghost use Rattle.vg_core.specs.declared.program.Target.{Target};
-ghost use Rattle.vg_renamed.specs.NamesTell.{Inherited};
+ghost use Rattle.vg_renamed.specs.NamesTell.{Inherited, NamesTell};
+ghost use Rattle.vg_renamed.specs.IsNamed.{KeysTell};
+ghost use Rattle.vg_rules.specs.Signatures.{signatures_breach};
+ghost use Rattle.vg_types_named.specs.Members.{have_members};
 ghost use Rattle.vg_types_tables.specs.Declares.{IsClass};
 ghost use Rattle.vg_core.specs.Naming.{Naming, keyed, named, named_classes, named_components, routines_at};
 ghost use Rattle.vg_core.specs.Meaning.{defaults};
@@ -45,8 +48,18 @@ pub fn program_named()
         → IsAdded (naming texts d) p ds → program_of ds ≡ named (naming texts d) p }
 {}
 
-/// Names tell numbers apart, and what is inherited is what the first class of a chain declares.
+/// Where rule 6 is kept too, the names of the tables tell their numbers apart; so do those of a program that has a body for all that can be called.
 pub fn names_tell()
+    ensures fields { (texts : List (List ℕ)) (ds : Node) (d : Declared) → Keeps ds → signatures_breach ds ds ≡ None → have_members ds ≡ true
+        → Left texts ds d → KeysTell (naming texts d) d.tables }
+    ensures program { (texts : List (List ℕ)) (ds : Node) (d : Declared) (p : Program) → Keeps ds → signatures_breach ds ds ≡ None
+        → have_members ds ≡ true → Left texts ds d → p.tables ≡ d.tables
+        → ((t : Target) (g : Signature) → signature_of p.tables t ≡ Some g → (b : Body) × (body_of p t ≡ Some b)) → NamesTell (naming texts d) p }
+{}
+
+/// The names of classes and of components tell their numbers apart, methods have the names of their classes and of their selectors, what is inherited is
+/// what the first class of a chain declares, and all that has a signature is among what can be called.
+pub fn tables_tell()
     ensures classes { (texts : List (List ℕ)) (ds : Node) (d : Declared) → Keeps ds → Left texts ds d
         → (c e : ℕ) (k l : Class) → slice_get d.tables.classes c ≡ Some k → slice_get d.tables.classes e ≡ Some l
         → bytes_eq ((naming texts d).class c) ((naming texts d).class e) ≡ (c == e) }

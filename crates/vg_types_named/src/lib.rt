@@ -3,4 +3,4 @@
 
 mod laws;
 
-pub use laws::{names_tell, program_named, tables_named, targets_agree};
+pub use laws::{names_tell, program_named, tables_named, tables_tell, targets_agree};

@@ -1,6 +1,6 @@
 use Rattle.std.proofs.Common.{slice_get, ap, ◌∙◌}
 use Rattle.vg_types_named.proofs.Telling.{classes_tell, above, components_tell, owners, selectors, inherits, targets}
-use Rattle.vg_types_named.proofs.laws.names_tell.Goals as goal
+use Rattle.vg_types_named.proofs.laws.tables_tell.Goals as goal
 
 pub returns-clause-classes : goal.returns-clause-classes
 returns-clause-classes c texts ds d k l = classes_tell texts ds l.types l.heads l.homes d k l.left
