@@ -1,5 +1,5 @@
 -- Names apart: those of classes and those of components, and those of the members of one class or component.
-use Rattle.std.proofs.Common.{◌≡◌, ℕ, zero, suc, Bool, true, false, not, ◌&&◌, ◌||◌, List, [], ◌∷◌, Option, Some, None, slice_get, bytes_eq, Decides}
+use Rattle.std.proofs.Common.{◌≡◌, ℕ, zero, suc, Bool, true, false, not, ◌&&◌, ◌||◌, List, [], ◌∷◌, Option, Some, None, slice_get, bytes_eq}
 use Rattle.std.proofs.Common.{refl, sym, ap, ◌∙◌}
 use Rattle.std.proofs.lemmas.Slice.Eq.{bytes_eq-Decides}
 use Rattle.vg_syntax.specs.Tree.{Spot, Node, Then, ClassDecl, ComponentDecl, DeviceDecl, ProgramDecl, FieldDecl, MethodDecl, ConstructorDecl}
@@ -16,6 +16,12 @@ use Rattle.vg_types_named.specs.Members.{are_members, have_members}
 none_or : (a b : Option Breach) → a or b ≡ None → (a ≡ None) × (b ≡ None)
 none_or None b e = (refl, e)
 none_or (Some a) b e = cc
+
+none_of_three : (a b c : Option Breach) → a or b or c ≡ None → (a ≡ None) × (c ≡ None)
+none_of_three a b c e = let k = none_or a (b or c) e in (k.0, (none_or b c k.1).1)
+
+none_of_four : (a b c d : Option Breach) → a or b or c or d ≡ None → (a ≡ None) × (d ≡ None)
+none_of_four a b c d e = let k = none_or a (b or c or d) e in (k.0, (none_of_three b c d k.1).1)
 
 none_asked : (b : Bool) (rule : ℕ) (at : Spot) → asks b rule at ≡ None → b ≡ true
 none_asked true rule at e = refl
@@ -118,20 +124,18 @@ AllDiffer _ = Unit {0}
 differ : (ds : Node) (home : Home) (seen : List Name) (made : Bool) (ms : Node) → members_breach ds home seen made ms ≡ None → are_members ms ≡ true
     → Differ seen ms
 differ ds home seen made (Then (FieldDecl at x t e) rest) b a =
-    let k = none_or (asks (not (is_among seen x)) 6 at) _ b in
-    let l = none_or (asks (type_keeps ds t) 8 at) (members_breach ds home (x ∷ seen) made rest) k.1 in
-    (not_true (is_among seen x) (none_asked (not (is_among seen x)) 6 at k.0), differ ds home (x ∷ seen) made rest l.1 a)
+    let k = none_of_three (asks (not (is_among seen x)) 6 at) (asks (type_keeps ds t) 8 at) (members_breach ds home (x ∷ seen) made rest) b in
+    (not_true (is_among seen x) (none_asked (not (is_among seen x)) 6 at k.0), differ ds home (x ∷ seen) made rest k.1 a)
 differ ds home seen made (Then (MethodDecl at x ps t body) rest) b a =
-    let k = none_or (asks (not (is_among seen x)) 6 at) _ b in
-    let l = none_or (asks (param_types_keep ds ps && type_keeps ds t) 8 at) _ k.1 in
-    let m = none_or (asks (params_differ ps) 11 at) (members_breach ds home (x ∷ seen) made rest) l.1 in
-    (not_true (is_among seen x) (none_asked (not (is_among seen x)) 6 at k.0), differ ds home (x ∷ seen) made rest m.1 a)
+    let k = none_of_four (asks (not (is_among seen x)) 6 at) (asks (param_types_keep ds ps && type_keeps ds t) 8 at) (asks (params_differ ps) 11 at)
+    (members_breach ds home (x ∷ seen) made rest) b in
+    (not_true (is_among seen x) (none_asked (not (is_among seen x)) 6 at k.0), differ ds home (x ∷ seen) made rest k.1 a)
 differ ds home seen made (Then (ConstructorDecl at ps calls args body) rest) b a =
-    let k = none_or (asks (not made) 6 at) _ b in
-    let l = none_or (asks (param_types_keep ds ps) 8 at) _ k.1 in
-    let m = none_or (asks (constructor_keeps home ps calls) 9 at) _ l.1 in
-    let n = none_or (asks (params_differ ps) 11 at) (members_breach ds home seen true rest) m.1 in
-    differ ds home seen true rest n.1 a
+    let k = none_of_four (asks (param_types_keep ds ps) 8 at) (asks (constructor_keeps home ps calls) 9 at) (asks (params_differ ps) 11 at)
+    (members_breach ds home seen true rest)
+    (none_or (asks (not made) 6 at) (asks (param_types_keep ds ps) 8 at or asks (constructor_keeps home ps calls) 9 at
+    or asks (params_differ ps) 11 at or members_breach ds home seen true rest) b).1 in
+    differ ds home seen true rest k.1 a
 differ ds home seen made (Then _ rest) b a = cc
 differ ds home seen made _ b a = tt
 

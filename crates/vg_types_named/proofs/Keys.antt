@@ -1,10 +1,8 @@
 -- Fields and methods by their owners and their names: no two have one of both, since no two members of one class or component have one name.
-use Rattle.std.proofs.Common.{◌≡◌, ℕ, zero, suc, ◌+◌, ◌<◌, Bool, true, false, ◌||◌, List, [], ◌∷◌, ◌++◌, length, map, Some, slice_get, bytes_eq, Decides}
+use Rattle.std.proofs.Common.{◌≡◌, ℕ, suc, ◌<◌, true, false, List, [], ◌∷◌, ◌++◌, length, map, Some, slice_get, bytes_eq}
 use Rattle.std.proofs.Common.{refl, sym, ap, ◌∙◌, subst, arith}
-use Rattle.std.proofs.lemmas.Slice.Eq.{bytes_eq-Decides}
 use Rattle.vg_syntax.specs.Tree.{Node, Then, FieldDecl, MethodDecl, ClassDecl, ComponentDecl}
 use Rattle.vg_source.specs.Names.{Name, is_among}
-use Rattle.vg_source.specs.Types.{StaticType}
 use Rattle.vg_source.specs.Declared.{written_type}
 use Rattle.vg_core.specs.declared.program.Owner.{Owner}
 use Rattle.vg_core.specs.declared.program.Owner.TheVariants.{InClass, InComponent}
@@ -46,9 +44,6 @@ tells_more o seen x ks t n = record {
   mine = λ i y e. by_mine i y (at_last ks (o, x) i (o, y) e);
 }
   where
-    name_of : Key → Name
-    name_of k = k.1
-
     by_one : (i j : ℕ) (a : Key) → At ks (o, x) i a → At ks (o, x) j a → i ≡ j
     by_one i j a (earlier e) (earlier f) = t.one i j a e f
     by_one i j a (last e g) (last f h) = e ∙ sym f
@@ -174,8 +169,8 @@ component_ones v ms d a = record {
 
     o : HomeOnes (with_members (record { owner = InComponent (length v.component_members); slot = length v.globals }) ms (home_starts v))
     o = home_ones (record { owner = InComponent (length v.component_members); slot = length v.globals }) ms (home_starts v) [] d
-        (record { one = a.fields; mine = λ i x e. absurd (none (length v.component_members) (a.field_owners i (InComponent (length v.component_members), x) e)) })
-        (record { one = a.methods; mine = λ i x e. absurd (none (length v.component_members) (a.method_owners i (InComponent (length v.component_members), x) e)) })
+        (record { one = a.fields; mine = λ i x e. absurd (none (length v.component_members) (a.field_owners i (InComponent _, x) e)) })
+        (record { one = a.methods; mine = λ i x e. absurd (none (length v.component_members) (a.method_owners i (InComponent _, x) e)) })
 
     r : HomeOf (InRange (length v.class_members) (suc (length v.component_members)))
         (with_members (record { owner = InComponent (length v.component_members); slot = length v.globals }) ms (home_starts v))

@@ -1,19 +1,18 @@
 -- The methods of classes and components, in order of the text: those that a class declares are its own ones, and nothing else stands among them; and
 -- all methods, classes and components can be called.
-use Rattle.std.proofs.Common.{◌≡◌, ℕ, zero, suc, ◌+◌, ◌<◌, List, [], ◌∷◌, ◌++◌, length, map, Option, Some, None, slice_get, refl, sym, ap, ◌∙◌, subst, arith}
+use Rattle.std.proofs.Common.{◌≡◌, ℕ, zero, suc, ◌+◌, ◌<◌, List, [], ◌∷◌, ◌++◌, length, map, Some, slice_get, refl, sym, ap, ◌∙◌, subst, arith}
 use Rattle.std.proofs.lemmas.Option.{slice_get-map}
 use Rattle.std.specs.Option.{option_map}
 use Rattle.vg_syntax.specs.Tree.{Node, Then, FieldDecl, MethodDecl, ClassDecl, ComponentDecl}
 use Rattle.vg_source.specs.Names.{Name}
 use Rattle.vg_source.specs.Types.{StaticType}
 use Rattle.vg_source.specs.Declared.{written_type}
-use Rattle.vg_core.specs.declared.program.Owner.{Owner}
 use Rattle.vg_core.specs.declared.program.Owner.TheVariants.{InClass, InComponent}
 use Rattle.vg_core.specs.declared.program.Target.{Target}
 use Rattle.vg_core.specs.declared.program.Target.TheVariants.{Run, Construct, Start}
 use Rattle.vg_types_hierarchy.specs.Inherited.{own_at}
 use Rattle.vg_types_members.specs.declared.member.Home.{Home}
-use Rattle.vg_types_members.specs.Members.{MethodView, HomeView, with_field, with_method, with_member, with_members, written_params}
+use Rattle.vg_types_members.specs.Members.{MethodView, HomeView, with_field, with_method, with_members, written_params}
 use Rattle.vg_types_homes.specs.Homes.{HomesView, no_view, home_starts, with_class, with_component, with_declarations}
 use Rattle.vg_types_declared.proofs.Maps.{At, earlier, last, at_last}
 use Rattle.vg_types_declared.proofs.Members.{Stays, members_stay}
@@ -111,6 +110,11 @@ next (suc n) (suc c) h = by (next n c (omega (arith, h)))
     by (within e) = within (omega (arith, e))
     by (newer e) = newer (ap suc e)
 
+-- what stands among the own things of the newest class
+at_new : (xs : List (List ℕ)) (ys : List ℕ) (c j m : ℕ) → c ≡ length xs → slice_get ys j ≡ Some m
+    → slice_get (own_at (slice_get (xs ++ ys ∷ []) c)) j ≡ Some m
+at_new xs ys c j m e g = ap (λ x. slice_get (own_at x) j) (at_end xs ys c e) ∙ g
+
 class_own : (v : HomesView) (ms : Node) → AllOwn v → AllOwn (with_class ms v)
 class_own v ms a = record {
   forth = λ m c t e o. by_class m c t (s.each m t e) o;
@@ -138,8 +142,7 @@ class_own v ms a = record {
         → t.owner ≡ InClass c → (j : ℕ) × (slice_get (own_at (slice_get (with_class ms v).class_methods c)) j ≡ Some m)
     by_class m c t (before e) o = let b = a.forth m c t e o in (b.0, own_stays v.class_methods h.own.methods c b.0 m b.1)
     by_class m c t (own j p g) o =
-        let n : c ≡ length v.class_methods = same_class c (length v.class_members) (sym o ∙ p) ∙ a.counts in
-        (j, ap (λ x. slice_get (own_at x) j) (at_end v.class_methods h.own.methods c n) ∙ g)
+        (j, at_new v.class_methods h.own.methods c j m (same_class c (length v.class_members) (sym o ∙ p) ∙ a.counts) g)
 
     by_back : (c j m : ℕ) → OwnOf v.class_methods h.own.methods c j m
         → (t : MethodView) × (slice_get (with_class ms v).methods m ≡ Some t) × (t.owner ≡ InClass c)

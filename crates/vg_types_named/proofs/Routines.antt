@@ -1,21 +1,28 @@
 -- What runs, in order of the text; and the whole program.
-use Rattle.std.proofs.Common.{◌≡◌, ℕ, suc, ◌+◌, List, ◌∷◌, ◌++◌, Some, refl, sym, ap, ◌∙◌, arith}
+use Rattle.std.proofs.Common.{◌≡◌, ℕ, suc, ◌+◌, List, ◌∷◌, ◌++◌, Some, refl, sym, ap, ◌∙◌, arith, slice_get, None, true, subst, zero}
 use Rattle.vg_syntax.specs.Tree.{Node, Then, ClassDecl, ComponentDecl, MethodDecl}
 use Rattle.vg_source.specs.Names.{Name}
 use Rattle.vg_source.specs.Steps as source
 use Rattle.vg_source.specs.Resolved.{Owner, InClass, InComponent}
 use Rattle.vg_source.specs.Program.{constructor_in, construction, initialisation, methods_in, routines_in, with_numbers, program_of}
-use Rattle.vg_core.specs.Program.{Program, body_of}
+use Rattle.vg_core.specs.Program.{Body, Program, Signature, signature_of, body_of}
 use Rattle.vg_core.specs.declared.program.Target.{Target}
 use Rattle.vg_core.specs.Naming.{Naming, routine_at, routines_at, named, keyed, named_classes, named_components}
 use Rattle.vg_core.specs.Meaning.{defaults}
 use Rattle.vg_types_tables.specs.declared.declared.Declared.{Declared}
 use Rattle.vg_types_tables.specs.Views.{naming}
+use Rattle.vg_rules.specs.Signatures.{signatures_breach}
+use Rattle.vg_renamed.specs.NamesTell.{NamesTell}
 use Rattle.vg_types_declared.specs.Named.{Keeps}
+use Rattle.vg_types_declared.proofs.Slotting.{Of, first, second, of_two}
 use Rattle.vg_types_named.specs.Left.{Left}
 use Rattle.vg_types_named.specs.Targets.{count_methods, method_targets, targets_from}
 use Rattle.vg_types_named.specs.Routines.{Runs, MethodsRun, AllRun, IsAdded}
+use Rattle.vg_types_named.specs.Members.{have_members}
 use Rattle.vg_types_named.proofs.Signed.{targets}
+use Rattle.vg_types_named.proofs.Telling.{one_some}
+use Rattle.vg_types_named.proofs.Telling.{targets as signed_stands}
+use Rattle.vg_types_named.proofs.Tell.{names_tell}
 use Rattle.vg_types_named.proofs.Tables.{components, classes, globals}
 
 module _ (n : Naming) (p : Program) (ds : Node) where
@@ -49,6 +56,42 @@ module _ (n : Naming) (p : Program) (ds : Node) where
       (all_run c (suc k) (m + count_methods ms) rest u.2))
   all_run c k m (Then _ rest) u = all_run c k m rest u
   all_run c k m _ u = refl
+
+  -- ---- bodies
+
+  -- what can be called has a body
+  abbrev HasBody : Target → Type 0
+  HasBody t = (b : Body) × (body_of p t ≡ Some b)
+
+  has_body : (t u : Target) (r : source.Routine) → Runs n p t r → Some t ≡ Some u → HasBody u
+  has_body t u r run e = subst HasBody (one_some t u e) (run.body, run.there)
+
+  method_bodies : (o : Owner) (c : Name) (m : ℕ) (ms : Node) → MethodsRun n p ds o c m ms → (i : ℕ) (t : Target) → slice_get (method_targets m ms) i ≡ Some t
+      → HasBody t
+  method_bodies o c m (Then (MethodDecl at x ps u body) rest) r zero t e = has_body _ t _ r.0 e
+  method_bodies o c m (Then (MethodDecl at x ps u body) rest) r (suc i) t e = method_bodies o c (suc m) rest r.1 i t e
+  method_bodies o c m (Then _ rest) r i t e = method_bodies o c m rest r i t e
+  method_bodies o c m _ r i t e = cc
+
+  behind_methods : (o : Owner) (c : Name) (m : ℕ) (ms : Node) (ts : List Target) → MethodsRun n p ds o c m ms
+      → ((i : ℕ) (t : Target) → slice_get ts i ≡ Some t → HasBody t) → (i : ℕ) (t : Target) → slice_get (method_targets m ms ++ ts) i ≡ Some t → HasBody t
+  behind_methods o c m ms ts r h i t e = by (of_two (method_targets m ms) ts i t e)
+    where
+      by : Of (method_targets m ms) ts i t → HasBody t
+      by (first f) = method_bodies o c m ms r i t f
+      by (second j f g) = h j t g
+
+  all_bodies : (c k m : ℕ) (rest : Node) → AllRun n p ds c k m rest → (i : ℕ) (t : Target) → slice_get (targets_from c k m rest) i ≡ Some t → HasBody t
+  all_bodies c k m (Then (ClassDecl at x above ms) rest) r zero t e = has_body _ t _ r.0 e
+  all_bodies c k m (Then (ClassDecl at x above ms) rest) r (suc i) t e =
+      behind_methods (InClass x) x m ms (targets_from (suc c) k (m + count_methods ms) rest) r.1
+      (all_bodies (suc c) k (m + count_methods ms) rest r.2) i t e
+  all_bodies c k m (Then (ComponentDecl at x ms) rest) r zero t e = has_body _ t _ r.0 e
+  all_bodies c k m (Then (ComponentDecl at x ms) rest) r (suc i) t e =
+      behind_methods (InComponent x) x m ms (targets_from c (suc k) (m + count_methods ms) rest) r.1
+      (all_bodies c (suc k) (m + count_methods ms) rest r.2) i t e
+  all_bodies c k m (Then _ rest) r i t e = all_bodies c k m rest r i t e
+  all_bodies c k m _ r i t e = cc
 
 pub routines : (n : Naming) (p : Program) (ds : Node) → AllRun n p ds 0 0 0 ds → routines_at n p (targets_from 0 0 0 ds) ≡ with_numbers 0 (routines_in ds ds)
 routines n p ds u = all_run n p ds 0 0 0 ds u
@@ -132,3 +175,13 @@ whole texts ds d p kept l t a =
     (sym (ap (λ z. named_components (naming texts d) z 0 z.components) t ∙ components texts ds l.types l.heads l.homes d kept l.left))
     (sym (ap (λ z. keyed (naming texts d) z z.globals (defaults z z.globals)) t ∙ globals texts ds l.types l.heads l.homes d kept l.left))
     (sym a.literals_are) (sym a.main) (sym a.handlers)
+
+pub told : (texts : List (List ℕ)) (ds : Node) (d : Declared) (p : Program) → Keeps ds → signatures_breach ds ds ≡ None → have_members ds ≡ true
+    → Left texts ds d → p.tables ≡ d.tables → AllRun (naming texts d) p ds 0 0 0 ds → NamesTell (naming texts d) p
+told texts ds d p kept rule members l e r = names_tell texts ds d p kept rule members l e bodies
+  where
+    bodies : (t : Target) (g : Signature) → signature_of p.tables t ≡ Some g → (b : Body) × (body_of p t ≡ Some b)
+    bodies t g f =
+        let s = signed_stands texts ds l.types l.heads l.homes d kept l.left t g (ap (λ z. signature_of z t) (sym e) ∙ f) in
+        all_bodies (naming texts d) p ds 0 0 0 ds r s.0 t
+        (ap (λ z. slice_get z s.0) (sym (targets texts ds l.types l.heads l.homes d kept l.left)) ∙ s.1)

@@ -1,14 +1,12 @@
 -- Names tell fields and methods apart: the names of their owners do, and their own names among those of one owner.
-use Rattle.std.proofs.Common.{◌≡◌, ℕ, zero, suc, ◌+◌, ◌<◌, ◌==◌, Bool, true, false, ◌&&◌, List, [], ◌∷◌, length, map, Option, Some, None}
-use Rattle.std.proofs.Common.{slice_get, bytes_eq, Decides, refl, sym, ap, ◌∙◌, subst, arith}
+use Rattle.std.proofs.Common.{◌≡◌, ℕ, ◌<◌, ◌==◌, Bool, true, false, ◌&&◌, List, [], length, map, Some, None}
+use Rattle.std.proofs.Common.{slice_get, bytes_eq, sym, ap, ◌∙◌, subst, arith}
 use Rattle.std.specs.Option.{option_map}
 use Rattle.std.proofs.lemmas.List.{length-map}
 use Rattle.std.proofs.lemmas.Option.{slice_get-map}
 use Rattle.std.proofs.lemmas.Slice.Eq.{bytes_eq-Decides}
 use Rattle.vg_syntax.specs.Tree.{Node}
 use Rattle.vg_tree.specs.Held as tree
-use Rattle.vg_source.specs.Names.{Name}
-use Rattle.vg_source.specs.Declared.{length_of}
 use Rattle.vg_rules.specs.Signatures.{signatures_breach}
 use Rattle.vg_core.specs.Naming.{Naming, owner_name}
 use Rattle.vg_core.specs.Naming as naming_core
@@ -25,7 +23,7 @@ use Rattle.vg_renamed.specs.IsNamed.{KeysTell}
 use Rattle.vg_renamed.specs.NamesTell.{Inherited, NamesTell}
 use Rattle.vg_types_views.specs.ByText.{found}
 use Rattle.vg_types_interned.specs.declared.table.Types.{Types}
-use Rattle.vg_types_members.specs.Members.{field_view, method_view}
+use Rattle.vg_types_members.specs.Members.{field_view}
 use Rattle.vg_types_hierarchy.specs.Slots.{with_slot}
 use Rattle.vg_types_heads.specs.declared.heads.Heads.{Heads}
 use Rattle.vg_types_homes.specs.declared.homes.Homes.{Homes}
@@ -40,7 +38,7 @@ use Rattle.vg_types_declared.proofs.Owning.{method_is}
 use Rattle.vg_types_named.specs.Left.{Left}
 use Rattle.vg_types_named.specs.Members.{have_members}
 use Rattle.vg_types_named.proofs.Apart.{both, homes_apart, all_differ}
-use Rattle.vg_types_named.proofs.Keys.{field_key, method_key, Ones, InRange, AllOnes, ones}
+use Rattle.vg_types_named.proofs.Keys.{field_key, method_key, InRange, AllOnes, ones}
 use Rattle.vg_types_named.proofs.Tables.{fields, class_there}
 use Rattle.vg_types_named.proofs.Telling.{same_test, one_some, class_here, one_class, one_component, classes_tell, components_tell, above, seen, held, owners}
 use Rattle.vg_types_named.proofs.Telling.{selectors, inherits, targets}

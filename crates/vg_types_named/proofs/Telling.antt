@@ -1,6 +1,6 @@
 -- Names tell numbers apart, class by class, and what is inherited is what the first class of a chain declares.
-use Rattle.std.proofs.Common.{◌≡◌, inl, inr, ℕ, zero, suc, ◌+◌, ◌<◌, ◌==◌, Bool, true, false, List, [], ◌∷◌, ◌++◌, length, map, Option, Some, None}
-use Rattle.std.proofs.Common.{slice_get, bytes_eq, Decides, if◌then◌else◌, refl, sym, ap, ◌∙◌, subst, arith}
+use Rattle.std.proofs.Common.{◌≡◌, inl, inr, ℕ, zero, suc, ◌<◌, ◌==◌, Bool, true, false, List, [], ◌∷◌, ◌++◌, length, map, Option, Some, None}
+use Rattle.std.proofs.Common.{slice_get, bytes_eq, if◌then◌else◌, refl, sym, ap, ◌∙◌, subst, arith}
 use Rattle.std.specs.Option.{option_map}
 use Rattle.std.proofs.lemmas.Bool.{eqb-true, eq-eqb}
 use Rattle.std.proofs.lemmas.List.{length-map}
@@ -8,7 +8,6 @@ use Rattle.std.proofs.lemmas.Option.{slice_get-map, slice_get_within}
 use Rattle.std.proofs.lemmas.Slice.Eq.{bytes_eq-Decides}
 use Rattle.vg_syntax.specs.Tree.{Node}
 use Rattle.vg_tree.specs.Held as tree
-use Rattle.vg_source.specs.Names.{Name}
 use Rattle.vg_source.specs.Declared.{or_else, length_of}
 use Rattle.vg_core.specs.Naming.{owner_name, method_key}
 use Rattle.vg_core.specs.Program.{Signature, signature_of, method_signature, making_signature, start_signature}
@@ -23,7 +22,7 @@ use Rattle.vg_renamed.specs.NamesTell.{DeclaresNone, DeclaresFirst, Inherited}
 use Rattle.vg_types_views.specs.ByText.{found}
 use Rattle.vg_types_interned.specs.declared.table.Types.{Types}
 use Rattle.vg_types_members.specs.Members.{MethodView, method_view}
-use Rattle.vg_types_hierarchy.specs.Classes.{above_number, the_class}
+use Rattle.vg_types_hierarchy.specs.Classes.{above_number}
 use Rattle.vg_types_hierarchy.specs.Inherited.{own_at, methods_on}
 use Rattle.vg_types_heads.specs.declared.heads.Heads.{Heads}
 use Rattle.vg_types_homes.specs.declared.homes.Homes.{Homes}

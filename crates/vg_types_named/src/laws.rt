@@ -40,12 +40,14 @@ pub fn targets_agree()
 {}
 
 /// Where each target runs what is written for it, all that runs is what the text says. And so the program is that of the text, where it adds to the
-/// tables what the text says.
+/// tables what the text says; and where rule 6 is kept too, its names tell its numbers apart.
 pub fn program_named()
     ensures routines { (n : Naming) (p : Program) (ds : Node) → AllRun n p ds 0 0 0 ds
         → routines_at n p (targets_from 0 0 0 ds) ≡ with_numbers 0 (routines_in ds ds) }
     ensures whole { (texts : List (List ℕ)) (ds : Node) (d : Declared) (p : Program) → Keeps ds → Left texts ds d → p.tables ≡ d.tables
         → IsAdded (naming texts d) p ds → program_of ds ≡ named (naming texts d) p }
+    ensures told { (texts : List (List ℕ)) (ds : Node) (d : Declared) (p : Program) → Keeps ds → signatures_breach ds ds ≡ None
+        → have_members ds ≡ true → Left texts ds d → p.tables ≡ d.tables → AllRun (naming texts d) p ds 0 0 0 ds → NamesTell (naming texts d) p }
 {}
 
 /// Where rule 6 is kept too, the names of the tables tell their numbers apart; so do those of a program that has a body for all that can be called.
