@@ -15,11 +15,10 @@ use Rattle.vg_rules.specs.Names.{names_breach, programs, classes_breach}
 use Rattle.vg_rules.specs.Signatures.{signatures_breach}
 use Rattle.vg_rules.specs.Inherited.{inherited_breach}
 use Rattle.vg_rules.specs.Entries.{entries_breach}
-use Rattle.vg_rules.specs.Legal.{breach_of, written_breach}
+use Rattle.vg_rules.specs.Legal.{written_breach}
 use Rattle.vg_rules.specs.Refusal as refused
 use Rattle.vg_rules.specs.Refusal.{Refused, too_many, broken_at, refusal_of}
-use Rattle.vg_types_names.specs.Declarations.{names_part}
-use Rattle.vg_types_signatures.specs.Parts.{declared_part}
+use Rattle.vg_types_check.specs.Asked.{asked_part}
 use Rattle.vg_first_text.specs.declared.device_write.DeviceWrite.{DeviceWrite}
 use Rattle.vg_first_text.specs.FirstText.{IsFirst}
 use Rattle.vg_texts.proofs.Values.{some_tree, one_tree}
@@ -46,25 +45,29 @@ some_same a b e = cc
 
 -- ---- what is asked of a tree
 
-or_again : (a b c : Option Breach) → (a or b) or c ≡ a or (b or c)
-or_again (Some x) b c = refl
-or_again None b c = refl
-
 -- what is refused today is refused for that by all the rules
 refused_again : (m : Option Refused) (a b : Option Breach) (r : Refused) → or_else m (broken_at a) ≡ Some r → or_else m (broken_at (a or b)) ≡ Some r
 refused_again (Some x) a b r e = e
 refused_again None (Some x) b r e = e
 refused_again None None b r e = let clash : None ≡ Some r = e in cc
 
+-- what is asked, and then what is written in bodies
+asked_and_written : (names program classes signatures inherited entries written : Option Breach)
+    → names or (program or (classes or (signatures or (inherited or (entries or written)))))
+    ≡ ((names or program) or ((classes or signatures) or (inherited or entries))) or written
+asked_and_written (Some x) program classes signatures inherited entries written = refl
+asked_and_written None (Some x) classes signatures inherited entries written = refl
+asked_and_written None None (Some x) signatures inherited entries written = refl
+asked_and_written None None None (Some x) inherited entries written = refl
+asked_and_written None None None None (Some x) entries written = refl
+asked_and_written None None None None None entries written = refl
+
 pub refused_is_refused : (tree : Node) (r : Refused) → refused_today tree ≡ Some r → refusal_of tree ≡ Some r
 refused_is_refused (Text at ds) r e =
-    let rest : Option Breach = inherited_breach ds ds or (entries_breach ds ds or written_breach ds ds) in
-    let whole : breach_of (Text at ds) ≡ (names_part (Text at ds) or declared_part (Text at ds)) or rest =
-    sym (or_again (names_part (Text at ds)) (declared_part (Text at ds)) rest
-    ∙ ap (λ x. names_part (Text at ds) or x) (or_again (classes_breach ds ds) (signatures_breach ds ds) rest)
-    ∙ or_again (names_breach [] ds) (asks (programs ds == 1) 2 at) (classes_breach ds ds or (signatures_breach ds ds or rest))) in
-    ap (λ b. or_else (too_many (Text at ds)) (broken_at b)) whole
-    ∙ refused_again (too_many (Text at ds)) (names_part (Text at ds) or declared_part (Text at ds)) rest r e
+    ap (λ b. or_else (too_many (Text at ds)) (broken_at b))
+    (asked_and_written (names_breach [] ds) (asks (programs ds == 1) 2 at) (classes_breach ds ds) (signatures_breach ds ds) (inherited_breach ds ds)
+    (entries_breach ds ds) (written_breach ds ds))
+    ∙ refused_again (too_many (Text at ds)) (asked_part (Text at ds)) (written_breach ds ds) r e
 refused_is_refused _ r e = e
 
 -- a text is not refused and kept

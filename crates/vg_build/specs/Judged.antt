@@ -8,18 +8,17 @@ use Rattle.vg_syntax.specs.Faults.{IsText}
 use Rattle.vg_syntax.specs.Reads.{Reads}
 use Rattle.vg_syntax.specs.Tree.{Node}
 use Rattle.vg_source.specs.Declared.{or_else}
-use Rattle.vg_rules.specs.Breach.{◌or◌}
 use Rattle.vg_rules.specs.Refusal.{Refused, TooMany, Broken, too_many, broken_at}
-use Rattle.vg_types_names.specs.Declarations.{names_part}
-use Rattle.vg_types_signatures.specs.Parts.{declared_part}
+use Rattle.vg_types_check.specs.Asked.{asked_part}
 use Rattle.vg_places.specs.Places.{place_at}
 use Rattle.vg_build.specs.declared.fault.Fault.{Fault}
 use Rattle.vg_build.specs.declared.fault.Fault.TheVariants as fault
 
--- What a tree is refused for today: too many of something, and then the rules on names, on classes above one another, and on what each declaration says
--- for itself. It is the first of all that a tree is refused for, where it is there.
+-- What a tree is refused for today: too many of something, and then the rules that are asked: on names, on classes above one another, on what each
+-- declaration says for itself, on what classes inherit, and on the entries of the program. It is the first of all that a tree is refused for, where it is
+-- there.
 abbrev pub refused_today : Node → Option Refused
-refused_today tree = or_else (too_many tree) (broken_at (names_part tree or declared_part tree))
+refused_today tree = or_else (too_many tree) (broken_at (asked_part tree))
 
 -- the place of the node of this number
 abbrev pub place_in : (id : ℕ) → Node → Place

@@ -9,9 +9,8 @@ use std::alloc::Global;
 use vg_base::{Names, NodeId, Place, Refusal};
 use vg_places::place_of;
 use vg_tree_walks::Tree;
+use vg_types_check::check;
 use vg_types_counts::{TooMany, too_many};
-use vg_types_names::declared_names;
-use vg_types_signatures::signatures;
 use vg_types_views::Broken;
 
 /// Whether a tree has too many of something, or breaks a rule that is asked.
@@ -22,12 +21,7 @@ pub(crate) fn judged(alloc: Global, names: &Names, tree: &Tree) -> Result<(), Re
     if let Some(many) = too_many(tree) {
         return Err(Refusal::Fault(too_many_fault(tree, many)));
     }
-    let declarations = match declared_names(alloc, names, tree) {
-        Ok(declarations) => declarations,
-        Err(Refusal::Fault(broken)) => return Err(Refusal::Fault(broken_fault(tree, broken))),
-        Err(Refusal::NoMemory) => return Err(Refusal::NoMemory),
-    };
-    match signatures(alloc, names, tree, &declarations) {
+    match check(alloc, names, tree) {
         Ok(()) => Ok(()),
         Err(Refusal::Fault(broken)) => Err(Refusal::Fault(broken_fault(tree, broken))),
         Err(Refusal::NoMemory) => Err(Refusal::NoMemory),

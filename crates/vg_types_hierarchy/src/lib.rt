@@ -5,5 +5,5 @@ mod classes;
 mod inherited;
 mod slots;
 
-pub use classes::{above_numbers, classes_of};
+pub use classes::{Parts, above_numbers, classes_of};
 pub use slots::with_slots;
