@@ -85,14 +85,14 @@ module _ (texts : List (List ℕ)) (d : Declared) where
   in_front [] rest = rest
   in_front (c ∷ cs) rest = Then (code_view texts d c) (in_front cs rest)
 
-  abbrev named : Code Step → Code SourceStep
+  abbrev pub named : Code Step → Code SourceStep
   named c = named_code (naming texts d) d.tables c
 
-  in_front_row : (cs : List held.Code) → in_front cs Nothing ≡ named (code_row cs)
+  pub in_front_row : (cs : List held.Code) → in_front cs Nothing ≡ named (code_row cs)
   in_front_row [] = refl
   in_front_row (c ∷ cs) = ap (Then (code_view texts d c)) (in_front_row cs)
 
-  in_front_more : (cs : List held.Code) (c : held.Code) (rest : Code SourceStep)
+  pub in_front_more : (cs : List held.Code) (c : held.Code) (rest : Code SourceStep)
       → in_front (cs ++ c ∷ []) rest ≡ in_front cs (Then (code_view texts d c) rest)
   in_front_more [] c rest = refl
   in_front_more (e ∷ cs) c rest = ap (Then (code_view texts d e)) (in_front_more cs c rest)

@@ -61,7 +61,7 @@ numbered_member i (MethodDecl at x ps t body) = refl
 numbered_member i (ConstructorDecl at ps calls args body) = refl
 numbered_member i _ = refl
 
-abbrev behind : List (List ℕ) → ℕ → held.Node → List held.Node → Node
+abbrev pub behind : List (List ℕ) → ℕ → held.Node → List held.Node → Node
 behind texts next d rest = numbered (next + count_nodes (node_at texts d)) (row_at texts rest)
 
 -- with the rest, all members are asked
@@ -81,18 +81,23 @@ module _ (ds : Node) (o : Owner) (above : Option Name) (texts : List (List ℕ))
       ∙ member_one ds o above (numbered next (node_at texts m)) (behind texts next m rest) (breaks_one ds o above (numbered next (node_at texts m)) b e)
       ∙ ap (λ z. z or bodies_breach ds o above (behind texts next m rest)) e
 
-  pub member_kept : (next after : ℕ) (m : held.Node) (rest : List held.Node) → Members ds o above texts all first next (m ∷ rest)
-      → is_member (node_at texts m) ≡ true → member_breach ds o above (numbered next (node_at texts m)) ≡ None
+  -- the same for what is a member with its number
+  pub member_kept_as : (next after : ℕ) (m : held.Node) (rest : List held.Node) → Members ds o above texts all first next (m ∷ rest)
+      → is_member (numbered next (node_at texts m)) ≡ true → member_breach ds o above (numbered next (node_at texts m)) ≡ None
       → after ≡ next + count_nodes (node_at texts m) → Members ds o above texts all first after rest
-  member_kept next after m rest p i e n =
+  member_kept_as next after m rest p i e n =
       let c = p.count in
       record {
-        breach = p.breach
-            ∙ member_one ds o above (numbered next (node_at texts m)) (behind texts next m rest) (numbered_member next (node_at texts m) ∙ i)
+        breach = p.breach ∙ member_one ds o above (numbered next (node_at texts m)) (behind texts next m rest) i
             ∙ ap (λ z. z or bodies_breach ds o above (behind texts next m rest)) e
             ∙ ap (λ k. bodies_breach ds o above (numbered k (row_at texts rest))) (sym n);
         count = omega (arith, c, n);
       }
+
+  pub member_kept : (next after : ℕ) (m : held.Node) (rest : List held.Node) → Members ds o above texts all first next (m ∷ rest)
+      → is_member (node_at texts m) ≡ true → member_breach ds o above (numbered next (node_at texts m)) ≡ None
+      → after ≡ next + count_nodes (node_at texts m) → Members ds o above texts all first after rest
+  member_kept next after m rest p i = member_kept_as next after m rest p (numbered_member next (node_at texts m) ∙ i)
 
 -- ---- declarations
 

@@ -5,4 +5,6 @@ mod members;
 mod owners;
 mod pass;
 
+pub use members::extent;
+pub use owners::class_above;
 pub use pass::written;

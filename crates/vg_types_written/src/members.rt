@@ -77,7 +77,7 @@ fn in_members(
 }
 
 /// How many nodes there are at and below a node.
-pub(crate) fn extent(names: &Names, node: &Node) -> u32
+pub fn extent(names: &Names, node: &Node) -> u32
     requires { count_nodes (node_at names.now node.now) < 2 ^ 32 }
     ensures { result ≡ count_nodes (node_at names.now node.now) }
 {

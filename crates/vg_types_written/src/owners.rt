@@ -49,7 +49,7 @@ pub(crate) fn component_owner(
 }
 
 /// The class above, where one is named.
-pub(crate) fn class_above(
+pub fn class_above(
     names: &Names,
     root: &Node,
     declared: &Declared,
