@@ -1,0 +1,5 @@
+mod Finding
+mod Making
+mod Walking
+mod Constructing
+mod Gathering

@@ -1,0 +1,16 @@
+use Rattle.std.proofs.Common.{refl}
+use Rattle.vg_syntax.specs.Numbering.{numbered}
+use Rattle.vg_tree.specs.Held.{node_at}
+use Rattle.vg_source.specs.Program.{constructor_in}
+use Rattle.vg_types_routines.proofs.Constructing.{class_done}
+use Rattle.vg_types_routines.proofs.homes.class_home.Goals as goal
+
+pub returns : goal.returns
+returns c = (
+  c.in-Ok.ensures.0,
+  class_done c.args.names.now c.args.root.now c.args.declared.now c.args.class c.args.above
+      (numbered c.args.first (node_at c.args.names.now c.args.members.now)) c.args.methods.items c.in-Ok.walked c.in_ok-constructed.constructed
+      (record { methods = c.in-Ok.walked.methods; body = c.in_ok-body.body }) (c.if-not-stands_below.ensures refl) c.in-Ok.ensures.1
+      (c.in_ok-constructed.ensures (constructor_in (numbered c.args.first (node_at c.args.names.now c.args.members.now))) c.in-Ok.ensures.1.made)
+      (record { others = c.in_ok-body.ensures.others; code = c.in_ok-body.ensures.code }) refl,
+)

@@ -1,0 +1,4 @@
+pub mod Bodies
+pub mod Walked
+pub mod Fields
+pub mod Homes

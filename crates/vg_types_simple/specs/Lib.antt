@@ -1,0 +1,3 @@
+pub mod Nodes
+pub mod Grows
+pub mod Asked

@@ -1,0 +1,4 @@
+pub mod Typing
+pub mod Rows
+pub mod ArmCodes
+pub mod ArmRows
