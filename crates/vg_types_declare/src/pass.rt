@@ -6,6 +6,7 @@ ghost use Rattle.vg_types_interned.specs.Types.{AreNumbered};
 ghost use Rattle.vg_types_tables.specs.Views.{declarations_at};
 ghost use Rattle.vg_types_tables.specs.Declares.{Declares};
 ghost use Rattle.vg_types_declared.specs.Named.{Keeps};
+ghost use Rattle.vg_types_named.specs.Left.{Left};
 ghost use Rattle.vg_types_declare.specs.Made.{AreHeads};
 
 use crate::heads::parts_of;
@@ -29,7 +30,8 @@ use vg_types_views::ByText;
 pub fn declare(alloc: Global, names: &Names, root: &Node) -> Result<Declared, NoMemory>
     requires keeps { Keeps (declarations_at names.now root.now) }
     requires room { 1 + count_nodes (node_at [] root.now) < 2 ^ 32 }
-    ensures { IfOk result (Declares names.now root.now) }
+    ensures declares { IfOk result (Declares names.now root.now) }
+    ensures left { IfOk result (Left names.now (declarations_at names.now root.now)) }
 {
     match root {
         Node::Row(nodes) => declare_row(alloc, names, root, nodes.as_slice()),
@@ -48,7 +50,8 @@ fn declare_row(
     requires row { (texts : List (List ℕ)) → node_at texts root.now ≡ row_at texts nodes.now }
     requires keeps { Keeps (declarations_at names.now root.now) }
     requires room { 1 + count_nodes (node_at [] root.now) < 2 ^ 32 }
-    ensures { IfOk result (Declares names.now root.now) }
+    ensures declares { IfOk result (Declares names.now root.now) }
+    ensures left { IfOk result (Left names.now (declarations_at names.now root.now)) }
 {
     let (classes, above, others) = parts_of(declared_heads(alloc, names, nodes)?);
     let types = types_of(alloc, names, root, classes)?;
@@ -85,7 +88,8 @@ fn declare_members(
     requires keeps { Keeps (declarations_at names.now root.now) }
     requires room { 1 + count_nodes (node_at [] root.now) < 2 ^ 32 }
     requires heads { AreHeads names.now (row_at names.now nodes.now) types.classes above others }
-    ensures { IfOk result (Declares names.now root.now) }
+    ensures declares { IfOk result (Declares names.now root.now) }
+    ensures left { IfOk result (Left names.now (declarations_at names.now root.now)) }
 {
     let homes = declared_homes(alloc, names, &types, nodes)?;
     let lists = lists_of(
