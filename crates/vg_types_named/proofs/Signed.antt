@@ -33,7 +33,7 @@ use Rattle.vg_types_named.proofs.Targets.{written, WrittenIn, AllWritten, target
 use Rattle.vg_types_named.proofs.Tables.{class_there}
 
 -- what stands first behind a list
-at_behind : {A : Type 0} (xs : List A) (y : A) (ys : List A) (i : ℕ) → length xs ≡ i → slice_get (xs ++ y ∷ ys) i ≡ Some y
+pub at_behind : {A : Type 0} (xs : List A) (y : A) (ys : List A) (i : ℕ) → length xs ≡ i → slice_get (xs ++ y ∷ ys) i ≡ Some y
 at_behind [] y ys i e = ap (slice_get (y ∷ ys)) (sym e)
 at_behind (x ∷ xs) y ys i e = ap (slice_get (x ∷ (xs ++ y ∷ ys))) (sym e) ∙ at_behind xs y ys (length xs) refl
 
