@@ -5,6 +5,7 @@ ghost use Rattle.vg_tree.specs.Held.{node_at};
 ghost use Rattle.vg_tree_walks.specs.Whole.{tree_at, node_count};
 ghost use Rattle.vg_source.specs.Program.{declarations_of};
 ghost use Rattle.vg_rules.specs.Names.{programs};
+ghost use Rattle.vg_rules.specs.Signatures.{signatures_breach};
 ghost use Rattle.vg_types_views.specs.Judges.{Judges};
 ghost use Rattle.vg_types_names.specs.Declarations.{are_declarations, names_part};
 ghost use Rattle.vg_types_signatures.specs.Parts.{declared_part};
@@ -53,6 +54,7 @@ fn check_text(alloc: Global, names: &Names, root: &Node) -> Result<(), Refusal<B
 // The first breach of these rules in declarations.
 fn check_members(alloc: Global, names: &Names, root: &Node) -> Result<(), Refusal<Broken>>
     requires keeps { Keeps (declarations_at names.now root.now) }
+    requires signatures { signatures_breach (declarations_at names.now root.now) (declarations_at names.now root.now) ≡ None }
     requires one { programs (declarations_at names.now root.now) ≡ 1 }
     requires room { 1 + count_nodes (node_at [] root.now) < 2 ^ 32 }
     ensures { Judges (λ u. Unit {0}) result (members_breach (declarations_at names.now root.now)) }

@@ -1,5 +1,5 @@
 -- What the passes over declarations left is declared.
-use Rattle.std.proofs.Common.{◌≡◌, ℕ, suc, ◌+◌, List, [], ◌∷◌, Option, length, map, refl, sym, ap, ◌∙◌, subst}
+use Rattle.std.proofs.Common.{◌≡◌, ℕ, suc, ◌+◌, true, List, [], ◌∷◌, Option, None, length, map, refl, sym, ap, ◌∙◌, subst}
 use Rattle.std.specs.Option.{option_map}
 use Rattle.std.proofs.lemmas.List.{length-map}
 use Rattle.vg_syntax.specs.Numbering.{count_nodes, numbered}
@@ -19,6 +19,11 @@ use Rattle.vg_types_literals.specs.declared.walk.Literals.{Literals}
 use Rattle.vg_types_tables.specs.declared.declared.Declared.{Declared}
 use Rattle.vg_types_tables.specs.Views.{declarations_at}
 use Rattle.vg_types_tables.specs.Declares.{IsFormed, Declares}
+use Rattle.vg_rules.specs.Signatures.{signatures_breach}
+use Rattle.vg_types_inherited.specs.Dispatches.{Dispatches}
+use Rattle.vg_types_declared.specs.Apart.{have_members, AreApart}
+use Rattle.vg_types_declared.proofs.Parting.{parted, have_same}
+use Rattle.vg_types_declare.proofs.Dispatching.{dispatches}
 use Rattle.vg_types_declared.specs.Heads.{Agree}
 use Rattle.vg_types_declared.specs.Lists.{class_list, Lists as Listed}
 use Rattle.vg_types_declared.specs.Built.{IsBuilt}
@@ -162,3 +167,10 @@ module _ (texts : List (List ℕ)) (root : held.Node) (nodes : List held.Node) (
 
   pub all_left : Left texts (declarations_at texts root) d
   all_left = record { types = types; heads = heads; homes = homes; left = left; targets = moved.target_table }
+
+  pub dispatched : signatures_breach (declarations_at texts root) (declarations_at texts root) ≡ None
+      → have_members (row_at texts nodes) ≡ true → Dispatches texts root d
+  dispatched kept_too shaped =
+      dispatches texts root types heads homes d kept left
+      (subst AreApart (sym left.homes_left)
+      (parted (declarations_at texts root) kept_too (have_same 1 (node_at texts root) ∙ ap have_members row ∙ shaped)))

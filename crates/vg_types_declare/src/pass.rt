@@ -1,16 +1,20 @@
 // The pass over declarations.
-ghost use Rattle.std.specs.Prelude.{◌≡◌, ◌<◌, ◌+◌, ◌^◌, ℕ, List, [], IfOk};
+ghost use Rattle.std.specs.Prelude.{◌≡◌, ◌<◌, ◌+◌, ◌^◌, true, ℕ, List, [], None, IfOk};
 ghost use Rattle.vg_syntax.specs.Numbering.{count_nodes};
 ghost use Rattle.vg_tree.specs.Held.{node_at, row_at};
+ghost use Rattle.vg_rules.specs.Signatures.{signatures_breach};
 ghost use Rattle.vg_types_interned.specs.Types.{AreNumbered};
 ghost use Rattle.vg_types_tables.specs.Views.{declarations_at};
 ghost use Rattle.vg_types_tables.specs.Declares.{Declares};
+ghost use Rattle.vg_types_inherited.specs.Dispatches.{Dispatches};
+ghost use Rattle.vg_types_declared.specs.Apart.{have_members};
 ghost use Rattle.vg_types_declared.specs.Named.{Keeps};
 ghost use Rattle.vg_types_named.specs.Left.{Left};
 ghost use Rattle.vg_types_declare.specs.Made.{AreHeads};
 
 use crate::heads::parts_of;
 use crate::made::{declared_of, lists_of};
+use crate::members::have_members;
 use crate::parts::Others;
 use std::alloc::Global;
 use vg_base::{Names, NoMemory, Row};
@@ -29,14 +33,39 @@ use vg_types_views::ByText;
 /// by want of memory.
 pub fn declare(alloc: Global, names: &Names, root: &Node) -> Result<Declared, NoMemory>
     requires keeps { Keeps (declarations_at names.now root.now) }
+    requires signatures { signatures_breach (declarations_at names.now root.now) (declarations_at names.now root.now) ≡ None }
     requires room { 1 + count_nodes (node_at [] root.now) < 2 ^ 32 }
     ensures declares { IfOk result (Declares names.now root.now) }
     ensures left { IfOk result (Left names.now (declarations_at names.now root.now)) }
+    ensures dispatches { IfOk result (Dispatches names.now root.now) }
 {
     match root {
-        Node::Row(nodes) => declare_row(alloc, names, root, nodes.as_slice()),
+        Node::Row(nodes) => declare_shaped(alloc, names, root, nodes.as_slice()),
         // A tree that no text has.
         _ => Err(NoMemory),
+    }
+}
+
+// The tables of the declarations of a row, where members alone stand in its classes.
+fn declare_shaped(
+    alloc: Global,
+    names: &Names,
+    root: &Node,
+    nodes: &[Node],
+) -> Result<Declared, NoMemory>
+    requires row { (texts : List (List ℕ)) → node_at texts root.now ≡ row_at texts nodes.now }
+    requires keeps { Keeps (declarations_at names.now root.now) }
+    requires signatures { signatures_breach (declarations_at names.now root.now) (declarations_at names.now root.now) ≡ None }
+    requires room { 1 + count_nodes (node_at [] root.now) < 2 ^ 32 }
+    ensures declares { IfOk result (Declares names.now root.now) }
+    ensures left { IfOk result (Left names.now (declarations_at names.now root.now)) }
+    ensures dispatches { IfOk result (Dispatches names.now root.now) }
+{
+    if have_members(nodes) {
+        declare_row(alloc, names, root, nodes)
+    } else {
+        // A tree that no text has.
+        Err(NoMemory)
     }
 }
 
@@ -49,9 +78,12 @@ fn declare_row(
 ) -> Result<Declared, NoMemory>
     requires row { (texts : List (List ℕ)) → node_at texts root.now ≡ row_at texts nodes.now }
     requires keeps { Keeps (declarations_at names.now root.now) }
+    requires signatures { signatures_breach (declarations_at names.now root.now) (declarations_at names.now root.now) ≡ None }
+    requires members { (texts : List (List ℕ)) → have_members (row_at texts nodes.now) ≡ true }
     requires room { 1 + count_nodes (node_at [] root.now) < 2 ^ 32 }
     ensures declares { IfOk result (Declares names.now root.now) }
     ensures left { IfOk result (Left names.now (declarations_at names.now root.now)) }
+    ensures dispatches { IfOk result (Dispatches names.now root.now) }
 {
     let (classes, above, others) = parts_of(declared_heads(alloc, names, nodes)?);
     let types = types_of(alloc, names, root, classes)?;
@@ -86,10 +118,13 @@ fn declare_members(
 ) -> Result<Declared, NoMemory>
     requires row { (texts : List (List ℕ)) → node_at texts root.now ≡ row_at texts nodes.now }
     requires keeps { Keeps (declarations_at names.now root.now) }
+    requires signatures { signatures_breach (declarations_at names.now root.now) (declarations_at names.now root.now) ≡ None }
+    requires members { (texts : List (List ℕ)) → have_members (row_at texts nodes.now) ≡ true }
     requires room { 1 + count_nodes (node_at [] root.now) < 2 ^ 32 }
     requires heads { AreHeads names.now (row_at names.now nodes.now) types.classes above others }
     ensures declares { IfOk result (Declares names.now root.now) }
     ensures left { IfOk result (Left names.now (declarations_at names.now root.now)) }
+    ensures dispatches { IfOk result (Dispatches names.now root.now) }
 {
     let homes = declared_homes(alloc, names, &types, nodes)?;
     let lists = lists_of(

@@ -21,11 +21,11 @@ use Rattle.vg_types_declared.specs.Dispatch.{has_name, named_first, Leads, Dispa
 
 -- ---- lists with one thing more
 
-count_push : {A : Type 0} (xs : List A) (c : A) → length (xs ++ c ∷ []) ≡ suc (length xs)
+pub count_push : {A : Type 0} (xs : List A) (c : A) → length (xs ++ c ∷ []) ≡ suc (length xs)
 count_push [] c = refl
 count_push (x ∷ xs) c = ap suc (count_push xs c)
 
-data Pushed {A : Type 0} (xs : List A) (y : A) (i : ℕ) : Type 0 where
+pub data Pushed {A : Type 0} (xs : List A) (y : A) (i : ℕ) : Type 0 where
   inside : slice_get (xs ++ y ∷ []) i ≡ slice_get xs i → Pushed xs y i
   at_end : slice_get (xs ++ y ∷ []) i ≡ Some y → i ≡ length xs → Pushed xs y i
 
@@ -33,13 +33,13 @@ pushed_later : {A : Type 0} (x : A) (xs : List A) (y : A) (i : ℕ) → Pushed x
 pushed_later x xs y i (inside e) = inside e
 pushed_later x xs y i (at_end e f) = at_end e (ap suc f)
 
-pushed : {A : Type 0} (xs : List A) (y : A) (i : ℕ) → Pushed xs y i
+pub pushed : {A : Type 0} (xs : List A) (y : A) (i : ℕ) → Pushed xs y i
 pushed [] y zero = at_end refl refl
 pushed [] y (suc i) = inside refl
 pushed (x ∷ xs) y zero = inside refl
 pushed (x ∷ xs) y (suc i) = pushed_later x xs y i (pushed xs y i)
 
-last_is : {A : Type 0} (xs : List A) (y : A) → slice_get (xs ++ y ∷ []) (length xs) ≡ Some y
+pub last_is : {A : Type 0} (xs : List A) (y : A) → slice_get (xs ++ y ∷ []) (length xs) ≡ Some y
 last_is [] y = refl
 last_is (x ∷ xs) y = last_is xs y
 
@@ -50,7 +50,7 @@ before_last (x ∷ xs) y (suc i) h = before_last xs y i (omega (arith, h))
 
 -- ---- methods that are there
 
-abbrev Inside : List MethodView → List ℕ → Type 0
+abbrev pub Inside : List MethodView → List ℕ → Type 0
 Inside methods [] = Unit {0}
 Inside methods (m ∷ ms) = (m < length methods) × Inside methods ms
 
@@ -62,7 +62,7 @@ inside_push : (methods : List MethodView) (ms : List ℕ) (m : ℕ) → Inside m
 inside_push methods [] m h l = (l, tt)
 inside_push methods (n ∷ ms) m h l = (h.0, inside_push methods ms m h.1 l)
 
-first_more : (methods : List MethodView) (t : MethodView) (ms : List ℕ) (y : Name) → Inside methods ms
+pub first_more : (methods : List MethodView) (t : MethodView) (ms : List ℕ) (y : Name) → Inside methods ms
     → named_first (methods ++ t ∷ []) ms y ≡ named_first methods ms y
 first_more methods t [] y h = refl
 first_more methods t (m ∷ ms) y h =
@@ -82,11 +82,11 @@ first_push methods (n ∷ ms) m y = by (has_name (slice_get methods n) y) (first
 
 -- ---- one home
 
-record HomeLeads (v : HomeView) : Type 0 where
+pub record HomeLeads (v : HomeView) : Type 0 where
   pub leads : (y : Name) → Leads (found y v.own.members) (named_first v.methods v.own.methods y)
   pub within : Inside v.methods v.own.methods
 
-field_leads : (h : Home) (n : Name) (t : StaticType) (v : HomeView) → HomeLeads v → HomeLeads (with_field h n t v)
+pub field_leads : (h : Home) (n : Name) (t : StaticType) (v : HomeView) → HomeLeads v → HomeLeads (with_field h n t v)
 field_leads h n t v l = record {
   leads = λ y.
       subst (λ o. Leads o (named_first v.methods v.own.methods y)) (sym (found_added v.own.members n (Field (length v.fields)) y))
@@ -100,30 +100,31 @@ field_leads h n t v l = record {
     by y None true g = tt
     by y None false g = g
 
-method_leads : (h : Home) (n : Name) (ps : List StaticType) (t : StaticType) (v : HomeView) → HomeLeads v → HomeLeads (with_method h n ps t v)
+-- the first method of a name, behind one more method
+pub first_with : (h : Home) (n : Name) (ps : List StaticType) (t : StaticType) (v : HomeView) → HomeLeads v → (y : Name)
+    → named_first (v.methods ++ record { owner = h.owner; name = n; params = ps; result = t } ∷ []) (v.own.methods ++ length v.methods ∷ []) y
+    ≡ or_else (named_first v.methods v.own.methods y) (if bytes_eq n y then Some (length v.methods) else None)
+first_with h n ps t v l y =
+    first_push (v.methods ++ record { owner = h.owner; name = n; params = ps; result = t } ∷ []) v.own.methods (length v.methods) y
+    ∙ ap (λ o. or_else o
+    (if has_name (slice_get (v.methods ++ record { owner = h.owner; name = n; params = ps; result = t } ∷ []) (length v.methods)) y
+    then Some (length v.methods) else None)) (first_more v.methods _ v.own.methods y l.within)
+    ∙ ap (λ o. or_else (named_first v.methods v.own.methods y) (if has_name o y then Some (length v.methods) else None)) (last_is v.methods _)
+
+pub method_leads : (h : Home) (n : Name) (ps : List StaticType) (t : StaticType) (v : HomeView) → HomeLeads v → HomeLeads (with_method h n ps t v)
 method_leads h n ps t v l = record {
   leads = λ y.
       subst (λ o. Leads o (named_first (v.methods ++ record { owner = h.owner; name = n; params = ps; result = t } ∷ [])
       (v.own.methods ++ length v.methods ∷ []) y))
       (sym (found_added v.own.members n (Method (length v.methods)) y))
       (subst (Leads (if is_some (found y v.own.members) then found y v.own.members else if bytes_eq n y then Some (Method (length v.methods)) else None))
-      (sym (first_is y)) (by y (found y v.own.members) (bytes_eq n y) (l.leads y)));
+      (sym (first_with h n ps t v l y)) (by y (found y v.own.members) (bytes_eq n y) (l.leads y)));
   within =
       inside_push (v.methods ++ record { owner = h.owner; name = n; params = ps; result = t } ∷ []) v.own.methods (length v.methods)
       (inside_more v.methods _ v.own.methods l.within)
       (let c = count_push v.methods (record { owner = h.owner; name = n; params = ps; result = t }) in omega (arith, c));
 }
   where
-    first_is : (y : Name)
-        → named_first (v.methods ++ record { owner = h.owner; name = n; params = ps; result = t } ∷ []) (v.own.methods ++ length v.methods ∷ []) y
-        ≡ or_else (named_first v.methods v.own.methods y) (if bytes_eq n y then Some (length v.methods) else None)
-    first_is y =
-        first_push (v.methods ++ record { owner = h.owner; name = n; params = ps; result = t } ∷ []) v.own.methods (length v.methods) y
-        ∙ ap (λ o. or_else o
-        (if has_name (slice_get (v.methods ++ record { owner = h.owner; name = n; params = ps; result = t } ∷ []) (length v.methods)) y
-        then Some (length v.methods) else None)) (first_more v.methods _ v.own.methods y l.within)
-        ∙ ap (λ o. or_else (named_first v.methods v.own.methods y) (if has_name o y then Some (length v.methods) else None)) (last_is v.methods _)
-
     by : (y : Name) (o : Option MemberNumber) (b : Bool) → Leads o (named_first v.methods v.own.methods y)
         → Leads (if is_some o then o else if b then Some (Method (length v.methods)) else None)
         (or_else (named_first v.methods v.own.methods y) (if b then Some (length v.methods) else None))
@@ -144,7 +145,7 @@ members_lead h _ v l = l
 -- ---- methods that come behind
 
 -- what holds of own methods stays as methods come behind
-record Kept (old new : List MethodView) : Type 0 where
+pub record Kept (old new : List MethodView) : Type 0 where
   pub first : (ms : List ℕ) (y : Name) → Inside old ms → named_first new ms y ≡ named_first old ms y
   pub within : (ms : List ℕ) → Inside old ms → Inside new ms
 
@@ -157,7 +158,7 @@ member_keeps h (MethodDecl at n ps t body) v =
     record { first = λ ms y i. first_more v.methods _ ms y i; within = λ ms i. inside_more v.methods _ ms i }
 member_keeps h _ v = kept_itself v.methods
 
-members_keep : (h : Home) (ms : Node) (v : HomeView) → Kept v.methods (with_members h ms v).methods
+pub members_keep : (h : Home) (ms : Node) (v : HomeView) → Kept v.methods (with_members h ms v).methods
 members_keep h (Then m rest) v =
     let a = member_keeps h m v in
     let b = members_keep h rest (with_member h m v) in
@@ -166,12 +167,12 @@ members_keep h _ v = kept_itself v.methods
 
 -- ---- all classes
 
-record AllLead (v : HomesView) : Type 0 where
+pub record AllLead (v : HomesView) : Type 0 where
   pub leads : (c : ℕ) (y : Name) → Leads (found_in y (slice_get v.class_members c)) (named_first v.methods (own_at (slice_get v.class_methods c)) y)
   pub within : (c : ℕ) → Inside v.methods (own_at (slice_get v.class_methods c))
   pub counts : length v.class_members ≡ length v.class_methods
 
-class_leads : (v : HomesView) (ms : Node) → AllLead v → AllLead (with_class ms v)
+pub class_leads : (v : HomesView) (ms : Node) → AllLead v → AllLead (with_class ms v)
 class_leads v ms l = record {
   leads = λ c y. by_leads c y (pushed v.class_members h.own.members c) (pushed v.class_methods h.own.methods c);
   within = λ c. by_within c (pushed v.class_methods h.own.methods c);
@@ -217,7 +218,7 @@ class_leads v ms l = record {
         subst (λ o. Inside (with_class ms v).methods (own_at o)) (sym f) (k.within (own_at (slice_get v.class_methods c)) (l.within c))
     by_within c (at_end f q) = subst (λ o. Inside (with_class ms v).methods (own_at o)) (sym f) new.within
 
-component_leads : (v : HomesView) (ms : Node) → AllLead v → AllLead (with_component ms v)
+pub component_leads : (v : HomesView) (ms : Node) → AllLead v → AllLead (with_component ms v)
 component_leads v ms l =
     let k = members_keep (record { owner = InComponent (length v.component_members); slot = length v.globals }) ms (home_starts v) in
     record {
@@ -227,7 +228,7 @@ component_leads v ms l =
       counts = l.counts;
     }
 
-all_lead : (ds : Node) (v : HomesView) → AllLead v → AllLead (with_declarations ds v)
+pub all_lead : (ds : Node) (v : HomesView) → AllLead v → AllLead (with_declarations ds v)
 all_lead (Then (ClassDecl at x above ms) rest) v l = all_lead rest (with_class ms v) (class_leads v ms l)
 all_lead (Then (ComponentDecl at x ms) rest) v l = all_lead rest (with_component ms v) (component_leads v ms l)
 all_lead (Then _ rest) v l = all_lead rest v l

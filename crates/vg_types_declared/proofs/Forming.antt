@@ -128,13 +128,13 @@ module _ (texts : List (List ℕ)) (types : Types) (homes : Homes) (most : ℕ) 
       → z ≡ the_class most names above homes.class_fields homes.class_methods homes.class_params c
   class_is c z e = one_some _ _ (sym e ∙ class_at c (class_within c z e))
 
-  wide : (c : ℕ) → c < length names → c < length above
+  pub wide : (c : ℕ) → c < length names → c < length above
   wide c h = let q = b.above_count in omega (arith, h, q)
 
-  narrow : (c : ℕ) → c < length above → c < length names
+  pub narrow : (c : ℕ) → c < length above → c < length names
   narrow c h = let q = b.above_count in omega (arith, h, q)
 
-  below_to : (c d : ℕ) → is_below p c d ≡ true → (c < length names) × (is_in (chain_at most above c) d ≡ true)
+  pub below_to : (c d : ℕ) → is_below p c d ≡ true → (c < length names) × (is_in (chain_at most above c) d ≡ true)
   below_to c d h = by (slice_get p.classes c) refl h
     where
       by : (o : Option Class) → slice_get p.classes c ≡ o → is_in (above_in o) d ≡ true → (c < length names) × (is_in (chain_at most above c) d ≡ true)

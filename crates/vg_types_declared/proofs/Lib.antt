@@ -7,6 +7,7 @@ pub mod Members
 pub mod Homes
 pub mod Inheriting
 pub mod Dispatching
+pub mod Parting
 pub mod Slotting
 pub mod Standing
 pub mod Forming

@@ -47,6 +47,16 @@ use Rattle.vg_types_declared.proofs.Naming.{text_same, chain_same, listed, above
 
 -- ---- selectors
 
+-- the first method of a selector in two lists
+pub find_two : (p : Tables) (s : ℕ) (ns bs : List ℕ) → find_selector p (ns ++ bs) s ≡ or_else (find_selector p ns s) (find_selector p bs s)
+find_two p s [] bs = refl
+find_two p s (a ∷ ns) bs = by (has_selector (slice_get p.methods a) s) (find_two p s ns bs)
+  where
+    by : (b : Bool) → find_selector p (ns ++ bs) s ≡ or_else (find_selector p ns s) (find_selector p bs s)
+        → (if b then Some a else find_selector p (ns ++ bs) s) ≡ or_else (if b then Some a else find_selector p ns s) (find_selector p bs s)
+    by true e = refl
+    by false e = e
+
 module _ (texts : List (List ℕ)) (types : Types) (selectors : List (Name × ℕ)) (n : AreNumbered selectors) where
   -- a method has the selector of a name where it has the name
   selector_same : (z : Method) (x : Name) (s : ℕ) → IsMethod texts types selectors z → found x selectors ≡ Some s
@@ -108,20 +118,11 @@ module _ (texts : List (List ℕ)) (types : Types) (selectors : List (Name × �
         by None e = refl
         by (Some z) e = selector_same z x s (all_at ms m z all e) f
 
-    first_same : (own : List ℕ) → find_selector p own s ≡ named_first (map (method_view texts types) ms) own x
+    pub first_same : (own : List ℕ) → find_selector p own s ≡ named_first (map (method_view texts types) ms) own x
     first_same [] = refl
     first_same (m ∷ own) =
         ap (λ b. if b then Some m else find_selector p own s) (has_same m)
         ∙ ap (λ o. if has_name (slice_get (map (method_view texts types) ms) m) x then Some m else o) (first_same own)
-
-    find_two : (ns bs : List ℕ) → find_selector p (ns ++ bs) s ≡ or_else (find_selector p ns s) (find_selector p bs s)
-    find_two [] bs = refl
-    find_two (a ∷ ns) bs = by (has_selector (slice_get p.methods a) s) (find_two ns bs)
-      where
-        by : (b : Bool) → find_selector p (ns ++ bs) s ≡ or_else (find_selector p ns s) (find_selector p bs s)
-            → (if b then Some a else find_selector p (ns ++ bs) s) ≡ or_else (if b then Some a else find_selector p ns s) (find_selector p bs s)
-        by true e = refl
-        by false e = e
 
     -- the first method of the selector along a chain
     along : (maps : List (List (Name × MemberNumber))) (own : List (List ℕ))
@@ -129,7 +130,7 @@ module _ (texts : List (List ℕ)) (types : Types) (selectors : List (Name × �
         → (cs : List ℕ) (m : ℕ) → chain_member maps cs x ≡ Some (MethodNumber m) → find_selector p (methods_on own cs) s ≡ Some m
     along maps own l [] m e = cc
     along maps own l (c ∷ cs) m e =
-        find_two (own_at (slice_get own c)) (methods_on own cs)
+        find_two p s (own_at (slice_get own c)) (methods_on own cs)
         ∙ ap (λ o. or_else o (find_selector p (methods_on own cs) s)) (first_same (own_at (slice_get own c)))
         ∙ by (found_in x (slice_get maps c)) (l c) e (along maps own l cs m)
       where
@@ -150,7 +151,7 @@ module _ (texts : List (List ℕ)) (types : Types) (selectors : List (Name × �
 
 module _ (texts : List (List ℕ)) (ds : Node) (types : Types) (heads : Heads) (homes : Homes) (d : Declared) (kept : Keeps ds)
     (left : IsLeft texts ds types heads homes d) where
-  lead : Dispatches (homes_view texts types homes)
+  pub lead : Dispatches (homes_view texts types homes)
   lead = subst Dispatches (sym left.homes_left) (dispatches ds)
 
   pub method_there : (m : ℕ) (y : Method) → slice_get homes.making.methods m ≡ Some y → slice_get d.tables.methods m ≡ Some y

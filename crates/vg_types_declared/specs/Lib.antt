@@ -4,6 +4,7 @@ pub mod Chains
 pub mod Members
 pub mod Inherits
 pub mod Dispatch
+pub mod Apart
 pub mod Slots
 pub mod Placing
 pub mod Built

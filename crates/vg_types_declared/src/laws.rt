@@ -2,6 +2,7 @@
 ghost use Rattle.std.specs.Prelude.{◌≡◌, true, ℕ, List, [], None};
 ghost use Rattle.vg_syntax.specs.Tree.{Node};
 ghost use Rattle.vg_rules.specs.Names.{names_breach, classes_breach};
+ghost use Rattle.vg_rules.specs.Signatures.{signatures_breach};
 ghost use Rattle.vg_types_names.specs.Declarations.{are_declarations};
 ghost use Rattle.vg_types_tables.specs.declared.declared.Declared.{Declared};
 ghost use Rattle.vg_types_heads.specs.declared.heads.Heads.{Heads};
@@ -21,6 +22,7 @@ ghost use Rattle.vg_types_declared.specs.Numbers.{Unnumbered};
 ghost use Rattle.vg_types_declared.specs.Named.{Keeps, IsLeft, Members, Names, Owned, Params};
 ghost use Rattle.vg_types_declared.specs.Dispatch.{Dispatches};
 ghost use Rattle.vg_types_declared.specs.Inherits.{Inherits};
+ghost use Rattle.vg_types_declared.specs.Apart.{have_members, AreApart};
 
 /// Where the names of declarations differ, each class, component and device is found by its name, and each register of a device.
 pub fn heads_agree()
@@ -47,6 +49,11 @@ pub fn inherited_agree()
 /// The method that a class declares itself under a name is the first of its own methods that has the name.
 pub fn dispatch_agrees()
     ensures { (ds : Node) → Dispatches (with_declarations ds no_view) }
+{}
+
+/// Where what each declaration says for itself keeps the rules, no field of a class has the name of one of its methods.
+pub fn members_apart()
+    ensures { (ds : Node) → signatures_breach ds ds ≡ None → have_members ds ≡ true → AreApart (with_declarations ds no_view) }
 {}
 
 /// Each field stands at its slot, among the own fields of its class or among those of all components, and nothing else stands there.
