@@ -166,10 +166,11 @@ module _ (n : Naming) (p : Program) (tell : NamesTell n p) where
   -- ---- methods that are inherited
 
   -- a class that declares no method of a selector has none of its name
-  none_found : (c s : ℕ) (k : Class) → slice_get p.tables.classes c ≡ Some k → DeclaresNone p.tables c s → (ts : List Target)
+  none_found : (j c s : ℕ) (z : Method) (k : Class) → slice_get p.tables.methods j ≡ Some z → z.selector ≡ s → slice_get p.tables.classes c ≡ Some k
+      → DeclaresNone p.tables c s → (ts : List Target)
       → find_routine (routines_at n p ts) (source_step.Method (n.class c) (n.selector s)) ≡ None
-  none_found c s k ek none [] = refl
-  none_found c s k ek none (u ∷ ts) = by u (signature_of p.tables u) (body_of p u) refl (none_found c s k ek none ts)
+  none_found j c s z k ez es ek none [] = refl
+  none_found j c s z k ez es ek none (u ∷ ts) = by u (signature_of p.tables u) (body_of p u) refl (none_found j c s z k ez es ek none ts)
     where
       choose : (R : Routine) (x : Bool) → (x ≡ true → ⊥) → (rest : Option Routine) → rest ≡ None → (if x then Some R else rest) ≡ None
       choose R true f rest e = absurd (f refl)
@@ -178,7 +179,9 @@ module _ (n : Naming) (p : Program) (tell : NamesTell n p) where
       clash : (i : ℕ) (g : Signature) → method_signature (slice_get p.tables.methods i) ≡ Some g
           → (bytes_eq (n.method i).owner (n.class c) && bytes_eq (n.method i).name (n.selector s)) ≡ true → ⊥
       clash i g e q = let x = method_there (slice_get p.tables.methods i) e in
-          let h = tell.declared i c s x.0 k x.1 ek q in none i x.0 x.1 h.0 h.1
+          let h = tell.declared i j c x.0 z k x.1 ez ek
+          (ap (λ m. bytes_eq (n.method i).owner (n.class c) && bytes_eq (n.method i).name (n.selector m)) es ∙ q) in
+          none i x.0 x.1 h.0 (h.1 ∙ es)
 
       by : (v : Target) (o : Option Signature) (q : Option Body) → signature_of p.tables v ≡ o
           → find_routine (routines_at n p ts) (source_step.Method (n.class c) (n.selector s)) ≡ None
@@ -215,7 +218,7 @@ module _ (n : Naming) (p : Program) (tell : NamesTell n p) where
       ∙ ap (λ o. name_where o (n.class d) (owner_on (named n p) (map n.class xs) (n.selector s))) R.1
   on_chain m d s y em eo es (a ∷ xs) h (inr (none, f)) =
       let k = first_there a xs h in
-      ap (λ o. name_where o (n.class a) (owner_on (named n p) (map n.class xs) (n.selector s))) (none_found a s k.0 k.1 none p.tables.targets)
+      ap (λ o. name_where o (n.class a) (owner_on (named n p) (map n.class xs) (n.selector s))) (none_found m a s y k.0 em es k.1 none p.tables.targets)
       ∙ on_chain m d s y em eo es xs (rest_there a xs h) f
 
   dispatched : (c s m : ℕ) → Inherited p.tables c s m → source.owner_of (named n p) (n.class c) (n.selector s) ≡ Some (n.method m).owner

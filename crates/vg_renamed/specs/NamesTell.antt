@@ -35,9 +35,11 @@ pub record NamesTell (n : Naming) (p : Program) : Type 0 where
   pub fields : KeysTell n p.tables
   pub methods : (i j : ℕ) (x y : Method) → slice_get p.tables.methods i ≡ Some x → slice_get p.tables.methods j ≡ Some y
       → (bytes_eq (n.method i).owner (n.method j).owner && bytes_eq (n.method i).name (n.method j).name) ≡ (i == j)
-  -- a method with the name of a class before it and of a selector behind it is one that this class declares
-  pub declared : (i c s : ℕ) (x : Method) (k : Class) → slice_get p.tables.methods i ≡ Some x → slice_get p.tables.classes c ≡ Some k
-      → (bytes_eq (n.method i).owner (n.class c) && bytes_eq (n.method i).name (n.selector s)) ≡ true → (x.owner ≡ InClass c) × (x.selector ≡ s)
+  -- a method with the name of a class before it and that of the selector of a method behind it is one that this class declares, of this selector
+  pub declared : (i j c : ℕ) (x y : Method) (k : Class) → slice_get p.tables.methods i ≡ Some x → slice_get p.tables.methods j ≡ Some y
+      → slice_get p.tables.classes c ≡ Some k
+      → (bytes_eq (n.method i).owner (n.class c) && bytes_eq (n.method i).name (n.selector y.selector)) ≡ true
+      → (x.owner ≡ InClass c) × (x.selector ≡ y.selector)
   pub owners : (i c : ℕ) (x : Method) → slice_get p.tables.methods i ≡ Some x → x.owner ≡ InClass c → (n.method i).owner ≡ n.class c
   pub selectors : (i : ℕ) (x : Method) → slice_get p.tables.methods i ≡ Some x → n.selector x.selector ≡ (n.method i).name
   pub inherits : (c s m : ℕ) → dispatch p.tables c s ≡ Some m → Inherited p.tables c s m

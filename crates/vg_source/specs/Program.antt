@@ -120,10 +120,15 @@ abbrev pub next_number : ℕ → Target → ℕ
 next_number n (Method c m) = suc n
 next_number n _ = n
 
+-- The number of what runs at a target, where the next method has this one.
+abbrev pub number_at : ℕ → Target → ℕ
+number_at n (Method c m) = n
+number_at n _ = 0
+
 -- The routines with their numbers, from this one on.
 abbrev pub with_numbers : ℕ → List Routine → List Routine
 with_numbers n [] = []
-with_numbers n (r ∷ rs) = record r { number = n } ∷ with_numbers (next_number n r.target) rs
+with_numbers n (r ∷ rs) = record r { number = number_at n r.target } ∷ with_numbers (next_number n r.target) rs
 
 -- A class with its chain and its fields.
 abbrev pub declared_class : Node → Node → List Class

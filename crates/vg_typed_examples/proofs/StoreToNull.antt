@@ -203,12 +203,13 @@ methods_tell zero zero x y e f = refl
 methods_tell zero (suc j) x y e f = none_some y f
 methods_tell (suc i) j x y e f = none_some x e
 
-declared : (i c s : ℕ) (x : Method) (k : Class) → slice_get tables.methods i ≡ Some x → slice_get tables.classes c ≡ Some k
-    → (bytes_eq (names.method i).owner (names.class c) && bytes_eq (names.method i).name (names.selector s)) ≡ true
-    → (x.owner ≡ InClass c) × (x.selector ≡ s)
-declared zero zero s x k e f h = no_true h
-declared zero (suc c) s x k e f h = none_some k f
-declared (suc i) c s x k e f h = none_some x e
+declared : (i j c : ℕ) (x y : Method) (k : Class) → slice_get tables.methods i ≡ Some x → slice_get tables.methods j ≡ Some y
+    → slice_get tables.classes c ≡ Some k
+    → (bytes_eq (names.method i).owner (names.class c) && bytes_eq (names.method i).name (names.selector y.selector)) ≡ true
+    → (x.owner ≡ InClass c) × (x.selector ≡ y.selector)
+declared zero j zero x y k e g f h = no_true h
+declared zero j (suc c) x y k e g f h = none_some k f
+declared (suc i) j c x y k e g f h = none_some x e
 
 owners : (i c : ℕ) (x : Method) → slice_get tables.methods i ≡ Some x → x.owner ≡ InClass c → (names.method i).owner ≡ names.class c
 owners zero c x e h = absurd (let clash : InComponent 0 ≡ InClass c = ap (λ z. z.owner) (the_same main_method x e) ∙ h in cc)

@@ -27,6 +27,7 @@ use Rattle.vg_types_declare.proofs.Dispatching.{dispatches}
 use Rattle.vg_types_declared.specs.Heads.{Agree}
 use Rattle.vg_types_declared.specs.Lists.{class_list, Lists as Listed}
 use Rattle.vg_types_declared.specs.Built.{IsBuilt}
+use Rattle.vg_types_named.specs.Left.{Left}
 use Rattle.vg_types_declared.specs.Named.{Keeps, IsLeft}
 use Rattle.vg_types_declared.specs.Slots.{Slotted}
 use Rattle.vg_types_declared.proofs.Picking.{agree}
@@ -163,6 +164,9 @@ module _ (texts : List (List ℕ)) (root : held.Node) (nodes : List held.Node) (
         formed = tables_formed;
         type_numbers = moved.type_numbers ∙ sym (moved.type_table ∙ is_made.types_are);
       }
+
+  pub all_left : Left texts (declarations_at texts root) d
+  all_left = record { types = types; heads = heads; homes = homes; left = left; targets = moved.target_table }
 
   pub dispatched : signatures_breach (declarations_at texts root) (declarations_at texts root) ≡ None
       → have_members (row_at texts nodes) ≡ true → Dispatches texts root d

@@ -44,6 +44,7 @@ pub record IsMoved (others : Others) (types : Types) (homes : Homes) (l : Lists)
   pub field_table : d.tables.fields ≡ l.fields
   pub global_table : d.tables.globals ≡ homes.globals
   pub method_table : d.tables.methods ≡ homes.making.methods
+  pub target_table : d.tables.targets ≡ homes.targets
   pub type_table : d.tables.types ≡ l.types
   pub literal_table : d.tables.literals ≡ literals.texts
   pub char_number : d.tables.char_type ≡ 0

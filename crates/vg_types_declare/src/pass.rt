@@ -9,6 +9,7 @@ ghost use Rattle.vg_types_tables.specs.Declares.{Declares};
 ghost use Rattle.vg_types_inherited.specs.Dispatches.{Dispatches};
 ghost use Rattle.vg_types_declared.specs.Apart.{have_members};
 ghost use Rattle.vg_types_declared.specs.Named.{Keeps};
+ghost use Rattle.vg_types_named.specs.Left.{Left};
 ghost use Rattle.vg_types_declare.specs.Made.{AreHeads};
 
 use crate::heads::parts_of;
@@ -35,6 +36,7 @@ pub fn declare(alloc: Global, names: &Names, root: &Node) -> Result<Declared, No
     requires signatures { signatures_breach (declarations_at names.now root.now) (declarations_at names.now root.now) ≡ None }
     requires room { 1 + count_nodes (node_at [] root.now) < 2 ^ 32 }
     ensures declares { IfOk result (Declares names.now root.now) }
+    ensures left { IfOk result (Left names.now (declarations_at names.now root.now)) }
     ensures dispatches { IfOk result (Dispatches names.now root.now) }
 {
     match root {
@@ -56,6 +58,7 @@ fn declare_shaped(
     requires signatures { signatures_breach (declarations_at names.now root.now) (declarations_at names.now root.now) ≡ None }
     requires room { 1 + count_nodes (node_at [] root.now) < 2 ^ 32 }
     ensures declares { IfOk result (Declares names.now root.now) }
+    ensures left { IfOk result (Left names.now (declarations_at names.now root.now)) }
     ensures dispatches { IfOk result (Dispatches names.now root.now) }
 {
     if have_members(nodes) {
@@ -79,6 +82,7 @@ fn declare_row(
     requires members { (texts : List (List ℕ)) → have_members (row_at texts nodes.now) ≡ true }
     requires room { 1 + count_nodes (node_at [] root.now) < 2 ^ 32 }
     ensures declares { IfOk result (Declares names.now root.now) }
+    ensures left { IfOk result (Left names.now (declarations_at names.now root.now)) }
     ensures dispatches { IfOk result (Dispatches names.now root.now) }
 {
     let (classes, above, others) = parts_of(declared_heads(alloc, names, nodes)?);
@@ -119,6 +123,7 @@ fn declare_members(
     requires room { 1 + count_nodes (node_at [] root.now) < 2 ^ 32 }
     requires heads { AreHeads names.now (row_at names.now nodes.now) types.classes above others }
     ensures declares { IfOk result (Declares names.now root.now) }
+    ensures left { IfOk result (Left names.now (declarations_at names.now root.now)) }
     ensures dispatches { IfOk result (Dispatches names.now root.now) }
 {
     let homes = declared_homes(alloc, names, &types, nodes)?;

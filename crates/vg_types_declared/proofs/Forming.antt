@@ -51,7 +51,7 @@ count_push : {A : Type 0} (xs : List A) (c : A) → length (xs ++ c ∷ []) ≡ 
 count_push [] c = refl
 count_push (x ∷ xs) c = ap suc (count_push xs c)
 
-count_first : {A : Type 0} (f : ℕ → A) (n : ℕ) → length (first_of f n) ≡ n
+pub count_first : {A : Type 0} (f : ℕ → A) (n : ℕ) → length (first_of f n) ≡ n
 count_first f zero = refl
 count_first f (suc n) = count_push (first_of f n) (f n) ∙ ap suc (count_first f n)
 
@@ -73,7 +73,7 @@ one_some a b e = ap (the a) e
     the d (Some x) = x
     the d None = d
 
-there : {A : Type 0} (xs : List A) (i : ℕ) → i < length xs → (x : A) × (slice_get xs i ≡ Some x)
+pub there : {A : Type 0} (xs : List A) (i : ℕ) → i < length xs → (x : A) × (slice_get xs i ≡ Some x)
 there [] i h = absurd (omega (arith, h))
 there (x ∷ xs) zero h = (x, refl)
 there (x ∷ xs) (suc i) h = there xs i (omega (arith, h))

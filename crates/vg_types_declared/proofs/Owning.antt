@@ -154,7 +154,7 @@ module _ (texts : List (List ℕ)) (ds : Node) (types : Types) (heads : Heads) (
   pub lead : Dispatches (homes_view texts types homes)
   lead = subst Dispatches (sym left.homes_left) (dispatches ds)
 
-  method_there : (m : ℕ) (y : Method) → slice_get homes.making.methods m ≡ Some y → slice_get d.tables.methods m ≡ Some y
+  pub method_there : (m : ℕ) (y : Method) → slice_get homes.making.methods m ≡ Some y → slice_get d.tables.methods m ≡ Some y
   method_there m y e = ap (λ z. slice_get z m) left.built.method_table ∙ e
 
   pub method_is : (m : ℕ) (y : Method) → slice_get homes.making.methods m ≡ Some y → IsMethod texts types homes.making.selectors.numbers y
@@ -169,11 +169,11 @@ module _ (texts : List (List ℕ)) (ds : Node) (types : Types) (heads : Heads) (
       (close texts ds types heads homes d kept left) f y e)
       ∙ text_same texts y.name ∙ q
 
-  method_named : (m : ℕ) (y : Method) (x : Name) → slice_get homes.making.methods m ≡ Some y → tree.text_at texts y.name ≡ x
+  pub method_named : (m : ℕ) (y : Method) (x : Name) → slice_get homes.making.methods m ≡ Some y → tree.text_at texts y.name ≡ x
       → ((naming texts d).method m).name ≡ x
   method_named m y x e q = ap (λ o. (method_key texts d.tables o).name) (method_there m y e) ∙ text_same texts y.name ∙ q
 
-  selector_is : (m : ℕ) (y : Method) (x : Name) → slice_get homes.making.methods m ≡ Some y → tree.text_at texts y.name ≡ x
+  pub selector_is : (m : ℕ) (y : Method) (x : Name) → slice_get homes.making.methods m ≡ Some y → tree.text_at texts y.name ≡ x
       → (naming texts d).selector y.selector ≡ x
   selector_is m y x e q =
       ap (λ z. selector_name texts z y.selector) left.built.method_table

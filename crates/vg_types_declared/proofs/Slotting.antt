@@ -55,14 +55,14 @@ of_two [] ys i z h = second i (omega arith) h
 of_two (x ∷ xs) ys zero z h = first h
 of_two (x ∷ xs) ys (suc i) z h = of_later x xs ys i z (of_two xs ys i z h)
 
-own_stays : (xs : List (List ℕ)) (y : List ℕ) (c j f : ℕ) → slice_get (own_at (slice_get xs c)) j ≡ Some f
+pub own_stays : (xs : List (List ℕ)) (y : List ℕ) (c j f : ℕ) → slice_get (own_at (slice_get xs c)) j ≡ Some f
     → slice_get (own_at (slice_get (xs ++ y ∷ []) c)) j ≡ Some f
 own_stays [] y c j f h = cc
 own_stays (x ∷ xs) y zero j f h = h
 own_stays (x ∷ xs) y (suc c) j f h = own_stays xs y c j f h
 
 -- what stands among the own things of a class, where the last class is new
-data OwnOf (xs : List (List ℕ)) (y : List ℕ) (c j f : ℕ) : Type 0 where
+pub data OwnOf (xs : List (List ℕ)) (y : List ℕ) (c j f : ℕ) : Type 0 where
   older : slice_get (own_at (slice_get xs c)) j ≡ Some f → OwnOf xs y c j f
   newest : c ≡ length xs → slice_get y j ≡ Some f → OwnOf xs y c j f
 
@@ -70,7 +70,7 @@ own_later : (x : List ℕ) (xs : List (List ℕ)) (y : List ℕ) (c j f : ℕ) �
 own_later x xs y c j f (older e) = older e
 own_later x xs y c j f (newest e g) = newest (ap suc e) g
 
-own_of : (xs : List (List ℕ)) (y : List ℕ) (c j f : ℕ) → slice_get (own_at (slice_get (xs ++ y ∷ []) c)) j ≡ Some f → OwnOf xs y c j f
+pub own_of : (xs : List (List ℕ)) (y : List ℕ) (c j f : ℕ) → slice_get (own_at (slice_get (xs ++ y ∷ []) c)) j ≡ Some f → OwnOf xs y c j f
 own_of [] y zero j f h = newest refl h
 own_of [] y (suc c) j f h = cc
 own_of (x ∷ xs) y zero j f h = older h
@@ -132,14 +132,14 @@ starts h v = record { each = λ f t e. before e; back = λ j f e. cc }
 
 -- ---- all homes
 
-same_class : (c d : ℕ) → InClass c ≡ InClass d → c ≡ d
+pub same_class : (c d : ℕ) → InClass c ≡ InClass d → c ≡ d
 same_class c d e = ap number e
   where
     number : Owner → ℕ
     number (InClass k) = k
     number (InComponent k) = k
 
-apart : {P : Type 0} (c k : ℕ) → InClass c ≡ InComponent k → P
+pub apart : {P : Type 0} (c k : ℕ) → InClass c ≡ InComponent k → P
 apart c k e = absurd (let f : true ≡ false = cc in cc)
 
 record AllSlots (v : HomesView) : Type 0 where

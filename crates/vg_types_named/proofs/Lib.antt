@@ -1,0 +1,11 @@
+pub mod Lists
+pub mod Fields
+pub mod Tables
+pub mod Targets
+pub mod Signed
+pub mod Routines
+pub mod Methods
+pub mod Apart
+pub mod Telling
+pub mod Keys
+pub mod Tell
