@@ -16,9 +16,9 @@ use Rattle.vg_core.specs.declared.types.CoreType.{CoreType}
 use Rattle.vg_core.specs.Program.{Body}
 use Rattle.vg_core.specs.State.{State, are_of, onto}
 use Rattle.vg_core.specs.Meaning.{activity, checked}
-use Rattle.vg_run.specs.declared.signal.Signal.{Signal}
-use Rattle.vg_run.specs.declared.signal.Signal.TheVariants.{Break, Continue, Return, Stops, Wants, Touches, Done, OutOfClock as Spent, OutOfDepth, OutOfRoom, Wrong, NoMemory}
-use Rattle.vg_run.specs.Run.{Signals}
+use Rattle.vg_interp_run.specs.declared.signal.Signal.{Signal}
+use Rattle.vg_interp_run.specs.declared.signal.Signal.TheVariants.{Break, Continue, Return, Stops, Wants, Touches, Done, OutOfClock as Spent, OutOfDepth, OutOfRoom, Wrong, NoMemory}
+use Rattle.vg_interp_run.specs.Run.{Signals}
 use Rattle.vg_interp.specs.Running.{calling, does, looks_up, opens, runs, Chooses}
 
 -- What is done for a turn behind the condition.

@@ -13,10 +13,10 @@ use Rattle.vg_core.specs.Program.{Body, Program, signature_of, body_of}
 use Rattle.vg_core.specs.State.{State, are_of, entered, onto}
 use Rattle.vg_core.specs.Meaning.{Caller, activity, back_in, called, checked, put, step, truth, with_found}
 use Rattle.vg_core.specs.Heap.{default}
-use Rattle.vg_run.specs.declared.run.Run.{Run}
-use Rattle.vg_run.specs.declared.signal.Signal.{Signal}
-use Rattle.vg_run.specs.declared.signal.Signal.TheVariants.{Break, Continue, Return}
-use Rattle.vg_run.specs.Run.{Kept, Signals}
+use Rattle.vg_interp_run.specs.declared.run.Run.{Run}
+use Rattle.vg_interp_run.specs.declared.signal.Signal.{Signal}
+use Rattle.vg_interp_run.specs.declared.signal.Signal.TheVariants.{Break, Continue, Return}
+use Rattle.vg_interp_run.specs.Run.{Kept, Signals}
 
 -- Calls of a program, at most so deep.
 abbrev pub calling : Program → (most : ℕ) → Caller ℕ

@@ -12,15 +12,17 @@ ghost use Rattle.vg_core.specs.HeldProgram.{body_at, code_of, code_chain, code_r
 ghost use Rattle.vg_core.specs.Meaning as meaning;
 ghost use Rattle.vg_core.specs.Meaning.{put, truth};
 ghost use Rattle.vg_core.specs.State.{State};
-ghost use Rattle.vg_run.specs.Run.{state, world, Answers};
+ghost use Rattle.vg_interp_run.specs.Run.{state, world, Answers};
 ghost use Rattle.vg_interp.specs.Running.{calling, does, looks_up, opens, runs, Chooses, GoesOn};
 ghost use Rattle.vg_interp.specs.Weights.{arms_list, weight, whole};
 
 use crate::bodies::{class_at, is_component, making_body, method_at, method_body, start_body};
 use vg_core::{Body, Code, CoreType, CoreValue, Program, Step, Target};
+use vg_interp_run::calling::{
+    Call, enter, has_arguments, leave, method_call, new_object, value_call,
+};
+use vg_interp_run::{Run, Signal, devices, methods, operators, places, values};
 use vg_interp_values::default_of;
-use vg_run::calling::{Call, enter, has_arguments, leave, method_call, new_object, value_call};
-use vg_run::{Run, Signal, devices, methods, operators, places, values};
 
 /// Runs code of a program; its calls are at most so deep.
 #[cycle(exec)]

@@ -6,11 +6,11 @@ ghost use Rattle.vg_meaning.specs.Interrupts.{idles, take_interrupt};
 ghost use Rattle.vg_core.specs.declared.program.Target.TheVariants as targets;
 ghost use Rattle.vg_core.specs.HeldProgram.{program_at};
 ghost use Rattle.vg_core.specs.Session as session;
-ghost use Rattle.vg_run.specs.Run.{state, world, Answers};
+ghost use Rattle.vg_interp_run.specs.Run.{state, world, Answers};
 
 use crate::initialisation::call_alone;
 use vg_core::{Handler, Program, Target};
-use vg_run::{Run, Signal};
+use vg_interp_run::{Run, Signal};
 
 /// Calls main, and then takes the interrupts until none is left.
 pub fn go(run: &mut Run, program: &Program) -> Result<(), Signal>

@@ -4,7 +4,7 @@ ghost use Rattle.vg_meaning.specs.History.{depth_alone};
 ghost use Rattle.vg_core.specs.HeldProgram.{program_at};
 ghost use Rattle.vg_core.specs.Session as session;
 ghost use Rattle.vg_core.specs.Session.{starting};
-ghost use Rattle.vg_run.specs.Run.{state, world, Answers};
+ghost use Rattle.vg_interp_run.specs.Run.{state, world, Answers};
 ghost use Rattle.vg_interp.specs.Running.{GoesOn};
 ghost use Rattle.vg_interp_sessions.specs.Starts.{Starts};
 
@@ -12,7 +12,7 @@ use std::alloc::Global;
 use vg_base::NoMemory;
 use vg_core::{CoreValue, Program, Target};
 use vg_interp::call;
-use vg_run::{Around, Call, Run, Signal};
+use vg_interp_run::{Around, Call, Run, Signal};
 use vg_shape::Store;
 
 /// Initialises a program: its components in order of the text, in at most so many ticks.

@@ -8,7 +8,7 @@ use Rattle.vg_core.specs.HeldProgram.{body_at, code_of, program_at}
 use Rattle.vg_core.specs.State.{State}
 use Rattle.vg_core.specs.Meaning as meaning
 use Rattle.vg_core.specs.Meaning.{truth}
-use Rattle.vg_run.specs.Run.{state, world, Answers, Signals}
+use Rattle.vg_interp_run.specs.Run.{state, world, Answers, Signals}
 use Rattle.vg_interp.specs.Running.{calling, does}
 use Rattle.vg_interp.specs.Weights.{weight}
 use Rattle.vg_interp.proofs.Rows.{row_same, row_weighs, chain_same, chain_weighs, arms_same, arms_weigh, part_weighs, some_weight}

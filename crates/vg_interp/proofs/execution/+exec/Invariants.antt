@@ -3,7 +3,7 @@ use Rattle.vg_meaning.specs.History.{depth_alone}
 use Rattle.vg_meaning.specs.Loops.{turns, where_holds}
 use Rattle.vg_core.specs.HeldProgram.{code_of, code_chain, code_row, program_at}
 use Rattle.vg_core.specs.Meaning.{truth}
-use Rattle.vg_run.specs.Run.{state, world}
+use Rattle.vg_interp_run.specs.Run.{state, world}
 use Rattle.vg_interp.specs.Running.{does}
 use Rattle.vg_interp.specs.Weights.{arms_list, weight, weights, whole}
 use Rattle.vg_interp.proofs.execution.+exec.Given as goal

@@ -4,7 +4,7 @@ use Rattle.vg_meaning.specs.History.{depth_alone}
 use Rattle.vg_meaning.specs.Interrupts.{idles, take_interrupt}
 use Rattle.vg_core.specs.HeldProgram.{program_at}
 use Rattle.vg_core.specs.Session.{handle}
-use Rattle.vg_run.specs.Run.{state, world, Signals}
+use Rattle.vg_interp_run.specs.Run.{state, world, Signals}
 use Rattle.vg_interp.proofs.Turns.{signals_on}
 use Rattle.vg_interp_sessions.proofs.Ends.{idles_on}
 use Rattle.vg_interp_sessions.proofs.idling.idle.Goals as goal

@@ -3,7 +3,7 @@ use Rattle.vg_meaning.specs.History.{depth_alone}
 use Rattle.vg_meaning.specs.Interrupts.{idles}
 use Rattle.vg_core.specs.HeldProgram.{program_at}
 use Rattle.vg_core.specs.Session.{handle}
-use Rattle.vg_run.specs.Run.{state, world}
+use Rattle.vg_interp_run.specs.Run.{state, world}
 use Rattle.vg_interp_sessions.proofs.idling.idle.Given as goal
 
 abbrev pub invariant-loop-turn : goal.invariant-loop-turn

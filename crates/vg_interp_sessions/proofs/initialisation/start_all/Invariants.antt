@@ -2,7 +2,7 @@ use Rattle.std.proofs.Common.{◌≡◌, drop}
 use Rattle.vg_meaning.specs.History.{depth_alone}
 use Rattle.vg_core.specs.HeldProgram.{program_at}
 use Rattle.vg_core.specs.Session.{start_all}
-use Rattle.vg_run.specs.Run.{state, world}
+use Rattle.vg_interp_run.specs.Run.{state, world}
 use Rattle.vg_interp_sessions.proofs.initialisation.start_all.Given as goal
 
 abbrev pub invariant-loop-name : goal.invariant-loop-name
