@@ -5,8 +5,8 @@
 #
 # P is the processor time of a crate's first check, in seconds, without its tests; `tests` that of proving and building them, which
 # proves the crate once more; `edits` that of trying its must-fail edits, whose number stands behind. A level is 1 more than the
-# highest level of the crates below. A crate that the runs took from earlier ones has `-`: for all numbers at once let a machine that
-# keeps nothing run the gate, or give the logs of `rt ci NAME` for each crate. Of two logs with the same crate the later one counts.
+# highest level of the crates below. A crate that the runs took from earlier ones has `-`. Of two logs with the same crate the later
+# one counts.
 #
 # The last lines are the sums, and the chain of crates, each over the next, with the most seconds of P: no run is shorter than that.
 
