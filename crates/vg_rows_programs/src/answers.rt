@@ -28,7 +28,13 @@ pub fn answer_of(alloc: Global, line: TextLine<'_>) -> Result<String, NoMemory> 
 // What a text is refused for.
 fn refused(alloc: Global, fault: TypeFault) -> Result<String, NoMemory> {
     match fault {
-        TypeFault::TooMany(many) => Ok(format!(in alloc; "more than {} at node {}", many.limit, many.node.0)?),
-        TypeFault::Broken(broken) => Ok(format!(in alloc; "rule {} at node {}", broken.rule, broken.node.0)?),
+        TypeFault::TooMany(many) => Ok(format!(in alloc;
+            "more than {} at node {}",
+            many.limit, many.node.0
+        )?),
+        TypeFault::Broken(broken) => Ok(format!(in alloc;
+            "rule {} at node {}",
+            broken.rule, broken.node.0
+        )?),
     }
 }

@@ -10,7 +10,13 @@ use vg_types_views::text_of;
 pub fn outline(alloc: Global, names: &Names, program: &Program) -> Result<String, NoMemory> {
     let mut text = String::new(alloc);
     for (number, class) in program.tables.classes.as_slice().iter().enumerate() {
-        put_class(alloc, &mut text, names, class, program.makings.as_slice().get(number))?;
+        put_class(
+            alloc,
+            &mut text,
+            names,
+            class,
+            program.makings.as_slice().get(number),
+        )?;
     }
     for (number, component) in program.tables.components.as_slice().iter().enumerate() {
         let others = others_of(program.starts.as_slice().get(number));
@@ -18,7 +24,14 @@ pub fn outline(alloc: Global, names: &Names, program: &Program) -> Result<String
         text.push_str(part.as_str())?;
     }
     for (number, method) in program.tables.methods.as_slice().iter().enumerate() {
-        put_method(alloc, &mut text, names, &program.tables, method, program.methods.as_slice().get(number))?;
+        put_method(
+            alloc,
+            &mut text,
+            names,
+            &program.tables,
+            method,
+            program.methods.as_slice().get(number),
+        )?;
     }
     let globals = program.tables.globals.len();
     let literals = program.tables.literals.len();
@@ -45,7 +58,10 @@ fn put_class(
     let fields = class.fields.len();
     let methods = class.methods.len();
     let others = others_of(making);
-    let part = format!(in alloc; "class {} {above} {fields} {methods} {others}, ", text_of(names, class.name))?;
+    let part = format!(in alloc;
+        "class {} {above} {fields} {methods} {others}, ",
+        text_of(names, class.name)
+    )?;
     text.push_str(part.as_str())?;
     Ok(())
 }
