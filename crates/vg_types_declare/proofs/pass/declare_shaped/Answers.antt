@@ -12,5 +12,5 @@ returns-then-have_members-clause-members c =
     IfOk-weaker c.declare_row.result (Left c.args.names.now (declarations_at c.args.names.now c.args.root.now))
     (λ d. have_members (declarations_at c.args.names.now c.args.root.now) ≡ true)
     (λ d h. have_same 1 (node_at c.args.names.now c.args.root.now) ∙ ap have_members (c.requires.row c.args.names.now)
-    ∙ c.if-have_members.ensures tt refl c.args.names.now)
+    ∙ c.if-have_members.ensures refl c.args.names.now)
     c.declare_row.ensures.left
