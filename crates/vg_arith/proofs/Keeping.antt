@@ -8,7 +8,7 @@ use Rattle.vg_lin.specs.declared.instr.Operand.TheVariants.{Local, Known}
 use Rattle.vg_lin.specs.declared.instr.Operator.{Operator}
 use Rattle.vg_lin.specs.declared.instr.Test.{Test}
 use Rattle.vg_lin.specs.declared.instr.Plain.{Plain as PlainInstr}
-use Rattle.vg_lin.specs.declared.instr.Plain.TheVariants.{Copy, Compute, Product, DivideStep, Load, Store, ReadDevice, WriteDevice, Push, Find, Stop}
+use Rattle.vg_lin.specs.declared.instr.Plain.TheVariants.{Copy, Compute, Product, DivideStep, Load, Store, ReadDevice, WriteDevice, Push, Find, CodeOf, Stop}
 use Rattle.vg_lin.specs.declared.instr.Instr.{Instr}
 use Rattle.vg_lin.specs.declared.instr.Instr.TheVariants.{Plain, When, Unless, Jump, Call, Return, Idle}
 use Rattle.vg_lin.specs.Program.{Procedure}
@@ -114,6 +114,7 @@ a_plain m (ReadDevice to a) e = absurd (grind arith)
 a_plain m (WriteDevice to a) e = absurd (grind arith)
 a_plain m (Push w a) e = absurd (grind arith)
 a_plain m (Find d to a) e = absurd (grind arith)
+a_plain m (CodeOf q to) e = absurd (grind arith)
 a_plain m (Stop c) e = absurd (grind arith)
 
 a_test : (m : Procedure) (t : Test) → is_test m t ≡ true → IsTest m t
@@ -145,6 +146,7 @@ plain_waits m at (ReadDevice to a) e h = (h, refl)
 plain_waits m at (WriteDevice to a) e h = (h, refl)
 plain_waits m at (Push w a) e h = absurd (grind arith)
 plain_waits m at (Find d to a) e h = (h, refl)
+plain_waits m at (CodeOf q to) e h = (h, refl)
 plain_waits m at (Stop c) e h = tt {0}
 
 branch_waits : (m : Procedure) (at to : ℕ) → jumps_well m at to ≡ true

@@ -9,7 +9,7 @@ use Rattle.vg_lin.specs.declared.instr.Operator.{Operator}
 use Rattle.vg_lin.specs.declared.instr.Operator.TheVariants.{Plus, Minus, Times, Divide, Remainder, And, Or, Xor, ShiftLeft, ShiftRight}
 use Rattle.vg_lin.specs.declared.instr.Computation.{Computation}
 use Rattle.vg_lin.specs.declared.instr.Plain.{Plain as PlainInstr}
-use Rattle.vg_lin.specs.declared.instr.Plain.TheVariants.{Copy, Compute, Product, DivideStep, Load, Store, ReadDevice, WriteDevice, Push, Find, Stop}
+use Rattle.vg_lin.specs.declared.instr.Plain.TheVariants.{Copy, Compute, Product, DivideStep, Load, Store, ReadDevice, WriteDevice, Push, Find, CodeOf, Stop}
 use Rattle.vg_lin.specs.declared.instr.Registers.TheVariants.{Two}
 use Rattle.vg_lin.specs.declared.instr.Instr.{Instr}
 use Rattle.vg_lin.specs.declared.instr.Instr.TheVariants.{Plain, When, Unless, Jump, Call, Return, Idle}
@@ -58,6 +58,7 @@ module _ (first : ℕ) (m : Procedure) (sound : IsSound m) where
   plain_stands at (WriteDevice to a) e st ok = (st.0, next_is at _ e refl)
   plain_stands at (Push w a) e st ok = (st.0, next_is at _ e refl)
   plain_stands at (Find d to a) e st ok = (st.0, next_is at _ e refl)
+  plain_stands at (CodeOf q to) e st ok = (st.0, next_is at _ e refl)
   plain_stands at (Stop c) e st ok = (st.0, next_is at _ e refl)
 
   instr_stands : (at : ℕ) (i : Instr) → slice_get m.code at ≡ Some i → StandAt now.code (place at) (expanded_at its_base (place_in its_base m.code) i)
@@ -185,6 +186,7 @@ at_simple base place (Plain (ReadDevice to a)) = refl
 at_simple base place (Plain (WriteDevice to a)) = refl
 at_simple base place (Plain (Push w a)) = refl
 at_simple base place (Plain (Find d to a)) = refl
+at_simple base place (Plain (CodeOf q to)) = refl
 at_simple base place (Plain (Stop c)) = refl
 at_simple base place (When t to) = refl
 at_simple base place (Unless t to) = refl
@@ -238,6 +240,7 @@ size_small base (Plain (ReadDevice to a)) = omega arith
 size_small base (Plain (WriteDevice to a)) = omega arith
 size_small base (Plain (Push w a)) = omega arith
 size_small base (Plain (Find d to a)) = omega arith
+size_small base (Plain (CodeOf q to)) = omega arith
 size_small base (Plain (Stop c)) = omega arith
 size_small base (When t to) = omega arith
 size_small base (Unless t to) = omega arith

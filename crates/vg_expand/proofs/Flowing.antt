@@ -9,7 +9,7 @@ use Rattle.vg_lin.specs.declared.instr.Operator.{Operator}
 use Rattle.vg_lin.specs.declared.instr.Operator.TheVariants.{Plus, Minus, Times, Divide, Remainder, And, Or, Xor, ShiftLeft, ShiftRight}
 use Rattle.vg_lin.specs.declared.instr.Computation.{Computation}
 use Rattle.vg_lin.specs.declared.instr.Plain.{Plain as PlainInstr}
-use Rattle.vg_lin.specs.declared.instr.Plain.TheVariants.{Copy, Compute, Product, DivideStep, Load, Store, ReadDevice, WriteDevice, Push, Find, Stop}
+use Rattle.vg_lin.specs.declared.instr.Plain.TheVariants.{Copy, Compute, Product, DivideStep, Load, Store, ReadDevice, WriteDevice, Push, Find, CodeOf, Stop}
 use Rattle.vg_lin.specs.declared.instr.Callee.TheVariants.{Procedure as ByNumber}
 use Rattle.vg_lin.specs.declared.instr.Registers.{Registers}
 use Rattle.vg_lin.specs.declared.instr.Registers.TheVariants.{Two, Three}
@@ -92,6 +92,7 @@ at_calls base place (Plain (ReadDevice to a)) = refl
 at_calls base place (Plain (WriteDevice to a)) = refl
 at_calls base place (Plain (Push w a)) = refl
 at_calls base place (Plain (Find d to a)) = refl
+at_calls base place (Plain (CodeOf q to)) = refl
 at_calls base place (Plain (Stop c)) = refl
 at_calls base place (When t to) = refl
 at_calls base place (Unless t to) = refl
@@ -186,6 +187,7 @@ module _ (first : ℕ) (m : Procedure) (sound : IsSound m) where
   plain_leads at k (WriteDevice to a) x h f = alone (λ n y. leads_on (place_of its_base m.code at + n) y ≡ true) (Plain (WriteDevice to a)) k x f refl
   plain_leads at k (Push w a) x h f = alone (λ n y. leads_on (place_of its_base m.code at + n) y ≡ true) (Plain (Push w a)) k x f refl
   plain_leads at k (Find d to a) x h f = alone (λ n y. leads_on (place_of its_base m.code at + n) y ≡ true) (Plain (Find d to a)) k x f refl
+  plain_leads at k (CodeOf q to) x h f = alone (λ n y. leads_on (place_of its_base m.code at + n) y ≡ true) (Plain (CodeOf q to)) k x f refl
   plain_leads at k (Stop c) x h f = alone (λ n y. leads_on (place_of its_base m.code at + n) y ≡ true) (Plain (Stop c)) k x f refl
 
   leads : (at k : ℕ) (i x : Instr) → AreOperands m i → Waits m sound.waits at i → leads_on at i ≡ true

@@ -6,7 +6,7 @@ use Rattle.vg_meaning.specs.Outside.{Outside}
 use Rattle.vg_lin.specs.declared.instr.Memory.TheVariants.{Ram}
 use Rattle.vg_lin.specs.declared.instr.Operand.TheVariants.{Local}
 use Rattle.vg_lin.specs.declared.instr.Plain.{Plain as PlainInstr}
-use Rattle.vg_lin.specs.declared.instr.Plain.TheVariants.{Copy, Compute, Product, DivideStep, Load, Store, ReadDevice, WriteDevice, Push, Find, Stop}
+use Rattle.vg_lin.specs.declared.instr.Plain.TheVariants.{Copy, Compute, Product, DivideStep, Load, Store, ReadDevice, WriteDevice, Push, Find, CodeOf, Stop}
 use Rattle.vg_lin.specs.Values.{low, computed}
 use Rattle.vg_lin.specs.Steps.{Awaits, Result, Interrupt, Went, Goes, Raises, Lacks, Fails}
 use Rattle.vg_lin.specs.Program.{Program}
@@ -72,6 +72,7 @@ plain_keeps p (WriteDevice address a) ws s o h = using_keeps ws (value a s) _ (�
 plain_keeps p (Push w a) ws s o h = using_keeps ws (value a s) _ (λ x. h)
 plain_keeps p (Find d to a) ws s o h =
     using_keeps ws (value a s) _ (λ n. using_keeps ws (dispatched p.dispatches d n) _ (λ q. sets_holds ws s.locals to (p.codes.code q) h))
+plain_keeps p (CodeOf q to) ws s o h = sets_holds ws s.locals to (p.codes.code q) h
 plain_keeps p (Stop code) ws s o h = tt {0}
 
 -- behind a call

@@ -12,7 +12,7 @@ use Rattle.vg_lin.specs.declared.instr.Operator.TheVariants.{Plus, Minus, Times,
 use Rattle.vg_lin.specs.declared.instr.Computation.{Computation}
 use Rattle.vg_lin.specs.declared.instr.Test.{Test}
 use Rattle.vg_lin.specs.declared.instr.Plain.{Plain as PlainInstr}
-use Rattle.vg_lin.specs.declared.instr.Plain.TheVariants.{Copy, Compute, Product, DivideStep, Load, Store, ReadDevice, WriteDevice, Push, Find, Stop}
+use Rattle.vg_lin.specs.declared.instr.Plain.TheVariants.{Copy, Compute, Product, DivideStep, Load, Store, ReadDevice, WriteDevice, Push, Find, CodeOf, Stop}
 use Rattle.vg_lin.specs.declared.instr.Callee.{Callee}
 use Rattle.vg_lin.specs.declared.instr.Callee.TheVariants.{Procedure as ByNumber, Code as ByCode}
 use Rattle.vg_lin.specs.declared.instr.Instr.{Instr}
@@ -108,6 +108,7 @@ size_some base (Plain (ReadDevice to a)) = omega arith
 size_some base (Plain (WriteDevice to a)) = omega arith
 size_some base (Plain (Push w a)) = omega arith
 size_some base (Plain (Find d to a)) = omega arith
+size_some base (Plain (CodeOf q to)) = omega arith
 size_some base (Plain (Stop c)) = omega arith
 size_some base (When t to) = omega arith
 size_some base (Unless t to) = omega arith
@@ -192,6 +193,7 @@ plain_now first m (ReadDevice to a) h = h
 plain_now first m (WriteDevice to a) h = operand_now first m a h
 plain_now first m (Push w a) (h, g) = (h, operand_now first m a g)
 plain_now first m (Find d to a) (h, g) = (h, operand_now first m a g)
+plain_now first m (CodeOf q to) h = h
 plain_now first m (Stop c) h = h
 
 all_now : (first : ℕ) (m : Procedure) (xs : List Operand) → AllByRecursion (IsOperand m) xs → AllByRecursion (IsOperand (expanded first m)) xs
@@ -308,6 +310,7 @@ operands_of m (Plain (ReadDevice to a)) h = absurd h
 operands_of m (Plain (WriteDevice to a)) h = absurd h
 operands_of m (Plain (Push w a)) h = absurd h
 operands_of m (Plain (Find d to a)) h = absurd h
+operands_of m (Plain (CodeOf q to)) h = absurd h
 operands_of m (Plain (Stop c)) h = absurd h
 operands_of m (When t to) h = absurd h
 operands_of m (Unless t to) h = absurd h
@@ -327,6 +330,7 @@ waits_of m ws j (Plain (ReadDevice to a)) h g = absurd h
 waits_of m ws j (Plain (WriteDevice to a)) h g = absurd h
 waits_of m ws j (Plain (Push w a)) h g = absurd h
 waits_of m ws j (Plain (Find d to a)) h g = absurd h
+waits_of m ws j (Plain (CodeOf q to)) h g = absurd h
 waits_of m ws j (Plain (Stop c)) h g = absurd h
 waits_of m ws j (When t to) h g = absurd h
 waits_of m ws j (Unless t to) h g = absurd h
@@ -451,6 +455,7 @@ module _ (first : ℕ) (m : Procedure) (sound : IsSound m) where
   plain_kept at (WriteDevice to a) e g h = goes_next at _ _ e g (subst (GoesOn m ws (suc at)) (sym (here at _ e)) h)
   plain_kept at (Push w a) e g h = goes_next at _ _ e g (subst (λ l. GoesOn m ws (suc at) (w ∷ l)) (sym (here at _ e)) h)
   plain_kept at (Find d to a) e g h = goes_next at _ _ e g (subst (GoesOn m ws (suc at)) (sym (here at _ e)) h)
+  plain_kept at (CodeOf q to) e g h = goes_next at _ _ e g (subst (GoesOn m ws (suc at)) (sym (here at _ e)) h)
   plain_kept at (Stop c) e g h = tt {0}
 
   -- what an instruction owes at its place
@@ -502,6 +507,7 @@ module _ (first : ℕ) (m : Procedure) (sound : IsSound m) where
   )
   plain_owes at k (Push w a) x e h g f = alone (λ n. Owes (place at + n)) _ k x f (plain_now first m (Push w a) h, plain_kept at (Push w a) e refl g)
   plain_owes at k (Find d to a) x e h g f = alone (λ n. Owes (place at + n)) _ k x f (plain_now first m (Find d to a) h, plain_kept at (Find d to a) e refl g)
+  plain_owes at k (CodeOf q to) x e h g f = alone (λ n. Owes (place at + n)) _ k x f (plain_now first m (CodeOf q to) h, plain_kept at (CodeOf q to) e refl g)
   plain_owes at k (Stop c) x e h g f = alone (λ n. Owes (place at + n)) _ k x f (plain_now first m (Stop c) h, plain_kept at (Stop c) e refl g)
 
   owes : (at k : ℕ) (i x : Instr) → slice_get m.code at ≡ Some i → AreOperands m i → Waits m ws at i

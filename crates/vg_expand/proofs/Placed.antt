@@ -3,7 +3,7 @@
 use Rattle.std.specs.Prelude.{ℕ, zero, suc, ◌+◌, ◌<◌, List, [], ◌∷◌, ◌++◌, length, Some}
 use Rattle.std.specs.Prelude.{slice_get, get_or}
 use Rattle.std.proofs.Common.{◌≡◌, refl, ap, ◌∙◌, subst, arith}
-use Rattle.vg_lin.specs.declared.instr.Plain.TheVariants.{Copy, Compute, Product, DivideStep, Load, Store, ReadDevice, WriteDevice, Push, Find, Stop}
+use Rattle.vg_lin.specs.declared.instr.Plain.TheVariants.{Copy, Compute, Product, DivideStep, Load, Store, ReadDevice, WriteDevice, Push, Find, CodeOf, Stop}
 use Rattle.vg_lin.specs.declared.instr.Instr.{Instr}
 use Rattle.vg_lin.specs.declared.instr.Instr.TheVariants.{Plain, When, Unless, Jump, Call, Return, Idle}
 use Rattle.vg_arith.proofs.ShiftRoutines.{some_is}
@@ -23,6 +23,7 @@ size_is base place (Plain (ReadDevice to a)) = refl
 size_is base place (Plain (WriteDevice to a)) = refl
 size_is base place (Plain (Push w a)) = refl
 size_is base place (Plain (Find d to a)) = refl
+size_is base place (Plain (CodeOf q to)) = refl
 size_is base place (Plain (Stop c)) = refl
 size_is base place (When t to) = refl
 size_is base place (Unless t to) = refl

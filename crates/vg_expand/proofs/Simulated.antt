@@ -11,7 +11,7 @@ use Rattle.vg_meaning.specs.Answer.{End, Stops, Wants, Done, Wrong}
 use Rattle.vg_lin.specs.declared.instr.Operand.{Operand}
 use Rattle.vg_lin.specs.declared.instr.Computation.{Computation}
 use Rattle.vg_lin.specs.declared.instr.Plain.{Plain as PlainInstr}
-use Rattle.vg_lin.specs.declared.instr.Plain.TheVariants.{Copy, Compute, Product, DivideStep, Load, Store, ReadDevice, WriteDevice, Push, Find, Stop}
+use Rattle.vg_lin.specs.declared.instr.Plain.TheVariants.{Copy, Compute, Product, DivideStep, Load, Store, ReadDevice, WriteDevice, Push, Find, CodeOf, Stop}
 use Rattle.vg_lin.specs.declared.instr.Callee.{Callee}
 use Rattle.vg_lin.specs.declared.instr.Callee.TheVariants.{Procedure as ByNumber, Code as ByCode}
 use Rattle.vg_lin.specs.declared.instr.Memory.TheVariants.{Ram, Flash}
@@ -104,6 +104,7 @@ module _ (first : ℕ) (p : Program) (ms : List Procedure) (all : AllExpand firs
   plain_same (WriteDevice address a) s o = refl
   plain_same (Push w a) s o = refl
   plain_same (Find d to a) s o = refl
+  plain_same (CodeOf q to) s o = refl
   plain_same (Stop code) s o = refl
 
   called_same : (c : Callee) (s : State) → called new c s ≡ called p c s
@@ -347,6 +348,7 @@ module _ (first : ℕ) (p : Program) (ms : List Procedure) (all : AllExpand firs
     plain_step (WriteDevice address a) k = kept_plain (WriteDevice address a) k
     plain_step (Push w a) k = kept_plain (Push w a) k
     plain_step (Find e to a) k = kept_plain (Find e to a) k
+    plain_step (CodeOf q to) k = kept_plain (CodeOf q to) k
     plain_step (Stop code) k = kept_plain (Stop code) k
 
     by_instr : (i : Instr) → StandsFor first now ex.place pc i → Stepped d (performed (language p) c (Some i))

@@ -1,6 +1,6 @@
 -- What the steps of a packed program do. They know no names and no types: where a number is not what a program made of a legal text
 -- has there, the run is Wrong.
-use Rattle.std.specs.Prelude.{ℕ, zero, suc, ◌+◌, ◌-◌, ◌/◌, ◌%◌, ◌^◌, Bool, true, false, ◌==◌, ◌&&◌, nat_lt, nat_le, List, [], ◌∷◌, ◌++◌, take, drop}
+use Rattle.std.specs.Prelude.{ℕ, zero, suc, ◌+◌, ◌-◌, ◌/◌, ◌%◌, ◌^◌, Bool, true, false, ◌==◌, ◌&&◌, nat_lt, nat_le, List, [], ◌∷◌, ◌++◌, length, take, drop}
 use Rattle.std.specs.Prelude.{Option, Some, None, slice_get, slice_set}
 use Rattle.vg_meaning.specs.Answer.{Wrong, Gives, Piece, go_on, over, stops}
 use Rattle.vg_meaning.specs.Interrupts.{take_interrupt}
@@ -16,13 +16,13 @@ use Rattle.vg_firm.specs.declared.step.Step.{Step}
 use Rattle.vg_firm.specs.declared.step.Step.TheVariants.{Number, This, Local, SetLocal, Forget, Operate, Apply, ReadDevice, WriteDevice, Load, Store}
 use Rattle.vg_firm.specs.declared.step.Step.TheVariants.{LoadAt, StoreAt, LoadNothing, StoreNothing, LoadItem, StoreItem, Length, IsWithin}
 use Rattle.vg_firm.specs.declared.step.Step.TheVariants.{StopUnlessWithin, Bind, BindFor, Call, CallFor, CallValue, Idle}
-use Rattle.vg_firm.specs.Operators.{as_number, computed, applied}
+use Rattle.vg_firm.specs.Operators.{as_number, computed, has_strings, applied, has_string}
 use Rattle.vg_firm.specs.Program.{Procedure, Program}
 
 pub record State : Type 0 where
   pub values : List ℕ  -- the values that wait, the newest first
   pub locals : List ℕ
-  pub self : ℕ  -- the receiver's number, 0 in a component
+  pub self : Option ℕ  -- the receiver's number, where the call had a receiver; of a delegate of a component's method it is 0
   pub columns : List (List ℕ)  -- those in RAM
 
 -- ---- values that wait
@@ -148,24 +148,28 @@ stop_unless_within first count (suc n) s w = stop_unless (is_within first count 
 
 -- ---- calls and delegates
 
--- A call of a procedure with so many arguments, on a receiver.
+-- A call of a procedure with so many arguments, and perhaps on a receiver.
 abbrev pub Caller : Type 0 → Type 0
-Caller H = (procedure count receiver : ℕ) → Piece State H
+Caller H = (procedure count : ℕ) → (receiver : Option ℕ) → Piece State H
 
 abbrev pub call_delegate : {H : Type 0} → Codes → Caller H → (count : ℕ) → ℕ → Piece State H
-call_delegate k call count = not_null (λ v. with_found (k.at_code (code_in v)) (λ q. call q count (receiver_in v)))
+call_delegate k call count = not_null (λ v. with_found (k.at_code (code_in v)) (λ q. call q count (Some (receiver_in v))))
+
+-- A delegate of one of the procedures; a receiver's number has two bytes.
+abbrev pub put_delegate : {H : Type 0} → Codes → Program → (procedure receiver : ℕ) → Piece State H
+put_delegate k f q n = checked (nat_lt q (length f.procedures) && fits 2 n) (put (delegate k q n))
 
 -- ---- steps
 
 -- What a step of procedure m does, where `handle` is what is done for an interrupt.
 abbrev pub step : {H : Type 0} → Codes → Program → Procedure → Caller H → (handle : ℕ → Piece State H) → Step → Piece State H
 step k f m call handle (Number n) = put n
-step k f m call handle This = λ s. put s.self s
+step k f m call handle This = λ s. with_found s.self put s
 step k f m call handle (Local i) = λ s. with_found (slice_get s.locals i) put s
 step k f m call handle (SetLocal i) = taking (λ v. with_found (slice_get m.widths i) (λ width. of_width width (set_local i) v))
 step k f m call handle Forget = taking (λ v. go_on)
-step k f m call handle (Operate op) = taking (λ y. taking (λ x. put_computed (computed op x y)))
-step k f m call handle (Apply op) = taking (λ x. put (applied op x))
+step k f m call handle (Operate op) = taking (λ y. taking (λ x. checked (has_strings op x y) (put_computed (computed op x y))))
+step k f m call handle (Apply op) = taking (λ x. checked (has_string op x) (put (applied op x)))
 step k f m call handle (ReadDevice address) = read_device address put
 step k f m call handle (WriteDevice address) = taking (of_width 1 (write_device address))
 step k f m call handle (Load home c) = load f home c 0
@@ -179,10 +183,10 @@ step k f m call handle (StoreItem e) = taking (of_width e.width (λ v. taking (�
 step k f m call handle (Length table) = taking (not_null (λ n. with_found (array_at f table n) put_length))
 step k f m call handle (IsWithin first count) = taking (λ n. put (as_number (is_within first count n)))
 step k f m call handle (StopUnlessWithin first count) = taking (stop_unless_within first count)
-step k f m call handle (Bind q) = put (delegate k q 0)
-step k f m call handle (BindFor d) = taking (not_null (λ n. with_found (dispatched f.dispatches d n) (λ q. put (delegate k q n))))
-step k f m call handle (Call q count) = call q count 0
-step k f m call handle (CallFor d count) = from_below count (not_null (λ n. with_found (dispatched f.dispatches d n) (λ q. call q count n)))
+step k f m call handle (Bind q) = put_delegate k f q 0
+step k f m call handle (BindFor d) = taking (not_null (λ n. with_found (dispatched f.dispatches d n) (λ q. put_delegate k f q n)))
+step k f m call handle (Call q count) = call q count None
+step k f m call handle (CallFor d count) = from_below count (not_null (λ n. with_found (dispatched f.dispatches d n) (λ q. call q count (Some n))))
 step k f m call handle (CallValue count) = from_below count (call_delegate k call count)
 step k f m call handle Idle = take_interrupt handle
 

@@ -1,6 +1,6 @@
 -- What operators make of numbers. An int is the number of its 32 bits in two's complement, a truth value is 0 or 1, a char and a bit
 -- string are themselves, and so is the number of an object.
-use Rattle.std.specs.Prelude.{ℕ, zero, suc, ◌+◌, ◌-◌, ◌*◌, ◌/◌, ◌%◌, ◌^◌, Bool, true, false, not, ◌==◌, nat_lt, nat_le, bit_and, bit_or, bit_xor}
+use Rattle.std.specs.Prelude.{ℕ, zero, suc, ◌+◌, ◌-◌, ◌*◌, ◌/◌, ◌%◌, ◌^◌, Bool, true, false, not, ◌==◌, ◌&&◌, nat_lt, nat_le, bit_and, bit_or, bit_xor}
 use Rattle.std.specs.Prelude.{Option, Some, None, if◌then◌else◌}
 use Rattle.std.specs.Prelude.{ℤ, pos, negsuc, int_lt, int_le, int_rem}
 use Rattle.std.specs.Int.{w32, cast_unsigned, cast_signed, int_wrapping_add, int_wrapping_sub, int_wrapping_mul, int_wrapping_neg, int_wrapping_div}
@@ -58,9 +58,25 @@ computed (ShiftLeft k) x y = Some (shifted (cast_signed w32 y) k (λ n. x * 2 ^ 
 computed (ShiftRight k) x y = Some (shifted (cast_signed w32 y) k (λ n. x / 2 ^ n))
 computed (Concat k) x y = Some (x * 2 ^ k + y)
 
+-- A string of so many bits, which are at most 32.
+abbrev pub is_string : (bits x : ℕ) → Bool
+is_string k x = nat_le k 32 && nat_lt x (2 ^ k)
+
+-- Operators on strings of so many bits have such operands; a string that is put together has at most 32 bits.
+abbrev pub has_strings : Operator → (x y : ℕ) → Bool
+has_strings (ShiftLeft k) x y = is_string k x
+has_strings (ShiftRight k) x y = is_string k x
+has_strings (Concat k) x y = is_string k y && nat_lt (x * 2 ^ k + y) (2 ^ 32)
+has_strings op x y = true
+
 -- What an operator makes of one number.
 abbrev pub applied : Prefix → ℕ → ℕ
 applied Negative x = cast_unsigned w32 (int_wrapping_neg w32 (cast_signed w32 x))
 applied Not x = as_number (x == 0)
 applied (Complement k) x = 2 ^ k - 1 - x
 applied (Cut k) x = x % 2 ^ k
+
+-- The opposite of each bit is of a string of so many.
+abbrev pub has_string : Prefix → (x : ℕ) → Bool
+has_string (Complement k) x = is_string k x
+has_string op x = true

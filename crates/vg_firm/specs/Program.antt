@@ -1,5 +1,5 @@
 -- Packed programs.
-use Rattle.std.specs.Prelude.{ℕ, List, Option}
+use Rattle.std.specs.Prelude.{ℕ, Bool, List, Option}
 use Rattle.vg_meaning.specs.Code.{Code}
 use Rattle.vg_codes.specs.declared.case.Case.{Case}
 use Rattle.vg_firm.specs.declared.step.Step.{Step}
@@ -9,6 +9,7 @@ use Rattle.vg_firm.specs.declared.step.ArrayPlace.{ArrayPlace}
 pub record Procedure : Type 0 where
   pub method : ℕ  -- its number in the order of the text
   pub params : ℕ
+  pub receives : Bool  -- whether it gets a receiver: a method of a class, or one of which delegates are made
   pub widths : List ℕ  -- of its locals in bytes; the parameters come first
   pub result : ℕ  -- the width of its result, 0 where it has none
   pub calls : List ℕ  -- the procedures that it may call

@@ -23,7 +23,7 @@ abbrev pub arguments : (count : ℕ) → State → List ℕ
 arguments count s = reverse (take count s.values)
 
 -- A body begins: its locals are the arguments, and 0 for each other.
-abbrev pub entered : Procedure → (count self : ℕ) → State → State
+abbrev pub entered : Procedure → (count : ℕ) → (self : Option ℕ) → State → State
 entered m count self s =
     record {
       values = [];
@@ -46,32 +46,41 @@ abbrev pub guarded : {H : Type 0} → (calls : List ℕ) → Caller H → Caller
 guarded calls call q count self = checked (is_among calls q) (call q count self)
 
 -- The end of a body without a return gives 0, which stands for the default of each type.
-abbrev pub run_procedure : {H : Type 0} → Recorder H → Codes → Program → Caller H → (ℕ → Piece State H) → Procedure → (count self : ℕ) → Piece State H
+abbrev pub run_procedure : {H : Type 0} → Recorder H → Codes → Program → Caller H → (ℕ → Piece State H) → Procedure → (count : ℕ) → (self : Option ℕ) → Piece State H
 run_procedure r k f call handle m count self s w =
     and_then (returned (performed r (step k f m (guarded m.calls call) handle) truth m.body (entered m count self s) w) (put 0))
     (taking (of_width m.result (back_in count s)))
 
+-- A call on a receiver is of a procedure that gets one, and the receiver's number has two bytes.
+abbrev pub may_receive : Procedure → Option ℕ → Bool
+may_receive m (Some n) = m.receives && fits 2 n
+may_receive m None = true
+
 -- A call with the right number of arguments, each of the width of its parameter.
-abbrev pub may_enter : Procedure → (count : ℕ) → State → Bool
-may_enter m count s = (count == m.params) && (length (arguments count s) == count) && all_fit m.widths (arguments count s)
+abbrev pub may_enter : Procedure → (count : ℕ) → (self : Option ℕ) → State → Bool
+may_enter m count self s = (count == m.params) && (length (arguments count s) == count) && all_fit m.widths (arguments count s) && may_receive m self
 
 -- The handler of an interrupt, where there is one: it gets no argument, and its result is dropped.
 abbrev pub handled : {H : Type 0} → Caller H → Option ℕ → Piece State H
-handled call (Some q) s w = and_then (call q 0 0 s w) (taking (λ v. go_on))
+handled call (Some q) s w = and_then (call q 0 None s w) (taking (λ v. go_on))
 handled call None s w = Gives s w
+
+-- A call enters one of the procedures.
+abbrev pub entering : {H : Type 0} → Program → (procedure count : ℕ) → (self : Option ℕ) → (Procedure → Piece State H) → Piece State H
+entering f q count self go s = with_found (slice_get f.procedures q) (λ m. checked (may_enter m count self s) (go m)) s
 
 -- Calls are at most n deep, where n is at least the ticks that are left.
 abbrev pub called : {H : Type 0} → Recorder H → Codes → Program → ℕ → Caller H
-called r k f zero q count self s w = over OutOfClock s w
-called r k f (suc n) q count self s w =
-    with_found (slice_get f.procedures q) (λ m. checked (may_enter m count s)
-    (opened r (Calling m.method) (run_procedure r k f (called r k f n) (λ vector. handled (called r k f n) (f.handler vector)) m count self))) s w
+called r k f zero q count self = entering f q count self (λ m. over OutOfClock)
+called r k f (suc n) q count self =
+    entering f q count self (λ m. opened r (Calling m.method)
+    (run_procedure r k f (called r k f n) (λ vector. handled (called r k f n) (f.handler vector)) m count self))
 
 -- ---- runs
 
 -- Before main is called.
 abbrev pub first_state : Program → State
-first_state f = record { values = []; locals = []; self = 0; columns = f.ram }
+first_state f = record { values = []; locals = []; self = None; columns = f.ram }
 
 -- Main is called, and then the interrupts are taken, where n is at least their number.
 abbrev pub running : {H : Type 0} → Recorder H → Codes → Program → (interrupts : ℕ) → Piece State H

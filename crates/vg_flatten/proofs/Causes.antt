@@ -12,34 +12,38 @@ use Rattle.vg_flatten_shapes.specs.declared.room.Room.{Room}
 use Rattle.vg_flatten_shapes.specs.Shapes.{empty}
 use Rattle.vg_flatten_shapes.specs.Made.{Made, Gives, Refused}
 use Rattle.vg_flatten_control.specs.Flat.{flat}
-use Rattle.vg_flatten.specs.Fitting.{AllFit, AllSet}
+use Rattle.vg_flatten.specs.Closing.{AllSet}
+use Rattle.vg_flatten.specs.Flattened.{receivers, own_widths}
 use Rattle.vg_flatten.specs.Sealing.{IsNotTaken, WholeFails, IsWhole}
 use Rattle.vg_flatten.specs.Refusals.{temps_for, room_for, made_of, IsNotTakenAs, IsCause}
 
-module _ (lay : Layout) (params : List ℕ) (m : Procedure) (r : Room) (locals : r.locals ≡ length m.widths) (temps : r.temps ≡ temps_for r.locals) where
+module _ (lay : Layout) (m : Procedure) (r : Room) (receiver : r.receiver ≡ receivers m.receives) (locals : r.locals ≡ length (own_widths m))
+    (temps : r.temps ≡ temps_for r.locals) where
   room_is : r ≡ room_for m
   room_is =
-      ap (λ z. record { locals = r.locals; temps = z }) temps ∙ ap (λ z. record { locals = z; temps = temps_for z }) locals
+      ap (λ z. record { receiver = r.receiver; locals = r.locals; temps = z }) temps
+      ∙ ap (λ z. record { receiver = r.receiver; locals = z; temps = temps_for z }) locals
+      ∙ ap (λ z. record { receiver = z; locals = length (own_widths m); temps = temps_for (length (own_widths m)) }) receiver
 
   made_is : flat lay r m.body empty ≡ made_of lay m
   made_is = ap (λ z. flat lay z m.body empty) room_is
 
-  not_taken : (made : Made) → IsNotTaken made → IsNotTakenAs params m made
+  not_taken : (made : Made) → IsNotTaken made → IsNotTakenAs m made
   not_taken (Gives b s) h = inl h
   not_taken (Refused why) h = h
 
-  cause_by : (e : Refusal Fault) → WholeFails e (made_of lay m) → IsCause e lay params m
+  cause_by : (e : Refusal Fault) → WholeFails e (made_of lay m) → IsCause e lay m
   cause_by Memory h = tt
   cause_by (Faulty TooLong) h = tt
   cause_by (Faulty TooHigh) h = inr h
   cause_by (Faulty NotTaken) h = not_taken (made_of lay m) h
 
-  pub failed : (e : Refusal Fault) → WholeFails e (flat lay r m.body empty) → IsCause e lay params m
+  pub failed : (e : Refusal Fault) → WholeFails e (flat lay r m.body empty) → IsCause e lay m
   failed e h = cause_by e (subst (WholeFails e) made_is h)
 
-  unfit_in : (made : Made) (code : List Open) → IsWhole code made m → (AllFit params code → AllSet code → ⊥) → IsNotTakenAs params m made
+  unfit_in : (made : Made) (code : List Open) → IsWhole code made m → (AllSet code → ⊥) → IsNotTakenAs m made
   unfit_in (Refused why) code h no' = absurd h
-  unfit_in (Gives b s) code h no' = inr (λ both. no' (subst (AllFit params) (sym h.1) both.0) (subst AllSet (sym h.1) both.1))
+  unfit_in (Gives b s) code h no' = inr (λ all. no' (subst AllSet (sym h.1) all))
 
-  pub unfit : (code : List Open) → IsWhole code (flat lay r m.body empty) m → (AllFit params code → AllSet code → ⊥) → IsCause (Faulty NotTaken) lay params m
+  pub unfit : (code : List Open) → IsWhole code (flat lay r m.body empty) m → (AllSet code → ⊥) → IsCause (Faulty NotTaken) lay m
   unfit code h no' = unfit_in (made_of lay m) code (subst (λ z. IsWhole code z m) made_is h) no'

@@ -1,5 +1,5 @@
 -- That what the code makes of a procedure is the flattened procedure.
-use Rattle.std.specs.Prelude.{◌≡◌, ℕ, zero, suc, ◌+◌, ◌-◌, ◌<◌, ◌≤◌, true, false, List, [], ◌∷◌, ◌++◌, length, map, replicate, Option, Some}
+use Rattle.std.specs.Prelude.{◌≡◌, ℕ, zero, suc, ◌+◌, ◌-◌, ◌<◌, ◌≤◌, true, false, List, [], ◌∷◌, ◌++◌, length, drop, map, replicate, Option, Some}
 use Rattle.std.specs.List.{AllByRecursion}
 use Rattle.std.proofs.lemmas.List.{append_assoc}
 use Rattle.std.proofs.Common.{refl, sym, ap, ◌∙◌, subst, arith}
@@ -19,13 +19,13 @@ use Rattle.vg_flatten_shapes.specs.Shapes.{Shape, empty, is_empty}
 use Rattle.vg_flatten_shapes.specs.Blocks.{Block, open_code}
 use Rattle.vg_flatten_shapes.specs.Made.{Made, Gives, Refused}
 use Rattle.vg_flatten_control.specs.Flat.{flat}
-use Rattle.vg_flatten.specs.Fitting.{CallsFit, AllFit, AllSet}
+use Rattle.vg_flatten.specs.Closing.{AllSet}
 use Rattle.vg_flatten_shapes.specs.Blocks.{set_in}
-use Rattle.vg_flatten.specs.Flattened.{zeroes, zero_list, whole, IsFlat}
+use Rattle.vg_flatten.specs.Flattened.{zeroes, zero_list, receivers, own_widths, own_params, widened, all_widths, whole, IsFlat}
 use Rattle.vg_flatten_shapes.specs.Laying.{IsPiece}
 use Rattle.vg_flatten.specs.Sealing.{IsWhole}
 use Rattle.vg_flatten.proofs.Sound.{MadeIn, BlockIn, in_flat}
-use Rattle.vg_flatten.proofs.Whole.{whole_sound, fit_block, in_zeroes}
+use Rattle.vg_flatten.proofs.Whole.{whole_sound, own_long, in_zeroes}
 use Rattle.vg_flatten.proofs.Onward.{leads_onward}
 use Rattle.vg_flatten.specs.Loops.{has_loop}
 use Rattle.vg_lin.specs.Onward.{all_lead_on}
@@ -42,6 +42,12 @@ wide_on row ws n t x lt h =
     one_less : (a b : ℕ) → b < a → suc (a - (b + 1)) ≡ a - b
     one_less a b l = omega (arith, l)
 
+-- the widths of which some are four bytes
+pub widened_is : (n : ℕ) (ws : List ℕ) → n ≤ length ws → widened n ws ≡ replicate n 4 ++ drop n ws
+widened_is zero ws le = refl
+widened_is (suc n) [] le = absurd (omega (arith, le))
+widened_is (suc n) (w ∷ ws) le = ap (λ z. 4 ∷ z) (widened_is n ws (omega (arith, le)))
+
 pub zero_on : (code all : List Open) (f n i : ℕ) → i < f + n → code ++ zero_list (f + n - i) i ≡ all
     → (code ++ Set (Plain (Copy i (Known 0))) ∷ []) ++ zero_list (f + n - (i + 1)) (i + 1) ≡ all
 zero_on code all f n i lt h =
@@ -57,30 +63,30 @@ zero_on code all f n i lt h =
 
 -- the instructions of a whole procedure, of its parts
 pub whole_laid : (m : FirmProcedure) (made : Made) (body : Piece) (first rest code : List Open) (at : ℕ)
-    → first ≡ zero_list (length m.widths - m.params) m.params
+    → first ≡ zero_list (length m.widths - m.params) (own_params m)
     → at ≡ 0 + length first → IsPiece body at made → is_empty body.homes ≡ true → rest ≡ body.code ++ Set (Return (Known 0)) ∷ [] → code ≡ first ++ rest
     → IsWhole code made m
 whole_laid m (Refused why) body first rest code at hf ha hp he hr hc = absurd hp
 whole_laid m (Gives b s) body first rest code at hf ha hp he hr hc = (
   ap is_empty (sym hp.1) ∙ he,
-  hc ∙ ap (λ z. z ++ rest) zs ∙ ap (λ z. open_code (zeroes (length m.widths - m.params) m.params) 0 ++ z) (hr
+  hc ∙ ap (λ z. z ++ rest) zs ∙ ap (λ z. open_code (zeroes (length m.widths - m.params) (own_params m)) 0 ++ z) (hr
       ∙ ap (λ z. z ++ Set (Return (Known 0)) ∷ []) (hp.0 ∙ ap (open_code b) place)),
 )
   where
-    zs : first ≡ open_code (zeroes (length m.widths - m.params) m.params) 0
-    zs = hf ∙ sym (zero_code (length m.widths - m.params) m.params 0)
+    zs : first ≡ open_code (zeroes (length m.widths - m.params) (own_params m)) 0
+    zs = hf ∙ sym (zero_code (length m.widths - m.params) (own_params m) 0)
 
-    place : at ≡ 0 + length (open_code (zeroes (length m.widths - m.params) m.params) 0)
+    place : at ≡ 0 + length (open_code (zeroes (length m.widths - m.params) (own_params m)) 0)
     place = ha ∙ ap (λ z. 0 + length z) zs
 
-module _ (lay : Layout) (m : FirmProcedure) (r : Room) (params : List ℕ) (locals : r.locals ≡ length m.widths) (few : r.locals + r.temps ≤ 252)
-    (hp : m.params ≤ length m.widths)
+module _ (lay : Layout) (m : FirmProcedure) (r : Room) (receiver : r.receiver ≡ receivers m.receives) (locals : r.locals ≡ length (own_widths m))
+    (few : r.locals + r.temps ≤ 252) (hp : m.params ≤ length m.widths)
     (hw : AllByRecursion IsWidth m.widths) (open' : List Open) (code : List Instr) (widths : List ℕ) (is : IsWhole open' (flat lay r m.body empty) m)
-    (sealed : code ≡ map (set_in 0 0) open') (set : AllSet open') (ws : widths ≡ m.widths ++ replicate r.temps 4) where
+    (sealed : code ≡ map (set_in 0 0) open') (set : AllSet open') (ws : widths ≡ all_widths m ++ replicate r.temps 4) where
   abbrev pub procedure : Procedure
-  procedure = record { method = Some m.method; params = m.params; widths = widths; code = code }
+  procedure = record { method = Some m.method; params = own_params m; widths = widths; code = code }
 
-  block_in : (b : Block) (s : Shape) → flat lay r m.body empty ≡ Gives b s → BlockIn (Unit {0}) (length m.widths + r.temps) b
+  block_in : (b : Block) (s : Shape) → flat lay r m.body empty ≡ Gives b s → BlockIn (Unit {0}) (length (own_widths m) + r.temps) b
   block_in b s e =
       subst (λ z. BlockIn (Unit {0}) (z + r.temps) b) locals (subst (λ z. MadeIn (Unit {0}) (r.locals + r.temps) z) e (in_flat (Unit {0}) lay r m.body empty (λ l. tt) (tt, tt))).0
 
@@ -90,38 +96,39 @@ module _ (lay : Layout) (m : FirmProcedure) (r : Room) (params : List ℕ) (loca
   sound_by : (x : Made) → flat lay r m.body empty ≡ x → IsWhole open' x m → IsSound procedure
   sound_by (Refused why) e h = absurd h
   sound_by (Gives b s) e h =
-      subst (λ z. IsSound (record { method = Some m.method; params = m.params; widths = z; code = code })) (sym ws)
+      subst (λ z. IsSound (record { method = Some m.method; params = own_params m; widths = z; code = code })) (sym ws)
       (whole_sound m b r.temps (Some m.method) code hp hw (omega (arith, few, locals)) (block_in b s e) (subst AllSet h.1 set) (code_is b h.1))
 
   pub procedure_sound : IsSound procedure
   procedure_sound = sound_by (flat lay r m.body empty) refl is
 
-  flat_by : (x : Made) → flat lay r m.body empty ≡ x → IsWhole open' x m → AllFit params open' → IsFlat lay params m procedure
-  flat_by (Refused why) e h fit = absurd h
-  flat_by (Gives b s) e h fit =
+  flat_by : (x : Made) → flat lay r m.body empty ≡ x → IsWhole open' x m → IsFlat lay m procedure
+  flat_by (Refused why) e h = absurd h
+  flat_by (Gives b s) e h =
       record {
         room = r;
         block = b;
         shape = s;
         made = e;
         done = h.0;
+        receiver = receiver;
         locals = locals;
-        fits = (fit_block params (whole m b) 0 (subst (AllFit params) h.1 fit)).1.0;
         method = refl;
         parameters = refl;
         widths = ws;
         code = code_is b h.1;
       }
 
-  pub procedure_flat : AllFit params open' → IsFlat lay params m procedure
-  procedure_flat fit = flat_by (flat lay r m.body empty) refl is fit
+  pub procedure_flat : IsFlat lay m procedure
+  procedure_flat = flat_by (flat lay r m.body empty) refl is
 
   onward_by : (x : Made) → flat lay r m.body empty ≡ x → IsWhole open' x m → has_loop m.body ≡ false → all_lead_on 0 code ≡ true
   onward_by (Refused why) e h none = absurd h
   onward_by (Gives b s) e h none =
+      let own = own_long m.receives m.widths in
       ap (all_lead_on 0) (code_is b h.1)
       ∙ leads_onward (r.locals + r.temps) (whole m b) (
-        in_zeroes ⊥ (r.locals + r.temps) (length m.widths - m.params) m.params (omega (arith, hp, locals)),
+        in_zeroes ⊥ (r.locals + r.temps) (length m.widths - m.params) (own_params m) (omega (arith, hp, locals, own)),
         ((subst (λ z. MadeIn ⊥ (r.locals + r.temps) z) e (in_flat ⊥ lay r m.body empty (λ l. not_both (sym none ∙ l)) (tt, tt))).0, tt),
       ) (subst AllSet h.1 set)
     where

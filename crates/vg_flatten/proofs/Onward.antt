@@ -2,6 +2,8 @@
 use Rattle.std.specs.Prelude.{ℕ, zero, suc, ◌+◌, ◌<◌, ◌≤◌, Bool, true, false, ◌&&◌, nat_lt, List, [], ◌∷◌, ◌++◌, length, map}
 use Rattle.std.proofs.Common.{◌≡◌, refl, sym, ap, ◌∙◌, subst, arith}
 use Rattle.std.proofs.lemmas.List.{length-append}
+use Rattle.vg_lin.specs.declared.instr.Operand.{Operand}
+use Rattle.vg_lin.specs.declared.instr.Call.{Call as Calling}
 use Rattle.vg_lin.specs.declared.instr.Instr.{Instr}
 use Rattle.vg_lin.specs.declared.instr.Instr.TheVariants.{Plain, When, Unless, Jump, Call, Return, Idle}
 use Rattle.vg_lin.specs.Onward.{leads_on, all_lead_on}
@@ -10,8 +12,8 @@ use Rattle.vg_flatten_shapes.specs.declared.open.Truth.TheVariants.{Holds, Fails
 use Rattle.vg_flatten_shapes.specs.declared.open.Open.{Open}
 use Rattle.vg_flatten_shapes.specs.declared.open.Open.TheVariants.{Set, Break, Continue}
 use Rattle.vg_flatten_shapes.proofs.Choices.{alone, with_jump, choice_cases}
-use Rattle.vg_flatten_shapes.specs.Blocks.{Block, Skip, One, CallTo, TakeInterrupt, GiveBack, BreakOut, GoOn, Both, Choice, Repeat, branch, set_in, open_code}
-use Rattle.vg_flatten.specs.Fitting.{AllSet}
+use Rattle.vg_flatten_shapes.specs.Blocks.{Block, Skip, One, CallTo, TakeInterrupt, GiveBack, BreakOut, GoOn, Both, Choice, Repeat, branch, set_in, call_code, open_code}
+use Rattle.vg_flatten.specs.Closing.{AllSet}
 use Rattle.vg_flatten.proofs.Sound.{BlockIn}
 
 -- A jump at a place leads on; one out of a loop is not asked for.
@@ -53,10 +55,14 @@ both_ways t at as' bs ha hb = (
 one_way : (t : Truth) (at : ℕ) (as' : List Open) → AllOn as' (at + 1) → AllOn (alone t at as') at
 one_way t at as' ha = (on_branch t at (at + 1 + length as') (omega arith), on_at as' (at + 1) (suc at) (omega arith) ha)
 
+on_call : (pushed : List Operand) (c : Calling) (at : ℕ) → AllOn (call_code pushed c) at
+on_call [] c at = (refl, tt)
+on_call (a ∷ more) c at = (refl, on_call more c (suc at))
+
 on_block : (size : ℕ) (b : Block) (at : ℕ) → BlockIn ⊥ size b → AllOn (open_code b at) at
 on_block size Skip at h = tt
 on_block size (One p) at h = (refl, tt)
-on_block size (CallTo c) at h = (refl, tt)
+on_block size (CallTo pushed c) at h = on_call pushed c at
 on_block size TakeInterrupt at h = (refl, tt)
 on_block size (GiveBack a) at h = (refl, tt)
 on_block size BreakOut at h = (tt, tt)

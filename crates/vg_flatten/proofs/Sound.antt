@@ -1,9 +1,9 @@
 -- That the instructions of what was made keep what every procedure of linear code keeps: operands in range, and jumps that lead to no
 -- place behind the code nor to themselves.
-use Rattle.std.specs.Prelude.{ℕ, zero, suc, ◌+◌, ◌-◌, ◌<◌, ◌≤◌, ◌*◌, ◌^◌, Bool, true, false, ◌==◌, ◌&&◌, ◌||◌, nat_lt, nat_le, List, [], ◌∷◌, ◌++◌, length, map, reverse, Option, Some, None, if◌then◌else◌, slice_get}
+use Rattle.std.specs.Prelude.{ℕ, zero, suc, ◌+◌, ◌-◌, ◌<◌, ◌≤◌, ◌*◌, ◌^◌, Bool, true, false, ◌==◌, ◌&&◌, ◌||◌, nat_lt, nat_le, List, [], ◌∷◌, ◌++◌, length, map, reverse, take, drop, Option, Some, None, if◌then◌else◌, slice_get}
 use Rattle.std.specs.List.{AllByRecursion}
 use Rattle.std.proofs.Common.{◌≡◌, ◌≢◌, refl, sym, ap, ◌∙◌, subst, arith}
-use Rattle.std.proofs.lemmas.List.{length-append, length-map}
+use Rattle.std.proofs.lemmas.List.{length-append, length-map, reverse-append, length-take-le}
 use Rattle.vg_meaning.specs.Code.{Code, Nothing, Then, Do, If, Loop, Break, Continue, Return}
 use Rattle.vg_firm.specs.declared.step.Operator.{Operator}
 use Rattle.vg_firm.specs.declared.step.Operator.TheVariants.{Plus, Minus, Times, Divide, Remainder, Less, AtMost, Greater, AtLeast, Equal, Unequal}
@@ -17,11 +17,11 @@ use Rattle.vg_firm.specs.declared.step.Step.TheVariants.{StopUnlessWithin, Bind,
 use Rattle.vg_lin.specs.declared.instr.Operand.{Operand}
 use Rattle.vg_lin.specs.declared.instr.Operand.TheVariants.{Local, Known}
 use Rattle.vg_lin.specs.declared.instr.Operator.{Operator as LinOperator}
-use Rattle.vg_lin.specs.declared.instr.Operator.TheVariants.{Plus as Sum, Minus as Difference, Times as Product, Divide as Quotient, Remainder as Rest, ShiftLeft as ShiftsLeft, ShiftRight as ShiftsRight}
+use Rattle.vg_lin.specs.declared.instr.Operator.TheVariants.{Plus as Sum, Minus as Difference, Times as Product, And as Both', Divide as Quotient, Remainder as Rest, ShiftLeft as ShiftsLeft, ShiftRight as ShiftsRight}
 use Rattle.vg_lin.specs.declared.instr.Comparison.TheVariants.{Below, Same}
 use Rattle.vg_lin.specs.declared.instr.Test.{Test}
 use Rattle.vg_lin.specs.declared.instr.Plain.{Plain as PlainInstr}
-use Rattle.vg_lin.specs.declared.instr.Plain.TheVariants.{Copy, Compute, Load as LoadsBytes, Store as StoresBytes, ReadDevice as ReadsDevice, WriteDevice as WritesDevice, Stop}
+use Rattle.vg_lin.specs.declared.instr.Plain.TheVariants.{Copy, Compute, Load as LoadsBytes, Store as StoresBytes, ReadDevice as ReadsDevice, WriteDevice as WritesDevice, Find, CodeOf, Stop}
 use Rattle.vg_lin.specs.declared.instr.Callee.{Callee}
 use Rattle.vg_lin.specs.declared.instr.Callee.TheVariants.{Procedure as ByNumber, Code as ByCode}
 use Rattle.vg_lin.specs.declared.instr.Registers.{Registers}
@@ -32,21 +32,23 @@ use Rattle.vg_flatten_shapes.specs.declared.open.Truth.{Truth}
 use Rattle.vg_flatten_shapes.specs.declared.open.Truth.TheVariants.{Holds, Fails}
 use Rattle.vg_flatten_shapes.specs.declared.layout.Layout.{Layout}
 use Rattle.vg_flatten_shapes.specs.declared.room.Room.{Room}
-use Rattle.vg_flatten_shapes.specs.Shapes.{Shape, only, empty, is_empty, is_free, same_operand, same_homes, temp}
+use Rattle.vg_flatten_shapes.specs.Shapes.{Shape, Taken, only, empty, is_empty, is_free, same_operand, same_homes, taken, temp}
 use Rattle.vg_flatten_shapes.specs.Blocks.{stop_where, Block, Skip, One, CallTo, TakeInterrupt, GiveBack, BreakOut, GoOn, Both, Choice, Repeat}
 use Rattle.vg_flatten_shapes.specs.Made.{Made, Gives, Refused, behind, after, by_temp, settled, settled_as, Tested, tested, tested_as, is_zero}
-use Rattle.vg_flatten_steps.specs.Steps.{computing, comparing, by_order, test_of}
-use Rattle.vg_flatten_steps.specs.Steps.{computed, operated, operated_as, bytes_of, cut, applied, put_number, get_local, set_local, forgotten, read}
-use Rattle.vg_flatten_steps.specs.Steps.{written}
-use Rattle.vg_flatten_steps.specs.Steps.{called_with, with_one, with_two, with_three, with_four, called, stepped}
+use Rattle.vg_flatten_values.specs.Values.{computing, comparing, by_order, test_of}
+use Rattle.vg_flatten_values.specs.Values.{computed, operated, operated_as, bytes_of, bytes_for, cut_bits, cut, applied, concatenated}
+use Rattle.vg_flatten_steps.specs.Locals.{put_number, at_local, get_local, get_receiver, put_in_local, set_local, forgotten, read}
+use Rattle.vg_flatten_steps.specs.Locals.{written}
+use Rattle.vg_flatten_steps.specs.Calls.{registers_of, passing, with_taken, is_received, with_receiver, called, called_on, called_for, called_by, called_value, bound, bound_for}
+use Rattle.vg_flatten_steps.specs.Steps.{stepped}
 use Rattle.vg_flatten_control.specs.Flat.{landed_as, landed, joined, chosen, where_empty, repeated, repeated_test}
 use Rattle.vg_flatten.specs.Loops.{has_loop}
 use Rattle.vg_flatten_control.specs.Flat.{repeated_body, repeated_next, given_back, flat}
-use Rattle.vg_flatten_steps.specs.Steps.{bytes_around, may_be_zero, divisor_checked, divided, masked, shifted_left, shifted_where, shifted_by, shifted_right, combined}
-use Rattle.vg_flatten_steps.specs.Steps.{load_nothing, store_nothing, is_near, is_one_of, cast_to}
-use Rattle.vg_flatten_steps.specs.Steps.{is_width, load_from, multiplied, multiple, fetched, load_one, load_of, length_of, places_in, memory_of}
-use Rattle.vg_flatten_steps.specs.Steps.{store_at, store_one, put_of, store_of, is_place, timed, element_of, load_element, load_item, store_element, store_item}
-use Rattle.vg_flatten_steps.specs.declared.elements.Reach.{Reach}
+use Rattle.vg_flatten_values.specs.Values.{bytes_around, may_be_zero, divisor_checked, divided, masked, shifted_left, shifted_right, combined}
+use Rattle.vg_flatten_steps.specs.Objects.{load_nothing, store_nothing, is_near, is_one_of, cast_to}
+use Rattle.vg_flatten_places.specs.Places.{is_width, load_from, multiplied, multiple, fetched, load_one, load_of, length_of, places_in, memory_of}
+use Rattle.vg_flatten_places.specs.Places.{distance, fetched_from, load_placed, put_from, store_placed, store_at, store_one, put_of, store_of, is_place, timed, element_of, load_element, load_item, store_element, store_item}
+use Rattle.vg_flatten_places.specs.declared.elements.Reach.{Reach}
 use Rattle.vg_firm.specs.declared.step.Elements.{Elements}
 use Rattle.vg_flatten_shapes.specs.declared.layout.Place.{Place}
 use Rattle.vg_lin.specs.declared.instr.Memory.{Memory}
@@ -82,6 +84,8 @@ IsPlainIn size (LoadsBytes memory width to a) = (1 ≤ width) × (width ≤ 4) �
 IsPlainIn size (StoresBytes width a from) = (1 ≤ width) × (width ≤ 4) × IsIn size a.index × IsIn size from
 IsPlainIn size (ReadsDevice to address) = to < size
 IsPlainIn size (WritesDevice address a) = IsIn size a
+IsPlainIn size (Find d to a) = (to < size) × IsIn size a
+IsPlainIn size (CodeOf q to) = to < size
 IsPlainIn size (Stop code) = Unit {0}
 IsPlainIn size _ = ⊥
 
@@ -96,7 +100,7 @@ IsCalleeIn size (ByCode a) = IsIn size a
 -- L is what must hold where there is a loop.
 abbrev pub BlockIn : (L : Type 0) → (size : ℕ) → Block → Type 0
 BlockIn L size (One p) = IsPlainIn size p
-BlockIn L size (CallTo c) = (c.pushed ≡ 0) × IsCalleeIn size c.callee × AreIn size (operands c.registers) × IsToIn size c.to
+BlockIn L size (CallTo pushed c) = (c.pushed ≡ length pushed) × AreIn size pushed × IsCalleeIn size c.callee × AreIn size (operands c.registers) × IsToIn size c.to
 BlockIn L size (GiveBack a) = IsIn size a
 BlockIn L size (Both a b) = BlockIn L size a × BlockIn L size b
 BlockIn L size (Choice t a b) = IsTruthIn size t × BlockIn L size a × BlockIn L size b
@@ -193,7 +197,7 @@ module _ (L : Type 0) (lay : Layout) (r : Room) where
 
   in_masked : (bits : ℕ) (x y : Operand) (hs : List Operand) → IsIn size x → IsIn size y → AreIn size hs → (o : Option ℕ) → bytes_around bits ≡ o
       → MadeIn L size (masked r bits o x y hs)
-  in_masked bits x y hs hx hy h None e = tt
+  in_masked bits x y hs hx hy h None e = (tt, ((tt, h), tt))
   in_masked bits x y hs hx hy h (Some width) e =
       in_by_temp hs _ (λ to lt. (((above bits width e, below bits width e, lt, hx, hy), (above bits width e, below bits width e, lt, lt, tt)), ((lt, h), tt)))
     where
@@ -214,38 +218,39 @@ module _ (L : Type 0) (lay : Layout) (r : Room) where
       below : (n v : ℕ) → bytes_of n ≡ Some v → v ≤ 4
       below n v e1 = grind arith
 
-  in_shifted_by : (bits : ℕ) (x y : Operand) (hs : List Operand) → IsIn size x → IsIn size y → AreIn size hs → MadeIn L size (shifted_by r bits x y hs)
-  in_shifted_by bits x y hs hx hy h =
-      in_if (bits == 32) _ _ (in_computed ShiftsRight 4 x y hs (omega arith) (omega arith) hx hy h)
-      (in_if (nat_lt bits 32) (shifted_where r bits x y hs) _ (in_by_temp hs _ (λ to lt. (
-        (in_test y (Known bits) hy tt Below, (omega arith, omega arith, lt, hx, hy), (lt, tt)),
-        ((lt, h), tt),
-      ))) tt)
+  for_low : (bits : ℕ) → 1 ≤ bytes_for bits
+  for_low bits = grind arith
+
+  for_high : (bits : ℕ) → bytes_for bits ≤ 4
+  for_high bits = grind arith
 
   in_shifted_right : (bits : ℕ) (x y : Operand) (hs : List Operand) → IsIn size x → IsIn size y → AreIn size hs → MadeIn L size (shifted_right r bits x y hs)
   in_shifted_right bits x (Known n) hs hx hy h =
-      in_if (nat_lt 32 bits) _ _ tt
-      (in_if (nat_lt n bits) _ _ (in_computed ShiftsRight 4 x (Known n) hs (omega arith) (omega arith) hx hy h) (tt, ((tt, h), tt)))
-  in_shifted_right bits x (Local i) hs hx hy h = in_shifted_by bits x (Local i) hs hx hy h
+      in_if (nat_lt n bits) _ _ (in_computed ShiftsRight (bytes_for bits) x (Known n) hs (for_low bits) (for_high bits) hx hy h) (tt, ((tt, h), tt))
+  in_shifted_right bits x (Local i) hs hx hy h = in_computed ShiftsRight (bytes_for bits) x (Local i) hs (for_low bits) (for_high bits) hx hy h
+
+  in_concatenated : (bits : ℕ) (x y : Operand) (hs : List Operand) → IsIn size x → IsIn size y → AreIn size hs → MadeIn L size (concatenated r bits x y hs)
+  in_concatenated bits x y hs hx hy h =
+      in_by_temp hs _ (λ to lt. (((omega arith, omega arith, lt, hx, tt), (omega arith, omega arith, lt, lt, hy)), ((lt, h), tt)))
 
   in_combined : (op : Operator) (x y : Operand) (hs : List Operand) → IsIn size x → IsIn size y → AreIn size hs → MadeIn L size (combined r op x y hs)
   in_combined Divide x y hs hx hy h = in_divided Quotient x y hs hx hy h
   in_combined Remainder x y hs hx hy h = in_divided Rest x y hs hx hy h
   in_combined (ShiftLeft bits) x y hs hx hy h = in_shifted_left bits x y hs hx hy h (bytes_of bits) refl
   in_combined (ShiftRight bits) x y hs hx hy h = in_shifted_right bits x y hs hx hy h
-  in_combined Plus x y hs hx hy h = tt
-  in_combined Minus x y hs hx hy h = tt
-  in_combined Times x y hs hx hy h = tt
-  in_combined (Less o) x y hs hx hy h = tt
-  in_combined (AtMost o) x y hs hx hy h = tt
-  in_combined (Greater o) x y hs hx hy h = tt
-  in_combined (AtLeast o) x y hs hx hy h = tt
-  in_combined Equal x y hs hx hy h = tt
-  in_combined Unequal x y hs hx hy h = tt
-  in_combined And x y hs hx hy h = tt
-  in_combined Or x y hs hx hy h = tt
-  in_combined Xor x y hs hx hy h = tt
-  in_combined (Concat k) x y hs hx hy h = tt
+  in_combined Plus x y hs hx hy h = (tt, ((tt, h), tt))
+  in_combined Minus x y hs hx hy h = (tt, ((tt, h), tt))
+  in_combined Times x y hs hx hy h = (tt, ((tt, h), tt))
+  in_combined (Less o) x y hs hx hy h = (tt, ((tt, h), tt))
+  in_combined (AtMost o) x y hs hx hy h = (tt, ((tt, h), tt))
+  in_combined (Greater o) x y hs hx hy h = (tt, ((tt, h), tt))
+  in_combined (AtLeast o) x y hs hx hy h = (tt, ((tt, h), tt))
+  in_combined Equal x y hs hx hy h = (tt, ((tt, h), tt))
+  in_combined Unequal x y hs hx hy h = (tt, ((tt, h), tt))
+  in_combined And x y hs hx hy h = (tt, ((tt, h), tt))
+  in_combined Or x y hs hx hy h = (tt, ((tt, h), tt))
+  in_combined Xor x y hs hx hy h = (tt, ((tt, h), tt))
+  in_combined (Concat k) x y hs hx hy h = in_concatenated k x y hs hx hy h
 
   in_operated : (op : Operator) (hs : List Operand) → AreIn size hs → MadeIn L size (operated r op hs)
   in_operated op [] h = tt
@@ -257,8 +262,19 @@ module _ (L : Type 0) (lay : Layout) (r : Room) where
       by_kind None (Some t) ht = (tt, (h.1.1, ht))
       by_kind None None ht = in_combined op x y hs h.1.0 h.0 h.1.1
 
-  in_cut : (bits : ℕ) (h : Operand) (hs : List Operand) → IsIn size h → AreIn size hs → (o : Option ℕ) → bytes_of bits ≡ o → MadeIn L size (cut r o h hs)
-  in_cut bits h hs hh hhs None e = tt
+  in_cut_bits : (bits : ℕ) (h : Operand) (hs : List Operand) → IsIn size h → AreIn size hs → (o : Option ℕ) → bytes_around bits ≡ o
+      → MadeIn L size (cut_bits r bits o h hs)
+  in_cut_bits bits h hs hh hhs None e = (tt, ((hh, hhs), tt))
+  in_cut_bits bits h hs hh hhs (Some width) e = in_computed Both' width h (Known (2 ^ bits - 1)) hs (above bits width e) (below bits width e) hh tt hhs
+    where
+      above : (n v : ℕ) → bytes_around n ≡ Some v → 1 ≤ v
+      above n v e1 = grind arith
+
+      below : (n v : ℕ) → bytes_around n ≡ Some v → v ≤ 4
+      below n v e1 = grind arith
+
+  in_cut : (bits : ℕ) (h : Operand) (hs : List Operand) → IsIn size h → AreIn size hs → (o : Option ℕ) → bytes_of bits ≡ o → MadeIn L size (cut r bits o h hs)
+  in_cut bits h hs hh hhs None e = in_cut_bits bits h hs hh hhs (bytes_around bits) refl
   in_cut bits h hs hh hhs (Some width) e = in_computed Sum width h (Known 0) hs (above bits width e) (below bits width e) hh tt hhs
     where
       above : (n v : ℕ) → bytes_of n ≡ Some v → 1 ≤ v
@@ -276,57 +292,126 @@ module _ (L : Type 0) (lay : Layout) (r : Room) where
   in_applied Negative (a ∷ hs) h = in_computed Difference 4 (Known 0) a hs (omega arith) (omega arith) tt h.0 h.1
   in_applied (Cut bits) (a ∷ hs) h = in_cut bits a hs h.0 h.1 (bytes_of bits) refl
   in_applied (Complement bits) (a ∷ hs) h =
-      in_if (bits == 32) _ _ (in_computed Difference 4 (Known (2 ^ 32 - 1)) a hs (omega arith) (omega arith) tt h.0 h.1) tt
+      in_if (nat_le bits 32) _ _
+      (in_computed Difference (bytes_for bits) (Known (2 ^ bits - 1)) a hs (for_low bits) (for_high bits) tt h.0 h.1) (tt, ((tt, h.1), tt))
 
-  in_local : (i : ℕ) (hs : List Operand) → AreIn size hs → MadeIn L size (get_local r i hs)
-  in_local i hs h = by_size (nat_lt i r.locals) refl
+  in_at_local : (j : ℕ) (hs : List Operand) → AreIn size hs → MadeIn L size (at_local r j hs)
+  in_at_local j hs h = by_size (nat_lt j r.locals) refl
     where
-      by_size : (b : Bool) → nat_lt i r.locals ≡ b → MadeIn L size (if b then Gives Skip (only (Local i ∷ hs)) else Refused NotTaken)
-      by_size true e = let lt : i < r.locals = grind arith in (tt, ((omega (arith, lt), h), tt))
+      by_size : (b : Bool) → nat_lt j r.locals ≡ b → MadeIn L size (if b then Gives Skip (only (Local j ∷ hs)) else Refused NotTaken)
+      by_size true e = let lt : j < r.locals = grind arith in (tt, ((omega (arith, lt), h), tt))
       by_size false e = tt
+
+  in_receiver : (hs : List Operand) → AreIn size hs → MadeIn L size (get_receiver r hs)
+  in_receiver hs h = in_if (r.receiver == 0) _ _ (tt, ((tt, h), tt)) (in_at_local 0 hs h)
+
+  in_put : (j : ℕ) (a : Operand) (hs : List Operand) → IsIn size a → AreIn size hs → MadeIn L size (put_in_local r j a hs)
+  in_put j a hs ha h = by_size (nat_lt j r.locals) (is_free j (reverse hs)) refl
+    where
+      by_size : (b c : Bool) → nat_lt j r.locals ≡ b → MadeIn L size (if b && c then Gives (One (Copy j a)) (only hs) else Refused NotTaken)
+      by_size true true e = let lt : j < r.locals = grind arith in ((omega (arith, lt), ha), (h, tt))
+      by_size true false e = tt
+      by_size false c e = tt
 
   in_set : (i : ℕ) (hs : List Operand) → AreIn size hs → MadeIn L size (set_local r i hs)
   in_set i [] h = tt
-  in_set i (a ∷ hs) h = by_size (nat_lt i r.locals) (is_free i (reverse hs)) refl
-    where
-      by_size : (b c : Bool) → nat_lt i r.locals ≡ b → MadeIn L size (if b && c then Gives (One (Copy i a)) (only hs) else Refused NotTaken)
-      by_size true true e = let lt : i < r.locals = grind arith in ((omega (arith, lt), h.0), (h.1, tt))
-      by_size true false e = tt
-      by_size false c e = tt
+  in_set i (a ∷ hs) h = in_put (r.receiver + i) a hs h.0 h.1
 
   in_number : (v : ℕ) (hs : List Operand) → AreIn size hs → MadeIn L size (put_number v hs)
   in_number v hs h = in_if (nat_lt v (2 ^ 32)) (Gives Skip (only (Known v ∷ hs))) (Refused NotTaken) (tt, ((tt, h), tt)) tt
 
-  in_called_with : (q : ℕ) (args : Registers) (hs : List Operand) → AreIn size (operands args) → AreIn size hs → MadeIn L size (called_with r q args hs)
-  in_called_with q args hs ha h = in_by_temp hs _ (λ to lt. ((refl, tt, ha, lt), ((lt, h), tt)))
+  -- ---- calls
 
-  in_one : (q : ℕ) (hs : List Operand) → AreIn size hs → MadeIn L size (with_one r q hs)
-  in_one q [] h = tt
-  in_one q (a ∷ hs) h = in_called_with q (One' a) hs (h.0, tt) h.1
+  take_in : (n : ℕ) (hs : List Operand) → AreIn size hs → AreIn size (take n hs)
+  take_in zero hs h = tt
+  take_in (suc n) [] h = tt
+  take_in (suc n) (a ∷ hs) h = (h.0, take_in n hs h.1)
 
-  in_two : (q : ℕ) (hs : List Operand) → AreIn size hs → MadeIn L size (with_two r q hs)
-  in_two q [] h = tt
-  in_two q (b ∷ []) h = tt
-  in_two q (b ∷ a ∷ hs) h = in_called_with q (Two a b) hs (h.1.0, (h.0, tt)) h.1.1
+  drop_in : (n : ℕ) (hs : List Operand) → AreIn size hs → AreIn size (drop n hs)
+  drop_in zero hs h = h
+  drop_in (suc n) [] h = tt
+  drop_in (suc n) (a ∷ hs) h = drop_in n hs h.1
 
-  in_three : (q : ℕ) (hs : List Operand) → AreIn size hs → MadeIn L size (with_three r q hs)
-  in_three q [] h = tt
-  in_three q (c ∷ []) h = tt
-  in_three q (c ∷ b ∷ []) h = tt
-  in_three q (c ∷ b ∷ a ∷ hs) h = in_called_with q (Three a b c) hs (h.1.1.0, (h.1.0, (h.0, tt))) h.1.1.1
+  both_in : (xs ys : List Operand) → AreIn size xs → AreIn size ys → AreIn size (xs ++ ys)
+  both_in [] ys h g = g
+  both_in (x ∷ xs) ys h g = (h.0, both_in xs ys h.1 g)
 
-  in_four : (q : ℕ) (hs : List Operand) → AreIn size hs → MadeIn L size (with_four r q hs)
-  in_four q [] h = tt
-  in_four q (d ∷ []) h = tt
-  in_four q (d ∷ c ∷ []) h = tt
-  in_four q (d ∷ c ∷ b ∷ []) h = tt
-  in_four q (d ∷ c ∷ b ∷ a ∷ hs) h = in_called_with q (Four a b c d) hs (h.1.1.1.0, (h.1.1.0, (h.1.0, (h.0, tt)))) h.1.1.1.1
+  reverse_in : (xs : List Operand) → AreIn size xs → AreIn size (reverse xs)
+  reverse_in [] h = tt
+  reverse_in (x ∷ xs) h = subst (AreIn size) (sym (reverse-append (x ∷ []) xs)) (both_in (reverse xs) (x ∷ []) (reverse_in xs h.1) (h.0, tt))
 
-  in_called : (q count : ℕ) (hs : List Operand) → AreIn size hs → MadeIn L size (called r q count hs)
+  registers_in : (xs : List Operand) → AreIn size xs → AreIn size (operands (registers_of xs))
+  registers_in [] h = tt
+  registers_in (a ∷ []) h = h
+  registers_in (a ∷ b ∷ []) h = h
+  registers_in (a ∷ b ∷ c ∷ []) h = h
+  registers_in (a ∷ b ∷ c ∷ d ∷ []) h = h
+  registers_in (a ∷ b ∷ c ∷ d ∷ e ∷ xs) h = tt
+
+  in_passing : (callee : Callee) (to : ℕ) (xs : List Operand) → IsCalleeIn size callee → to < size → AreIn size xs → BlockIn L size (passing callee to xs)
+  in_passing callee to xs hc lt h = (
+    sym (length-take-le (length xs - 4) xs (omega arith)),
+    take_in (length xs - 4) xs h,
+    hc,
+    registers_in (drop (length xs - 4) xs) (drop_in (length xs - 4) xs h),
+    lt,
+  )
+
+  in_taken : (count : ℕ) (hs : List Operand) (go : List Operand → List Operand → Made) → AreIn size hs
+      → ((xs rest : List Operand) → AreIn size xs → AreIn size rest → MadeIn L size (go xs rest)) → MadeIn L size (with_taken (taken count hs) go)
+  in_taken count hs go h hg = by_count (nat_le count (length hs))
+    where
+      by_count : (b : Bool) → MadeIn L size (with_taken (if b then Some (record { args = reverse (take count hs); rest = drop count hs }) else None) go)
+      by_count true = hg (reverse (take count hs)) (drop count hs) (reverse_in (take count hs) (take_in count hs h)) (drop_in count hs h)
+      by_count false = tt
+
+  in_with_receiver : (b : Bool) (xs : List Operand) → AreIn size xs → AreIn size (with_receiver b xs)
+  in_with_receiver true xs h = (tt, h)
+  in_with_receiver false xs h = h
+
+  in_called : (q count : ℕ) (hs : List Operand) → AreIn size hs → MadeIn L size (called lay r q count hs)
   in_called q count hs h =
-      in_if (count == 0) _ _ (in_called_with q Empty hs tt h)
-      (in_if (count == 1) _ _ (in_one q hs h) (in_if (count == 2) _ _ (in_two q hs h)
-      (in_if (count == 3) _ _ (in_three q hs h) (in_if (count == 4) _ _ (in_four q hs h) tt))))
+      in_taken count hs _ h (λ xs rest hx hr. in_by_temp rest _ (λ to lt. (
+        in_passing (ByNumber q) to (with_receiver (is_received (slice_get lay.receives q)) xs) tt lt
+            (in_with_receiver (is_received (slice_get lay.receives q)) xs hx),
+        ((lt, hr), tt),
+      )))
+
+  in_called_on : (d code : ℕ) → code < size → (xs rest : List Operand) → AreIn size xs → AreIn size rest → MadeIn L size (called_on r d code xs rest)
+  in_called_on d code lc [] rest hx hr = tt
+  in_called_on d code lc (a ∷ xs) rest hx hr =
+      in_by_temp rest _ (λ to lt. (
+        (in_stop 1 (Holds (is_zero a)) (in_test a (Known 0) hx.0 tt Same), ((lc, hx.0), in_passing (ByCode (Local code)) to (a ∷ xs) lc lt hx)),
+        ((lt, hr), tt),
+      ))
+
+  in_called_for : (d count : ℕ) (hs : List Operand) → AreIn size hs → MadeIn L size (called_for r d count hs)
+  in_called_for d count hs h = in_by_temp hs _ (λ code lc. in_taken (count + 1) hs _ h (in_called_on d code lc))
+
+  in_called_by : (receiver : ℕ) → receiver < size → (xs rest : List Operand) → AreIn size xs → AreIn size rest → MadeIn L size (called_by r receiver xs rest)
+  in_called_by receiver lr [] rest hx hr = tt
+  in_called_by receiver lr (a ∷ xs) rest hx hr =
+      in_by_temp rest _ (λ to lt. (
+        (
+          in_stop 1 (Holds (is_zero a)) (in_test a (Known 0) hx.0 tt Same),
+          ((omega arith, omega arith, lr, hx.0, tt), in_passing (ByCode a) to (Local receiver ∷ xs) hx.0 lt (lr, hx.1)),
+        ),
+        ((lt, hr), tt),
+      ))
+
+  in_called_value : (count : ℕ) (hs : List Operand) → AreIn size hs → MadeIn L size (called_value r count hs)
+  in_called_value count hs h = in_by_temp hs _ (λ receiver lr. in_taken (count + 1) hs _ h (in_called_by receiver lr))
+
+  in_bound_for : (d : ℕ) (hs : List Operand) → AreIn size hs → MadeIn L size (bound_for r d hs)
+  in_bound_for d [] h = tt
+  in_bound_for d (a ∷ hs) h =
+      in_by_temp hs _ (λ to lt. in_by_temp (a ∷ hs) _ (λ above la. (
+        (
+          in_stop 1 (Holds (is_zero a)) (in_test a (Known 0) h.0 tt Same),
+          ((omega arith, omega arith, la, h.0, tt), ((lt, h.0), (omega arith, omega arith, lt, lt, la))),
+        ),
+        ((lt, h.1), tt),
+      )))
 
   in_forgotten : (hs : List Operand) → AreIn size hs → MadeIn L size (forgotten hs)
   in_forgotten [] h = tt
@@ -407,17 +492,35 @@ module _ (L : Type 0) (lay : Layout) (r : Room) where
       by_width true e = in_by_temp hs _ (λ to lt. ((width_low place.width e, width_high place.width e, lt, tt), ((lt, h), tt)))
       by_width false e = tt
 
+  in_distance : (to first : ℕ) (h : Operand) → to < size → IsIn size h → IsPlainIn size (distance to first h)
+  in_distance to first h lt hh = (omega arith, omega arith, lt, hh, tt)
+
+  in_fetched_from : (memory : Memory) (width first base : ℕ) (h : Operand) (hs : List Operand) → 1 ≤ width → width ≤ 4 → IsIn size h → AreIn size hs
+      → MadeIn L size (fetched_from r memory width first base h hs)
+  in_fetched_from memory width first base h hs low high hh hhs =
+      in_by_temp hs _ (λ to lt. (
+        (
+          in_stop 1 (Holds (is_zero h)) (in_test h (Known 0) hh tt Same),
+          (in_distance to first h lt hh, (in_multiplied to width (Local to) lt lt, (low, high, lt, in_multiple to width (Local to) lt lt))),
+        ),
+        ((lt, hhs), tt),
+      ))
+
+  in_load_placed : (memory : Memory) (width first address : ℕ) (h : Operand) (hs : List Operand) → 1 ≤ width → width ≤ 4 → IsIn size h → AreIn size hs
+      → MadeIn L size (load_placed r memory width first address h hs)
+  in_load_placed memory width first address h hs low high hh hhs =
+      in_if (nat_le (width * first) address) _ _ (in_fetched memory width width (address - width * first) h hs low high hh hhs)
+      (in_fetched_from memory width first address h hs low high hh hhs)
+
   in_load_of : (memory : Memory) (first : ℕ) (o : Option Place) (hs : List Operand) → AreIn size hs → MadeIn L size (load_of r memory first o hs)
   in_load_of memory first None hs h = tt
   in_load_of memory first (Some place) [] h = tt
-  in_load_of memory first (Some place) (a ∷ hs) h = by_width (is_width place.width) (nat_le (place.width * first) place.address) refl
+  in_load_of memory first (Some place) (a ∷ hs) h = by_width (is_width place.width) refl
     where
-      by_width : (b c : Bool) → is_width place.width ≡ b
-          → MadeIn L size (if b && c then fetched r memory place.width place.width (place.address - place.width * first) a hs else Refused NotTaken)
-      by_width true true e =
-          in_fetched memory place.width place.width (place.address - place.width * first) a hs (width_low place.width e) (width_high place.width e) h.0 h.1
-      by_width true false e = tt
-      by_width false c e = tt
+      by_width : (b : Bool) → is_width place.width ≡ b
+          → MadeIn L size (if b then load_placed r memory place.width first place.address a hs else Refused NotTaken)
+      by_width true e = in_load_placed memory place.width first place.address a hs (width_low place.width e) (width_high place.width e) h.0 h.1
+      by_width false e = tt
 
   in_length_of : (o : Option ℕ) (hs : List Operand) → AreIn size hs → MadeIn L size (length_of r o hs)
   in_length_of None hs h = tt
@@ -448,20 +551,34 @@ module _ (L : Type 0) (lay : Layout) (r : Room) where
         (h, tt),
       ))
 
+  in_put_from : (width first base : ℕ) (v a : Operand) (hs : List Operand) → 1 ≤ width → width ≤ 4 → IsIn size v → IsIn size a → AreIn size hs
+      → MadeIn L size (put_from r width first base v a hs)
+  in_put_from width first base v a hs low high hv ha h =
+      in_by_temp (v ∷ a ∷ hs) _ (λ to lt. (
+        (
+          in_stop 1 (Holds (is_zero a)) (in_test a (Known 0) ha tt Same),
+          (in_distance to first a lt ha, (in_multiplied to width (Local to) lt lt, (low, high, in_multiple to width (Local to) lt lt, hv))),
+        ),
+        (h, tt),
+      ))
+
+  in_store_placed : (width first address : ℕ) (v a : Operand) (hs : List Operand) → 1 ≤ width → width ≤ 4 → IsIn size v → IsIn size a → AreIn size hs
+      → MadeIn L size (store_placed r width first address v a hs)
+  in_store_placed width first address v a hs low high hv ha h =
+      in_if (nat_le (width * first) address) _ _ (in_put_of width (address - width * first) v a hs low high hv ha h)
+      (in_put_from width first address v a hs low high hv ha h)
+
   in_store_of : (first width : ℕ) (o : Option Place) (hs : List Operand) → AreIn size hs → MadeIn L size (store_of r first width o hs)
   in_store_of first width None hs h = tt
   in_store_of first width (Some place) [] h = tt
   in_store_of first width (Some place) (v ∷ []) h = tt
-  in_store_of first width (Some place) (v ∷ a ∷ hs) h =
-      by_width (is_width width) (width == place.width) (nat_le (place.width * first) place.address) refl
+  in_store_of first width (Some place) (v ∷ a ∷ hs) h = by_width (is_width width) (width == place.width) refl
     where
-      by_width : (b c d : Bool) → is_width width ≡ b
-          → MadeIn L size (if b && c && d then put_of r width (place.address - place.width * first) v a hs else Refused NotTaken)
-      by_width true true true e =
-          in_put_of width (place.address - place.width * first) v a hs (width_low width e) (width_high width e) h.0 h.1.0 h.1.1
-      by_width true true false e = tt
-      by_width true false d e = tt
-      by_width false c d e = tt
+      by_width : (b c : Bool) → is_width width ≡ b
+          → MadeIn L size (if b && c then store_placed r width first place.address v a hs else Refused NotTaken)
+      by_width true true e = in_store_placed width first place.address v a hs (width_low width e) (width_high width e) h.0 h.1.0 h.1.1
+      by_width true false e = tt
+      by_width false c e = tt
 
   -- ---- elements
 
@@ -530,7 +647,7 @@ module _ (L : Type 0) (lay : Layout) (r : Room) where
 
   in_stepped : (q : Step) (hs : List Operand) → AreIn size hs → MadeIn L size (stepped lay r q hs)
   in_stepped (Number v) hs h = in_number v hs h
-  in_stepped (GetLocal i) hs h = in_local i hs h
+  in_stepped (GetLocal i) hs h = in_at_local (r.receiver + i) hs h
   in_stepped (SetLocal i) hs h = in_set i hs h
   in_stepped Forget hs h = in_forgotten hs h
   in_stepped (Operate op) hs h = in_operated op hs h
@@ -539,7 +656,7 @@ module _ (L : Type 0) (lay : Layout) (r : Room) where
   in_stepped (WriteDevice address) hs h = in_written address hs h
   in_stepped (Call q count) hs h = in_called q count hs h
   in_stepped Idle hs h = (tt, (h, tt))
-  in_stepped This hs h = tt
+  in_stepped This hs h = in_receiver hs h
   in_stepped (Load a c) hs h = in_load_one (memory_of a) (slice_get (places_in lay a) c) hs h
   in_stepped (Store c w) hs h = in_store_one w (slice_get lay.ram c) hs h
   in_stepped (LoadAt a c o) hs h = in_load_of (memory_of a) o (slice_get (places_in lay a) c) hs h
@@ -551,10 +668,10 @@ module _ (L : Type 0) (lay : Layout) (r : Room) where
   in_stepped (Length t) hs h = in_length_of (slice_get lay.tables t) hs h
   in_stepped (IsWithin a b) hs h = in_one_of a b hs h
   in_stepped (StopUnlessWithin a b) hs h = in_cast a b hs h
-  in_stepped (Bind q) hs h = tt
-  in_stepped (BindFor d) hs h = tt
-  in_stepped (CallFor d c) hs h = tt
-  in_stepped (CallValue c) hs h = tt
+  in_stepped (Bind q) hs h = in_by_temp hs _ (λ to lt. (lt, ((lt, h), tt)))
+  in_stepped (BindFor d) hs h = in_bound_for d hs h
+  in_stepped (CallFor d c) hs h = in_called_for d c hs h
+  in_stepped (CallValue c) hs h = in_called_value c hs h
 
   -- ---- choices and loops
 

@@ -1,41 +1,49 @@
 -- That a flattened procedure keeps what every procedure of linear code keeps.
-use Rattle.std.specs.Prelude.{ℕ, zero, suc, ◌+◌, ◌-◌, ◌<◌, ◌≤◌, List, [], ◌∷◌, ◌++◌, length, drop, map, replicate, Option, Some, None, slice_get}
+use Rattle.std.specs.Prelude.{ℕ, zero, suc, ◌+◌, ◌-◌, ◌<◌, ◌≤◌, Bool, true, false, List, [], ◌∷◌, ◌++◌, length, drop, map, replicate, Option, Some, None, slice_get}
 use Rattle.std.specs.List.{AllByRecursion}
 use Rattle.std.proofs.Common.{◌≡◌, ◌≢◌, ◌⊎◌, inl, inr, refl, sym, ap, ◌∙◌, subst, arith}
 use Rattle.std.proofs.lemmas.List.{length-append, length-map, length-replicate}
 use Rattle.std.proofs.lemmas.List.{append_assoc}
+use Rattle.std.proofs.Math.Seq.{drop-length}
 use Rattle.vg_firm.specs.Program.{Procedure as FirmProcedure}
 use Rattle.vg_lin.specs.declared.instr.Operand.{Operand}
 use Rattle.vg_lin.specs.declared.instr.Operand.TheVariants.{Local, Known}
 use Rattle.vg_lin.specs.declared.instr.Test.{Test}
-use Rattle.vg_lin.specs.declared.instr.Plain.TheVariants.{Copy, Compute, Product, DivideStep, Load, Store, ReadDevice, WriteDevice, Push, Find, Stop}
+use Rattle.vg_lin.specs.declared.instr.Plain.{Plain as PlainInstr}
+use Rattle.vg_lin.specs.declared.instr.Plain.TheVariants.{Copy, Compute, Product, DivideStep, Load, Store, ReadDevice, WriteDevice, Push, Find, CodeOf, Stop}
+use Rattle.vg_lin.specs.declared.instr.Call.{Call as Calling}
 use Rattle.vg_lin.specs.declared.instr.Callee.{Callee}
 use Rattle.vg_lin.specs.declared.instr.Callee.TheVariants.{Procedure as ByNumber, Code as ByCode}
 use Rattle.vg_lin.specs.declared.instr.Instr.{Instr}
 use Rattle.vg_lin.specs.declared.instr.Instr.TheVariants.{Plain, When, Unless, Jump, Call, Return, Idle}
 use Rattle.vg_lin.specs.Meaning.{operands}
 use Rattle.vg_lin.specs.Program.{Procedure}
-use Rattle.vg_lin.specs.Sound.{IsWidth, IsOperand, IsTest, IsTo, IsCallee, AreOperands, Waits, IsSound}
+use Rattle.vg_lin.specs.Sound.{IsWidth, IsOperand, IsTest, IsTo, IsCallee, IsPlain, AreOperands, PlainWaits, Waits, IsSound}
 use Rattle.vg_flatten_shapes.specs.declared.open.Truth.{Truth}
 use Rattle.vg_flatten_shapes.specs.declared.open.Truth.TheVariants.{Holds, Fails}
 use Rattle.vg_flatten_shapes.specs.declared.open.Open.{Open}
 use Rattle.vg_flatten_shapes.specs.declared.open.Open.TheVariants.{Set, Break, Continue}
 use Rattle.vg_flatten_shapes.proofs.Choices.{choice_cases}
-use Rattle.vg_flatten_shapes.specs.Blocks.{Block, Skip, One, CallTo, TakeInterrupt, GiveBack, BreakOut, GoOn, Both, Choice, Repeat, branch, closed, open_code}
-use Rattle.vg_flatten.specs.Fitting.{CallsFit, CallFits, OpenFits, AllFit, IsSet, AllSet}
+use Rattle.vg_flatten_shapes.specs.Blocks.{Block, Skip, One, CallTo, TakeInterrupt, GiveBack, BreakOut, GoOn, Both, Choice, Repeat, branch, closed, call_code, open_code}
+use Rattle.vg_flatten.specs.Closing.{IsSet, AllSet}
 use Rattle.vg_flatten_shapes.specs.Blocks.{set_in}
-use Rattle.vg_flatten.specs.Flattened.{zeroes, whole}
+use Rattle.vg_flatten.specs.Flattened.{zeroes, receivers, with_receiver_width, own_widths, own_params, widened, all_widths, whole}
 use Rattle.vg_flatten.proofs.Sound.{IsIn, AreIn, IsTestIn, IsTruthIn, IsPlainIn, IsToIn, IsCalleeIn, BlockIn}
-use Rattle.vg_flatten.proofs.Jumps.{GoesWithin, JumpsWithin, AllWithin, within, within_both}
+use Rattle.vg_flatten.proofs.Jumps.{behind_plain, behind, Marks, GoesWithin, PlainWithin, JumpsWithin, AllWithin, marks_front, ends, within, within_both}
 use Rattle.vg_flatten_shapes.proofs.Temps.{some_is, none_is_not}
 
 -- ---- operands of a list of instructions
 
+-- A push is one of four bytes.
+abbrev pub PlainOrPush : (size : ℕ) → PlainInstr → Type 0
+PlainOrPush size (Push w a) = (w ≡ 4) × IsIn size a
+PlainOrPush size p = IsPlainIn size p
+
 abbrev pub InstrIn : (size : ℕ) → Open → Type 0
-InstrIn size (Set (Plain p)) = IsPlainIn size p
+InstrIn size (Set (Plain p)) = PlainOrPush size p
 InstrIn size (Set (When t to)) = IsTestIn size t
 InstrIn size (Set (Unless t to)) = IsTestIn size t
-InstrIn size (Set (Call c)) = (c.pushed ≡ 0) × IsCalleeIn size c.callee × AreIn size (operands c.registers) × IsToIn size c.to
+InstrIn size (Set (Call c)) = IsCalleeIn size c.callee × AreIn size (operands c.registers) × IsToIn size c.to
 InstrIn size (Set (Return a)) = IsIn size a
 InstrIn size _ = Unit {0}
 
@@ -58,10 +66,29 @@ module _ (L : Type 0) (size : ℕ) where
   in_branch (Holds t) to h = h
   in_branch (Fails t) to h = h
 
+  plain_or_push : (p : PlainInstr) → IsPlainIn size p → PlainOrPush size p
+  plain_or_push (Copy to a) h = h
+  plain_or_push (Compute c) h = h
+  plain_or_push (Product to a b) h = h
+  plain_or_push (DivideStep a b c) h = h
+  plain_or_push (Load m w to a) h = h
+  plain_or_push (Store w a from) h = h
+  plain_or_push (ReadDevice to a) h = h
+  plain_or_push (WriteDevice a b) h = h
+  plain_or_push (Push w a) h = absurd h
+  plain_or_push (Find d to a) h = h
+  plain_or_push (CodeOf q to) h = h
+  plain_or_push (Stop c) h = h
+
+  in_call : (pushed : List Operand) (c : Calling) → AreIn size pushed → IsCalleeIn size c.callee → AreIn size (operands c.registers) → IsToIn size c.to
+      → AllIn size (call_code pushed c)
+  in_call [] c h hc hr ht = ((hc, hr, ht), tt)
+  in_call (a ∷ more) c h hc hr ht = ((refl, h.0), in_call more c h.1 hc hr ht)
+
   pub in_code : (b : Block) (at : ℕ) → BlockIn L size b → AllIn size (open_code b at)
   in_code Skip at h = tt
-  in_code (One p) at h = (h, tt)
-  in_code (CallTo c) at h = (h, tt)
+  in_code (One p) at h = (plain_or_push p h, tt)
+  in_code (CallTo pushed c) at h = in_call pushed c h.1 h.2 h.3 h.4
   in_code TakeInterrupt at h = (tt, tt)
   in_code (GiveBack a) at h = (h, tt)
   in_code BreakOut at h = (tt, tt)
@@ -106,72 +133,23 @@ pub in_zeroes : (L : Type 0) (size c i : ℕ) → i + c ≤ size → BlockIn L s
 in_zeroes L size zero i h = tt
 in_zeroes L size (suc c) i h = ((omega (arith, h), tt), in_zeroes L size c (suc i) (omega (arith, h)))
 
--- ---- calls that fit
+-- ---- what waits at each place
 
-module _ (params : List ℕ) where
-  fit_front : (os qs : List Open) → AllFit params (os ++ qs) → AllFit params os
-  fit_front [] qs h = tt
-  fit_front (o ∷ os) qs h = (h.0, fit_front os qs h.1)
+-- What waits at a place of a list, where these wait at its first.
+abbrev pub waits_in : (held : List ℕ) → List Open → ℕ → List ℕ
+waits_in held os zero = held
+waits_in held [] (suc j) = []
+waits_in held (o ∷ os) (suc j) = waits_in (behind o held) os j
 
-  fit_back : (os qs : List Open) → AllFit params (os ++ qs) → AllFit params qs
-  fit_back [] qs h = h
-  fit_back (o ∷ os) qs h = fit_back os qs h.1
+marks_from : (w : ℕ → List ℕ) (held : List ℕ) (os : List Open) (at : ℕ) → ((j : ℕ) → w (at + j) ≡ waits_in held os j) → Marks w os at
+marks_from w held [] at h = tt
+marks_from w held (o ∷ os) at h = (
+  ap w (omega arith) ∙ h 1 ∙ ap (behind o) (sym (ap w (omega arith) ∙ h 0)),
+  marks_from w (behind o held) os (suc at) (λ j. ap w (omega arith) ∙ h (suc j)),
+)
 
-  fit_closed : (u v : ℕ) (os : List Open) → AllFit params (map (closed u v) os) → AllFit params os
-  fit_closed u v [] h = tt
-  fit_closed u v (Set i ∷ os) h = (h.0, fit_closed u v os h.1)
-  fit_closed u v (Break ∷ os) h = (tt, fit_closed u v os h.1)
-  fit_closed u v (Continue ∷ os) h = (tt, fit_closed u v os h.1)
-
-  pub fit_block : (b : Block) (at : ℕ) → AllFit params (open_code b at) → CallsFit params b
-  fit_block Skip at h = tt
-  fit_block (One p) at h = tt
-  fit_block (CallTo c) at h = h.0
-  fit_block TakeInterrupt at h = tt
-  fit_block (GiveBack a) at h = tt
-  fit_block BreakOut at h = tt
-  fit_block GoOn at h = tt
-  fit_block (Both a b) at h = (fit_block a at (fit_front (open_code a at) _ h), fit_block b _ (fit_back (open_code a at) _ h))
-  fit_block (Choice t a b) at h =
-      choice_cases (λ z. AllFit params z → CallsFit params a × CallsFit params b) t at (open_code a (at + 1))
-      (open_code b (at + 1 + length (open_code a (at + 1)) + 1))
-      (λ e g. (fit_block a (at + 1) g.1, fit_block b (at + 1 + length (open_code a (at + 1)) + 1) (subst (AllFit params) (sym e) tt)))
-      (λ g. (
-        fit_block a (at + 1) (fit_front (open_code a (at + 1)) _ g.1),
-        fit_block b (at + 1 + length (open_code a (at + 1)) + 1) (fit_back (open_code a (at + 1)) _ g.1).1,
-      )) h
-  fit_block (Repeat p t body next) at h = (
-    fit_block p at (fit_front xs behind_test h),
-    fit_block body u (fit_closed e n ys (fit_front (map (closed e n) ys) behind_body test.1)),
-    fit_block next n (fit_front zs (Set (Jump at) ∷ []) (fit_back (map (closed e n) ys) behind_body test.1)),
-  )
-    where
-      xs : List Open
-      xs = open_code p at
-
-      u : ℕ
-      u = at + length xs + 1
-
-      ys : List Open
-      ys = open_code body u
-
-      n : ℕ
-      n = u + length ys
-
-      zs : List Open
-      zs = open_code next n
-
-      e : ℕ
-      e = n + length zs + 1
-
-      behind_body : List Open
-      behind_body = zs ++ (Set (Jump at) ∷ [])
-
-      behind_test : List Open
-      behind_test = Set (branch t e) ∷ (map (closed e n) ys ++ behind_body)
-
-      test : AllFit params behind_test
-      test = fit_back xs behind_test h
+marks_all : (os : List Open) → Marks (waits_in [] os) os 0
+marks_all os = marks_from (waits_in [] os) [] os 0 (λ j. ap (waits_in [] os) (omega arith))
 
 -- ---- by place
 
@@ -180,10 +158,18 @@ in_at size [] j o h e = none_is_not o e
 in_at size (q ∷ os) zero o h e = subst (λ z. InstrIn size z) (some_is q o e) h.0
 in_at size (q ∷ os) (suc j) o h e = in_at size os j o h.1 e
 
-within_at : (high : ℕ) (os : List Open) (at j : ℕ) (o : Open) → AllWithin high os at → slice_get os j ≡ Some o → JumpsWithin high (at + j) o
-within_at high [] at j o h e = none_is_not o e
-within_at high (q ∷ os) at zero o h e = subst (λ z. JumpsWithin high z o) (omega arith) (subst (λ z. JumpsWithin high at z) (some_is q o e) h.0)
-within_at high (q ∷ os) at (suc j) o h e = subst (λ z. JumpsWithin high z o) (omega arith) (within_at high os (suc at) j o h.1 e)
+within_at : (w : ℕ → List ℕ) (high : ℕ) (os : List Open) (at j : ℕ) (o : Open) → AllWithin w high os at → slice_get os j ≡ Some o
+    → JumpsWithin w high (at + j) o
+within_at w high [] at j o h e = none_is_not o e
+within_at w high (q ∷ os) at zero o h e =
+    subst (λ z. JumpsWithin w high z o) (omega arith) (subst (λ z. JumpsWithin w high at z) (some_is q o e) h.0)
+within_at w high (q ∷ os) at (suc j) o h e = subst (λ z. JumpsWithin w high z o) (omega arith) (within_at w high os (suc at) j o h.1 e)
+
+marks_at : (w : ℕ → List ℕ) (os : List Open) (at j : ℕ) (o : Open) → Marks w os at → slice_get os j ≡ Some o → w (suc (at + j)) ≡ behind o (w (at + j))
+marks_at w [] at j o h e = none_is_not o e
+marks_at w (q ∷ os) at zero o h e =
+    subst (λ z. w (suc z) ≡ behind o (w z)) (omega arith) (subst (λ z. w (suc at) ≡ behind z (w at)) (some_is q o e) h.0)
+marks_at w (q ∷ os) at (suc j) o h e = subst (λ z. w (suc z) ≡ behind o (w z)) (omega arith) (marks_at w os (suc at) j o h.1 e)
 
 set_at : (x y : ℕ) (os : List Open) (j : ℕ) (i : Instr) → AllSet os → slice_get (map (set_in x y) os) j ≡ Some i → slice_get os j ≡ Some (Set i)
 set_at x y [] j i h e = none_is_not i e
@@ -204,10 +190,28 @@ before_last (p ∷ os) q o (suc j) e = onward (before_last os q o j e)
 
 -- ---- the procedure
 
-all_widths : (widths : List ℕ) (n : ℕ) → AllByRecursion IsWidth widths → AllByRecursion IsWidth (widths ++ replicate n 4)
-all_widths [] zero h = tt
-all_widths [] (suc n) h = ((omega arith, omega arith), all_widths [] n tt)
-all_widths (w ∷ ws) n h = (h.0, all_widths ws n h.1)
+with_temps : (widths : List ℕ) (n : ℕ) → AllByRecursion IsWidth widths → AllByRecursion IsWidth (widths ++ replicate n 4)
+with_temps [] zero h = tt
+with_temps [] (suc n) h = ((omega arith, omega arith), with_temps [] n tt)
+with_temps (w ∷ ws) n h = (h.0, with_temps ws n h.1)
+
+widened_widths : (n : ℕ) (widths : List ℕ) → AllByRecursion IsWidth widths → AllByRecursion IsWidth (widened n widths)
+widened_widths zero ws h = h
+widened_widths (suc n) [] h = tt
+widened_widths (suc n) (w ∷ ws) h = ((omega arith, omega arith), widened_widths n ws h.1)
+
+pub widened_long : (n : ℕ) (widths : List ℕ) → length (widened n widths) ≡ length widths
+widened_long zero ws = refl
+widened_long (suc n) [] = refl
+widened_long (suc n) (w ∷ ws) = ap suc (widened_long n ws)
+
+receiver_widths : (b : Bool) (widths : List ℕ) → AllByRecursion IsWidth widths → AllByRecursion IsWidth (with_receiver_width b widths)
+receiver_widths true ws h = ((omega arith, omega arith), h)
+receiver_widths false ws h = h
+
+pub own_long : (b : Bool) (widths : List ℕ) → length (with_receiver_width b widths) ≡ receivers b + length widths
+own_long true ws = omega arith
+own_long false ws = omega arith
 
 module _ (p : Procedure) where
   operand_in : (h : Operand) → IsIn (length p.widths) h → IsOperand p h
@@ -229,22 +233,26 @@ module _ (p : Procedure) where
   callee_in (ByNumber q) h = tt
   callee_in (ByCode a) h = operand_in a h
 
+  plain_in : (i : PlainInstr) → PlainOrPush (length p.widths) i → IsPlain p i
+  plain_in (Copy to a) h = (h.0, operand_in a h.1)
+  plain_in (Compute c) h = ((h.0, h.1), h.2, operand_in c.left h.3, operand_in c.right h.4)
+  plain_in (ReadDevice to address) h = h
+  plain_in (WriteDevice address a) h = operand_in a h
+  plain_in (Product to a b) h = absurd h
+  plain_in (DivideStep a b c) h = absurd h
+  plain_in (Load m w to a) h = ((h.0, h.1), h.2, operand_in a.index h.3)
+  plain_in (Store w a from) h = ((h.0, h.1), operand_in a.index h.2, operand_in from h.3)
+  plain_in (Push w a) h = let e = h.0 in ((omega (arith, e), omega (arith, e)), operand_in a h.1)
+  plain_in (Find d to a) h = (h.0, operand_in a h.1)
+  plain_in (CodeOf q to) h = h
+  plain_in (Stop code) h = tt
+
   instr_in : (i : Instr) → InstrIn (length p.widths) (Set i) → AreOperands p i
-  instr_in (Plain (Copy to a)) h = (h.0, operand_in a h.1)
-  instr_in (Plain (Compute c)) h = ((h.0, h.1), h.2, operand_in c.left h.3, operand_in c.right h.4)
-  instr_in (Plain (ReadDevice to address)) h = h
-  instr_in (Plain (WriteDevice address a)) h = operand_in a h
-  instr_in (Plain (Product to a b)) h = absurd h
-  instr_in (Plain (DivideStep a b c)) h = absurd h
-  instr_in (Plain (Load m w to a)) h = ((h.0, h.1), h.2, operand_in a.index h.3)
-  instr_in (Plain (Store w a from)) h = ((h.0, h.1), operand_in a.index h.2, operand_in from h.3)
-  instr_in (Plain (Push w a)) h = absurd h
-  instr_in (Plain (Find d to a)) h = absurd h
-  instr_in (Plain (Stop code)) h = tt
+  instr_in (Plain i) h = plain_in i h
   instr_in (When t to) h = test_in t h
   instr_in (Unless t to) h = test_in t h
   instr_in (Jump to) h = tt
-  instr_in (Call c) h = (callee_in c.callee h.1, operands_in (operands c.registers) h.2, to_in c.to h.3)
+  instr_in (Call c) h = (callee_in c.callee h.0, operands_in (operands c.registers) h.1, to_in c.to h.2)
   instr_in (Return a) h = operand_in a h
   instr_in Idle h = tt
 
@@ -256,54 +264,66 @@ module _ (p : Procedure) where
   next i at no' (inl lt) = lt
   next i at no' (inr e) = absurd (no' (subst IsReturn e tt))
 
-  -- where the next instruction is
-  waits_for : (i : Instr) (at : ℕ) → InstrIn (length p.widths) (Set i) → (high : ℕ) → high < length p.code → JumpsWithin high at (Set i)
-      → (suc at < length p.code) ⊎ (Return (Known 0) ≡ i) → Waits p (λ z. []) at i
-  waits_for (Plain (Copy to a)) at h high hl j n = (next (Plain (Copy to a)) at (λ e. e) n, refl)
-  waits_for (Plain (Compute c)) at h high hl j n = (next (Plain (Compute c)) at (λ e. e) n, refl)
-  waits_for (Plain (ReadDevice to address)) at h high hl j n = (next (Plain (ReadDevice to address)) at (λ e. e) n, refl)
-  waits_for (Plain (WriteDevice address a)) at h high hl j n = (next (Plain (WriteDevice address a)) at (λ e. e) n, refl)
-  waits_for (Plain (Product to a b)) at h high hl j n = absurd h
-  waits_for (Plain (DivideStep a b c)) at h high hl j n = absurd h
-  waits_for (Plain (Load m w to a)) at h high hl j n = (next (Plain (Load m w to a)) at (λ e. e) n, refl)
-  waits_for (Plain (Store w a from)) at h high hl j n = (next (Plain (Store w a from)) at (λ e. e) n, refl)
-  waits_for (Plain (Push w a)) at h high hl j n = absurd h
-  waits_for (Plain (Find d to a)) at h high hl j n = absurd h
-  waits_for (Plain (Stop code)) at h high hl j n = tt
-  waits_for (When t to) at h high hl j n =
-      let le = j.1 in ((j.0, (omega (arith, le, hl), refl)), (next (When t to) at (λ e. e) n, refl))
-  waits_for (Unless t to) at h high hl j n =
-      let le = j.1 in ((j.0, (omega (arith, le, hl), refl)), (next (Unless t to) at (λ e. e) n, refl))
-  waits_for (Jump to) at h high hl j n = let le = j.1 in (j.0, (omega (arith, le, hl), refl))
-  waits_for (Call c) at h high hl j n = let none = h.0 in (omega (arith, none), (next (Call c) at (λ e. e) n, sym (ap (λ z. drop z []) none)))
-  waits_for (Return a) at h high hl j n = refl
-  waits_for Idle at h high hl j n = (next Idle at (λ e. e) n, refl)
+  -- where the next instruction is, and what waits there
+  plain_waits : (w : ℕ → List ℕ) (i : PlainInstr) (at : ℕ) → PlainOrPush (length p.widths) i → PlainWithin w at i
+      → w (suc at) ≡ behind_plain i (w at) → (suc at < length p.code) ⊎ (Return (Known 0) ≡ Plain i) → PlainWaits p w at i
+  plain_waits w (Copy to a) at h f k n = (next (Plain (Copy to a)) at (λ e. e) n, k ∙ sym f)
+  plain_waits w (Compute c) at h f k n = (next (Plain (Compute c)) at (λ e. e) n, k ∙ sym f)
+  plain_waits w (ReadDevice to address) at h f k n = (next (Plain (ReadDevice to address)) at (λ e. e) n, k ∙ sym f)
+  plain_waits w (WriteDevice address a) at h f k n = (next (Plain (WriteDevice address a)) at (λ e. e) n, k ∙ sym f)
+  plain_waits w (Product to a b) at h f k n = absurd h
+  plain_waits w (DivideStep a b c) at h f k n = absurd h
+  plain_waits w (Load m v to a) at h f k n = (next (Plain (Load m v to a)) at (λ e. e) n, k ∙ sym f)
+  plain_waits w (Store v a from) at h f k n = (next (Plain (Store v a from)) at (λ e. e) n, k ∙ sym f)
+  plain_waits w (Push v a) at h f k n = (next (Plain (Push v a)) at (λ e. e) n, k)
+  plain_waits w (Find d to a) at h f k n = (next (Plain (Find d to a)) at (λ e. e) n, k ∙ sym f)
+  plain_waits w (CodeOf q to) at h f k n = (next (Plain (CodeOf q to)) at (λ e. e) n, k ∙ sym f)
+  plain_waits w (Stop code) at h f k n = tt
+
+  waits_for : (w : ℕ → List ℕ) (i : Instr) (at : ℕ) → InstrIn (length p.widths) (Set i) → (high : ℕ) → high < length p.code → JumpsWithin w high at (Set i)
+      → w (suc at) ≡ behind (Set i) (w at) → (suc at < length p.code) ⊎ (Return (Known 0) ≡ i) → Waits p w at i
+  waits_for w (Plain i) at h high hl f k n = plain_waits w i at h f k n
+  waits_for w (When t to) at h high hl f k n =
+      let le = f.0.1 in ((f.0.0, (omega (arith, le, hl), f.0.2 ∙ sym f.1)), (next (When t to) at (λ e. e) n, k ∙ sym f.1))
+  waits_for w (Unless t to) at h high hl f k n =
+      let le = f.0.1 in ((f.0.0, (omega (arith, le, hl), f.0.2 ∙ sym f.1)), (next (Unless t to) at (λ e. e) n, k ∙ sym f.1))
+  waits_for w (Jump to) at h high hl f k n = let le = f.0.1 in (f.0.0, (omega (arith, le, hl), f.0.2 ∙ sym f.1))
+  waits_for w (Call c) at h high hl f k n =
+      (omega (arith, f), (next (Call c) at (λ e. e) n, k ∙ sym (drop-length (w at)) ∙ ap (λ z. drop z (w at)) f))
+  waits_for w (Return a) at h high hl f k n = f
+  waits_for w Idle at h high hl f k n = (next Idle at (λ e. e) n, k ∙ sym f)
 
 -- A flattened procedure, of a block in range.
 pub whole_sound : (m : FirmProcedure) (b : Block) (temps : ℕ) (method : Option ℕ) (code : List Instr) → m.params ≤ length m.widths
-    → AllByRecursion IsWidth m.widths → length m.widths + temps ≤ 252 → BlockIn (Unit {0}) (length m.widths + temps) b → AllSet (open_code (whole m b) 0)
-    → code ≡ map (set_in 0 0) (open_code (whole m b) 0)
-    → IsSound (record { method = method; params = m.params; widths = m.widths ++ replicate temps 4; code = code })
+    → AllByRecursion IsWidth m.widths → length (own_widths m) + temps ≤ 252 → BlockIn (Unit {0}) (length (own_widths m) + temps) b
+    → AllSet (open_code (whole m b) 0) → code ≡ map (set_in 0 0) (open_code (whole m b) 0)
+    → IsSound (record { method = method; params = own_params m; widths = all_widths m ++ replicate temps 4; code = code })
 whole_sound m b temps method code hp hw few hb set is =
     record {
       few = omega (arith, few, size_is);
-      params = omega (arith, hp, size_is);
-      widths = all_widths m.widths temps hw;
+      params = omega (arith, hp, size_is, own);
+      widths = with_temps (all_widths m) temps (widened_widths (own_params m - 4) (own_widths m) (receiver_widths m.receives m.widths hw));
       operands = λ at i e. instr_in p i (instr_at at i e);
-      waits = λ z. [];
+      waits = w;
       begins = (omega (arith, code_is), refl);
-      goes_on = λ at i e. waits_for p i at (instr_at at i e) (length front) (omega (arith, code_is)) (jumps_at at i e)
+      goes_on = λ at i e. waits_for p w i at (instr_at at i e) (length front) (omega (arith, code_is)) (jumps_at at i e)
+          (subst (λ z. w (suc z) ≡ behind (Set i) (w z)) (omega arith) (marks_at w os 0 at (Set i) marks (place at i e)))
           (behind_it at i (before_last front (Set (Return (Known 0))) (Set i) at (place at i e)));
     }
   where
     p : Procedure
-    p = record { method = method; params = m.params; widths = m.widths ++ replicate temps 4; code = code }
+    p = record { method = method; params = own_params m; widths = all_widths m ++ replicate temps 4; code = code }
 
-    size_is : length (m.widths ++ replicate temps 4) ≡ length m.widths + temps
-    size_is = length-append m.widths (replicate temps 4) ∙ ap (λ z. length m.widths + z) (length-replicate temps 4)
+    own : length (own_widths m) ≡ receivers m.receives + length m.widths
+    own = own_long m.receives m.widths
+
+    size_is : length (all_widths m ++ replicate temps 4) ≡ length (own_widths m) + temps
+    size_is =
+        length-append (all_widths m) (replicate temps 4) ∙ ap (λ z. length (all_widths m) + z) (length-replicate temps 4)
+        ∙ ap (λ z. z + temps) (widened_long (own_params m - 4) (own_widths m))
 
     zs : List Open
-    zs = open_code (zeroes (length m.widths - m.params) m.params) 0
+    zs = open_code (zeroes (length m.widths - m.params) (own_params m)) 0
 
     bs : List Open
     bs = open_code b (0 + length zs)
@@ -314,16 +334,26 @@ whole_sound m b temps method code hp hw few hb set is =
     last : Open
     last = Set (Return (Known 0))
 
+    os : List Open
+    os = front ++ last ∷ []
+
+    w : ℕ → List ℕ
+    w = waits_in [] os
+
+    marks : Marks w os 0
+    marks = marks_all os
+
     shape : open_code (whole m b) 0 ≡ front ++ last ∷ []
     shape = sym (append_assoc zs bs (last ∷ []))
 
     code_is : length code ≡ length front + 1
     code_is = ap length is ∙ length-map (open_code (whole m b) 0) (set_in 0 0) ∙ ap length shape ∙ length-append front (last ∷ [])
 
+    zeroes_in : BlockIn (Unit {0}) (length (own_widths m) + temps) (zeroes (length m.widths - m.params) (own_params m))
+    zeroes_in = in_zeroes (Unit {0}) (length (own_widths m) + temps) (length m.widths - m.params) (own_params m) (omega (arith, hp, own))
+
     block_in : BlockIn (Unit {0}) (length p.widths) (whole m b)
-    block_in =
-        subst (λ z. BlockIn (Unit {0}) z (whole m b)) (sym size_is)
-        (in_zeroes (Unit {0}) (length m.widths + temps) (length m.widths - m.params) m.params (omega (arith, hp)), (hb, tt))
+    block_in = subst (λ z. BlockIn (Unit {0}) z (whole m b)) (sym size_is) (zeroes_in, (hb, tt))
 
     place : (at : ℕ) (i : Instr) → slice_get code at ≡ Some i → slice_get (front ++ last ∷ []) at ≡ Some (Set i)
     place at i e =
@@ -334,13 +364,22 @@ whole_sound m b temps method code hp hw few hb set is =
         in_at (length p.widths) (front ++ last ∷ []) at (Set i) (subst (AllIn (length p.widths)) shape (in_code (Unit {0}) (length p.widths) (whole m b) 0 block_in))
         (place at i e)
 
-    jumps : AllWithin (length front) (front ++ last ∷ []) 0
+    jumps : AllWithin w (length front) (front ++ last ∷ []) 0
     jumps =
-        within_both (length front) front (last ∷ []) 0
-        (within (length front) (Both (zeroes (length m.widths - m.params) m.params) b) 0 (omega arith)) (tt, tt)
+        within_both (Unit {0}) (length (own_widths m) + temps) w (length front) front (last ∷ []) 0
+        (within (Unit {0}) (length (own_widths m) + temps) w (length front) body 0 (zeroes_in, hb) refl body_marks (omega arith)) (none_last, tt)
+      where
+        body : Block
+        body = Both (zeroes (length m.widths - m.params) (own_params m)) b
 
-    jumps_at : (at : ℕ) (i : Instr) → slice_get code at ≡ Some i → JumpsWithin (length front) at (Set i)
-    jumps_at at i e = subst (λ z. JumpsWithin (length front) z (Set i)) (omega arith) (within_at (length front) (front ++ last ∷ []) 0 at (Set i) jumps
+        body_marks : Marks w front 0
+        body_marks = marks_front (Unit {0}) (length (own_widths m) + temps) w (length front) front (last ∷ []) 0 marks
+
+        none_last : w (0 + length front) ≡ []
+        none_last = ends (Unit {0}) (length (own_widths m) + temps) w (length front) body 0 (zeroes_in, hb) refl body_marks
+
+    jumps_at : (at : ℕ) (i : Instr) → slice_get code at ≡ Some i → JumpsWithin w (length front) at (Set i)
+    jumps_at at i e = subst (λ z. JumpsWithin w (length front) z (Set i)) (omega arith) (within_at w (length front) (front ++ last ∷ []) 0 at (Set i) jumps
         (place at i e))
 
     behind_it : (at : ℕ) (i : Instr) → (at < length front) ⊎ (last ≡ Set i) → (suc at < length code) ⊎ (Return (Known 0) ≡ i)

@@ -1,11 +1,12 @@
 -- What it means that a procedure of linear code is a packed one, flattened.
-use Rattle.std.specs.Prelude.{◌≡◌, ℕ, zero, suc, ◌+◌, ◌-◌, ◌<◌, ◌≤◌, true, List, [], ◌∷◌, ◌++◌, length, map, replicate, Option, Some, None, slice_get}
+use Rattle.std.specs.Prelude.{◌≡◌, ℕ, zero, suc, ◌+◌, ◌-◌, ◌<◌, ◌≤◌, Bool, true, false, List, [], ◌∷◌, ◌++◌, length, map, replicate, Option, Some, None, slice_get}
 use Rattle.vg_firm.specs.Program.{Procedure as FirmProcedure, Program as FirmProgram}
-use Rattle.vg_codes.specs.Codes.{Codes}
+use Rattle.vg_codes.specs.Codes.{Codes, AreCodes}
 use Rattle.vg_lin.specs.declared.instr.Operand.TheVariants.{Known}
 use Rattle.vg_lin.specs.declared.instr.Plain.TheVariants.{Copy}
 use Rattle.vg_lin.specs.declared.instr.Callee.TheVariants.{Procedure as ByNumber}
-use Rattle.vg_lin.specs.declared.instr.Registers.TheVariants.{Empty}
+use Rattle.vg_lin.specs.declared.instr.Registers.{Registers}
+use Rattle.vg_lin.specs.declared.instr.Registers.TheVariants.{Empty, One as One'}
 use Rattle.vg_lin.specs.declared.instr.Call.{Call}
 use Rattle.vg_lin.specs.declared.instr.Instr.TheVariants.{Plain, Jump, Call as Calls, Idle}
 use Rattle.vg_lin.specs.Program.{Procedure, Program}
@@ -17,7 +18,6 @@ use Rattle.vg_flatten_shapes.specs.Shapes.{Shape, empty, is_empty}
 use Rattle.vg_flatten_shapes.specs.Blocks.{Block, Skip, One, GiveBack, Both, open_code}
 use Rattle.vg_flatten_shapes.specs.Made.{Gives}
 use Rattle.vg_flatten_control.specs.Flat.{flat}
-use Rattle.vg_flatten.specs.Fitting.{CallsFit}
 use Rattle.vg_flatten.specs.Columns.{FlashStands, RamStands}
 use Rattle.vg_flatten_shapes.specs.Blocks.{set_in}
 
@@ -26,31 +26,61 @@ abbrev pub zeroes : (count from : ℕ) → Block
 zeroes zero i = Skip
 zeroes (suc c) i = Both (One (Copy i (Known 0))) (zeroes c (suc i))
 
+-- ---- locals
+
+-- A receiver is one local more, of two bytes, before the others.
+abbrev pub receivers : Bool → ℕ
+receivers true = 1
+receivers false = 0
+
+abbrev pub with_receiver_width : Bool → List ℕ → List ℕ
+with_receiver_width true ws = 2 ∷ ws
+with_receiver_width false ws = ws
+
+abbrev pub own_widths : FirmProcedure → List ℕ
+own_widths m = with_receiver_width m.receives m.widths
+
+abbrev pub own_params : FirmProcedure → ℕ
+own_params m = receivers m.receives + m.params
+
+-- The parameters before the last four are pushed, four bytes each.
+abbrev pub widened : (count : ℕ) → List ℕ → List ℕ
+widened zero ws = ws
+widened (suc n) [] = []
+widened (suc n) (w ∷ ws) = 4 ∷ widened n ws
+
+abbrev pub all_widths : FirmProcedure → List ℕ
+all_widths m = widened (own_params m - 4) (own_widths m)
+
 -- A procedure's block: the locals that are no parameters are 0 at first, and the end of the body gives 0 back.
 abbrev pub whole : FirmProcedure → Block → Block
-whole m b = Both (zeroes (length m.widths - m.params) m.params) (Both b (GiveBack (Known 0)))
+whole m b = Both (zeroes (length m.widths - m.params) (own_params m)) (Both b (GiveBack (Known 0)))
 
--- The procedure of linear code is the flattened one, where each number of a procedure has its parameters in the list.
-pub record IsFlat (lay : Layout) (params : List ℕ) (m : FirmProcedure) (p : Procedure) : Type 0 where
+-- The procedure of linear code is the flattened one.
+pub record IsFlat (lay : Layout) (m : FirmProcedure) (p : Procedure) : Type 0 where
   pub room : Room
   pub block : Block
   pub shape : Shape
   pub made : flat lay room m.body empty ≡ Gives block shape
   pub done : is_empty shape ≡ true
-  pub locals : room.locals ≡ length m.widths
-  pub fits : CallsFit params block
+  pub receiver : room.receiver ≡ receivers m.receives
+  pub locals : room.locals ≡ length (own_widths m)
   pub method : p.method ≡ Some m.method
-  pub parameters : p.params ≡ m.params
-  pub widths : p.widths ≡ m.widths ++ replicate room.temps 4
+  pub parameters : p.params ≡ own_params m
+  pub widths : p.widths ≡ all_widths m ++ replicate room.temps 4
   pub code : p.code ≡ map (set_in 0 0) (open_code (whole m block) 0)
 
--- Main is called.
-abbrev pub calls_main : (main : ℕ) → Call
-calls_main main = record { callee = ByNumber main; pushed = 0; registers = Empty; to = None }
+-- Main is called, and on no receiver where it gets one.
+abbrev pub main_args : Bool → Registers
+main_args true = One' (Known 0)
+main_args false = Empty
+
+abbrev pub calls_main : (main : ℕ) → (receives : Bool) → Call
+calls_main main receives = record { callee = ByNumber main; pushed = 0; registers = main_args receives; to = None }
 
 -- The procedure with which a run begins calls main, and then idles for ever.
-abbrev pub start_of : (main : ℕ) → Procedure
-start_of main = record { method = None; params = 0; widths = []; code = Calls (calls_main main) ∷ Idle ∷ Jump 1 ∷ [] }
+abbrev pub start_of : (main : ℕ) → (receives : Bool) → Procedure
+start_of main receives = record { method = None; params = 0; widths = []; code = Calls (calls_main main receives) ∷ Idle ∷ Jump 1 ∷ [] }
 
 -- What every packed procedure has: few widths, none above four bytes.
 pub record IsFit (m : FirmProcedure) : Type 0 where
@@ -59,13 +89,17 @@ pub record IsFit (m : FirmProcedure) : Type 0 where
   pub result : m.result ≤ 4
 
 -- The program of linear code is the packed one, flattened, with a start behind its procedures and its columns at their places.
-pub record AreFlat (k : Codes) (lay : Layout) (f : FirmProgram) (params : List ℕ) (p : Program) : Type 0 where
+pub record AreFlat (k : Codes) (lay : Layout) (f : FirmProgram) (p : Program) : Type 0 where
   pub flats : (q : ℕ) (m : FirmProcedure) → slice_get f.procedures q ≡ Some m
-      → (lp : Procedure) × (slice_get p.procedures q ≡ Some lp) × IsFit m × IsFlat lay params m lp
-  pub known : (q n : ℕ) → slice_get params q ≡ Some n → (m : FirmProcedure) × (slice_get f.procedures q ≡ Some m) × (m.params ≡ n)
+      → (lp : Procedure) × (slice_get p.procedures q ≡ Some lp) × IsFit m × IsFlat lay m lp
+  pub receives : (q : ℕ) (m : FirmProcedure) → slice_get f.procedures q ≡ Some m → slice_get lay.receives q ≡ Some m.receives
+  pub codes : p.codes ≡ k
+  pub numbers : AreCodes (length f.procedures) k
+  pub dispatches : p.dispatches ≡ f.dispatches
   pub handler : (vector : ℕ) → p.handler vector ≡ f.handler vector
-  pub start : slice_get p.procedures p.start ≡ Some (start_of f.main)
-  pub main : slice_get params f.main ≡ Some 0
+  pub main : FirmProcedure
+  pub is_main : slice_get f.procedures f.main ≡ Some main
+  pub start : slice_get p.procedures p.start ≡ Some (start_of f.main main.receives)
   pub flash : FlashStands lay f p
   pub ram : RamStands lay.ram f.ram p.ram
 

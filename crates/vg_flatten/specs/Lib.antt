@@ -1,4 +1,4 @@
-pub mod Fitting
+pub mod Closing
 pub mod Columns
 pub mod Flattened
 pub mod Refusals

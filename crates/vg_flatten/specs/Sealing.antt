@@ -7,7 +7,7 @@ use Rattle.vg_flatten_shapes.specs.declared.fault.Fault.TheVariants.{NotTaken, T
 use Rattle.vg_flatten_shapes.specs.declared.open.Open.{Open}
 use Rattle.vg_flatten_shapes.specs.Blocks.{open_code}
 use Rattle.vg_flatten_shapes.specs.Shapes.{is_empty}
-use Rattle.vg_flatten.specs.Fitting.{AllSet}
+use Rattle.vg_flatten.specs.Closing.{AllSet}
 use Rattle.vg_flatten_shapes.specs.Blocks.{set_in}
 use Rattle.vg_flatten.specs.Flattened.{whole}
 use Rattle.vg_firm.specs.Program.{Procedure as FirmProcedure}

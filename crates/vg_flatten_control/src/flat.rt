@@ -17,7 +17,8 @@ use vg_flatten_shapes::{
     Fault, Homes, Layout, Open, Piece, Room, Truth, append, behind, branch, choice, nothing, one,
     place_behind, same_operand,
 };
-use vg_flatten_steps::{is_zero, stepped, temp};
+use vg_flatten_steps::stepped;
+use vg_flatten_values::{is_zero, temp};
 use vg_lin::{Instr, Operand, Plain};
 
 /// A truth value that waits as a test becomes a number.

@@ -1,15 +1,15 @@
 -- Small bodies and their flattened code, instruction by instruction. The code was worked by hand.
-use Rattle.std.specs.Prelude.{◌≡◌, refl, ℕ, zero, suc, ◌++◌, List, [], ◌∷◌, length, map, replicate, Option, Some, None}
+use Rattle.std.specs.Prelude.{◌≡◌, refl, ℕ, zero, suc, ◌++◌, Bool, true, false, List, [], ◌∷◌, length, map, replicate, Option, Some, None}
 use Rattle.std.specs.Option.{option_map}
 use Rattle.vg_meaning.specs.Code.{Code, Nothing, Then, Do, If, Loop, Break, Continue, Return as Returning}
 use Rattle.vg_firm.specs.declared.step.Home.TheVariants.{Ram, Flash}
 use Rattle.vg_firm.specs.declared.step.Order.TheVariants.{Signed}
-use Rattle.vg_firm.specs.declared.step.Operator.TheVariants.{Plus, Divide, Remainder, Less, Unequal, ShiftLeft, ShiftRight}
+use Rattle.vg_firm.specs.declared.step.Operator.TheVariants.{Plus, Divide, Remainder, Less, Unequal, ShiftLeft, ShiftRight, Concat}
 use Rattle.vg_firm.specs.declared.step.Prefix.TheVariants.{Complement, Cut}
 use Rattle.vg_firm.specs.declared.step.Elements.{Elements}
 use Rattle.vg_firm.specs.declared.step.Step.{Step}
 use Rattle.vg_firm.specs.declared.step.Step.TheVariants.{Number, Local as Get, SetLocal, Forget, Operate, Apply, ReadDevice, WriteDevice, LoadItem, StoreItem}
-use Rattle.vg_firm.specs.declared.step.Step.TheVariants.{Load as LoadOne, Store as StoreOne, LoadAt, StoreAt, Length, LoadNothing, StoreNothing, IsWithin, StopUnlessWithin, Call as CallOf, CallValue}
+use Rattle.vg_firm.specs.declared.step.Step.TheVariants.{Load as LoadOne, Store as StoreOne, LoadAt, StoreAt, Length, LoadNothing, StoreNothing, IsWithin, StopUnlessWithin, This, Bind, BindFor, Call as CallOf, CallFor, CallValue}
 use Rattle.vg_firm.specs.Program.{Procedure}
 use Rattle.vg_lin.specs.declared.instr.Operand.{Operand}
 use Rattle.vg_lin.specs.declared.instr.Operand.TheVariants.{Local, Known}
@@ -17,11 +17,11 @@ use Rattle.vg_lin.specs.declared.instr.Operator.{Operator as LinOperator}
 use Rattle.vg_lin.specs.declared.instr.Operator.TheVariants.{Plus as Sum, Minus as Difference, Times as Product, Divide as Quotient, Remainder as Rest, And as Mask, ShiftLeft as LeftShift, ShiftRight as RightShift}
 use Rattle.vg_lin.specs.declared.instr.Comparison.TheVariants.{Below, Less as IsLess, Same}
 use Rattle.vg_lin.specs.declared.instr.Test.{Test}
-use Rattle.vg_lin.specs.declared.instr.Plain.TheVariants.{Copy, Compute, Load as LoadsBytes, Store as StoresBytes, WriteDevice as Writes, Stop}
+use Rattle.vg_lin.specs.declared.instr.Plain.TheVariants.{Copy, Compute, Load as LoadsBytes, Store as StoresBytes, WriteDevice as Writes, Push, Find, CodeOf, Stop}
 use Rattle.vg_lin.specs.declared.instr.Memory.TheVariants.{Ram as InRam, Flash as InFlash}
-use Rattle.vg_lin.specs.declared.instr.Callee.TheVariants.{Procedure as ByNumber}
+use Rattle.vg_lin.specs.declared.instr.Callee.TheVariants.{Procedure as ByNumber, Code as ByCode}
 use Rattle.vg_lin.specs.declared.instr.Registers.{Registers}
-use Rattle.vg_lin.specs.declared.instr.Registers.TheVariants.{One, Two}
+use Rattle.vg_lin.specs.declared.instr.Registers.TheVariants.{One, Two, Four}
 use Rattle.vg_lin.specs.declared.instr.Instr.{Instr}
 use Rattle.vg_lin.specs.declared.instr.Instr.TheVariants.{Plain, When, Unless, Jump, Call, Return}
 use Rattle.vg_flatten_shapes.specs.declared.layout.Place.{Place}
@@ -30,7 +30,7 @@ use Rattle.vg_flatten_shapes.specs.Shapes.{empty}
 use Rattle.vg_flatten_shapes.specs.Blocks.{open_code, set_in}
 use Rattle.vg_flatten_shapes.specs.Made.{Made, Gives, Refused}
 use Rattle.vg_flatten_control.specs.Flat.{flat}
-use Rattle.vg_flatten.specs.Flattened.{whole}
+use Rattle.vg_flatten.specs.Flattened.{receivers, own_widths, whole}
 
 -- One step behind another, and then code.
 abbrev pub steps : List Step → Code Step → Code Step
@@ -43,15 +43,20 @@ code_for m (Refused why) = None
 
 -- The code of a body with so many temporaries, where columns and tables stand so.
 abbrev pub flattened_in : Layout → (temps : ℕ) → Procedure → Option (List Instr)
-flattened_in lay temps m = code_for m (flat lay (record { locals = length m.widths; temps = temps }) m.body empty)
+flattened_in lay temps m =
+    code_for m (flat lay (record { receiver = receivers m.receives; locals = length (own_widths m); temps = temps }) m.body empty)
 
 -- The same without columns.
 abbrev pub flattened : (temps : ℕ) → Procedure → Option (List Instr)
-flattened temps m = flattened_in (record { ram = []; flash = []; tables = [] }) temps m
+flattened temps m = flattened_in (record { ram = []; flash = []; tables = []; receives = [] }) temps m
 
 -- A procedure whose locals have these widths, the first ones being its parameters.
 abbrev pub procedure : (params : ℕ) → (widths : List ℕ) → Code Step → Procedure
-procedure params widths body = record { method = 0; params = params; widths = widths; result = 0; calls = []; body = body }
+procedure params widths body = record { method = 0; params = params; receives = false; widths = widths; result = 0; calls = []; body = body }
+
+-- The same of a class.
+abbrev pub method : (params : ℕ) → (widths : List ℕ) → Code Step → Procedure
+method params widths body = record { method = 0; params = params; receives = true; widths = widths; result = 0; calls = []; body = body }
 
 abbrev pub sum : (width to : ℕ) → (x y : Operand) → Instr
 sum width to x y = Plain (Compute (record { operator = Sum; width = width; to = to; left = x; right = y }))
@@ -176,7 +181,7 @@ left_masked = refl
 
 -- x = x >> 3; and x = x >> 8; of a raw.8
 right : flattened 4 (procedure 1 (1 ∷ []) (steps (Get 0 ∷ Number 3 ∷ Operate (ShiftRight 8) ∷ SetLocal 0 ∷ []) Nothing))
-    ≡ Some (computes RightShift 4 1 (Local 0) (Known 3) ∷ Plain (Copy 0 (Local 1)) ∷ Return (Known 0) ∷ [])
+    ≡ Some (computes RightShift 1 1 (Local 0) (Known 3) ∷ Plain (Copy 0 (Local 1)) ∷ Return (Known 0) ∷ [])
 right = refl
 
 right_by_all : flattened 4 (procedure 1 (1 ∷ []) (steps (Get 0 ∷ Number 8 ∷ Operate (ShiftRight 8) ∷ SetLocal 0 ∷ []) Nothing))
@@ -185,15 +190,31 @@ right_by_all = refl
 
 -- x = x >> n; of a raw.8
 right_by_any : flattened 4 (procedure 2 (1 ∷ 4 ∷ []) (steps (Get 0 ∷ Get 1 ∷ Operate (ShiftRight 8) ∷ SetLocal 0 ∷ []) Nothing))
-    ≡ Some (
-    Unless (below (Local 1) (Known 8)) 3 ∷ computes RightShift 4 2 (Local 0) (Local 1) ∷ Jump 4 ∷ Plain (Copy 2 (Known 0)) ∷ Plain (Copy 0 (Local 2))
-    ∷ Return (Known 0) ∷ [])
+    ≡ Some (computes RightShift 1 2 (Local 0) (Local 1) ∷ Plain (Copy 0 (Local 2)) ∷ Return (Known 0) ∷ [])
 right_by_any = refl
 
 -- x = ~x; of a raw.32
 complement : flattened 4 (procedure 1 (4 ∷ []) (steps (Get 0 ∷ Apply (Complement 32) ∷ SetLocal 0 ∷ []) Nothing))
     ≡ Some (computes Difference 4 1 (Known 4294967295) (Local 0) ∷ Plain (Copy 0 (Local 1)) ∷ Return (Known 0) ∷ [])
 complement = refl
+
+-- x = ~x; of a raw.8, and of a raw.12
+narrow_complement : flattened 4 (procedure 1 (1 ∷ []) (steps (Get 0 ∷ Apply (Complement 8) ∷ SetLocal 0 ∷ []) Nothing))
+    ≡ Some (computes Difference 1 1 (Known 255) (Local 0) ∷ Plain (Copy 0 (Local 1)) ∷ Return (Known 0) ∷ [])
+narrow_complement = refl
+
+odd_complement : flattened 4 (procedure 1 (2 ∷ []) (steps (Get 0 ∷ Apply (Complement 12) ∷ SetLocal 0 ∷ []) Nothing))
+    ≡ Some (computes Difference 2 1 (Known 4095) (Local 0) ∷ Plain (Copy 0 (Local 1)) ∷ Return (Known 0) ∷ [])
+odd_complement = refl
+
+-- x = raw.4 of y; and x = y # z; of strings of four bits
+odd_cast : flattened 4 (procedure 1 (1 ∷ []) (steps (Get 0 ∷ Apply (Cut 4) ∷ SetLocal 0 ∷ []) Nothing))
+    ≡ Some (computes Mask 1 1 (Local 0) (Known 15) ∷ Plain (Copy 0 (Local 1)) ∷ Return (Known 0) ∷ [])
+odd_cast = refl
+
+concatenation : flattened 4 (procedure 3 (1 ∷ 1 ∷ 1 ∷ []) (steps (Get 1 ∷ Get 2 ∷ Operate (Concat 4) ∷ SetLocal 0 ∷ []) Nothing))
+    ≡ Some (computes LeftShift 4 3 (Local 1) (Known 4) ∷ sum 4 3 (Local 3) (Local 2) ∷ Plain (Copy 0 (Local 3)) ∷ Return (Known 0) ∷ [])
+concatenation = refl
 
 -- ---- objects
 
@@ -224,7 +245,7 @@ place address width = record { address = address; width = width }
 
 -- Three columns, of entries of two bytes, one and four; and a table.
 abbrev pub layout : Layout
-layout = record { ram = place 256 1 ∷ place 258 2 ∷ []; flash = place 150 2 ∷ place 160 1 ∷ place 200 4 ∷ []; tables = 180 ∷ [] }
+layout = record { ram = place 256 1 ∷ place 258 2 ∷ []; flash = place 150 2 ∷ place 160 1 ∷ place 200 4 ∷ []; tables = 180 ∷ []; receives = false ∷ true ∷ [] }
 
 abbrev pub loads : (width to base : ℕ) → Operand → Instr
 loads width to base index = Plain (LoadsBytes InFlash width to (record { base = base; index = index }))
@@ -309,11 +330,82 @@ copied_element : flattened_in layout 8 (procedure 3 (2 ∷ 2 ∷ 4 ∷ []) (step
     ∷ sum 4 6 (Local 6) (Local 7) ∷ Plain (StoresBytes 1 (record { base = 0; index = Local 6 }) (Local 5)) ∷ Return (Known 0) ∷ [])
 copied_element = refl
 
--- ---- what is not taken yet
+-- for (i = 0; i < a.length; i = i + 1) M.PORTB = a[i];
+array_loop : flattened_in layout 8 (procedure 1 (2 ∷ 4 ∷ [])
+    (steps (Number 0 ∷ SetLocal 1 ∷ []) (Loop (steps (Get 1 ∷ Get 0 ∷ Length 0 ∷ Operate (Less Signed) ∷ []) Nothing)
+    (steps (Get 0 ∷ Get 1 ∷ LoadItem bytes ∷ WriteDevice 0x38 ∷ []) Nothing) (steps (Get 1 ∷ Number 1 ∷ Operate Plus ∷ SetLocal 1 ∷ []) Nothing))))
+    ≡ Some (
+    Plain (Copy 1 (Known 0)) ∷ Plain (Copy 1 (Known 0)) ∷ Unless (is_zero (Local 0)) 4 ∷ Plain (Stop 1) ∷ computes Product 4 3 (Local 0) (Known 4)
+    ∷ loads 2 3 178 (Local 3) ∷ Unless (less (Local 1) (Local 3)) 21 ∷ Unless (is_zero (Local 0)) 9 ∷ Plain (Stop 1)
+    ∷ computes Product 4 4 (Local 0) (Known 4) ∷ loads 2 5 178 (Local 4) ∷ When (below (Local 1) (Local 5)) 13 ∷ Plain (Stop 2)
+    ∷ loads 2 4 176 (Local 4) ∷ computes Product 4 5 (Local 1) (Known 1) ∷ sum 4 4 (Local 4) (Local 5)
+    ∷ Plain (LoadsBytes InRam 1 2 (record { base = 0; index = Local 4 })) ∷ Plain (Writes 0x38 (Local 2)) ∷ sum 4 2 (Local 1) (Known 1)
+    ∷ Plain (Copy 1 (Local 2)) ∷ Jump 2 ∷ Return (Known 0) ∷ [])
+array_loop = refl
 
--- a delegate in a local, called with no argument
-delegate_call : flattened 4 (procedure 1 (4 ∷ []) (steps (Get 0 ∷ CallValue 0 ∷ Forget ∷ []) Nothing)) ≡ None
+-- x = o.f; and o.f = 7; where the first object that has it has so high a number that one of the number 0 would lie below all addresses
+far_field : flattened_in layout 4 (procedure 2 (2 ∷ 2 ∷ []) (steps (Get 0 ∷ LoadAt Ram 1 200 ∷ SetLocal 1 ∷ []) Nothing))
+    ≡ Some (
+    Unless (is_zero (Local 0)) 2 ∷ Plain (Stop 1) ∷ computes Difference 4 2 (Local 0) (Known 200) ∷ computes Product 4 2 (Local 2) (Known 2)
+    ∷ Plain (LoadsBytes InRam 2 2 (record { base = 258; index = Local 2 })) ∷ Plain (Copy 1 (Local 2)) ∷ Return (Known 0) ∷ [])
+far_field = refl
+
+store_far_field : flattened_in layout 4 (procedure 1 (2 ∷ []) (steps (Get 0 ∷ Number 7 ∷ StoreAt 0 300 1 ∷ []) Nothing))
+    ≡ Some (
+    Unless (is_zero (Local 0)) 2 ∷ Plain (Stop 1) ∷ computes Difference 4 3 (Local 0) (Known 300)
+    ∷ Plain (StoresBytes 1 (record { base = 256; index = Local 3 }) (Known 7)) ∷ Return (Known 0) ∷ [])
+store_far_field = refl
+
+-- ---- receivers, dispatch and delegates
+
+abbrev pub calls_code : Operand → Registers → (to : ℕ) → Instr
+calls_code code args to = Call (record { callee = ByCode code; pushed = 0; registers = args; to = Some to })
+
+-- return this; the receiver is the first local, and the parameters are behind it.
+receiver : flattened 4 (method 0 [] (steps (This ∷ []) Returning)) ≡ Some (Return (Local 0) ∷ Return (Known 0) ∷ [])
+receiver = refl
+
+method_increment : flattened 4 (method 1 (4 ∷ []) (steps (Get 0 ∷ Number 1 ∷ Operate Plus ∷ SetLocal 0 ∷ []) Nothing))
+    ≡ Some (sum 4 2 (Local 1) (Known 1) ∷ Plain (Copy 1 (Local 2)) ∷ Return (Known 0) ∷ [])
+method_increment = refl
+
+-- o.m(5); by the dispatch 3: the receiver is the first argument.
+dispatch_call : flattened 4 (procedure 1 (2 ∷ []) (steps (Get 0 ∷ Number 5 ∷ CallFor 3 1 ∷ Forget ∷ []) Nothing))
+    ≡ Some (
+    Unless (is_zero (Local 0)) 2 ∷ Plain (Stop 1) ∷ Plain (Find 3 3 (Local 0)) ∷ calls_code (Local 3) (Two (Local 0) (Known 5)) 1 ∷ Return (Known 0) ∷ [])
+dispatch_call = refl
+
+-- d(); of a delegate in a local: its receiver is in the upper two bytes.
+delegate_call : flattened 4 (procedure 1 (4 ∷ []) (steps (Get 0 ∷ CallValue 0 ∷ Forget ∷ []) Nothing))
+    ≡ Some (
+    Unless (is_zero (Local 0)) 2 ∷ Plain (Stop 1) ∷ computes RightShift 4 2 (Local 0) (Known 16) ∷ calls_code (Local 0) (One (Local 2)) 1
+    ∷ Return (Known 0) ∷ [])
 delegate_call = refl
+
+-- d = C.m; of a component's method, which is procedure 2
+bound_method : flattened 4 (procedure 1 (4 ∷ []) (steps (Bind 2 ∷ SetLocal 0 ∷ []) Nothing))
+    ≡ Some (Plain (CodeOf 2 1) ∷ Plain (Copy 0 (Local 1)) ∷ Return (Known 0) ∷ [])
+bound_method = refl
+
+-- d = o.m; by the dispatch 0
+bound_for_object : flattened 4 (procedure 2 (2 ∷ 4 ∷ []) (steps (Get 0 ∷ BindFor 0 ∷ SetLocal 1 ∷ []) Nothing))
+    ≡ Some (
+    Unless (is_zero (Local 0)) 2 ∷ Plain (Stop 1) ∷ computes LeftShift 4 3 (Local 0) (Known 16) ∷ Plain (Find 0 2 (Local 0)) ∷ sum 4 2 (Local 2) (Local 3)
+    ∷ Plain (Copy 1 (Local 2)) ∷ Return (Known 0) ∷ [])
+bound_for_object = refl
+
+-- C.m(); of a component's method of which delegates are made, in this layout procedure 1: it gets a receiver that it does not use.
+called_on_none : flattened_in layout 4 (procedure 0 [] (steps (CallOf 1 0 ∷ Forget ∷ []) Nothing))
+    ≡ Some (calls 1 (One (Known 0)) 0 ∷ Return (Known 0) ∷ [])
+called_on_none = refl
+
+-- f(1, 2, 3, 4, 5, 6); the arguments before the last four are pushed.
+six_arguments : flattened 8 (procedure 0 []
+    (steps (Number 1 ∷ Number 2 ∷ Number 3 ∷ Number 4 ∷ Number 5 ∷ Number 6 ∷ CallOf 3 6 ∷ Forget ∷ []) Nothing))
+    ≡ Some (
+    Plain (Push 4 (Known 1)) ∷ Plain (Push 4 (Known 2))
+    ∷ Call (record { callee = ByNumber 3; pushed = 2; registers = Four (Known 3) (Known 4) (Known 5) (Known 6); to = Some 0 }) ∷ Return (Known 0) ∷ [])
+six_arguments = refl
 
 -- ---- a high body
 

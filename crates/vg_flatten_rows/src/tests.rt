@@ -36,6 +36,7 @@ fn high(alloc: Global, count: u8) -> Result<Procedure, NoMemory>
     Ok(Procedure {
         method: 0,
         params: 0,
+        receives: false,
         widths,
         result: 0,
         calls: Row::new(alloc),
@@ -48,8 +49,9 @@ fn flattened(alloc: Global, count: u8) -> Result<LinProc, Refusal<Fault>> {
         ram: Row::new(alloc),
         flash: Row::new(alloc),
         tables: Row::new(alloc),
+        receives: Row::new(alloc),
     };
-    flatten(alloc, &layout, &[], &high(alloc, count)?)
+    flatten(alloc, &layout, &high(alloc, count)?)
 }
 
 // How many instructions and locals there are; one value more finds no temporary.

@@ -5,7 +5,7 @@ use Rattle.vg_lin.specs.declared.instr.Instr.TheVariants.{Jump}
 use Rattle.vg_flatten_shapes.specs.declared.open.Truth.{Truth}
 use Rattle.vg_flatten_shapes.specs.declared.open.Open.{Open}
 use Rattle.vg_flatten_shapes.specs.declared.open.Open.TheVariants.{Set}
-use Rattle.vg_flatten_shapes.specs.Blocks.{Block, Skip, One, CallTo, TakeInterrupt, GiveBack, BreakOut, GoOn, Both, Choice, Repeat, branch, choice_code, open_code}
+use Rattle.vg_flatten_shapes.specs.Blocks.{Block, Skip, One, CallTo, TakeInterrupt, GiveBack, BreakOut, GoOn, Both, Choice, Repeat, branch, choice_code, call_code, open_code}
 
 abbrev pub alone : Truth → (at : ℕ) → List Open → List Open
 alone t at x = Set (branch t (at + 1 + length x)) ∷ x
@@ -40,7 +40,8 @@ nil_both (x ∷ xs) ys e = not_nil x (xs ++ ys) e
 pub nothing_anywhere : (b : Block) (u v : ℕ) → open_code b u ≡ [] → open_code b v ≡ []
 nothing_anywhere Skip u v e = refl
 nothing_anywhere (One p) u v e = not_nil _ [] e
-nothing_anywhere (CallTo c) u v e = not_nil _ [] e
+nothing_anywhere (CallTo [] c) u v e = not_nil _ [] e
+nothing_anywhere (CallTo (a ∷ more) c) u v e = not_nil _ (call_code more c) e
 nothing_anywhere TakeInterrupt u v e = not_nil _ [] e
 nothing_anywhere (GiveBack a) u v e = not_nil _ [] e
 nothing_anywhere BreakOut u v e = not_nil _ [] e

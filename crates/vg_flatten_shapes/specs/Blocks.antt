@@ -3,7 +3,7 @@ use Rattle.std.specs.Prelude.{ℕ, suc, ◌+◌, ◌==◌, List, [], ◌∷◌, 
 use Rattle.vg_meaning.specs.Code.{Code, Nothing, Then, Do, If, Loop, Break as Breaking, Continue as Continuing, Return as Returning}
 use Rattle.vg_lin.specs.declared.instr.Operand.{Operand}
 use Rattle.vg_lin.specs.declared.instr.Plain.{Plain as PlainInstr}
-use Rattle.vg_lin.specs.declared.instr.Plain.TheVariants.{Stop}
+use Rattle.vg_lin.specs.declared.instr.Plain.TheVariants.{Push, Stop}
 use Rattle.vg_lin.specs.declared.instr.Call.{Call as Calling}
 use Rattle.vg_lin.specs.declared.instr.Instr.{Instr}
 use Rattle.vg_lin.specs.declared.instr.Instr.TheVariants.{Plain, When, Unless, Jump, Call, Return, Idle}
@@ -16,7 +16,7 @@ use Rattle.vg_flatten_shapes.specs.declared.open.Open.TheVariants.{Set, Break, C
 pub data Block : Type 0 where
   Skip : Block
   One : (p : PlainInstr) → Block
-  CallTo : (c : Calling) → Block
+  CallTo : (pushed : List Operand) (c : Calling) → Block
   TakeInterrupt : Block
   GiveBack : (a : Operand) → Block
   BreakOut : Block
@@ -36,10 +36,15 @@ abbrev pub picked : Truth → Code Step
 picked (Holds t) = Do (Pick t)
 picked (Fails t) = Then (Do (Pick t)) (Do Flip)
 
+-- Values are pushed one by one, four bytes of each, and then something is done.
+abbrev pub pushing : List Operand → Code Step → Code Step
+pushing [] c = c
+pushing (a ∷ more) c = Then (Do (Here (Push 4 a))) (pushing more c)
+
 abbrev pub structured : Block → Code Step
 structured Skip = Nothing
 structured (One p) = Do (Here p)
-structured (CallTo c) = Do (To c)
+structured (CallTo pushed c) = pushing pushed (Do (To c))
 structured TakeInterrupt = Do Rest
 structured (GiveBack a) = Then (Do (Give a)) Returning
 structured BreakOut = Breaking
@@ -74,10 +79,15 @@ loop_code t at x y z =
     x ++ (Set (branch t (at + length x + 1 + length y + length z + 1)) ∷
     (map (closed (at + length x + 1 + length y + length z + 1) (at + length x + 1 + length y)) y ++ (z ++ (Set (Jump at) ∷ []))))
 
+-- The pushes of a call, and the call behind them.
+abbrev pub call_code : List Operand → Calling → List Open
+call_code [] c = Set (Call c) ∷ []
+call_code (a ∷ more) c = Set (Plain (Push 4 a)) ∷ call_code more c
+
 abbrev pub open_code : Block → (at : ℕ) → List Open
 open_code Skip at = []
 open_code (One p) at = Set (Plain p) ∷ []
-open_code (CallTo c) at = Set (Call c) ∷ []
+open_code (CallTo pushed c) at = call_code pushed c
 open_code TakeInterrupt at = Set Idle ∷ []
 open_code (GiveBack a) at = Set (Return a) ∷ []
 open_code BreakOut at = Break ∷ []

@@ -1,6 +1,6 @@
 -- Where waiting values are. A value that is known, or that is a local's, costs no code while it waits; each other value is in the
 -- temporary of its height. A truth value may wait as a test that was not made.
-use Rattle.std.specs.Prelude.{ℕ, ◌+◌, Bool, true, false, not, ◌==◌, ◌&&◌, nat_lt, List, [], ◌∷◌, length, Option, Some, None, if◌then◌else◌}
+use Rattle.std.specs.Prelude.{ℕ, ◌+◌, Bool, true, false, not, ◌==◌, ◌&&◌, nat_lt, nat_le, List, [], ◌∷◌, length, reverse, take, drop, Option, Some, None, if◌then◌else◌}
 use Rattle.vg_lin.specs.declared.instr.Operand.{Operand}
 use Rattle.vg_lin.specs.declared.instr.Operand.TheVariants.{Local, Known}
 use Rattle.vg_flatten_shapes.specs.declared.open.Truth.{Truth}
@@ -40,6 +40,16 @@ same_homes (a ∷ as') (b ∷ bs) = same_operand a b && same_homes as' bs
 abbrev pub is_free : ℕ → List Operand → Bool
 is_free i [] = true
 is_free i (h ∷ hs) = not (same_operand (Local i) h) && is_free i hs
+
+-- ---- arguments
+
+-- So many of the newest homes, the oldest of them first, and what waits below them.
+pub record Taken : Type 0 where
+  pub args : List Operand
+  pub rest : List Operand
+
+abbrev pub taken : (count : ℕ) → List Operand → Option Taken
+taken count hs = if nat_le count (length hs) then Some (record { args = reverse (take count hs); rest = drop count hs }) else None
 
 -- ---- locals
 

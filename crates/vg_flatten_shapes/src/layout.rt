@@ -1,4 +1,4 @@
-// Where the columns and the tables of a program stand.
+// Where the columns and the tables of a program stand, and which of its procedures get a receiver.
 use vg_base::Row;
 
 /// Where a column stands: the address of its first entry, and how many bytes an entry has.
@@ -8,10 +8,12 @@ pub struct Place {
     pub width: u8,
 }
 
-/// The columns in RAM and in flash and the tables of the arrays' places, by their numbers; a table is named by its address.
+/// The columns in RAM and in flash and the tables of the arrays' places, by their numbers; a table is named by its address. And for
+/// each procedure, whether it gets a receiver.
 #[derive(Drop)]
 pub struct Layout {
     pub ram: Row<Place>,
     pub flash: Row<Place>,
     pub tables: Row<u16>,
+    pub receives: Row<bool>,
 }

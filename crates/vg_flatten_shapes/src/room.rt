@@ -1,8 +1,10 @@
 // Locals and temporaries.
 
-/// How many locals a procedure has, and how many temporaries behind them.
+/// How many locals a procedure has, and how many temporaries behind them. Where it gets a receiver, that is its first local.
 #[derive(Clone, Copy)]
 pub struct Room {
+    /// How many of the first locals are a receiver: 1 or 0.
+    pub receiver: u8,
     pub locals: u8,
     pub temps: u8,
 }

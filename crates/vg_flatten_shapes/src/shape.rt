@@ -2,12 +2,12 @@
 ghost use Rattle.std.specs.Prelude.{◌≡◌, ◌↔◌, ℕ, List, [], ◌∷◌, ◌++◌, reverse, length, true, Option, Some, None, IfOk, OnOk, IsTrue};
 ghost use Rattle.std.specs.Option.{option_map};
 ghost use Rattle.vg_flatten_shapes.specs.Shapes.{Shape, only, empty, is_empty, same_homes, is_free, same_operand};
-ghost use Rattle.vg_flatten_shapes.specs.Popped.{Pops};
+ghost use Rattle.vg_flatten_shapes.specs.Popped.{Pops, Takes};
 
 use crate::open::Truth;
 use std::alloc::Global;
 use std::marker::Model;
-use vg_base::NoMemory;
+use vg_base::{NoMemory, Row};
 use vg_lin::Operand;
 
 /// The homes of the values that wait, the newest last; the newest of all may be a test that was not made.
@@ -72,6 +72,24 @@ impl Homes {
         ensures { Pops result self.old self.new }
     {
         self.row.pop()
+    }
+
+    /// So many of the newest homes are taken, the oldest of them first.
+    pub fn take_newest(
+        &mut self,
+        alloc: Global,
+        count: usize,
+    ) -> Result<Option<Row<Operand>>, NoMemory>
+        ensures { IfOk result (λ taken. Takes taken count self.old self.new) }
+    {
+        let size = self.row.as_slice().len();
+        if size < count {
+            return Ok(None);
+        }
+        let kept = size - count;
+        let newest = Vec::from_slice(alloc, &self.row.as_slice()[kept..])?;
+        self.row.truncate(kept);
+        Ok(Some(Row::from_vec(newest)))
     }
 
     pub fn copy(&self, alloc: Global) -> Result<Self, NoMemory>

@@ -2,15 +2,8 @@
 #![tactic(auto)]
 
 pub mod calls;
-pub mod columns;
-pub mod divisions;
-pub mod elements;
+pub mod delegates;
 pub mod objects;
-pub mod operators;
-pub mod put;
-pub mod shifts;
 pub mod steps;
 
-pub use operators::is_zero;
-pub use put::temp;
 pub use steps::stepped;

@@ -3,16 +3,17 @@ ghost use Rattle.std.specs.Prelude.{◌≡◌, ◌+◌, ◌≤◌, None};
 ghost use Rattle.vg_flatten_shapes.specs.Laying.{Lays, LaysCode};
 ghost use Rattle.vg_flatten_shapes.specs.Blocks.{One, Both, open_code, stop_where};
 ghost use Rattle.vg_flatten_shapes.specs.declared.open.Truth.TheVariants.{Fails};
-ghost use Rattle.vg_flatten_steps.specs.Steps.{load_nothing, store_nothing, is_one_of, cast_to, distance, is_near};
+ghost use Rattle.vg_flatten_steps.specs.Objects.{load_nothing, store_nothing, is_one_of, cast_to, is_near};
+ghost use Rattle.vg_flatten_places.specs.Places.{distance};
 
-use crate::operators::{is_zero, test_of};
-use crate::put::temp;
 use std::alloc::Global;
 use vg_base::{Refusal, Row};
+use vg_flatten_places::distance;
 use vg_flatten_shapes::{
     Fault, Homes, Open, Piece, Room, Truth, append, choice, one, place_behind, stop_where,
 };
-use vg_lin::{Comparison, Computation, Instr, Operand, Operator, Plain, Test};
+use vg_flatten_values::{is_zero, temp, test_of};
+use vg_lin::{Comparison, Instr, Operand, Test};
 
 /// The null check of a field that no object has, whose value is 0.
 pub(crate) fn load_nothing(alloc: Global, at: u16, homes: Homes) -> Result<Piece, Refusal<Fault>>
@@ -43,19 +44,6 @@ pub(crate) fn store_nothing(alloc: Global, at: u16, homes: Homes) -> Result<Piec
         }
         _ => Err(Refusal::Fault(Fault::NotTaken)),
     }
-}
-
-/// How far an object's number is behind the first of so many.
-fn distance(to: u8, first: u16, home: Operand) -> Plain
-    ensures { result ≡ distance to first home }
-{
-    Plain::Compute(Computation {
-        operator: Operator::Minus,
-        width: 4,
-        to,
-        left: home,
-        right: Operand::Known(first as u32),
-    })
 }
 
 fn is_near(to: u8, count: u16) -> Test

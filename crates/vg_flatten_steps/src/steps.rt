@@ -1,18 +1,18 @@
 // What steps become.
 ghost use Rattle.std.specs.Prelude.{◌≡◌, ◌+◌, ◌≤◌, None};
-ghost use Rattle.vg_flatten_steps.specs.Steps.{stepped, get_local, set_local, read, written, forgotten};
+ghost use Rattle.vg_flatten_steps.specs.Steps.{stepped};
+ghost use Rattle.vg_flatten_steps.specs.Locals.{at_local, get_receiver, put_in_local, get_local, set_local, read, written, forgotten};
 ghost use Rattle.vg_flatten_shapes.specs.Laying.{Lays};
 
-use crate::calls::called;
-use crate::columns::{length, load, load_at, store, store_to};
-use crate::elements::{load_item, store_item};
+use crate::calls::{called, called_for, called_value};
+use crate::delegates::{bound, bound_for};
 use crate::objects::{cast_to, is_one_of, load_nothing, store_nothing};
-use crate::operators::{applied, operated};
-use crate::put::{put_home, put_into, temp};
 use std::alloc::Global;
 use vg_base::Refusal;
 use vg_firm::Step;
+use vg_flatten_places::{length, load, load_at, load_item, store, store_item, store_to};
 use vg_flatten_shapes::{Fault, Homes, Layout, Open, Piece, Room, nothing, one};
+use vg_flatten_values::{applied, operated, put_home, put_into, temp};
 use vg_lin::{Instr, Operand, Plain};
 
 /// What a step becomes, where no truth value waits as a test.
@@ -30,6 +30,7 @@ pub fn stepped(
 {
     match step {
         Step::Number(v) => Ok(put_home(alloc, Operand::Known(v), homes)?),
+        Step::This => get_receiver(alloc, room, at, homes),
         Step::Local(i) => get_local(alloc, room, at, i, homes),
         Step::SetLocal(i) => set_local(alloc, room, at, i, homes),
         Step::Forget => forgotten(alloc, at, homes),
@@ -37,7 +38,11 @@ pub fn stepped(
         Step::Apply(op) => applied(alloc, room, at, op, homes),
         Step::ReadDevice(address) => read(alloc, room, at, address, homes),
         Step::WriteDevice(address) => written(alloc, at, address, homes),
-        Step::Call(q, count) => called(alloc, room, at, q, count, homes),
+        Step::Call(q, count) => called(alloc, layout, room, at, q, count, homes),
+        Step::CallFor(dispatch, count) => { called_for(alloc, room, at, dispatch, count, homes) }
+        Step::CallValue(count) => called_value(alloc, room, at, count, homes),
+        Step::Bind(q) => bound(alloc, room, at, q, homes),
+        Step::BindFor(dispatch) => bound_for(alloc, room, at, dispatch, homes),
         Step::Idle => Ok(one(alloc, Open::Set(Instr::Idle), homes)?),
         Step::Load(home, column) => load(alloc, layout, room, at, home, column, homes),
         Step::LoadAt(home, column, first) => {
@@ -54,8 +59,23 @@ pub fn stepped(
         Step::StoreNothing => store_nothing(alloc, at, homes),
         Step::IsWithin(first, count) => is_one_of(alloc, room, at, first, count, homes),
         Step::StopUnlessWithin(first, count) => cast_to(alloc, room, at, first, count, homes),
-        _ => Err(Refusal::Fault(Fault::NotTaken)),
     }
+}
+
+fn at_local(
+    alloc: Global,
+    room: Room,
+    at: u16,
+    local: u16,
+    homes: Homes,
+) -> Result<Piece, Refusal<Fault>>
+    requires { homes.truth ≡ None }
+    ensures { Lays result at (at_local room local homes.homes) }
+{
+    if local < room.locals as u16 {
+        return Ok(put_home(alloc, Operand::Local(local as u8), homes)?);
+    }
+    Err(Refusal::Fault(Fault::NotTaken))
 }
 
 fn get_local(
@@ -68,8 +88,36 @@ fn get_local(
     requires { homes.truth ≡ None }
     ensures { Lays result at (get_local room i homes.homes) }
 {
-    if i < room.locals {
-        return Ok(put_home(alloc, Operand::Local(i), homes)?);
+    at_local(alloc, room, at, room.receiver as u16 + i as u16, homes)
+}
+
+/// The receiver is the first local, where there is one.
+fn get_receiver(alloc: Global, room: Room, at: u16, homes: Homes) -> Result<Piece, Refusal<Fault>>
+    requires { homes.truth ≡ None }
+    ensures { Lays result at (get_receiver room homes.homes) }
+{
+    if room.receiver == 0 {
+        return Ok(put_home(alloc, Operand::Known(0), homes)?);
+    }
+    at_local(alloc, room, at, 0, homes)
+}
+
+fn put_in_local(
+    alloc: Global,
+    room: Room,
+    at: u16,
+    local: u16,
+    home: Operand,
+    homes: Homes,
+) -> Result<Piece, Refusal<Fault>>
+    requires { homes.truth ≡ None }
+    ensures { Lays result at (put_in_local room local home homes.homes) }
+{
+    if local < room.locals as u16 {
+        let to = local as u8;
+        if homes.is_free(to) {
+            return Ok(one(alloc, Open::Set(Instr::Plain(Plain::Copy(to, home))), homes)?);
+        }
     }
     Err(Refusal::Fault(Fault::NotTaken))
 }
@@ -87,10 +135,8 @@ fn set_local(
     let mut homes = homes;
     match homes.pop() {
         Some(home) => {
-            if i < room.locals && homes.is_free(i) {
-                return Ok(one(alloc, Open::Set(Instr::Plain(Plain::Copy(i, home))), homes)?);
-            }
-            Err(Refusal::Fault(Fault::NotTaken))
+            let local = room.receiver as u16 + i as u16;
+            put_in_local(alloc, room, at, local, home, homes)
         }
         None => Err(Refusal::Fault(Fault::NotTaken)),
     }

@@ -1,13 +1,18 @@
 -- The locals of a procedure that begins: its parameters have the arguments, and behind the first instructions all others are 0.
 use Rattle.std.specs.Prelude.{ℕ, zero, suc, ◌+◌, ◌-◌, ◌<◌, ◌≤◌, ◌^◌, ◌%◌, Bool, true, false, ◌==◌, ◌&&◌, nat_lt, List, [], ◌∷◌, ◌++◌, length, replicate, Option, Some, None, slice_get}
-use Rattle.std.proofs.Common.{◌≡◌, ◌≢◌, refl, sym, ap, ◌∙◌, subst, arith}
+use Rattle.std.proofs.Common.{◌≡◌, ◌≢◌, inl, inr, refl, sym, ap, ◌∙◌, subst, arith}
 use Rattle.vg_firm.specs.Meaning.{fits}
-use Rattle.vg_firm.specs.Session.{all_fit}
+use Rattle.vg_firm.specs.Session.{all_fit, may_receive}
+use Rattle.vg_firm.specs.Program.{Procedure as FirmProcedure}
+use Rattle.vg_flatten.specs.Flattened.{receivers, with_receiver_width, own_widths, own_params, widened, all_widths, IsFit}
+use Rattle.vg_flatten.proofs.Whole.{own_long, widened_long}
+use Rattle.vg_flattened.proofs.Numbers.{low_within}
+use Rattle.vg_flattened.proofs.CallRight.{ArePassed}
 use Rattle.vg_lin.specs.Values.{low}
 use Rattle.vg_lin.specs.State.{LocalState, value_in, with_local}
 use Rattle.vg_lin.specs.Meaning.{begun}
 use Rattle.vg_flatten_shapes.specs.declared.room.Room.{Room}
-use Rattle.vg_flattened.proofs.Related.{AreWidths, AreKept}
+use Rattle.vg_flattened.proofs.Related.{AreWidths, IsReceiver, AreKept}
 use Rattle.vg_flatten_shapes.proofs.Temps.{some_is, none_is_not}
 use Rattle.vg_flattened.proofs.Locals.{written_is, others_stay}
 
@@ -50,13 +55,39 @@ has_one (x ∷ xs) (suc i) lt = has_one xs i (omega (arith, lt))
 
 -- ---- the widths
 
-pub widths_are : (r : Room) (widths : List ℕ) → r.locals ≡ length widths → AreWidths r widths (widths ++ replicate r.temps 4)
-widths_are r widths e =
-    record {
-      locals = λ i w h. get_front widths (replicate r.temps 4) i w h;
-      temps = λ k lt. ap (λ z. slice_get (widths ++ replicate r.temps 4) (z + k)) e ∙ get_behind widths (replicate r.temps 4) k
-          ∙ get_replicate r.temps 4 k lt;
-    }
+-- the local of the packed procedure, behind the receiver
+own_get : (b : Bool) (widths : List ℕ) (i w : ℕ) → slice_get widths i ≡ Some w → slice_get (with_receiver_width b widths) (receivers b + i) ≡ Some w
+own_get true widths i w h = ap (slice_get (2 ∷ widths)) (one i) ∙ h
+  where
+    one : (a : ℕ) → 1 + a ≡ suc a
+    one a = omega arith
+own_get false widths i w h = ap (slice_get widths) (none i) ∙ h
+  where
+    none : (a : ℕ) → 0 + a ≡ a
+    none a = omega arith
+
+widened_get : (n : ℕ) (ws : List ℕ) (i w : ℕ) → slice_get ws i ≡ Some w → w ≤ 4 → (v : ℕ) × (slice_get (widened n ws) i ≡ Some v) × (w ≤ v)
+widened_get zero ws i w h le = (w, h, omega arith)
+widened_get (suc n) [] i w h le = none_is_not w h
+widened_get (suc n) (x ∷ ws) zero w h le = (4, refl, le)
+widened_get (suc n) (x ∷ ws) (suc i) w h le = widened_get n ws i w h le
+
+module _ (r : Room) (m : FirmProcedure) (receiver : r.receiver ≡ receivers m.receives) (locals : r.locals ≡ length (own_widths m)) (fit : IsFit m) where
+  abbrev pub all : List ℕ
+  all = all_widths m ++ replicate r.temps 4
+
+  width_at : (i w : ℕ) → slice_get m.widths i ≡ Some w → (v : ℕ) × (slice_get all (r.receiver + i) ≡ Some v) × (w ≤ v)
+  width_at i w h =
+      let g = widened_get (own_params m - 4) (own_widths m) (receivers m.receives + i) w (own_get m.receives m.widths i w h) (fit.widths i w h) in
+      (g.0, ap (λ z. slice_get all (z + i)) receiver ∙ get_front (all_widths m) (replicate r.temps 4) (receivers m.receives + i) g.0 g.1, g.2)
+
+  pub widths_are : AreWidths r m.widths all
+  widths_are =
+      record {
+        locals = width_at;
+        temps = λ k lt. ap (λ z. slice_get all (z + k)) (locals ∙ sym (widened_long (own_params m - 4) (own_widths m)))
+            ∙ get_behind (all_widths m) (replicate r.temps 4) k ∙ get_replicate r.temps 4 k lt;
+      }
 
 -- ---- the locals at the entry
 
@@ -132,59 +163,124 @@ zeroed_value (suc c) i ls j w le lt (o, at) =
     by_place more false same =
         let ne : j ≢ i = grind arith in more (omega (arith, le, ne)) (o, others_stay ls i j 0 ne ∙ at)
 
--- The locals behind the first instructions are those of the packed body at its entry.
-pub kept_at_entry : (r : Room) (widths xs : List ℕ) (params : ℕ) → r.locals ≡ length widths → params ≤ length widths → length xs ≡ params
-    → ((i w : ℕ) → slice_get widths i ≡ Some w → w ≤ 4) → all_fit widths xs ≡ true
-    → AreKept r (widths ++ replicate r.temps 4) (xs ++ replicate (length widths - params) 0)
-    (zeroed (length widths - params) params (begun (widths ++ replicate r.temps 4) xs))
-kept_at_entry r widths xs params e le long small fit =
-    record {
-      there = λ i w h. zeroed_there (length widths - params) params (begun ws xs) i w (begun_there ws xs i w h);
-      locals = λ i v lt h. by_place i v lt h (nat_lt i params) refl;
-    }
+-- ---- what is passed
+
+passed_get : (b : Bool) (self : Option ℕ) (args xs : List ℕ) → ArePassed b self args xs → (i v : ℕ) → slice_get args i ≡ Some v
+    → slice_get xs (receivers b + i) ≡ Some v
+passed_get false self args xs e i v h = ap (slice_get xs) (none i) ∙ ap (λ z. slice_get z i) e ∙ h
   where
-    ws : List ℕ
-    ws = widths ++ replicate r.temps 4
+    none : (a : ℕ) → 0 + a ≡ a
+    none a = omega arith
+passed_get true (Some n) args xs e i v h = ap (slice_get xs) (one i) ∙ ap (λ z. slice_get z (suc i)) e ∙ h
+  where
+    one : (a : ℕ) → 1 + a ≡ suc a
+    one a = omega arith
+passed_get true None args xs (inl (n, e)) i v h = ap (slice_get xs) (one i) ∙ ap (λ z. slice_get z (suc i)) e ∙ h
+  where
+    one : (a : ℕ) → 1 + a ≡ suc a
+    one a = omega arith
+passed_get true None args xs (inr (ea, ex)) i v h = none_is_not v (sym (ap (λ z. slice_get z i) ea) ∙ h)
 
-    below : (w x : ℕ) → w ≤ 4 → x < 256 ^ w → x < 2 ^ 32
-    below zero x l h = omega (arith, h)
-    below (suc zero) x l h = omega (arith, h)
-    below (suc (suc zero)) x l h = omega (arith, h)
-    below (suc (suc (suc zero))) x l h = omega (arith, h)
-    below (suc (suc (suc (suc zero)))) x l h = omega (arith, h)
-    below (suc (suc (suc (suc (suc w))))) x l h = absurd (omega (arith, l))
+-- The locals behind the first instructions are those of the packed body at its entry.
+module _ (r : Room) (m : FirmProcedure) (receiver : r.receiver ≡ receivers m.receives) (locals : r.locals ≡ length (own_widths m)) (fit : IsFit m)
+    (self : Option ℕ) (args xs : List ℕ) (long : length args ≡ m.params) (fits : all_fit m.widths args ≡ true) (may : may_receive m self ≡ true)
+    (passed : ArePassed m.receives self args xs) where
+  abbrev ws : List ℕ
+  ws = all r m receiver locals fit
 
-    low_is : (w x : ℕ) → x < 256 ^ w → low w x ≡ x
-    low_is w x h = grind arith
+  abbrev others : ℕ
+  others = length m.widths - m.params
 
-    as_argument : (i v w : ℕ) → i < params → slice_get widths i ≡ Some w → slice_get xs i ≡ Some v
-        → (value_in (slice_get (zeroed (length widths - params) params (begun ws xs)) i) ≡ Some v) × (v < 2 ^ 32)
-    as_argument i v w lt hw hx =
-        let f = each_fits widths xs i w v fit hw hx in (
-          ap value_in (zeroed_before (length widths - params) params (begun ws xs) i lt)
-              ∙ begun_value ws xs i w v (get_front widths (replicate r.temps 4) i w hw) hx ∙ ap Some (low_is w v f),
-          below w v (small i w hw) f,
-        )
+  own : length (own_widths m) ≡ receivers m.receives + length m.widths
+  own = own_long m.receives m.widths
 
-    as_zero : (i v w : ℕ) → params ≤ i → i < length widths → slice_get widths i ≡ Some w → v ≡ 0
-        → (value_in (slice_get (zeroed (length widths - params) params (begun ws xs)) i) ≡ Some v) × (v < 2 ^ 32)
-    as_zero i v w ge lt hw ez = (
-      zeroed_value (length widths - params) params (begun ws xs) i w ge (omega (arith, ge, lt, le))
-          (begun_there ws xs i w (get_front widths (replicate r.temps 4) i w hw)) ∙ ap Some (sym ez),
-      omega (arith, ez),
-    )
+  below : (w x : ℕ) → w ≤ 4 → x < 256 ^ w → x < 2 ^ 32
+  below zero x l h = omega (arith, h)
+  below (suc zero) x l h = omega (arith, h)
+  below (suc (suc zero)) x l h = omega (arith, h)
+  below (suc (suc (suc zero))) x l h = omega (arith, h)
+  below (suc (suc (suc (suc zero)))) x l h = omega (arith, h)
+  below (suc (suc (suc (suc (suc w))))) x l h = absurd (omega (arith, l))
 
-    by_place : (i v : ℕ) → i < r.locals → slice_get (xs ++ replicate (length widths - params) 0) i ≡ Some v → (b : Bool) → nat_lt i params ≡ b
-        → (value_in (slice_get (zeroed (length widths - params) params (begun ws xs)) i) ≡ Some v) × (v < 2 ^ 32)
-    by_place i v lt h true c =
-        let lp : i < params = grind arith in
-        let lx : i < length xs = omega (arith, lp, long) in
-        let one = has_one widths i (omega (arith, lt, e)) in
-        as_argument i v one.0 lp one.1 (sym (get_split xs (replicate (length widths - params) 0) i lx) ∙ h)
-    by_place i v lt h false c =
-        let ge : params ≤ i = grind arith in
-        let one = has_one widths i (omega (arith, lt, e)) in
-        let at : length xs + (i - length xs) ≡ i = omega (arith, ge, long) in
-        as_zero i v one.0 ge (omega (arith, lt, e)) one.1
-        (get_same (length widths - params) 0 (i - length xs) v
-        (sym (get_behind xs (replicate (length widths - params) 0) (i - length xs)) ∙ ap (slice_get (xs ++ replicate (length widths - params) 0)) at ∙ h))
+  as_argument : (i v w : ℕ) → i < m.params → slice_get m.widths i ≡ Some w → slice_get args i ≡ Some v
+      → (value_in (slice_get (zeroed others (own_params m) (begun ws xs)) (r.receiver + i)) ≡ Some v) × (v < 2 ^ 32)
+  as_argument i v w lt hw hx =
+      let g = (widths_are r m receiver locals fit).locals i w hw in
+      let f1 = each_fits m.widths args i w v fits hw hx in (
+        ap value_in (zeroed_before others (own_params m) (begun ws xs) (r.receiver + i) (omega (arith, receiver, lt)))
+            ∙ begun_value ws xs (r.receiver + i) g.0 v g.1 (ap (λ z. slice_get xs (z + i)) receiver ∙ passed_get m.receives self args xs passed i v hx)
+            ∙ ap Some (low_within w g.0 v g.2 f1),
+        below w v (fit.widths i w hw) f1,
+      )
+
+  as_zero : (i v w : ℕ) → m.params ≤ i → i < length m.widths → slice_get m.widths i ≡ Some w → v ≡ 0
+      → (value_in (slice_get (zeroed others (own_params m) (begun ws xs)) (r.receiver + i)) ≡ Some v) × (v < 2 ^ 32)
+  as_zero i v w ge lt hw ez =
+      let g = (widths_are r m receiver locals fit).locals i w hw in
+      let le = fit.params in (
+        zeroed_value others (own_params m) (begun ws xs) (r.receiver + i) g.0 (omega (arith, receiver, ge)) (omega (arith, receiver, ge, lt, le))
+            (begun_there ws xs (r.receiver + i) g.0 g.1) ∙ ap Some (sym ez),
+        omega (arith, ez),
+      )
+
+  by_place : (i v : ℕ) → r.receiver + i < r.locals → slice_get (args ++ replicate others 0) i ≡ Some v → (b : Bool) → nat_lt i m.params ≡ b
+      → (value_in (slice_get (zeroed others (own_params m) (begun ws xs)) (r.receiver + i)) ≡ Some v) × (v < 2 ^ 32)
+  by_place i v lt h true c =
+      let lp : i < m.params = grind arith in
+      let lx : i < length args = omega (arith, lp, long) in
+      let one = has_one m.widths i (omega (arith, lt, locals, receiver, own)) in
+      as_argument i v one.0 lp one.1 (sym (get_split args (replicate others 0) i lx) ∙ h)
+  by_place i v lt h false c =
+      let ge : m.params ≤ i = grind arith in
+      let one = has_one m.widths i (omega (arith, lt, locals, receiver, own)) in
+      let at : length args + (i - length args) ≡ i = omega (arith, ge, long) in
+      as_zero i v one.0 ge (omega (arith, lt, locals, receiver, own)) one.1
+      (get_same others 0 (i - length args) v
+      (sym (get_behind args (replicate others 0) (i - length args)) ∙ ap (slice_get (args ++ replicate others 0)) at ∙ h))
+
+  -- the receiver
+  two_bytes : (b : Bool) → (widths : List ℕ) (n : ℕ) → b ≡ true
+      → (v : ℕ) × (slice_get (widened n (with_receiver_width b widths)) 0 ≡ Some v) × (2 ≤ v)
+  two_bytes true widths zero e = (2, refl, omega arith)
+  two_bytes true widths (suc n) e = (4, refl, omega arith)
+  two_bytes false widths n e = absurd (grind arith)
+
+  received : (n : ℕ) → m.receives ≡ true → n < 256 ^ 2 → slice_get xs 0 ≡ Some n → IsReceiver r (Some n) (zeroed others (own_params m) (begun ws xs))
+  received n is lt first =
+      let g = two_bytes m.receives m.widths (own_params m - 4) is in
+      let one : receivers m.receives ≡ 1 = ap receivers is in (
+        (omega (arith, receiver, one), omega (arith, locals, own, one)),
+        ap value_in (zeroed_before others (own_params m) (begun ws xs) 0 (omega (arith, one)))
+            ∙ begun_value ws xs 0 g.0 n (get_front (all_widths m) (replicate r.temps 4) 0 g.0 g.1) first ∙ ap Some (low_within 2 g.0 n g.2 lt),
+        small n lt,
+      )
+    where
+      small : (a : ℕ) → a < 256 ^ 2 → a < 2 ^ 32
+      small a l = omega (arith, l)
+
+  is_receiver : (o : Option ℕ) → may_receive m o ≡ true → ((n : ℕ) → m.receives ≡ true → o ≡ Some n → slice_get xs 0 ≡ Some n)
+      → IsReceiver r o (zeroed others (own_params m) (begun ws xs))
+  is_receiver None ok h = tt
+  is_receiver (Some n) ok h =
+      let both = both_of m.receives (nat_lt n (256 ^ 2)) ok in received n both.0 (lt_of n (256 ^ 2) both.1) (h n both.0 refl)
+    where
+      both_of : (a b : Bool) → (a && b) ≡ true → (a ≡ true) × (b ≡ true)
+      both_of true true e = (refl, refl)
+      both_of true false e = absurd (grind arith)
+      both_of false b e = absurd (grind arith)
+
+      lt_of : (a b : ℕ) → nat_lt a b ≡ true → a < b
+      lt_of a b e = grind arith
+
+  first_passed : (b : Bool) (o : Option ℕ) → ArePassed b o args xs → (n : ℕ) → b ≡ true → o ≡ Some n → slice_get xs 0 ≡ Some n
+  first_passed true (Some x) p n is e = ap (λ z. slice_get z 0) p ∙ e
+  first_passed true None p n is e = none_is_not n e
+  first_passed false o p n is e = absurd (grind arith)
+
+  pub kept_at_entry : AreKept r ws self (args ++ replicate others 0) (zeroed others (own_params m) (begun ws xs))
+  kept_at_entry =
+      record {
+        receiver = is_receiver self may (first_passed m.receives self passed);
+        there = λ i w h. zeroed_there others (own_params m) (begun ws xs) i w (begun_there ws xs i w h);
+        locals = λ i v lt h. by_place i v lt h (nat_lt i m.params) refl;
+      }

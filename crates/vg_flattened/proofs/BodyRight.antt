@@ -1,6 +1,6 @@
 -- That calls of flattened procedures do what calls of packed ones do: by induction on how deep they may nest.
 use Rattle.std.specs.Prelude.{ℕ, zero, suc, ◌+◌, ◌-◌, ◌<◌, ◌≤◌, ◌^◌, Bool, true, false, ◌==◌, ◌&&◌, nat_lt, List, [], ◌∷◌, ◌++◌, length, take, drop, replicate, Option, Some, None, slice_get}
-use Rattle.std.proofs.Common.{◌≡◌, refl, sym, ap, ◌∙◌, subst, arith}
+use Rattle.std.proofs.Common.{◌≡◌, ◌⊎◌, inl, inr, refl, sym, ap, ◌∙◌, subst, arith}
 use Rattle.vg_meaning.specs.History.{Calling, History, full}
 use Rattle.vg_meaning.specs.World.{World}
 use Rattle.vg_meaning.specs.Answer.{Wrong, Signal, Breaks, Continues, Returns, Over, Answer, Gives, Ends, Piece, go_on, over, and_then}
@@ -9,7 +9,7 @@ use Rattle.vg_meaning.specs.Code.{Code, performed}
 use Rattle.vg_codes.specs.Codes.{Codes}
 use Rattle.vg_firm.specs.Program.{Procedure as FirmProcedure, Program as FirmProgram}
 use Rattle.vg_firm.specs.Meaning.{State as Firm, Caller as FirmCaller, step as firm_step, truth as firm_truth, with_found as firm_found, checked, put, taking, take_from, of_width}
-use Rattle.vg_firm.specs.Session.{arguments, entered as firm_entered, back_in, guarded, run_procedure, may_enter, all_fit, handled as firm_handled, called as firm_called, is_among}
+use Rattle.vg_firm.specs.Session.{arguments, entered as firm_entered, back_in, guarded, run_procedure, may_receive, may_enter, all_fit, handled as firm_handled, called as firm_called, is_among}
 use Rattle.vg_lin.specs.declared.instr.Operand.{Operand}
 use Rattle.vg_lin.specs.declared.instr.Operand.TheVariants.{Known}
 use Rattle.vg_lin.specs.Program.{Procedure as LinProcedure, Program as LinProgram}
@@ -24,20 +24,19 @@ use Rattle.vg_flatten_shapes.specs.Shapes.{Shape, only, empty, is_empty}
 use Rattle.vg_flatten_shapes.specs.Blocks.{Block, Skip, GiveBack, Both, structured}
 use Rattle.vg_flatten_shapes.specs.Made.{Made, Gives as Makes}
 use Rattle.vg_flatten_control.specs.Flat.{flat}
-use Rattle.vg_flatten.specs.Fitting.{CallsFit}
 use Rattle.vg_flattened.proofs.Alike.{IsFair, Alike, gives, leaves, overs, wrong, AlikePiece}
 use Rattle.vg_flattened.proofs.AlikeLaws.{alike_opened}
 use Rattle.vg_flattened.proofs.Related.{ArePlaced, AreAt, AreWidths, AreKept, AreSame, Held, Leaves}
 use Rattle.vg_flattened.proofs.Right.{Right, Does, linear, packed}
-use Rattle.vg_flattened.proofs.CallRight.{Never, Returned, begins, alike_behind_both, AlikeCalls, AlikeHandling, AreParams, alike_behind_call}
+use Rattle.vg_flattened.proofs.CallRight.{Never, Returned, begins, alike_behind_both, ArePassed, Enters, AlikeCalls, AlikeHandling}
 use Rattle.vg_flattened.proofs.CodeRight.{right_code, empty_is}
 use Rattle.vg_flatten_shapes.proofs.Temps.{some_is}
-use Rattle.vg_flatten.specs.Flattened.{zeroes, whole, IsFlat, IsFit, AreFlat}
+use Rattle.vg_flatten.specs.Flattened.{zeroes, own_params, all_widths, whole, IsFlat, IsFit, AreFlat}
 use Rattle.vg_flattened.proofs.Begun.{widths_are, zeroed, kept_at_entry}
 
 -- ---- interrupts
 
-pub alike_handling : (lay : Layout) (p : LinProgram) (f : FirmProgram) (call : FirmCaller History) (go : LinCaller State) → AlikeCalls lay p call go
+pub alike_handling : (lay : Layout) (p : LinProgram) (f : FirmProgram) (call : FirmCaller History) (go : LinCaller State) → AlikeCalls lay f p call go
     → ((vector : ℕ) → p.handler vector ≡ f.handler vector) → (r : Room) (ws : List ℕ)
     → AlikeHandling lay r ws (λ vector. firm_handled call (f.handler vector)) (λ vector. lin_handle (language p) go ((language p).handler vector))
 alike_handling lay p f call go calls handler r ws hs vector s d w i q =
@@ -47,39 +46,74 @@ alike_handling lay p f call go calls handler r ws hs vector s d w i q =
   where
     behind : (s1 : Firm) (d1 : Deciding State) (w1 : World History) → IsFair w1 → Returned lay 0 s s1 d1
         → Alike (Held lay r ws (only hs)) (Leaves lay r ws) (taking (λ v. go_on) s1 w1) (resumed (language p) Interrupt d.state d d1 w1)
-    behind s1 d1 w1 i1 (v, e1, e2, e3, small, held) =
+    behind s1 d1 w1 i1 (v, e1, e2, e3, e4, small, held) =
         subst (λ z. Alike (Held lay r ws (only hs)) (Leaves lay r ws) (take_from z (λ v. go_on) s1 w1) (resumed (language p) Interrupt d.state d d1 w1))
         (sym e1)
-        (gives i1 (record { waits = q.waits; kept = subst (λ z. AreKept r ws z d.state.locals) (sym e2) q.kept; none = q.none; ram = held }))
+        (gives i1 (record {
+          waits = q.waits;
+          kept = subst (λ z. AreKept r ws z s1.locals d.state.locals) (sym e3) (subst (λ z. AreKept r ws s.self z d.state.locals) (sym e2) q.kept);
+          none = q.none;
+          ram = held;
+        }))
+
+    nothing_passed : (b : Bool) → ArePassed b None [] []
+    nothing_passed true = inr (refl, refl)
+    nothing_passed false = refl
+
+    by_call : (h : ℕ) → (call h 0 None s w ≡ over Wrong s w) ⊎ Enters lay f p call go h 0 None s w d.state.ram
+        → Alike (Held lay r ws (only hs)) (Leaves lay r ws) (firm_handled call (Some h) s w) (lin_handle (language p) go (Some h) d w)
+    by_call h (inl e) =
+        subst (λ z. Alike (Held lay r ws (only hs)) (Leaves lay r ws) (and_then z (taking (λ v. go_on))) (lin_handle (language p) go (Some h) d w)) (sym e) wrong
+    by_call h (inr en) =
+        alike_behind_both (taking (λ v. go_on)) (resumed (language p) Interrupt d.state d) (en.alike [] (nothing_passed en.packed.receives)) behind
 
     by_handler : (o : Option ℕ) → Alike (Held lay r ws (only hs)) (Leaves lay r ws) (firm_handled call o s w) (lin_handle (language p) go o d w)
     by_handler None = gives i q
-    by_handler (Some h) =
-        alike_behind_both (taking (λ v. go_on)) (resumed (language p) Interrupt d.state d) (calls h 0 s w d.state.ram i q.ram) behind
+    by_handler (Some h) = by_call h (calls h 0 None s w d.state.ram i q.ram)
 
 -- a procedure calls no other than those that it names
-pub alike_guarded : (lay : Layout) (p : LinProgram) (names : List ℕ) (call : FirmCaller History) (go : LinCaller State) → AlikeCalls lay p call go
-    → AlikeCalls lay p (guarded names call) go
-alike_guarded lay p names call go calls q count s w ram i held = by_name (is_among names q)
+pub alike_guarded : (lay : Layout) (f : FirmProgram) (p : LinProgram) (names : List ℕ) (call : FirmCaller History) (go : LinCaller State)
+    → AlikeCalls lay f p call go → AlikeCalls lay f p (guarded names call) go
+alike_guarded lay f p names call go calls q count self s w ram i held = by_name (is_among names q) refl
   where
-    by_name : (b : Bool) → Alike (Returned lay count s) Never (checked b (call q count 0) s w) (go q (fresh (begins p q (arguments count s) ram)) w)
-    by_name true = calls q count s w ram i held
-    by_name false = wrong
+    by_call : is_among names q ≡ true → (call q count self s w ≡ over Wrong s w) ⊎ Enters lay f p call go q count self s w ram
+        → (guarded names call q count self s w ≡ over Wrong s w) ⊎ Enters lay f p (guarded names call) go q count self s w ram
+    by_call e (inl h) = inl (ap (λ b. checked b (call q count self) s w) e ∙ h)
+    by_call e (inr en) =
+        inr (record {
+          packed = en.packed;
+          flattened = en.flattened;
+          is_packed = en.is_packed;
+          is_linear = en.is_linear;
+          fit = en.fit;
+          flat = en.flat;
+          many = en.many;
+          long = en.long;
+          receives = en.receives;
+          alike = λ xs h. subst (λ b. Alike (Returned lay count s) Never (checked b (call q count self) s w) (go q (fresh (begins p q xs ram)) w)) (sym e)
+              (en.alike xs h);
+        })
+
+    by_name : (b : Bool) → is_among names q ≡ b
+        → (guarded names call q count self s w ≡ over Wrong s w) ⊎ Enters lay f p (guarded names call) go q count self s w ram
+    by_name true e = by_call e (calls q count self s w ram i held)
+    by_name false e = inl (ap (λ b. checked b (call q count self) s w) e)
 
 -- ---- one body
 
-module _ (k : Codes) (lay : Layout) (f : FirmProgram) (p : LinProgram) (params : List ℕ) (known : AreParams params p) (call : FirmCaller History)
-    (go : LinCaller State)
-    (calls : AlikeCalls lay p call go) (handler : (vector : ℕ) → p.handler vector ≡ f.handler vector)
-    (flash : FlashStands lay f p) (m : FirmProcedure) (lp : LinProcedure) (fit : IsFit m) (is : IsFlat lay params m lp) where
+module _ (k : Codes) (lay : Layout) (f : FirmProgram) (p : LinProgram) (flat_all : AreFlat k lay f p) (call : FirmCaller History)
+    (go : LinCaller State) (calls : AlikeCalls lay f p call go) (m : FirmProcedure) (lp : LinProcedure) (fit : IsFit m) (is : IsFlat lay m lp) where
   abbrev r : Room
   r = is.room
 
   abbrev ws : List ℕ
-  ws = m.widths ++ replicate r.temps 4
+  ws = all_widths m ++ replicate r.temps 4
 
   abbrev handle : ℕ → Piece Firm History
   handle = λ vector. firm_handled call (f.handler vector)
+
+  abbrev wide : AreWidths r m.widths ws
+  wide = widths_are r m is.receiver is.locals fit
 
   abbrev linear' : Block → Piece (Deciding State) History
   linear' = λ b. performed full (lin_step (language p) go) lin_truth (structured b)
@@ -102,7 +136,7 @@ module _ (k : Codes) (lay : Layout) (f : FirmProgram) (p : LinProgram) (params :
     where
       by_width : (b : Bool) → Alike (Returned lay count s) Never (checked b (back_in count s 0) (record s1 { values = s1.values }) w1) (Gives
           (record d1 { result = 0 }) w1)
-      by_width true = gives i (0, refl, refl, refl, omega arith, q.ram)
+      by_width true = gives i (0, refl, refl, refl, refl, omega arith, q.ram)
       by_width false = wrong
   finished count s _ _ (leaves {why = Breaks} i q) = wrong
   finished count s _ _ (leaves {why = Continues} i q) = wrong
@@ -111,59 +145,63 @@ module _ (k : Codes) (lay : Layout) (f : FirmProgram) (p : LinProgram) (params :
       (by_width (nat_lt v (256 ^ m.result)))
     where
       by_width : (b : Bool) → Alike (Returned lay count s) Never (checked b (back_in count s v) (record s1 { values = vs }) w1) (Gives d1 w1)
-      by_width true = gives i (v, refl, refl, er, small, held)
+      by_width true = gives i (v, refl, refl, refl, er, small, held)
       by_width false = wrong
   finished count s _ _ (leaves {why = Over why} i q) = absurd q
   finished count s _ _ overs = overs
   finished count s _ _ wrong = wrong
 
-  entry_facts : (count : ℕ) (s : Firm) → may_enter m count s ≡ true
-      → (count ≡ m.params) × (length (arguments count s) ≡ count) × (all_fit m.widths (arguments count s) ≡ true)
-  entry_facts count s e = three (count == m.params) (length (arguments count s) == count) (all_fit m.widths (arguments count s)) refl refl refl e
+  entry_facts : (count : ℕ) (self : Option ℕ) (s : Firm) → may_enter m count self s ≡ true
+      → (count ≡ m.params) × (length (arguments count s) ≡ count) × (all_fit m.widths (arguments count s) ≡ true) × (may_receive m self ≡ true)
+  entry_facts count self s e =
+      let first = both_of ((count == m.params) && (length (arguments count s) == count) && all_fit m.widths (arguments count s)) (may_receive m self) e in
+      let second = both_of ((count == m.params) && (length (arguments count s) == count)) (all_fit m.widths (arguments count s)) first.0 in
+      let third = both_of (count == m.params) (length (arguments count s) == count) second.0 in
+      (eq_of count m.params third.0, eq_of (length (arguments count s)) count third.1, second.1, first.1)
     where
       eq_of : (x y : ℕ) → (x == y) ≡ true → x ≡ y
       eq_of x y h = grind arith
 
-      three : (a b c : Bool) → (count == m.params) ≡ a → (length (arguments count s) == count) ≡ b → all_fit m.widths (arguments count s) ≡ c
-          → (a && b && c) ≡ true → (count ≡ m.params) × (length (arguments count s) ≡ count) × (all_fit m.widths (arguments count s) ≡ true)
-      three true true true ea eb ec h = (eq_of _ _ ea, eq_of _ _ eb, ec)
-      three true true false ea eb ec h = absurd (grind arith)
-      three true false c ea eb ec h = absurd (grind arith)
-      three false b c ea eb ec h = absurd (grind arith)
+      both_of : (a b : Bool) → (a && b) ≡ true → (a ≡ true) × (b ≡ true)
+      both_of true true h = (refl, refl)
+      both_of true false h = absurd (grind arith)
+      both_of false b h = absurd (grind arith)
 
   -- the body, from the entry
-  pub alike_body : (count : ℕ) (s : Firm) (ram : List ℕ) (w : World History) → IsFair w → may_enter m count s ≡ true → RamStands lay.ram s.columns ram
-      → (d : Deciding State) → d ≡ fresh (record { locals = begun ws (arguments count s); waiting = []; ram = ram })
-      → Alike (Returned lay count s) Never (run_procedure full k f call handle m count 0 s w) (lin_body (language p) go (structured (whole m is.block)) d w)
-  alike_body count s ram w i enter held d ed =
-      subst (λ z. Alike (Returned lay count s) Never (run_procedure full k f call handle m count 0 s w) (returned z (over Wrong)))
-      (sym (ap (λ z. and_then z (linear' (Both is.block (GiveBack (Known 0))))) (zeroes_do (length m.widths - m.params) m.params d w)))
-      (finished count s _ _ (does (right_code k f m (guarded m.calls call) handle p go params lay r ws (widths_are r m.widths is.locals) known
-      (alike_guarded lay p m.calls call go calls) (alike_handling lay p f call go calls handler r ws) flash m.body empty tt)))
+  pub alike_body : (count : ℕ) (self : Option ℕ) (s : Firm) (xs ram : List ℕ) (w : World History) → IsFair w → may_enter m count self s ≡ true
+      → ArePassed m.receives self (arguments count s) xs → RamStands lay.ram s.columns ram
+      → (d : Deciding State) → d ≡ fresh (record { locals = begun ws xs; waiting = []; ram = ram })
+      → Alike (Returned lay count s) Never (run_procedure full k f call handle m count self s w) (lin_body (language p) go (structured (whole m is.block)) d w)
+  alike_body count self s xs ram w i enter passed held d ed =
+      subst (λ z. Alike (Returned lay count s) Never (run_procedure full k f call handle m count self s w) (returned z (over Wrong)))
+      (sym (ap (λ z. and_then z (linear' (Both is.block (GiveBack (Known 0))))) (zeroes_do (length m.widths - m.params) (own_params m) d w)))
+      (finished count s _ _ (does (right_code k f m (guarded m.calls call) handle p go lay r ws wide
+      (alike_guarded lay f p m.calls call go calls) flat_all.receives flat_all.codes flat_all.numbers flat_all.dispatches
+      (alike_handling lay p f call go calls flat_all.handler r ws) flat_all.flash m.body empty tt)))
     where
-      facts : (count ≡ m.params) × (length (arguments count s) ≡ count) × (all_fit m.widths (arguments count s) ≡ true)
-      facts = entry_facts count s enter
+      facts : (count ≡ m.params) × (length (arguments count s) ≡ count) × (all_fit m.widths (arguments count s) ≡ true) × (may_receive m self ≡ true)
+      facts = entry_facts count self s enter
 
       begun_d : Deciding State
-      begun_d = record d { state = record d.state { locals = zeroed (length m.widths - m.params) m.params d.state.locals } }
+      begun_d = record d { state = record d.state { locals = zeroed (length m.widths - m.params) (own_params m) d.state.locals } }
 
-      kept : AreKept r ws (arguments count s ++ replicate (length m.widths - count) 0) begun_d.state.locals
+      kept : AreKept r ws self (arguments count s ++ replicate (length m.widths - count) 0) begun_d.state.locals
       kept =
-          subst (λ z. AreKept r ws (arguments count s ++ replicate (length m.widths - z) 0) begun_d.state.locals) (sym facts.0)
-          (subst (λ z. AreKept r ws (arguments count s ++ replicate (length m.widths - m.params) 0) (zeroed
-          (length m.widths - m.params) m.params z.state.locals)) (sym ed)
-          (kept_at_entry r m.widths (arguments count s) m.params is.locals fit.params (facts.1 ∙ facts.0) fit.widths facts.2))
+          subst (λ z. AreKept r ws self (arguments count s ++ replicate (length m.widths - z) 0) begun_d.state.locals) (sym facts.0)
+          (subst (λ z. AreKept r ws self (arguments count s ++ replicate (length m.widths - m.params) 0) (zeroed
+          (length m.widths - m.params) (own_params m) z.state.locals)) (sym ed)
+          (kept_at_entry r m is.receiver is.locals fit self (arguments count s) xs (facts.1 ∙ facts.0) facts.2 facts.3 passed))
 
-      begin : Held lay r ws empty (firm_entered m count 0 s) begun_d
+      begin : Held lay r ws empty (firm_entered m count self s) begun_d
       begin = record { waits = tt; kept = kept; none = ap (λ z. z.state.waiting) ed; ram = subst (λ z. RamStands lay.ram s.columns z.state.ram) (sym ed) held }
 
-      does : Right k f m (guarded m.calls call) handle p go params lay r ws (widths_are r m.widths is.locals) empty (flat lay r m.body empty)
-          (packed k f m (guarded m.calls call) handle p go params lay r ws (widths_are r m.widths is.locals) m.body)
+      does : Right k f m (guarded m.calls call) handle p go lay r ws wide empty (flat lay r m.body empty)
+          (packed k f m (guarded m.calls call) handle p go lay r ws wide m.body)
           → Alike (Held lay r ws empty) (Leaves lay r ws)
-          (performed full (firm_step k f m (guarded m.calls call) handle) firm_truth m.body (firm_entered m count 0 s) w) (linear' is.block begun_d w)
+          (performed full (firm_step k f m (guarded m.calls call) handle) firm_truth m.body (firm_entered m count self s) w) (linear' is.block begun_d w)
       does h =
-          let h1 = subst (λ z. Right k f m (guarded m.calls call) handle p go params lay r ws (widths_are r m.widths is.locals) empty z
-          (packed k f m (guarded m.calls call) handle p go params lay r ws (widths_are r m.widths is.locals) m.body)) is.made h in
+          let h1 = subst (λ z. Right k f m (guarded m.calls call) handle p go lay r ws wide empty z
+          (packed k f m (guarded m.calls call) handle p go lay r ws wide m.body)) is.made h in
           subst (λ z. Alike (Held lay r ws z) (Leaves lay r ws)
-          (performed full (firm_step k f m (guarded m.calls call) handle) firm_truth m.body (firm_entered m count 0 s) w) (linear' is.block begun_d w))
-          (empty_is is.shape is.done) (h1.1 is.fits (firm_entered m count 0 s) begun_d w i begin)
+          (performed full (firm_step k f m (guarded m.calls call) handle) firm_truth m.body (firm_entered m count self s) w) (linear' is.block begun_d w))
+          (empty_is is.shape is.done) (h1.1 (firm_entered m count self s) begun_d w i begin)

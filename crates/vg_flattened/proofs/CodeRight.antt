@@ -1,12 +1,12 @@
 -- That code becomes a block that does the same: steps by their lemmas, choices and loops by those of what does the same.
-use Rattle.std.specs.Prelude.{ℕ, zero, suc, ◌+◌, ◌<◌, ◌≤◌, ◌^◌, Bool, true, false, ◌==◌, ◌&&◌, List, [], ◌∷◌, length, reverse, Option, Some, None, if◌then◌else◌}
+use Rattle.std.specs.Prelude.{ℕ, zero, suc, ◌+◌, ◌<◌, ◌≤◌, ◌^◌, Bool, true, false, ◌==◌, ◌&&◌, List, [], ◌∷◌, length, reverse, Option, Some, None, slice_get, if◌then◌else◌}
 use Rattle.std.proofs.Common.{◌≡◌, inl, inr, refl, sym, ap, ◌∙◌, subst, arith}
 use Rattle.vg_meaning.specs.History.{History, full}
 use Rattle.vg_meaning.specs.World.{World}
 use Rattle.vg_meaning.specs.Answer.{Signal, Breaks, Continues, Returns, Over, Answer, Gives, Ends, Piece, go_on, and_then}
 use Rattle.vg_meaning.specs.Loops.{Tested as Was, choose, where_holds, turns}
 use Rattle.vg_meaning.specs.Code.{Code, Nothing, Then, Do, If, Loop, Break, Continue, Return, performed}
-use Rattle.vg_codes.specs.Codes.{Codes}
+use Rattle.vg_codes.specs.Codes.{Codes, AreCodes}
 use Rattle.vg_firm.specs.declared.step.Step.{Step}
 use Rattle.vg_firm.specs.declared.step.Step.TheVariants.{Number, This, Local as GetLocal, SetLocal, Forget, Operate, Apply, ReadDevice, WriteDevice, Load, Store}
 use Rattle.vg_firm.specs.declared.step.Step.TheVariants.{LoadAt, StoreAt, LoadNothing, StoreNothing, LoadItem, StoreItem, Length, IsWithin}
@@ -32,7 +32,6 @@ use Rattle.vg_flatten_shapes.specs.Made.{Made, Gives as Makes, Refused, behind, 
 use Rattle.vg_flatten_steps.specs.Steps.{stepped}
 use Rattle.vg_flatten_control.specs.Flat.{landed_as, landed}
 use Rattle.vg_flatten_control.specs.Flat.{joined, chosen, where_empty, repeated, repeated_test, repeated_body, repeated_next, given_back, flat}
-use Rattle.vg_flatten.specs.Fitting.{CallsFit}
 use Rattle.vg_flattened.proofs.Alike.{IsFair, Alike, gives, leaves, overs, wrong, AlikePiece, Inside}
 use Rattle.vg_flattened.proofs.AlikeLaws.{alike_then, alike_turns, alike_interrupt}
 use Rattle.vg_flattened.proofs.Related.{ArePlaced, AreAt, AreWidths, AreSame, Held, Leaves}
@@ -40,14 +39,15 @@ use Rattle.vg_flatten_shapes.proofs.Temps.{some_is, none_is_not}
 use Rattle.vg_flattened.proofs.Locals.{value_of_home, put_temp, placed_temp}
 use Rattle.vg_flattened.proofs.Free.{homes_same}
 use Rattle.vg_flattened.proofs.Right.{Right, Does, linear, packed, right_after, right_last, right_settled, IsTested, is_tested, picks, chooses, way}
-use Rattle.vg_flattened.proofs.StepRight.{right_number, right_local, right_set, right_forget, right_applied, right_read, right_written}
+use Rattle.vg_flattened.proofs.StepRight.{right_number, right_local, right_receiver, right_set, right_forget, right_applied, right_read, right_written}
 use Rattle.vg_flattened.proofs.CombinedRight.{right_operated}
 use Rattle.vg_flattened.proofs.ObjectRight.{right_load_nothing, right_store_nothing, right_one_of, right_cast}
 use Rattle.vg_flattened.proofs.ElementRight.{right_item}
 use Rattle.vg_flattened.proofs.ElementStoreRight.{right_store_item}
 use Rattle.vg_flattened.proofs.StoreRight.{right_store, right_store_at}
 use Rattle.vg_flattened.proofs.ColumnRight.{right_load, right_load_at, right_length}
-use Rattle.vg_flattened.proofs.CallRight.{AreParams, AlikeCalls, AlikeHandling, right_called}
+use Rattle.vg_flattened.proofs.CallRight.{AlikeCalls, AlikeHandling}
+use Rattle.vg_flattened.proofs.CallSteps.{right_called, right_called_for, right_called_value, right_bound, right_bound_for}
 
 and_then-and_then : {S : Type 0} (a : Answer S History) (g h : Piece S History) → and_then (and_then a g) h ≡ and_then a (λ s w. and_then (g s w) h)
 and_then-and_then (Gives s w) g h = refl
@@ -91,61 +91,63 @@ empty_is s e = by_truth s.truth s.homes e
     by_truth (Some t) hs e1 = absurd (grind arith)
 
 module _ (k : Codes) (f : FirmProgram) (m : FirmProcedure) (call : FirmCaller History) (handle : ℕ → Piece Firm History)
-    (p : LinProgram) (go : LinCaller State) (params : List ℕ) (lay : Layout) (r : Room) (ws : List ℕ) (wide : AreWidths r m.widths ws)
-    (known : AreParams params p) (calls : AlikeCalls lay p call go)
+    (p : LinProgram) (go : LinCaller State) (lay : Layout) (r : Room) (ws : List ℕ) (wide : AreWidths r m.widths ws)
+    (calls : AlikeCalls lay f p call go)
+    (receives : (q : ℕ) (mq : FirmProcedure) → slice_get f.procedures q ≡ Some mq → slice_get lay.receives q ≡ Some mq.receives)
+    (codes : p.codes ≡ k) (codes_are : AreCodes (length f.procedures) k) (dispatches : p.dispatches ≡ f.dispatches)
     (handling : AlikeHandling lay r ws handle (λ vector. lin_handle (language p) go ((language p).handler vector)))
     (flash : FlashStands lay f p) where
   abbrev Right' : Shape → Made → Piece Firm History → Type 0
-  Right' = Right k f m call handle p go params lay r ws wide
+  Right' = Right k f m call handle p go lay r ws wide
 
   abbrev Does' : Shape → Shape → Piece Firm History → Block → Type 0
-  Does' = Does k f m call handle p go params lay r ws wide
+  Does' = Does k f m call handle p go lay r ws wide
 
   abbrev linear' : Block → Piece (Deciding State) History
-  linear' = linear k f m call handle p go params lay r ws wide
+  linear' = linear k f m call handle p go lay r ws wide
 
   abbrev packed' : Code Step → Piece Firm History
-  packed' = packed k f m call handle p go params lay r ws wide
+  packed' = packed k f m call handle p go lay r ws wide
 
   right_idle : (hs : List Operand) → ArePlaced r.locals hs → Right' (only hs) (Makes TakeInterrupt (only hs)) (packed' (Do Idle))
   right_idle hs placed = (
     placed,
-    λ fit s d w i q. alike_interrupt {G = Held lay r ws (only hs)} {J = Held lay r ws (only hs)} {L = Leaves lay r ws} handle
+    λ s d w i q. alike_interrupt {G = Held lay r ws (only hs)} {J = Held lay r ws (only hs)} {L = Leaves lay r ws} handle
         (λ vector. lin_handle (language p) go ((language p).handler vector)) (handling hs) s d w i q,
   )
 
   right_stepped : (q : Step) (hs : List Operand) → ArePlaced r.locals hs → Right' (only hs) (stepped lay r q hs) (packed' (Do q))
-  right_stepped (Number v) hs placed = right_number k f m call handle p go params lay r ws wide v hs placed
-  right_stepped (GetLocal i) hs placed = right_local k f m call handle p go params lay r ws wide i hs placed
-  right_stepped (SetLocal i) hs placed = right_set k f m call handle p go params lay r ws wide i hs placed
-  right_stepped Forget hs placed = right_forget k f m call handle p go params lay r ws wide hs placed
-  right_stepped (Operate op) hs placed = right_operated k f m call handle p go params lay r ws wide op hs placed
-  right_stepped (Apply op) hs placed = right_applied k f m call handle p go params lay r ws wide op hs placed
-  right_stepped (ReadDevice address) hs placed = right_read k f m call handle p go params lay r ws wide address hs placed
-  right_stepped (WriteDevice address) hs placed = right_written k f m call handle p go params lay r ws wide address hs placed
-  right_stepped (Call q count) hs placed = right_called k f m call handle p go params lay r ws wide known calls q count hs placed
+  right_stepped (Number v) hs placed = right_number k f m call handle p go lay r ws wide v hs placed
+  right_stepped (GetLocal i) hs placed = right_local k f m call handle p go lay r ws wide i hs placed
+  right_stepped (SetLocal i) hs placed = right_set k f m call handle p go lay r ws wide i hs placed
+  right_stepped Forget hs placed = right_forget k f m call handle p go lay r ws wide hs placed
+  right_stepped (Operate op) hs placed = right_operated k f m call handle p go lay r ws wide op hs placed
+  right_stepped (Apply op) hs placed = right_applied k f m call handle p go lay r ws wide op hs placed
+  right_stepped (ReadDevice address) hs placed = right_read k f m call handle p go lay r ws wide address hs placed
+  right_stepped (WriteDevice address) hs placed = right_written k f m call handle p go lay r ws wide address hs placed
+  right_stepped (Call q count) hs placed = right_called k f m call handle p go lay r ws wide flash calls receives codes codes_are dispatches q count hs placed
   right_stepped Idle hs placed = right_idle hs placed
-  right_stepped This hs placed = tt
-  right_stepped (Load h c) hs placed = right_load k f m call handle p go params lay r ws wide flash h c hs placed
-  right_stepped (Store c w) hs placed = right_store k f m call handle p go params lay r ws wide flash c w hs placed
-  right_stepped (LoadAt h c o) hs placed = right_load_at k f m call handle p go params lay r ws wide flash h c o hs placed
-  right_stepped (StoreAt c o w) hs placed = right_store_at k f m call handle p go params lay r ws wide flash c o w hs placed
-  right_stepped LoadNothing hs placed = right_load_nothing k f m call handle p go params lay r ws wide hs placed
-  right_stepped StoreNothing hs placed = right_store_nothing k f m call handle p go params lay r ws wide hs placed
-  right_stepped (LoadItem e) hs placed = right_item k f m call handle p go params lay r ws wide flash e hs placed
-  right_stepped (StoreItem e) hs placed = right_store_item k f m call handle p go params lay r ws wide flash e hs placed
-  right_stepped (Length t) hs placed = right_length k f m call handle p go params lay r ws wide flash t hs placed
-  right_stepped (IsWithin a b) hs placed = right_one_of k f m call handle p go params lay r ws wide a b hs placed
-  right_stepped (StopUnlessWithin a b) hs placed = right_cast k f m call handle p go params lay r ws wide a b hs placed
-  right_stepped (Bind q) hs placed = tt
-  right_stepped (BindFor d) hs placed = tt
-  right_stepped (CallFor d c) hs placed = tt
-  right_stepped (CallValue c) hs placed = tt
+  right_stepped This hs placed = right_receiver k f m call handle p go lay r ws wide hs placed
+  right_stepped (Load h c) hs placed = right_load k f m call handle p go lay r ws wide flash h c hs placed
+  right_stepped (Store c w) hs placed = right_store k f m call handle p go lay r ws wide flash c w hs placed
+  right_stepped (LoadAt h c o) hs placed = right_load_at k f m call handle p go lay r ws wide flash h c o hs placed
+  right_stepped (StoreAt c o w) hs placed = right_store_at k f m call handle p go lay r ws wide flash c o w hs placed
+  right_stepped LoadNothing hs placed = right_load_nothing k f m call handle p go lay r ws wide hs placed
+  right_stepped StoreNothing hs placed = right_store_nothing k f m call handle p go lay r ws wide hs placed
+  right_stepped (LoadItem e) hs placed = right_item k f m call handle p go lay r ws wide flash e hs placed
+  right_stepped (StoreItem e) hs placed = right_store_item k f m call handle p go lay r ws wide flash e hs placed
+  right_stepped (Length t) hs placed = right_length k f m call handle p go lay r ws wide flash t hs placed
+  right_stepped (IsWithin a b) hs placed = right_one_of k f m call handle p go lay r ws wide a b hs placed
+  right_stepped (StopUnlessWithin a b) hs placed = right_cast k f m call handle p go lay r ws wide a b hs placed
+  right_stepped (Bind q) hs placed = right_bound k f m call handle p go lay r ws wide flash calls receives codes codes_are dispatches q hs placed
+  right_stepped (BindFor d) hs placed = right_bound_for k f m call handle p go lay r ws wide flash calls receives codes codes_are dispatches d hs placed
+  right_stepped (CallFor d c) hs placed = right_called_for k f m call handle p go lay r ws wide flash calls receives codes codes_are dispatches d c hs placed
+  right_stepped (CallValue c) hs placed = right_called_value k f m call handle p go lay r ws wide flash calls receives codes codes_are dispatches c hs placed
 
   -- ---- choices
 
   right_landed_as : (hs : List Operand) → ArePlaced r.locals hs → Right' (only hs) (landed_as r hs) go_on
-  right_landed_as [] placed = (tt, λ fit s d w i q. gives i q)
+  right_landed_as [] placed = (tt, λ s d w i q. gives i q)
   right_landed_as (h ∷ hs) placed = by_room (temp r hs) refl
     where
       by_values : (to : ℕ) → temp r hs ≡ Some to → (s : Firm) (d : Deciding State) (w : World History) → IsFair w → AreSame lay r ws (h ∷ hs) s d.state
@@ -161,8 +163,8 @@ module _ (k : Codes) (f : FirmProgram) (m : FirmProcedure) (call : FirmCaller Hi
 
       by_same : (to : ℕ) → temp r hs ≡ Some to → (b : Bool)
           → Right' (only (h ∷ hs)) (if b then Makes Skip (only (h ∷ hs)) else Makes (One (Copy to h)) (only (Local to ∷ hs))) go_on
-      by_same to has true = (placed, λ fit s d w i q. gives i q)
-      by_same to has false = (placed_temp r hs to has placed.1, λ fit s d w i q. by_values to has s d w i q s.values refl q.waits)
+      by_same to has true = (placed, λ s d w i q. gives i q)
+      by_same to has false = (placed_temp r hs to has placed.1, λ s d w i q. by_values to has s d w i q s.values refl q.waits)
 
       by_room : (o : Option ℕ) → temp r hs ≡ o
           → Right' (only (h ∷ hs))
@@ -172,8 +174,8 @@ module _ (k : Codes) (f : FirmProgram) (m : FirmProcedure) (call : FirmCaller Hi
 
   right_landed : (before : Shape) (made : Made) (g : Piece Firm History) → Right' before made g → Right' before (landed r made) g
   right_landed before (Makes a s1) g (placed, ha) =
-      right_last k f m call handle p go params lay r ws wide before s1 a (after (settled r s1) (λ s2. landed_as r s2.homes)) g ha
-      (right_settled k f m call handle p go params lay r ws wide s1 (landed_as r) go_on placed right_landed_as)
+      right_last k f m call handle p go lay r ws wide before s1 a (after (settled r s1) (λ s2. landed_as r s2.homes)) g ha
+      (right_settled k f m call handle p go lay r ws wide s1 (landed_as r) go_on placed right_landed_as)
   right_landed before (Refused why) g h = tt
 
   -- both ways of a choice
@@ -184,32 +186,32 @@ module _ (k : Codes) (f : FirmProgram) (m : FirmProcedure) (call : FirmCaller Hi
   right_joined shape t e (Makes a s) (Refused why) g h hx hy rx ry = tt
   right_joined shape t e (Makes a s) (Makes b s1) g h hx hy (placed, ha) (placed1, hb) = by_homes (same_homes (reverse s.homes) (reverse s1.homes)) refl
     where
-      by_way : s1 ≡ s → CallsFit params a → CallsFit params b → (s2 : Firm) (d : Deciding State) (w : World History) → IsFair w → (c : Bool) (s3 : Firm)
+      by_way : s1 ≡ s → (s2 : Firm) (d : Deciding State) (w : World History) → IsFair w → (c : Bool) (s3 : Firm)
           → AreSame lay r ws t.homes s3 d.state
           → Alike (Held lay r ws s) (Leaves lay r ws) (choose (Was c s3) g h s2 w)
-          (way k f m call handle p go params lay r ws wide c (linear' a) (linear' b) d w)
-      by_way is fa fb s2 d w i true s3 q = ha fa s3 (record d { truth = None }) w i q
-      by_way is fa fb s2 d w i false s3 q =
+          (way k f m call handle p go lay r ws wide c (linear' a) (linear' b) d w)
+      by_way is s2 d w i true s3 q = ha s3 (record d { truth = None }) w i q
+      by_way is s2 d w i false s3 q =
           subst (λ z. Alike (Held lay r ws z) (Leaves lay r ws) (h s3 w) (linear' b (record d {
             truth =
                 None;
-          }) w)) is (hb fb s3 (record d { truth = None }) w i q)
+          }) w)) is (hb s3 (record d { truth = None }) w i q)
 
-      does : s1 ≡ s → CallsFit params a → CallsFit params b → (s2 : Firm) (d : Deciding State) (w : World History) → IsFair w
-          → IsTested k f m call handle p go params lay r ws wide t s2 d
+      does : s1 ≡ s → (s2 : Firm) (d : Deciding State) (w : World History) → IsFair w
+          → IsTested k f m call handle p go lay r ws wide t s2 d
           → Alike (Held lay r ws s) (Leaves lay r ws) (choose (firm_truth s2) g h s2 w) (linear' (Choice t.truth a b) d w)
-      does is fa fb s2 d w i q =
+      does is s2 d w i q =
           subst (λ z. Alike (Held lay r ws s) (Leaves lay r ws) (choose z g h s2 w) (linear' (Choice t.truth a b) d w)) (sym q.takes)
           (subst (λ z. Alike (Held lay r ws s) (Leaves lay r ws) (choose (Was q.b (record s2 { values = q.vs })) g h s2 w) z)
-          (sym (chooses k f m call handle p go params lay r ws wide t.truth q.b a b d w q.says))
-          (by_way is fa fb s2 d w i q.b (record s2 { values = q.vs }) q.rest))
+          (sym (chooses k f m call handle p go lay r ws wide t.truth q.b a b d w q.says))
+          (by_way is s2 d w i q.b (record s2 { values = q.vs }) q.rest))
 
       by_homes : (c : Bool) → same_homes (reverse s.homes) (reverse s1.homes) ≡ c
           → Right' shape (if c then Makes (Choice t.truth a b) s else Refused NotTaken) (λ s2 w. choose (firm_truth s2) g h s2 w)
       by_homes true es =
           let is : s1 ≡ s = ap (λ z. record { truth = z; homes = s1.homes }) (hy ∙ sym hx)
           ∙ ap (λ z. record { truth = s.truth; homes = z }) (sym (homes_same s.homes s1.homes es)) in
-          (placed, λ fit s2 d w i q. does is fit.0 fit.1 s2 d w i (is_tested k f m call handle p go params lay r ws wide shape t s2 d e q))
+          (placed, λ s2 d w i q. does is s2 d w i (is_tested k f m call handle p go lay r ws wide shape t s2 d e q))
       by_homes false es = tt
 
   right_chosen : (shape : Shape) (x y : Shape → Made) (g h : Piece Firm History)
@@ -257,7 +259,7 @@ module _ (k : Codes) (f : FirmProgram) (m : FirmProcedure) (call : FirmCaller Hi
       (sym (and_then-and_then (linear' before d w) (performed full (lin_step (language p) go) lin_truth (picked t.truth)) chooses'))
       (alike_then (λ s1 w1. choose (firm_truth s1) g go_on s1 w1)
       (λ d1 w1. and_then (performed full (lin_step (language p) go) lin_truth (picked t.truth) d1 w1) chooses') (hc s d w i q)
-      (λ s1 d1 w1 i1 q1. by_test s1 d1 w1 i1 (is_tested k f m call handle p go params lay r ws wide s0 t s1 d1 e q1)))
+      (λ s1 d1 w1 i1 q1. by_test s1 d1 w1 i1 (is_tested k f m call handle p go lay r ws wide s0 t s1 d1 e q1)))
     where
       chooses' : Piece (Deciding State) History
       chooses' = λ d1 w1. choose (lin_truth d1) h go_on d1 w1
@@ -268,7 +270,7 @@ module _ (k : Codes) (f : FirmProgram) (m : FirmProcedure) (call : FirmCaller Hi
       by_way s1 d1 w1 i1 true s3 q1 = hyp s3 (record d1 { truth = None }) w1 i1 q1
       by_way s1 d1 w1 i1 false s3 q1 = gives i1 q1
 
-      by_test : (s1 : Firm) (d1 : Deciding State) (w1 : World History) → IsFair w1 → IsTested k f m call handle p go params lay r ws wide t s1 d1
+      by_test : (s1 : Firm) (d1 : Deciding State) (w1 : World History) → IsFair w1 → IsTested k f m call handle p go lay r ws wide t s1 d1
           → Alike (Held lay r ws empty) (Leaves lay r ws) (choose (firm_truth s1) g go_on s1 w1)
           (and_then (performed full (lin_step (language p) go) lin_truth (picked t.truth) d1 w1) (λ d1 w1. choose (lin_truth d1) h go_on d1 w1))
       by_test s1 d1 w1 i1 x =
@@ -277,21 +279,21 @@ module _ (k : Codes) (f : FirmProgram) (m : FirmProcedure) (call : FirmCaller Hi
           (sym x.takes)
           (subst (λ z. Alike (Held lay r ws empty) (Leaves lay r ws) (choose (Was x.b (record s1 { values = x.vs })) g go_on s1 w1)
           (and_then z (λ d1 w1. choose (lin_truth d1) h go_on d1 w1)))
-          (sym (picks k f m call handle p go params lay r ws wide t.truth x.b d1 w1 x.says))
+          (sym (picks k f m call handle p go lay r ws wide t.truth x.b d1 w1 x.says))
           (by_way s1 d1 w1 i1 x.b (record s1 { values = x.vs }) (subst (λ z. AreSame lay r ws z (record s1 { values = x.vs }) d1.state) none x.rest)))
 
   right_loop : (before body next : Block) (s0 s1 s2 : Shape) (t : Tested) (gc gb gn : Piece Firm History) → tested s0 ≡ Some t → t.homes ≡ [] → s1 ≡ empty
-      → s2 ≡ empty → (CallsFit params before → Does' empty s0 gc before) → (CallsFit params body → Does' empty s1 gb body)
-      → (CallsFit params next → Does' empty s2 gn next)
+      → s2 ≡ empty → Does' empty s0 gc before → Does' empty s1 gb body
+      → Does' empty s2 gn next
       → Right' empty (Makes (Repeat before t.truth body next) empty) (λ s w. turns full w.clock (where_holds gc firm_truth) gb gn s w)
   right_loop before body next s0 s1 s2 t gc gb gn e none e1 e2 hc hb hn = (
     tt,
-    λ fit s d w i q. alike_turns {I = Held lay r ws empty} {L = Leaves lay r ws} (where_holds gc firm_truth)
+    λ s d w i q. alike_turns {I = Held lay r ws empty} {L = Leaves lay r ws} (where_holds gc firm_truth)
         (where_holds (performed full (lin_step (language p) go) lin_truth (Then (structured before) (picked t.truth))) lin_truth) gb gn (linear' body)
         (linear' next)
-        (right_condition before s0 t gc e none (hc fit.0))
-        (λ s3 d3 w3 i3 q3. into_inside (subst (λ z. Alike (Held lay r ws z) (Leaves lay r ws) (gb s3 w3) (linear' body d3 w3)) e1 (hb fit.1 s3 d3 w3 i3 q3)))
-        (λ s3 d3 w3 i3 q3. subst (λ z. Alike (Held lay r ws z) (Leaves lay r ws) (gn s3 w3) (linear' next d3 w3)) e2 (hn fit.2 s3 d3 w3 i3 q3))
+        (right_condition before s0 t gc e none hc)
+        (λ s3 d3 w3 i3 q3. into_inside (subst (λ z. Alike (Held lay r ws z) (Leaves lay r ws) (gb s3 w3) (linear' body d3 w3)) e1 (hb s3 d3 w3 i3 q3)))
+        (λ s3 d3 w3 i3 q3. subst (λ z. Alike (Held lay r ws z) (Leaves lay r ws) (gn s3 w3) (linear' next d3 w3)) e2 (hn s3 d3 w3 i3 q3))
         w.clock s d w i q,
   )
 
@@ -303,7 +305,7 @@ module _ (k : Codes) (f : FirmProgram) (m : FirmProcedure) (call : FirmCaller Hi
       turning : Piece Firm History
       turning = λ s w. turns full w.clock (where_holds gc firm_truth) gb gn s w
 
-      by_next : (t : Tested) → tested s0 ≡ Some t → t.homes ≡ [] → (body : Block) (s1 : Shape) → s1 ≡ empty → (CallsFit params body → Does' empty s1 gb body)
+      by_next : (t : Tested) → tested s0 ≡ Some t → t.homes ≡ [] → (body : Block) (s1 : Shape) → s1 ≡ empty → Does' empty s1 gb body
           → (z1 : Made) → Right' empty z1 gn
           → Right' empty (repeated_next before t.truth body z1) (λ s w. turns full w.clock (where_holds gc firm_truth) gb gn s w)
       by_next t e none body s1 e1 hb (Refused why) hz1 = tt
@@ -349,7 +351,7 @@ module _ (k : Codes) (f : FirmProgram) (m : FirmProcedure) (call : FirmCaller Hi
   right_given_back : (hs : List Operand) → ArePlaced r.locals hs → Right' (only hs) (given_back hs) (packed' Return)
   right_given_back [] placed = tt
   right_given_back (h ∷ a ∷ hs) placed = tt
-  right_given_back (h ∷ []) placed = (tt, λ fit s d w i q. by_values s d w i q s.values refl q.waits)
+  right_given_back (h ∷ []) placed = (tt, λ s d w i q. by_values s d w i q s.values refl q.waits)
     where
       by_values : (s : Firm) (d : Deciding State) (w : World History) → IsFair w → AreSame lay r ws (h ∷ []) s d.state → (vs : List ℕ) → s.values ≡ vs
           → AreAt (h ∷ []) vs d.state.locals → Alike (Held lay r ws empty) (Leaves lay r ws) (Ends Returns s w) (linear' (GiveBack h) d w)
@@ -365,11 +367,11 @@ module _ (k : Codes) (f : FirmProgram) (m : FirmProcedure) (call : FirmCaller Hi
   -- ---- all code
 
   pub right_code : (c : Code Step) (shape : Shape) → ArePlaced r.locals shape.homes → Right' shape (flat lay r c shape) (packed' c)
-  right_code Nothing shape placed = (placed, λ fit s d w i q. gives i q)
+  right_code Nothing shape placed = (placed, λ s d w i q. gives i q)
   right_code (Then a b) shape placed =
-      right_after k f m call handle p go params lay r ws wide shape (flat lay r a shape) (flat lay r b) (packed' a) (packed' b) (right_code a shape placed)
+      right_after k f m call handle p go lay r ws wide shape (flat lay r a shape) (flat lay r b) (packed' a) (packed' b) (right_code a shape placed)
       (λ s1 placed1. right_code b s1 placed1)
-  right_code (Do q) shape placed = right_settled k f m call handle p go params lay r ws wide shape (stepped lay r q) (packed' (Do q)) placed (right_stepped q)
+  right_code (Do q) shape placed = right_settled k f m call handle p go lay r ws wide shape (stepped lay r q) (packed' (Do q)) placed (right_stepped q)
   right_code (If a b) shape placed =
       right_chosen shape (flat lay r a) (flat lay r b) (packed' a) (packed' b) (λ hs placed1. right_code a (only hs) placed1)
       (λ hs placed1. right_code b (only hs) placed1) placed
@@ -377,6 +379,6 @@ module _ (k : Codes) (f : FirmProgram) (m : FirmProcedure) (call : FirmCaller Hi
       right_where_empty shape (repeated (flat lay r c empty) (flat lay r body empty) (flat lay r next empty)) (packed' (Loop c body next))
       (right_repeated (flat lay r c empty) (flat lay r body empty) (flat lay r next empty) (packed' c) (packed' body) (packed' next) (right_code c empty tt)
       (right_code body empty tt) (right_code next empty tt))
-  right_code Break shape placed = right_where_empty shape (Makes BreakOut empty) (packed' Break) (tt, λ fit s d w i q. leaves i q)
-  right_code Continue shape placed = right_where_empty shape (Makes GoOn empty) (packed' Continue) (tt, λ fit s d w i q. leaves i q)
-  right_code Return shape placed = right_settled k f m call handle p go params lay r ws wide shape given_back (packed' Return) placed right_given_back
+  right_code Break shape placed = right_where_empty shape (Makes BreakOut empty) (packed' Break) (tt, λ s d w i q. leaves i q)
+  right_code Continue shape placed = right_where_empty shape (Makes GoOn empty) (packed' Continue) (tt, λ s d w i q. leaves i q)
+  right_code Return shape placed = right_settled k f m call handle p go lay r ws wide shape given_back (packed' Return) placed right_given_back

@@ -20,7 +20,7 @@ use Rattle.vg_firm.specs.Meaning.{State as Firm, Caller as FirmCaller, step as f
 use Rattle.vg_firm.specs.Meaning.{arrays_of, array_at, put_length}
 use Rattle.vg_lin.specs.declared.instr.Operand.{Operand}
 use Rattle.vg_lin.specs.declared.instr.Operand.TheVariants.{Local, Known}
-use Rattle.vg_lin.specs.declared.instr.Operator.TheVariants.{Times as Product}
+use Rattle.vg_lin.specs.declared.instr.Operator.TheVariants.{Minus as Difference, Times as Product}
 use Rattle.vg_lin.specs.declared.instr.Memory.{Memory}
 use Rattle.vg_lin.specs.declared.instr.Memory.TheVariants.{Ram, Flash}
 use Rattle.vg_lin.specs.declared.instr.Plain.TheVariants.{Compute}
@@ -37,7 +37,7 @@ use Rattle.vg_flatten_shapes.specs.declared.room.Room.{Room}
 use Rattle.vg_flatten_shapes.specs.Shapes.{Shape, only, temp}
 use Rattle.vg_flatten_shapes.specs.Blocks.{Block, Skip, One, Both, stop_where}
 use Rattle.vg_flatten_shapes.specs.Made.{Made, Gives as Makes, Refused, by_temp, is_zero}
-use Rattle.vg_flatten_steps.specs.Steps.{is_width, load_from, multiplied, multiple, fetched, load_one, load_of, length_of, places_in, memory_of}
+use Rattle.vg_flatten_places.specs.Places.{distance, fetched_from, load_placed, is_width, load_from, multiplied, multiple, fetched, load_one, load_of, length_of, places_in, memory_of}
 use Rattle.vg_flatten.specs.Columns.{ColumnStands, TableStands, FlashStands}
 use Rattle.vg_flattened.proofs.Alike.{IsFair, Alike, gives, wrong}
 use Rattle.vg_flattened.proofs.Related.{ArePlaced, AreAt, AreWidths, AreSame, Held, Leaves}
@@ -81,13 +81,13 @@ pub first_is : (address low' w : ℕ) → low' ≤ address → address + 0 - low
 first_is address low' w h = omega (arith, h)
 
 module _ (k : Codes) (f : FirmProgram) (m : FirmProcedure) (call : FirmCaller History) (handle : ℕ → Piece Firm History)
-    (p : LinProgram) (go : LinCaller State) (params : List ℕ) (lay : Layout) (r : Room) (ws : List ℕ) (wide : AreWidths r m.widths ws)
+    (p : LinProgram) (go : LinCaller State) (lay : Layout) (r : Room) (ws : List ℕ) (wide : AreWidths r m.widths ws)
     (flash : FlashStands lay f p) where
   abbrev Right' : Shape → Made → Piece Firm History → Type 0
-  Right' = Right k f m call handle p go params lay r ws wide
+  Right' = Right k f m call handle p go lay r ws wide
 
   abbrev linear' : Block → Piece (Deciding State) History
-  linear' = linear k f m call handle p go params lay r ws wide
+  linear' = linear k f m call handle p go lay r ws wide
 
   abbrev step' : Step → Piece Firm History
   step' = firm_step k f m call handle
@@ -129,16 +129,16 @@ module _ (k : Codes) (f : FirmProgram) (m : FirmProcedure) (call : FirmCaller Hi
           (linear' (Both (if b then Skip else product) (One (load_from memory width to base (if b then h else Local to)))) d w)
       by_one true e1 =
           let is : by ≡ 1 = grind arith in
-          into_temp k f m call handle p go params lay r ws wide hs to x (load_from memory width to base h) s d w i placed has small same
+          into_temp k f m call handle p go lay r ws wide hs to x (load_from memory width to base h) s d w i placed has small same
           (loads memory width to base (n * by) j x h d.state w.outside (hv ∙ ap Some (once n by is)) le e num)
       by_one false e1 =
           subst (λ z. Alike (Held lay r ws (only (Local to ∷ hs))) (Leaves lay r ws) (put x s w)
           (and_then z (linear' (One (load_from memory width to base (Local to))))))
-          (sym (plain_goes k f m call handle p go params lay r ws wide
+          (sym (plain_goes k f m call handle p go lay r ws wide
           (Compute (record { operator = Product; width = 4; to = to; left = h; right = Known by })) d w (sets to (n * by) d.state)
-          (computes_to k f m call handle p go params lay r ws wide Product 4 to h (Known by) n by (n * by) d.state w.outside hv refl
+          (computes_to k f m call handle p go lay r ws wide Product 4 to h (Known by) n by (n * by) d.state w.outside hv refl
           (ap Some (low_same (n * by) few)))))
-          (into_temp k f m call handle p go params lay r ws wide hs to x (load_from memory width to base (Local to)) s
+          (into_temp k f m call handle p go lay r ws wide hs to x (load_from memory width to base (Local to)) s
           (record d { state = sets to (n * by) d.state }) w i placed has small
           (record { waits = there.waits.1; kept = there.kept; none = there.none; ram = there.ram })
           (loads memory width to base (n * by) j x (Local to) (sets to (n * by) d.state) w.outside there.waits.0.0 le e
@@ -158,11 +158,11 @@ module _ (k : Codes) (f : FirmProgram) (m : FirmProcedure) (call : FirmCaller Hi
       → Alike G L (not_null next x s w) (and_then (linear' (stop_where 1 (Holds (is_zero h))) d w) rest)
   null_then {G} {L} h zero next rest s d w i at lt goes =
       subst (λ z. Alike G L (stops 1 0 s w) (and_then z rest))
-      (sym (stopped k f m call handle p go params lay r ws wide (Holds (is_zero h)) 1 d w (says_zero h 0 d.state at lt)))
+      (sym (stopped k f m call handle p go lay r ws wide (Holds (is_zero h)) 1 d w (says_zero h 0 d.state at lt)))
       (stops_both 1 s (record d { truth = None }) w i)
   null_then {G} {L} h (suc n) next rest s d w i at lt goes =
       subst (λ z. Alike G L (next (suc n) s w) (and_then z rest))
-      (sym (passed k f m call handle p go params lay r ws wide (Holds (is_zero h)) 1 d w (says_zero h (suc n) d.state at lt ∙ ap Some (eqb-suc-zero n))))
+      (sym (passed k f m call handle p go lay r ws wide (Holds (is_zero h)) 1 d w (says_zero h (suc n) d.state at lt ∙ ap Some (eqb-suc-zero n))))
       (goes (omega arith))
 
   -- ---- the one value of a column
@@ -179,7 +179,7 @@ module _ (k : Codes) (f : FirmProgram) (m : FirmProcedure) (call : FirmCaller Hi
       does is to has s d w i q vs hc v he =
           let stands = stands_in home hs s d.state q c place vs e hc in
           let behind = stands.behind in
-          into_temp k f m call handle p go params lay r ws wide hs to v (load_from (memory_of home) place.width to place.address (Known 0)) s d w i placed has
+          into_temp k f m call handle p go lay r ws wide hs to v (load_from (memory_of home) place.width to place.address (Known 0)) s d w i placed has
           (four_bytes place.width v (width_high place.width is) (stands.held 0 v he).1) q
           (loads (memory_of home) place.width to place.address 0 (place.address - first_address (memory_of home) + place.width * 0) v
           (Known 0) d.state w.outside refl
@@ -203,7 +203,7 @@ module _ (k : Codes) (f : FirmProgram) (m : FirmProcedure) (call : FirmCaller Hi
       by_room : is_width place.width ≡ true → (o : Option ℕ) → temp r hs ≡ o
           → Right' (only hs) (by_temp o (λ to. Makes (One (load_from (memory_of home) place.width to place.address (Known 0))) (only (Local to ∷ hs))))
           (step' (LoadOne home c))
-      by_room is (Some to) has = (placed_temp r hs to has placed, λ fit s d w i q. by_column is to has s d w i q (slice_get (columns_in f home s) c) refl)
+      by_room is (Some to) has = (placed_temp r hs to has placed, λ s d w i q. by_column is to has s d w i q (slice_get (columns_in f home s) c) refl)
       by_room is None has = tt
 
       by_width : (b : Bool) → is_width place.width ≡ b
@@ -219,17 +219,14 @@ module _ (k : Codes) (f : FirmProgram) (m : FirmProcedure) (call : FirmCaller Hi
 
   -- ---- what is fetched behind a null check
 
-  right_fetched : (memory : Memory) (width by base : ℕ) (h : Operand) (hs : List Operand) (q' : Step) (next : ℕ → Piece Firm History) → ArePlaced r.locals hs
+  right_checked : (h : Operand) (hs : List Operand) (inside : ℕ → Block) (q' : Step) (next : ℕ → Piece Firm History) → ArePlaced r.locals hs
       → ((s : Firm) (w : World History) → step' q' s w ≡ take_from s.values (not_null next) s w)
-      → ((to : ℕ) → temp r hs ≡ Some to → (n : ℕ) → 0 < n → (s : Firm) (d : Deciding State) (w : World History) → IsFair w → value h d.state ≡ Some n
-      → AreSame lay r ws hs s d.state → Alike (Held lay r ws (only (Local to ∷ hs))) (Leaves lay r ws) (next n s w)
-      (linear' (Both (multiplied to by h) (One (load_from memory width to base (multiple to by h)))) d w))
-      → Right' (only (h ∷ hs)) (fetched r memory width by base h hs) (step' q')
-  right_fetched memory width by base h hs q' next placed is law = by_room (temp r hs) refl
+      → ((to : ℕ) → temp r hs ≡ Some to → (n : ℕ) → 0 < n → n < 2 ^ 32 → (s : Firm) (d : Deciding State) (w : World History) → IsFair w
+      → value h d.state ≡ Some n → AreSame lay r ws hs s d.state
+      → Alike (Held lay r ws (only (Local to ∷ hs))) (Leaves lay r ws) (next n s w) (linear' (inside to) d w))
+      → Right' (only (h ∷ hs)) (by_temp (temp r hs) (λ to. Makes (Both (stop_where 1 (Holds (is_zero h))) (inside to)) (only (Local to ∷ hs)))) (step' q')
+  right_checked h hs inside q' next placed is law = by_room (temp r hs) refl
     where
-      inside : ℕ → Block
-      inside to = Both (multiplied to by h) (One (load_from memory width to base (multiple to by h)))
-
       block : ℕ → Block
       block to = Both (stop_where 1 (Holds (is_zero h))) (inside to)
 
@@ -239,16 +236,49 @@ module _ (k : Codes) (f : FirmProgram) (m : FirmProcedure) (call : FirmCaller Hi
       by_values to has s d w i q [] at = absurd at
       by_values to has s d w i q (n ∷ vs) at =
           null_then h n next (linear' (inside to)) (record s { values = vs }) d w i (value_of_home h n d.state at.0.0) at.0.1
-          (λ above. law to has n above (record s { values = vs }) (record d { truth = None }) w i (value_of_home h n d.state at.0.0)
+          (λ above. law to has n above at.0.1 (record s { values = vs }) (record d { truth = None }) w i (value_of_home h n d.state at.0.0)
           (record { waits = at.1; kept = q.kept; none = q.none; ram = q.ram }))
 
       by_room : (o : Option ℕ) → temp r hs ≡ o → Right' (only (h ∷ hs)) (by_temp o (λ to. Makes (block to) (only (Local to ∷ hs)))) (step' q')
       by_room (Some to) has = (
         placed_temp r hs to has placed,
-        λ fit s d w i q. subst (λ z. Alike (Held lay r ws (only (Local to ∷ hs))) (Leaves lay r ws) z (linear' (block to) d w)) (sym (is s w))
+        λ s d w i q. subst (λ z. Alike (Held lay r ws (only (Local to ∷ hs))) (Leaves lay r ws) z (linear' (block to) d w)) (sym (is s w))
             (by_values to has s d w i q s.values q.waits),
       )
       by_room None has = tt
+
+  -- a number behind another
+  pub near_number : (n first : ℕ) → first ≤ n → n < 2 ^ 32 → low 4 (n + (256 ^ 4 - low 4 first)) ≡ n - first
+  near_number n first ge lt = omega (arith, ge, lt)
+
+  pub measured : (to first n : ℕ) (h : Operand) (d : Deciding State) (w : World History) → value h d.state ≡ Some n → first ≤ n → n < 2 ^ 32
+      → linear' (One (distance to first h)) d w ≡ Gives (record d { state = sets to (n - first) d.state }) w
+  measured to first n h d w hv ge lt =
+      plain_goes k f m call handle p go lay r ws wide (distance to first h) d w (sets to (n - first) d.state)
+      (computes_to k f m call handle p go lay r ws wide Difference 4 to h (Known first) n first (n - first) d.state w.outside hv refl
+      (ap Some (near_number n first ge lt)))
+
+  -- an entry is loaded where it stands
+  loaded_right : {G : Firm → Deciding State → Type 0} {L : Signal → Firm → Deciding State → Type 0} (home : Home) (c first n : ℕ) (s : Firm)
+      (d : Deciding State) (w : World History) (b : Block)
+      → (first ≤ n → (vs : List ℕ) → slice_get (columns_in f home s) c ≡ Some vs → (v : ℕ) → slice_get vs (n - first) ≡ Some v
+      → Alike G L (put v s w) (linear' b d w))
+      → Alike G L (checked (nat_le first n) (load f home c (n - first)) s w) (linear' b d w)
+  loaded_right {G} {L} home c first n s d w b does = by_first (nat_le first n) refl
+    where
+      by_entry : first ≤ n → (vs : List ℕ) → slice_get (columns_in f home s) c ≡ Some vs → (o : Option ℕ) → slice_get vs (n - first) ≡ o
+          → Alike G L (with_found o put s w) (linear' b d w)
+      by_entry ge vs hc (Some v) he = does ge vs hc v he
+      by_entry ge vs hc None he = wrong
+
+      by_column : first ≤ n → (o : Option (List ℕ)) → slice_get (columns_in f home s) c ≡ o
+          → Alike G L (with_found (slice_get (column_of o) (n - first)) put s w) (linear' b d w)
+      by_column ge (Some vs) hc = by_entry ge vs hc (slice_get vs (n - first)) refl
+      by_column ge None hc = wrong
+
+      by_first : (o : Bool) → nat_le first n ≡ o → Alike G L (checked o (load f home c (n - first)) s w) (linear' b d w)
+      by_first true ge = by_column (grind arith) (slice_get (columns_in f home s) c) refl
+      by_first false ge = wrong
 
   -- ---- the value of an object
 
@@ -256,7 +286,7 @@ module _ (k : Codes) (f : FirmProgram) (m : FirmProcedure) (call : FirmCaller Hi
       → Right' (only hs) (load_of r (memory_of home) first o hs) (step' (LoadAt home c first))
   right_of home c first None e hs placed = tt
   right_of home c first (Some place) e [] placed = tt
-  right_of home c first (Some place) e (h ∷ hs) placed = by_width (is_width place.width) refl (nat_le (place.width * first) place.address) refl
+  right_of home c first (Some place) e (h ∷ hs) placed = by_width (is_width place.width) refl
     where
       base : ℕ
       base = place.address - place.width * first
@@ -292,35 +322,73 @@ module _ (k : Codes) (f : FirmProgram) (m : FirmProcedure) (call : FirmCaller Hi
           (ap (λ z. base + z - first_address (memory_of home)) both ∙ place_is (first_address (memory_of home)) place.address a b stands.behind le)
           (stands.held (n - first) v he).0 (four_bytes place.width v (width_high place.width is) (stands.held (n - first) v he).1)
 
-      by_entry : is_width place.width ≡ true → place.width * first ≤ place.address → (to : ℕ) → temp r hs ≡ Some to → (n : ℕ) → first ≤ n → (s : Firm)
+      -- the same, counted from the first object
+      inside_from : ℕ → Block
+      inside_from to =
+          Both (One (distance to first h))
+          (Both (multiplied to place.width (Local to)) (One (load_from (memory_of home) place.width to place.address (multiple to place.width (Local to)))))
+
+      times : (a b : ℕ) → a * b ≡ b * a
+      times a b = grind arith
+
+      few_is : (address b all : ℕ) → address + all ≤ 65536 → b ≤ all → b < 2 ^ 32
+      few_is address b all h1 h2 = omega (arith, h1, h2)
+
+      low_is : (low' address b : ℕ) → low' ≤ address → low' ≤ address + b
+      low_is low' address b h1 = omega (arith, h1)
+
+      index_is : (low' address b : ℕ) → low' ≤ address → address + b - low' ≡ address - low' + b
+      index_is low' address b h1 = omega (arith, h1)
+
+      less : (a b c1 : ℕ) → a < c1 → a - b < c1
+      less a b c1 h1 = omega (arith, h1)
+
+      does_from : is_width place.width ≡ true → (to : ℕ) → temp r hs ≡ Some to → (n : ℕ) → first ≤ n → n < 2 ^ 32 → (s : Firm)
           (d : Deciding State) (w : World History) → IsFair w → value h d.state ≡ Some n → AreSame lay r ws hs s d.state
-          → (vs : List ℕ) → slice_get (columns_in f home s) c ≡ Some vs → (o : Option ℕ) → slice_get vs (n - first) ≡ o
-          → Alike (Held lay r ws (only (Local to ∷ hs))) (Leaves lay r ws) (with_found o put s w) (linear' (inside to) d w)
-      by_entry is le to has n ge s d w i hv same vs hc (Some v) he = does is le to has n ge s d w i hv same vs hc v he
-      by_entry is le to has n ge s d w i hv same vs hc None he = wrong
+          → (vs : List ℕ) → slice_get (columns_in f home s) c ≡ Some vs → (v : ℕ) → slice_get vs (n - first) ≡ Some v
+          → Alike (Held lay r ws (only (Local to ∷ hs))) (Leaves lay r ws) (put v s w) (linear' (inside_from to) d w)
+      does_from is to has n ge small s d w i hv same vs hc v he =
+          let stands = stands_in home hs s d.state same c place vs e hc in
+          let lt = slice_get_within vs (n - first) v he in
+          let within : place.width * (n - first) ≤ place.width * length vs = mul-le-mul_left place.width (omega (arith, lt)) in
+          let turned = times (n - first) place.width in
+          let b = place.width * (n - first) in
+          subst (λ z. Alike (Held lay r ws (only (Local to ∷ hs))) (Leaves lay r ws) (put v s w) (and_then z (linear'
+          (Both (multiplied to place.width (Local to)) (One (load_from (memory_of home) place.width to place.address (multiple to place.width (Local to))))))))
+          (sym (measured to first n h d w hv ge small))
+          (does_fetched (memory_of home) place.width place.width place.address (Local to) hs placed.1 to has (n - first)
+          (place.address - first_address (memory_of home) + b) v s (record d { state = sets to (n - first) d.state }) w i there.waits.0.0
+          (subst (λ z. z < 2 ^ 32) (sym turned) (few_is place.address b (place.width * length vs) stands.short within))
+          (record { waits = there.waits.1; kept = there.kept; none = there.none; ram = there.ram })
+          (subst (λ z. first_address (memory_of home) ≤ place.address + z) (sym turned) (low_is (first_address (memory_of home)) place.address b stands.behind))
+          (ap (λ z. place.address + z - first_address (memory_of home)) turned ∙ index_is (first_address (memory_of home)) place.address b stands.behind)
+          (ap (λ z. number_at z place.width (place.address - first_address (memory_of home) + b)) (bytes_same (memory_of home) to (n - first) d.state)
+          ∙ (stands.held (n - first) v he).0)
+          (four_bytes place.width v (width_high place.width is) (stands.held (n - first) v he).1))
+        where
+          there : AreSame lay r ws (Local to ∷ hs) (record s { values = (n - first) ∷ s.values }) (sets to (n - first) d.state)
+          there = put_temp lay r m.widths ws hs s d.state to (n - first) wide placed.1 has (less n first (2 ^ 32) small) same
 
-      by_column : is_width place.width ≡ true → place.width * first ≤ place.address → (to : ℕ) → temp r hs ≡ Some to → (n : ℕ) → first ≤ n → (s : Firm)
-          (d : Deciding State) (w : World History) → IsFair w → value h d.state ≡ Some n → AreSame lay r ws hs s d.state
-          → (o : Option (List ℕ)) → slice_get (columns_in f home s) c ≡ o
-          → Alike (Held lay r ws (only (Local to ∷ hs))) (Leaves lay r ws) (with_found (slice_get (column_of o) (n - first)) put s w) (linear' (inside to) d w)
-      by_column is le to has n ge s d w i hv same (Some vs) hc = by_entry is le to has n ge s d w i hv same vs hc (slice_get vs (n - first)) refl
-      by_column is le to has n ge s d w i hv same None hc = wrong
+      next : ℕ → Piece Firm History
+      next = λ n. checked (nat_le first n) (load f home c (n - first))
 
-      by_first : is_width place.width ≡ true → place.width * first ≤ place.address → (to : ℕ) → temp r hs ≡ Some to → (n : ℕ) → (s : Firm)
-          (d : Deciding State) (w : World History) → IsFair w → value h d.state ≡ Some n → AreSame lay r ws hs s d.state → (b : Bool) → nat_le first n ≡ b
-          → Alike (Held lay r ws (only (Local to ∷ hs))) (Leaves lay r ws) (checked b (load f home c (n - first)) s w) (linear' (inside to) d w)
-      by_first is le to has n s d w i hv same true ge = by_column is le to has n (grind arith) s d w i hv same (slice_get (columns_in f home s) c) refl
-      by_first is le to has n s d w i hv same false ge = wrong
+      by_address : is_width place.width ≡ true → (b : Bool) → nat_le (place.width * first) place.address ≡ b
+          → Right' (only (h ∷ hs)) (if b then fetched r (memory_of home) place.width place.width base h hs
+          else fetched_from r (memory_of home) place.width first place.address h hs) (step' (LoadAt home c first))
+      by_address is true le =
+          right_checked h hs inside (LoadAt home c first) next placed.1 (λ s w. refl)
+          (λ to has n above small s d w i hv same. loaded_right home c first n s d w (inside to)
+          (λ ge vs hc v he. does is (grind arith) to has n ge s d w i hv same vs hc v he))
+      by_address is false le =
+          right_checked h hs inside_from (LoadAt home c first) next placed.1 (λ s w. refl)
+          (λ to has n above small s d w i hv same. loaded_right home c first n s d w (inside_from to)
+          (λ ge vs hc v he. does_from is to has n ge small s d w i hv same vs hc v he))
 
-      by_width : (b : Bool) → is_width place.width ≡ b → (b1 : Bool) → nat_le (place.width * first) place.address ≡ b1
-          → Right' (only (h ∷ hs)) (if b && b1 then fetched r (memory_of home) place.width place.width base h hs else Refused NotTaken)
+      by_width : (b : Bool) → is_width place.width ≡ b
+          → Right' (only (h ∷ hs)) (if b then load_placed r (memory_of home) place.width first place.address h hs else Refused NotTaken)
           (step' (LoadAt home c first))
-      by_width true is true le =
-          right_fetched (memory_of home) place.width place.width base h hs (LoadAt home c first)
-          (λ n. checked (nat_le first n) (load f home c (n - first))) placed.1
-          (λ s w. refl) (λ to has n above s d w i hv same. by_first is (grind arith) to has n s d w i hv same (nat_le first n) refl)
-      by_width true is false le = tt
-      by_width false is b1 le = tt
+      by_width true is = by_address is (nat_le (place.width * first) place.address) refl
+      by_width false is = tt
 
   pub right_load_at : (home : Home) (c first : ℕ) (hs : List Operand) → ArePlaced r.locals hs
       → Right' (only hs) (load_of r (memory_of home) first (slice_get (places_in lay home) c) hs) (step' (LoadAt home c first))
@@ -368,8 +436,8 @@ module _ (k : Codes) (f : FirmProgram) (m : FirmProcedure) (call : FirmCaller Hi
       by_size : (b : Bool) → nat_le 2 table ≡ b
           → Right' (only (h ∷ hs)) (if b then fetched r Flash 2 4 (table - 2) h hs else Refused NotTaken) (step' (Length t))
       by_size true le =
-          right_fetched Flash 2 4 (table - 2) h hs (Length t) (λ n. with_found (array_at f t n) put_length) placed.1 (λ s w. refl)
-          (λ to has n above s d w i hv same. by_table (grind arith) to has n above s d w i hv same (slice_get f.tables t) refl)
+          right_checked h hs inside (Length t) (λ n. with_found (array_at f t n) put_length) placed.1 (λ s w. refl)
+          (λ to has n above small s d w i hv same. by_table (grind arith) to has n above s d w i hv same (slice_get f.tables t) refl)
       by_size false le = tt
 
   pub right_length : (t : ℕ) (hs : List Operand) → ArePlaced r.locals hs → Right' (only hs) (length_of r (slice_get lay.tables t) hs) (step' (Length t))

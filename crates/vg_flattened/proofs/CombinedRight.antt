@@ -1,5 +1,5 @@
 -- That divisions and shifts become blocks that do the same.
-use Rattle.std.specs.Prelude.{ℕ, zero, suc, ◌+◌, ◌-◌, ◌*◌, ◌<◌, ◌≤◌, ◌^◌, Bool, true, false, ◌==◌, nat_lt, List, [], ◌∷◌, Option, Some, None, if◌then◌else◌}
+use Rattle.std.specs.Prelude.{ℕ, zero, suc, ◌+◌, ◌-◌, ◌*◌, ◌/◌, ◌<◌, ◌≤◌, ◌^◌, Bool, true, false, ◌==◌, ◌&&◌, nat_lt, nat_le, List, [], ◌∷◌, Option, Some, None, if◌then◌else◌}
 use Rattle.std.specs.Prelude.{bit_and}
 use Rattle.std.proofs.Common.{◌≡◌, refl, sym, ap, ◌∙◌, subst, arith}
 use Rattle.std.proofs.Math.Dec.{eqb-suc-zero}
@@ -13,12 +13,13 @@ use Rattle.vg_firm.specs.declared.step.Operator.TheVariants.{And, Or, Xor, Shift
 use Rattle.vg_firm.specs.declared.step.Step.{Step}
 use Rattle.vg_firm.specs.declared.step.Step.TheVariants.{Operate}
 use Rattle.vg_firm.specs.Program.{Procedure as FirmProcedure, Program as FirmProgram}
-use Rattle.vg_firm.specs.Meaning.{State as Firm, Caller as FirmCaller, step as firm_step, put, put_computed, taking, take_from}
-use Rattle.vg_firm.specs.Operators.{computed as firm_computed}
+use Rattle.vg_firm.specs.Meaning.{State as Firm, Caller as FirmCaller, step as firm_step, put, put_computed, taking, take_from, checked}
+use Rattle.vg_firm.specs.Operators.{computed as firm_computed, has_strings, is_string}
 use Rattle.vg_lin.specs.declared.instr.Operand.{Operand}
 use Rattle.vg_lin.specs.declared.instr.Operand.TheVariants.{Local, Known}
 use Rattle.vg_lin.specs.declared.instr.Operator.{Operator as LinOperator}
-use Rattle.vg_lin.specs.declared.instr.Operator.TheVariants.{And as Both', Divide as Quotient, Remainder as Rest, ShiftLeft as LeftShift, ShiftRight as RightShift}
+use Rattle.vg_lin.specs.declared.instr.Operator.TheVariants.{Plus as Sum, Minus as Difference, Times as Product, And as Both', Or as Either', Xor as Unlike}
+use Rattle.vg_lin.specs.declared.instr.Operator.TheVariants.{Divide as Quotient, Remainder as Rest, ShiftLeft as LeftShift, ShiftRight as RightShift}
 use Rattle.vg_lin.specs.declared.instr.Comparison.TheVariants.{Below, Same}
 use Rattle.vg_lin.specs.declared.instr.Test.{Test}
 use Rattle.vg_lin.specs.declared.instr.Plain.TheVariants.{Copy, Compute, Stop}
@@ -34,15 +35,17 @@ use Rattle.vg_flatten_shapes.specs.declared.room.Room.{Room}
 use Rattle.vg_flatten_shapes.specs.Shapes.{Shape, only, temp}
 use Rattle.vg_flatten_shapes.specs.Blocks.{Block, Skip, One, Both, Choice, stop_where}
 use Rattle.vg_flatten_shapes.specs.Made.{Made, Gives as Makes, Refused, is_zero}
-use Rattle.vg_flatten_steps.specs.Steps.{computing, comparing, test_of, computed, operated, operated_as, bytes_of, bytes_around, may_be_zero}
-use Rattle.vg_flatten_steps.specs.Steps.{divided, masked, shifted_left, shifted_where, shifted_by, shifted_right, combined}
+use Rattle.vg_flatten_values.specs.Values.{computing, comparing, test_of, computed, operated, operated_as, bytes_of, bytes_around, may_be_zero}
+use Rattle.vg_flatten_values.specs.Values.{divided, masked, shifted_left, shifted_right, bytes_for, concatenated, combined}
 use Rattle.vg_flatten_shapes.proofs.Temps.{some_is, none_is_not}
-use Rattle.vg_flattened.proofs.Alike.{IsFair, Alike, gives, overs}
+use Rattle.vg_flattened.proofs.Alike.{IsFair, Alike, gives, overs, wrong}
 use Rattle.vg_flattened.proofs.Related.{ArePlaced, AreAt, AreWidths, AreSame, Held, Leaves, said}
 use Rattle.vg_flattened.proofs.Numbers.{low_same, same_same, below_same, quotient_same, quotient_below, remainder_same, remainder_below}
 use Rattle.vg_flattened.proofs.Operating.{Computes, computes, holds_of}
-use Rattle.vg_flattened.proofs.Shifting.{left_in, left_in_small, left_is, left_whole, left_wide, left_wide_small, left_masked, right_below, right_whole, right_none}
-use Rattle.vg_flattened.proofs.Locals.{put_temp}
+use Rattle.vg_flattened.proofs.Shifting.{left_in, left_in_small, left_is, left_whole, left_wide, left_wide_small, left_masked}
+use Rattle.vg_flattened.proofs.Strings.{right_string, right_nothing_left}
+use Rattle.vg_flattened.proofs.Joined.{shifted_whole, concat_small, concat_above}
+use Rattle.vg_flattened.proofs.Locals.{put_temp, value_stays}
 use Rattle.vg_flattened.proofs.Right.{Right, linear, chooses}
 use Rattle.vg_flattened.proofs.StepRight.{into_temp, computes_to, plain_goes, right_block, does_computed, right_binary, right_compared}
 
@@ -67,12 +70,12 @@ not_zero (Local i) t e h = absurd (grind arith)
 not_zero (Known v) t e h = let is = some_is v 0 h in absurd (grind arith)
 
 module _ (k : Codes) (f : FirmProgram) (m : FirmProcedure) (call : FirmCaller History) (handle : ℕ → Piece Firm History)
-    (p : LinProgram) (go : LinCaller State) (params : List ℕ) (lay : Layout) (r : Room) (ws : List ℕ) (wide : AreWidths r m.widths ws) where
+    (p : LinProgram) (go : LinCaller State) (lay : Layout) (r : Room) (ws : List ℕ) (wide : AreWidths r m.widths ws) where
   abbrev Right' : Shape → Made → Piece Firm History → Type 0
-  Right' = Right k f m call handle p go params lay r ws wide
+  Right' = Right k f m call handle p go lay r ws wide
 
   abbrev linear' : Block → Piece (Deciding State) History
-  linear' = linear k f m call handle p go params lay r ws wide
+  linear' = linear k f m call handle p go lay r ws wide
 
   abbrev step' : Step → Piece Firm History
   step' = firm_step k f m call handle
@@ -80,11 +83,11 @@ module _ (k : Codes) (f : FirmProgram) (m : FirmProcedure) (call : FirmCaller Hi
   -- the run stops, or goes on
   pub stopped : (t : Truth) (code : ℕ) (d : Deciding State) (w : World History) → said t d.state ≡ Some true
       → linear' (stop_where code t) d w ≡ over (Stops code None) (record d { truth = None }) w
-  stopped t code d w e = chooses k f m call handle p go params lay r ws wide t true (One (Stop code)) Skip d w e
+  stopped t code d w e = chooses k f m call handle p go lay r ws wide t true (One (Stop code)) Skip d w e
 
   pub passed : (t : Truth) (code : ℕ) (d : Deciding State) (w : World History) → said t d.state ≡ Some false
       → linear' (stop_where code t) d w ≡ Gives (record d { truth = None }) w
-  passed t code d w e = chooses k f m call handle p go params lay r ws wide t false (One (Stop code)) Skip d w e
+  passed t code d w e = chooses k f m call handle p go lay r ws wide t false (One (Stop code)) Skip d w e
 
   -- ---- divisions
 
@@ -92,9 +95,9 @@ module _ (k : Codes) (f : FirmProgram) (m : FirmProcedure) (call : FirmCaller Hi
       → ((u : ℕ) → firm_computed op u 0 ≡ None) → ((u n : ℕ) → u < 2 ^ 32 → suc n < 2 ^ 32 → Computes op lop 4 u (suc n))
       → Right' (only (y ∷ x ∷ hs)) (divided r lop x y hs) (step' (Operate op))
   right_divided op lop x y hs placed none law =
-      right_block k f m call handle p go params lay r ws wide op x y hs (λ to. Both (if may_be_zero y then stop_where 3 (Holds (is_zero y)) else Skip)
+      right_block k f m call handle p go lay r ws wide op x y hs (λ to. Both (if may_be_zero y then stop_where 3 (Holds (is_zero y)) else Skip)
       (division to))
-      placed (λ to has u v s d w i hu hv lu lv same. by_zero to has u s d w i hu lu same (may_be_zero y) refl v hv lv)
+      placed (λ to has u v s d w i hu hv lu lv same ok. by_zero to has u s d w i hu lu same (may_be_zero y) refl v hv lv)
     where
       division : ℕ → Block
       division to = One (Compute (record { operator = lop; width = 4; to = to; left = x; right = y }))
@@ -103,7 +106,7 @@ module _ (k : Codes) (f : FirmProgram) (m : FirmProcedure) (call : FirmCaller Hi
           → value y d.state ≡ Some (suc n) → u < 2 ^ 32 → suc n < 2 ^ 32 → AreSame lay r ws hs s d.state
           → Alike (Held lay r ws (only (Local to ∷ hs))) (Leaves lay r ws) (put_computed (firm_computed op u (suc n)) s w) (linear' (division to) d w)
       does to has u n s d w i hu hv lu lv same =
-          does_computed k f m call handle p go params lay r ws wide op lop 4 x y hs placed to has u (suc n) s d w i hu hv same (law u n lu lv)
+          does_computed k f m call handle p go lay r ws wide op lop 4 x y hs placed to has u (suc n) s d w i hu hv same (law u n lu lv)
 
       by_zero : (to : ℕ) → temp r hs ≡ Some to → (u : ℕ) (s : Firm) (d : Deciding State) (w : World History) → IsFair w → value x d.state ≡ Some u
           → u < 2 ^ 32 → AreSame lay r ws hs s d.state → (b : Bool) → may_be_zero y ≡ b → (v : ℕ) → value y d.state ≡ Some v → v < 2 ^ 32
@@ -125,12 +128,29 @@ module _ (k : Codes) (f : FirmProgram) (m : FirmProcedure) (call : FirmCaller Hi
 
   -- ---- shifts
 
-  right_masked : (bits : ℕ) (x y : Operand) (hs : List Operand) → ArePlaced r.locals hs → (o : Option ℕ) → bytes_around bits ≡ o
+  not_whole : (bits : ℕ) → bytes_of bits ≡ None → (bits == 32) ≡ false
+  not_whole bits e = grind arith
+
+  right_masked : (bits : ℕ) (x y : Operand) (hs : List Operand) → ArePlaced r.locals hs → bytes_of bits ≡ None → (o : Option ℕ) → bytes_around bits ≡ o
       → Right' (only (y ∷ x ∷ hs)) (masked r bits o x y hs) (step' (Operate (ShiftLeft bits)))
-  right_masked bits x y hs placed None e = tt
-  right_masked bits x y hs placed (Some width) e =
-      right_block k f m call handle p go params lay r ws wide (ShiftLeft bits) x y hs (λ to. Both (shift to) (mask to)) placed
-      (λ to has u v s d w i hu hv lu lv same. does to has u v s d w i hu hv lv same)
+  right_masked bits x y hs placed none None e = ((tt, placed), λ s d w i q. by_values s d w i q s.values q.waits)
+    where
+      many : (n : ℕ) → bytes_around n ≡ None → (n == 32) ≡ false → nat_le n 32 ≡ false
+      many n e1 e2 = grind arith
+
+      by_values : (s : Firm) (d : Deciding State) (w : World History) → IsFair w → AreSame lay r ws (y ∷ x ∷ hs) s d.state → (vs : List ℕ)
+          → AreAt (y ∷ x ∷ hs) vs d.state.locals
+          → Alike (Held lay r ws (only (Known 0 ∷ hs))) (Leaves lay r ws)
+          (take_from vs (λ v. taking (λ u. checked (nat_le bits 32 && nat_lt u (2 ^ bits)) (put_computed (firm_computed (ShiftLeft bits) u v)))) s w) (Gives d w)
+      by_values s d w i q [] at = absurd at
+      by_values s d w i q (v ∷ []) at = absurd at.1
+      by_values s d w i q (v ∷ u ∷ vs) at =
+          subst (λ z. Alike (Held lay r ws (only (Known 0 ∷ hs))) (Leaves lay r ws)
+          (checked (z && nat_lt u (2 ^ bits)) (put_computed (firm_computed (ShiftLeft bits) u v)) (record s { values = vs }) w) (Gives d w))
+          (sym (many bits e (not_whole bits none))) wrong
+  right_masked bits x y hs placed none (Some width) e =
+      right_block k f m call handle p go lay r ws wide (ShiftLeft bits) x y hs (λ to. Both (shift to) (mask to)) placed
+      (λ to has u v s d w i hu hv lu lv same ok. does to has u v s d w i hu hv lv same)
     where
       shift : ℕ → Block
       shift to = One (Compute (record { operator = LeftShift; width = width; to = to; left = x; right = y }))
@@ -166,15 +186,15 @@ module _ (k : Codes) (f : FirmProgram) (m : FirmProcedure) (call : FirmCaller Hi
           subst (λ z. Alike (Held lay r ws (only (Local to ∷ hs))) (Leaves lay r ws) (put_computed z s w) (linear' (Both (shift to) (mask to)) d w))
           (sym (left_is bits u v lv (within bits width e)))
           (subst (λ z. Alike (Held lay r ws (only (Local to ∷ hs))) (Leaves lay r ws) (put (left_in bits u v) s w) (and_then z (linear' (mask to))))
-          (sym (plain_goes k f m call handle p go params lay r ws wide
+          (sym (plain_goes k f m call handle p go lay r ws wide
           (Compute (record { operator = LeftShift; width = width; to = to; left = x; right = y })) d w
           (sets to wide' d.state)
-          (computes_to k f m call handle p go params lay r ws wide LeftShift width to x y u v wide' d.state w.outside hu hv refl)))
-          (into_temp k f m call handle p go params lay r ws wide hs to (left_in bits u v)
+          (computes_to k f m call handle p go lay r ws wide LeftShift width to x y u v wide' d.state w.outside hu hv refl)))
+          (into_temp k f m call handle p go lay r ws wide hs to (left_in bits u v)
           (Compute (record { operator = Both'; width = width; to = to; left = Local to; right = Known (2 ^ bits - 1) })) s
           (record d { state = sets to wide' d.state }) w i placed has small-in
           (record { waits = there.waits.1; kept = there.kept; none = there.none; ram = there.ram })
-          (computes_to k f m call handle p go params lay r ws wide Both' width to (Local to) (Known (2 ^ bits - 1)) wide' (2 ^ bits - 1) (left_in bits u v)
+          (computes_to k f m call handle p go lay r ws wide Both' width to (Local to) (Known (2 ^ bits - 1)) wide' (2 ^ bits - 1) (left_in bits u v)
           (sets to wide' d.state) w.outside there.waits.0.0 refl (ap Some (left_masked bits width u v (few bits width e) (bytes bits width e))))))
         where
           wide' : ℕ
@@ -194,120 +214,109 @@ module _ (k : Codes) (f : FirmProgram) (m : FirmProcedure) (call : FirmCaller Hi
 
   right_left : (bits : ℕ) (x y : Operand) (hs : List Operand) → ArePlaced r.locals hs → (o : Option ℕ) → bytes_of bits ≡ o
       → Right' (only (y ∷ x ∷ hs)) (shifted_left r bits o x y hs) (step' (Operate (ShiftLeft bits)))
-  right_left bits x y hs placed None e = right_masked bits x y hs placed (bytes_around bits) refl
+  right_left bits x y hs placed None e = right_masked bits x y hs placed e (bytes_around bits) refl
   right_left bits x y hs placed (Some width) e =
-      right_binary k f m call handle p go params lay r ws wide (ShiftLeft bits) LeftShift width x y hs placed
-      (λ u v t hv lu lv. left_whole bits width u v e lv)
+      right_binary k f m call handle p go lay r ws wide (ShiftLeft bits) LeftShift width x y hs placed
+      (λ u v t hv lu lv ok. left_whole bits width u v e lv)
 
-  -- by an amount that is not known
-  right_where : (bits : ℕ) (x y : Operand) (hs : List Operand) → ArePlaced r.locals hs → bits ≤ 32
-      → Right' (only (y ∷ x ∷ hs)) (shifted_where r bits x y hs) (step' (Operate (ShiftRight bits)))
-  right_where bits x y hs placed le =
-      right_block k f m call handle p go params lay r ws wide (ShiftRight bits) x y hs (λ to. Choice (Holds test) (shift to) (One (Copy to (Known 0)))) placed
-      (λ to has u v s d w i hu hv lu lv same. by_size to has u v s d w i hu hv lu lv same (nat_lt v bits) refl)
-    where
-      test : Test
-      test = test_of Below y (Known bits)
-
-      shift : ℕ → Block
-      shift to = One (Compute (record { operator = RightShift; width = 4; to = to; left = x; right = y }))
-
-      says : (v : ℕ) (d : Deciding State) (b : Bool) → value y d.state ≡ Some v → v < 2 ^ 32 → nat_lt v bits ≡ b → said (Holds test) d.state ≡ Some b
-      says v d b hv lv e = holds_of Below y (Known bits) v bits d.state hv refl ∙ ap Some (below_same v bits lv (omega (arith, le)) ∙ e)
-
-      by_size : (to : ℕ) → temp r hs ≡ Some to → (u v : ℕ) (s : Firm) (d : Deciding State) (w : World History) → IsFair w → value x d.state ≡ Some u
-          → value y d.state ≡ Some v → u < 2 ^ 32 → v < 2 ^ 32 → AreSame lay r ws hs s d.state → (b : Bool) → nat_lt v bits ≡ b
-          → Alike (Held lay r ws (only (Local to ∷ hs))) (Leaves lay r ws) (put_computed (firm_computed (ShiftRight bits) u v) s w)
-          (linear' (Choice (Holds test) (shift to) (One (Copy to (Known 0)))) d w)
-      by_size to has u v s d w i hu hv lu lv same true e =
-          subst (λ z. Alike (Held lay r ws (only (Local to ∷ hs))) (Leaves lay r ws) (put_computed (firm_computed (ShiftRight bits) u v) s w) z)
-          (sym (chooses k f m call handle p go params lay r ws wide (Holds test) true (shift to) (One (Copy to (Known 0))) d w (says v d true hv lv e)))
-          (does_computed k f m call handle p go params lay r ws wide (ShiftRight bits) RightShift 4 x y hs placed to has u v s
-          (record d { truth = None }) w i hu hv
-          same (right_below bits u v lu lv le e))
-      by_size to has u v s d w i hu hv lu lv same false e =
-          subst (λ z. Alike (Held lay r ws (only (Local to ∷ hs))) (Leaves lay r ws) (put_computed (firm_computed (ShiftRight bits) u v) s w) z)
-          (sym (chooses k f m call handle p go params lay r ws wide (Holds test) false (shift to) (One (Copy to (Known 0))) d w (says v d false hv lv e)))
-          (subst (λ z. Alike (Held lay r ws (only (Local to ∷ hs))) (Leaves lay r ws) (put_computed z s w)
-          (linear' (One (Copy to (Known 0))) (record d { truth = None }) w))
-          (sym (right_none bits u v lv le e))
-          (into_temp k f m call handle p go params lay r ws wide hs to 0 (Copy to (Known 0)) s (record d { truth = None }) w i placed has
-          (omega arith) same refl))
-
-  right_by : (bits : ℕ) (x y : Operand) (hs : List Operand) → ArePlaced r.locals hs
-      → Right' (only (y ∷ x ∷ hs)) (shifted_by r bits x y hs) (step' (Operate (ShiftRight bits)))
-  right_by bits x y hs placed = by_whole (bits == 32) refl
-    where
-      by_size : (b : Bool) → nat_lt bits 32 ≡ b
-          → Right' (only (y ∷ x ∷ hs)) (if b then shifted_where r bits x y hs else Refused NotTaken) (step' (Operate (ShiftRight bits)))
-      by_size true e = right_where bits x y hs placed (grind arith)
-      by_size false e = tt
-
-      by_whole : (b : Bool) → (bits == 32) ≡ b
-          → Right' (only (y ∷ x ∷ hs)) (if b then computed r RightShift 4 x y hs else if nat_lt bits 32 then shifted_where r bits x y hs else Refused NotTaken)
-          (step' (Operate (ShiftRight bits)))
-      by_whole true e =
-          let is : bits ≡ 32 = grind arith in
-          right_binary k f m call handle p go params lay r ws wide (ShiftRight bits) RightShift 4 x y hs placed
-          (λ u v t hv lu lv. subst (λ n. Computes (ShiftRight n) RightShift 4 u v) (sym is) (right_whole u v lu lv))
-      by_whole false e = by_size (nat_lt bits 32) refl
-
-  -- by an amount that is known
-  right_nothing : (bits : ℕ) (x : Operand) (n : ℕ) (hs : List Operand) → ArePlaced r.locals hs → bits ≤ 32 → nat_lt n bits ≡ false
+  -- by all bits, or more
+  right_nothing : (bits : ℕ) (x : Operand) (n : ℕ) (hs : List Operand) → ArePlaced r.locals hs → nat_lt n bits ≡ false
       → Right' (only (Known n ∷ x ∷ hs)) (Makes Skip (only (Known 0 ∷ hs))) (step' (Operate (ShiftRight bits)))
-  right_nothing bits x n hs placed le e = ((tt, placed), λ fit s d w i q. by_values s d w i q s.values q.waits)
+  right_nothing bits x n hs placed e = ((tt, placed), λ s d w i q. by_values s d w i q s.values q.waits)
     where
+      by_string : (s : Firm) (d : Deciding State) (w : World History) → IsFair w → (v u : ℕ) (vs : List ℕ)
+          → AreAt (Known n ∷ x ∷ hs) (v ∷ u ∷ vs) d.state.locals → AreSame lay r ws hs (record s { values = vs }) d.state
+          → (ok : Bool) → is_string bits u ≡ ok
+          → Alike (Held lay r ws (only (Known 0 ∷ hs))) (Leaves lay r ws)
+          (checked ok (put_computed (firm_computed (ShiftRight bits) u v)) (record s { values = vs }) w) (Gives d w)
+      by_string s d w i v u vs at q false ok = wrong
+      by_string s d w i v u vs at q true ok =
+          subst (λ z. Alike (Held lay r ws (only (Known 0 ∷ hs))) (Leaves lay r ws) (put_computed z (record s { values = vs }) w) (Gives d w))
+          (sym (right_nothing_left bits u v at.0.1 ok (ap (λ z. nat_lt z bits) (sym at.0.0) ∙ e)))
+          (gives i (record { waits = ((refl, omega arith), q.waits); kept = q.kept; none = q.none; ram = q.ram }))
+
       by_values : (s : Firm) (d : Deciding State) (w : World History) → IsFair w → AreSame lay r ws (Known n ∷ x ∷ hs) s d.state → (vs : List ℕ)
           → AreAt (Known n ∷ x ∷ hs) vs d.state.locals
           → Alike (Held lay r ws (only (Known 0 ∷ hs))) (Leaves lay r ws)
-          (take_from vs (λ v. taking (λ u. put_computed (firm_computed (ShiftRight bits) u v))) s w) (Gives d w)
+          (take_from vs (λ v. taking (λ u. checked (is_string bits u) (put_computed (firm_computed (ShiftRight bits) u v)))) s w) (Gives d w)
       by_values s d w i q [] at = absurd at
       by_values s d w i q (v ∷ []) at = absurd at.1
       by_values s d w i q (v ∷ u ∷ vs) at =
-          subst (λ z. Alike (Held lay r ws (only (Known 0 ∷ hs))) (Leaves lay r ws) (put_computed z (record s { values = vs }) w) (Gives d w))
-          (sym (right_none bits u v at.0.1 le (ap (λ z. nat_lt z bits) (sym at.0.0) ∙ e)))
-          (gives i (record { waits = ((refl, omega arith), at.1.1); kept = q.kept; none = q.none; ram = q.ram }))
+          by_string s d w i v u vs at (record { waits = at.1.1; kept = q.kept; none = q.none; ram = q.ram }) (is_string bits u) refl
+
+  right_right : (bits : ℕ) (x y : Operand) (hs : List Operand) → ArePlaced r.locals hs
+      → Right' (only (y ∷ x ∷ hs)) (computed r RightShift (bytes_for bits) x y hs) (step' (Operate (ShiftRight bits)))
+  right_right bits x y hs placed =
+      right_binary k f m call handle p go lay r ws wide (ShiftRight bits) RightShift (bytes_for bits) x y hs placed
+      (λ u v t hv lu lv ok. right_string bits u v lu lv ok)
 
   right_known : (bits : ℕ) (x : Operand) (n : ℕ) (hs : List Operand) → ArePlaced r.locals hs
       → Right' (only (Known n ∷ x ∷ hs)) (shifted_right r bits x (Known n) hs) (step' (Operate (ShiftRight bits)))
-  right_known bits x n hs placed = by_bits (nat_lt 32 bits) refl
+  right_known bits x n hs placed = by_amount (nat_lt n bits) refl
     where
-      by_amount : bits ≤ 32 → (b : Bool) → nat_lt n bits ≡ b
-          → Right' (only (Known n ∷ x ∷ hs)) (if b then computed r RightShift 4 x (Known n) hs else Makes Skip (only (Known 0 ∷ hs)))
+      by_amount : (b : Bool) → nat_lt n bits ≡ b
+          → Right' (only (Known n ∷ x ∷ hs)) (if b then computed r RightShift (bytes_for bits) x (Known n) hs else Makes Skip (only (Known 0 ∷ hs)))
           (step' (Operate (ShiftRight bits)))
-      by_amount le true e =
-          right_binary k f m call handle p go params lay r ws wide (ShiftRight bits) RightShift 4 x (Known n) hs placed
-          (λ u v t hv lu lv. right_below bits u v lu lv le (ap (λ z. nat_lt z bits) (sym (some_is n v hv)) ∙ e))
-      by_amount le false e = right_nothing bits x n hs placed le e
+      by_amount true e = right_right bits x (Known n) hs placed
+      by_amount false e = right_nothing bits x n hs placed e
 
-      by_bits : (b : Bool) → nat_lt 32 bits ≡ b
-          → Right' (only (Known n ∷ x ∷ hs)) (if b then Refused NotTaken else if nat_lt n bits then computed r RightShift 4 x (Known n) hs else Makes Skip
-          (only (Known 0 ∷ hs))) (step' (Operate (ShiftRight bits)))
-      by_bits true e = tt
-      by_bits false e = by_amount (grind arith) (nat_lt n bits) refl
+  -- ---- strings side by side
+
+  right_concatenated : (bits : ℕ) (x y : Operand) (hs : List Operand) → ArePlaced r.locals (y ∷ x ∷ hs)
+      → Right' (only (y ∷ x ∷ hs)) (concatenated r bits x y hs) (step' (Operate (Concat bits)))
+  right_concatenated bits x y hs placed =
+      right_block k f m call handle p go lay r ws wide (Concat bits) x y hs (λ to. Both (shift to) (sum to)) placed.1.1
+      (λ to has u v s d w i hu hv lu lv same ok. does to has u v s d w i hu hv lu lv same ok)
+    where
+      shift : ℕ → Block
+      shift to = One (Compute (record { operator = LeftShift; width = 4; to = to; left = x; right = Known bits }))
+
+      sum : ℕ → Block
+      sum to = One (Compute (record { operator = Sum; width = 4; to = to; left = Local to; right = y }))
+
+      does : (to : ℕ) → temp r hs ≡ Some to → (u v : ℕ) (s : Firm) (d : Deciding State) (w : World History) → IsFair w → value x d.state ≡ Some u
+          → value y d.state ≡ Some v → u < 2 ^ 32 → v < 2 ^ 32 → AreSame lay r ws hs s d.state → has_strings (Concat bits) u v ≡ true
+          → Alike (Held lay r ws (only (Local to ∷ hs))) (Leaves lay r ws) (put (u * 2 ^ bits + v) s w) (linear' (Both (shift to) (sum to)) d w)
+      does to has u v s d w i hu hv lu lv same ok =
+          subst (λ z. Alike (Held lay r ws (only (Local to ∷ hs))) (Leaves lay r ws) (put (u * 2 ^ bits + v) s w) (and_then z (linear' (sum to))))
+          (sym (plain_goes k f m call handle p go lay r ws wide
+          (Compute (record { operator = LeftShift; width = 4; to = to; left = x; right = Known bits })) d w (sets to above d.state)
+          (computes_to k f m call handle p go lay r ws wide LeftShift 4 to x (Known bits) u bits above d.state w.outside hu refl (shifted_whole bits u v ok))))
+          (into_temp k f m call handle p go lay r ws wide hs to (u * 2 ^ bits + v)
+          (Compute (record { operator = Sum; width = 4; to = to; left = Local to; right = y })) s (record d { state = sets to above d.state }) w i placed.1.1 has
+          (concat_small bits u v ok)
+          (record { waits = there.waits.1; kept = there.kept; none = there.none; ram = there.ram })
+          (computes_to k f m call handle p go lay r ws wide Sum 4 to (Local to) y above v (u * 2 ^ bits + v) (sets to above d.state) w.outside there.waits.0.0
+          (value_stays r hs y x v d.state to above has placed hv) (ap Some (low_same (u * 2 ^ bits + v) (concat_small bits u v ok)))))
+        where
+          above : ℕ
+          above = u * 2 ^ bits
+
+          there : AreSame lay r ws (Local to ∷ hs) (record s { values = above ∷ s.values }) (sets to above d.state)
+          there = put_temp lay r m.widths ws hs s d.state to above wide placed.1.1 has (concat_above bits u v ok) same
 
   -- ---- all operators
 
-  right_combined : (op : Operator) (x y : Operand) (hs : List Operand) → ArePlaced r.locals hs
+  right_combined : (op : Operator) (x y : Operand) (hs : List Operand) → ArePlaced r.locals (y ∷ x ∷ hs) → computing op ≡ None → comparing op x y ≡ None
       → Right' (only (y ∷ x ∷ hs)) (combined r op x y hs) (step' (Operate op))
-  right_combined Divide x y hs placed = right_divided Divide Quotient x y hs placed (λ u. refl) quotient_of
-  right_combined Remainder x y hs placed = right_divided Remainder Rest x y hs placed (λ u. refl) remainder_of
-  right_combined (ShiftLeft bits) x y hs placed = right_left bits x y hs placed (bytes_of bits) refl
-  right_combined (ShiftRight bits) x (Known n) hs placed = right_known bits x n hs placed
-  right_combined (ShiftRight bits) x (Local j) hs placed = right_by bits x (Local j) hs placed
-  right_combined Plus x y hs placed = tt
-  right_combined Minus x y hs placed = tt
-  right_combined Times x y hs placed = tt
-  right_combined (Less o) x y hs placed = tt
-  right_combined (AtMost o) x y hs placed = tt
-  right_combined (Greater o) x y hs placed = tt
-  right_combined (AtLeast o) x y hs placed = tt
-  right_combined Equal x y hs placed = tt
-  right_combined Unequal x y hs placed = tt
-  right_combined And x y hs placed = tt
-  right_combined Or x y hs placed = tt
-  right_combined Xor x y hs placed = tt
-  right_combined (Concat n) x y hs placed = tt
+  right_combined Divide x y hs placed e c = right_divided Divide Quotient x y hs placed.1.1 (λ u. refl) quotient_of
+  right_combined Remainder x y hs placed e c = right_divided Remainder Rest x y hs placed.1.1 (λ u. refl) remainder_of
+  right_combined (ShiftLeft bits) x y hs placed e c = right_left bits x y hs placed.1.1 (bytes_of bits) refl
+  right_combined (ShiftRight bits) x (Known n) hs placed e c = right_known bits x n hs placed.1.1
+  right_combined (ShiftRight bits) x (Local j) hs placed e c = right_right bits x (Local j) hs placed.1.1
+  right_combined (Concat n) x y hs placed e c = right_concatenated n x y hs placed
+  right_combined Plus x y hs placed e c = none_is_not Sum (sym e)
+  right_combined Minus x y hs placed e c = none_is_not Difference (sym e)
+  right_combined Times x y hs placed e c = none_is_not Product (sym e)
+  right_combined And x y hs placed e c = none_is_not Both' (sym e)
+  right_combined Or x y hs placed e c = none_is_not Either' (sym e)
+  right_combined Xor x y hs placed e c = none_is_not Unlike (sym e)
+  right_combined (Less o) x y hs placed e c = none_is_not _ (sym c)
+  right_combined (AtMost o) x y hs placed e c = none_is_not _ (sym c)
+  right_combined (Greater o) x y hs placed e c = none_is_not _ (sym c)
+  right_combined (AtLeast o) x y hs placed e c = none_is_not _ (sym c)
+  right_combined Equal x y hs placed e c = none_is_not _ (sym c)
+  right_combined Unequal x y hs placed e c = none_is_not _ (sym c)
 
   pub right_operated : (op : Operator) (hs : List Operand) → ArePlaced r.locals hs → Right' (only hs) (operated r op hs) (step' (Operate op))
   right_operated op [] placed = tt
@@ -317,6 +326,6 @@ module _ (k : Codes) (f : FirmProgram) (m : FirmProcedure) (call : FirmCaller Hi
       by_kind : (o : Option LinOperator) → computing op ≡ o → (t : Option Truth) → comparing op x y ≡ t
           → Right' (only (y ∷ x ∷ hs)) (operated_as r op o t x y hs) (step' (Operate op))
       by_kind (Some lop) e t e1 =
-          right_binary k f m call handle p go params lay r ws wide op lop 4 x y hs placed.1.1 (λ u v s hv lu lv. computes op lop u v lu lv e)
-      by_kind None e (Some t) e1 = right_compared k f m call handle p go params lay r ws wide op x y hs placed.1.1 t e1
-      by_kind None e None e1 = right_combined op x y hs placed.1.1
+          right_binary k f m call handle p go lay r ws wide op lop 4 x y hs placed.1.1 (λ u v s hv lu lv ok. computes op lop u v lu lv e)
+      by_kind None e (Some t) e1 = right_compared k f m call handle p go lay r ws wide op x y hs placed.1.1 t e1
+      by_kind None e None e1 = right_combined op x y hs placed e e1

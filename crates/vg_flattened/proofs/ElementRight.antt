@@ -38,8 +38,9 @@ use Rattle.vg_flatten_shapes.specs.declared.room.Room.{Room}
 use Rattle.vg_flatten_shapes.specs.Shapes.{Shape, only, temp}
 use Rattle.vg_flatten_shapes.specs.Blocks.{Block, One, Both, stop_where}
 use Rattle.vg_flatten_shapes.specs.Made.{Made, Gives as Makes, Refused, by_temp}
-use Rattle.vg_flatten_steps.specs.declared.elements.Reach.{Reach}
-use Rattle.vg_flatten_steps.specs.Steps.{is_width, load_from, places_in, memory_of, test_of, is_place, timed, place_of, bounded, reached, element_of, load_element, load_item}
+use Rattle.vg_flatten_places.specs.declared.elements.Reach.{Reach}
+use Rattle.vg_flatten_places.specs.Places.{is_width, load_from, places_in, memory_of, is_place, timed, place_of, bounded, reached, element_of, load_element, load_item}
+use Rattle.vg_flatten_values.specs.Values.{test_of}
 use Rattle.vg_flatten.specs.Columns.{ColumnStands, TableStands, FlashStands}
 use Rattle.vg_flattened.proofs.Alike.{IsFair, Alike, gives, wrong}
 use Rattle.vg_flattened.proofs.Related.{ArePlaced, AreAt, AreWidths, AreSame, Held, Leaves, said}
@@ -76,13 +77,13 @@ pub sum_is : (low' address first t : ℕ) → low' ≤ first → first ≤ addre
 sum_is low' address first t h1 h2 = omega (arith, h1, h2)
 
 module _ (k : Codes) (f : FirmProgram) (m : FirmProcedure) (call : FirmCaller History) (handle : ℕ → Piece Firm History)
-    (p : LinProgram) (go : LinCaller State) (params : List ℕ) (lay : Layout) (r : Room) (ws : List ℕ) (wide : AreWidths r m.widths ws)
+    (p : LinProgram) (go : LinCaller State) (lay : Layout) (r : Room) (ws : List ℕ) (wide : AreWidths r m.widths ws)
     (flash : FlashStands lay f p) where
   abbrev Right' : Shape → Made → Piece Firm History → Type 0
-  Right' = Right k f m call handle p go params lay r ws wide
+  Right' = Right k f m call handle p go lay r ws wide
 
   abbrev linear' : Block → Piece (Deciding State) History
-  linear' = linear k f m call handle p go params lay r ws wide
+  linear' = linear k f m call handle p go lay r ws wide
 
   abbrev step' : Step → Piece Firm History
   step' = firm_step k f m call handle
@@ -97,12 +98,12 @@ module _ (k : Codes) (f : FirmProgram) (m : FirmProcedure) (call : FirmCaller Hi
       (d : Deciding State) (w : World History) (t : State) → plain p i d.state w.outside ≡ Goes t w.outside
       → Alike G L a (linear' b (record d { state = t }) w) → Alike G L a (linear' (Both (One i) b) d w)
   step_then {G} {L} i b a d w t e h =
-      subst (λ z. Alike G L a (and_then z (linear' b))) (sym (plain_goes k f m call handle p go params lay r ws wide i d w t e)) h
+      subst (λ z. Alike G L a (and_then z (linear' b))) (sym (plain_goes k f m call handle p go lay r ws wide i d w t e)) h
 
   pub times_is : (to by : ℕ) (h : Operand) (n : ℕ) (t : State) (o : Outside) → value h t ≡ Some n → n * by < 2 ^ 32
       → plain p (timed to by h) t o ≡ Goes (sets to (n * by) t) o
   times_is to by h n t o hv few =
-      computes_to k f m call handle p go params lay r ws wide Product 4 to h (Known by) n by (n * by) t o hv refl (ap Some (low_same (n * by) few))
+      computes_to k f m call handle p go lay r ws wide Product 4 to h (Known by) n by (n * by) t o hv refl (ap Some (low_same (n * by) few))
 
   -- the newest value is left out
   pub less : (h : Operand) (hs : List Operand) (v : ℕ) (vs : List ℕ) (s : Firm) (t : State) → AreSame lay r ws (h ∷ hs) (record s { values = v ∷ vs }) t
@@ -148,18 +149,18 @@ module _ (k : Codes) (f : FirmProgram) (m : FirmProcedure) (call : FirmCaller Hi
         → Alike G L (put v (record s { values = vs }) w) (linear' (place_of reach last) d w)
     does_last arrays tabled n x above a found low' whole s vs d w fair q us hc v he =
         step_then (load_from Flash 2 first (table - 4) (Local first)) (Both (One (timed second e.width i)) (Both (One sum) (One last))) answer d w t1
-        (loads k f m call handle p go params lay r ws wide flash Flash 2 first (table - 4) (n * 4) (table - first_address Flash + 4 * (n - 1)) a.address
+        (loads k f m call handle p go lay r ws wide flash Flash 2 first (table - 4) (n * 4) (table - first_address Flash + 4 * (n - 1)) a.address
         (Local first) d.state w.outside q.waits.0.0
         (omega (arith, t_behind, above, four)) (omega (arith, t_behind, above, four)) (stood.addresses (n - 1) a found).0)
         (step_then (timed second e.width i) (Both (One sum) (One last)) answer (record d { state = t1 }) w t2
         (times_is second e.width i x t1 w.outside (value_of_home i x t1 q1.waits.1.0.0) few)
         (step_then sum (One last) answer (record d { state = t2 }) w t3
-        (computes_to k f m call handle p go params lay r ws wide Sum 4 first (Local first) (Local second) a.address (x * e.width) (a.address + x * e.width) t2
+        (computes_to k f m call handle p go lay r ws wide Sum 4 first (Local first) (Local second) a.address (x * e.width) (a.address + x * e.width) t2
         w.outside q2.waits.1.0.0 q2.waits.0.0 (ap Some (low_same (a.address + x * e.width) sum_few)))
-        (into_temp k f m call handle p go params lay r ws wide hs to v last (record s { values = vs }) (record d { state = t3 }) w fair placed.1.1 has0
+        (into_temp k f m call handle p go lay r ws wide hs to v last (record s { values = vs }) (record d { state = t3 }) w fair placed.1.1 has0
         (four_bytes e.width v (width_high e.width is) (subst (λ z. v < 256 ^ z) (sym same_width) (stands.held index v he).1))
         (less h hs n vs s t3 (less i (h ∷ hs) x (n ∷ vs) s t3 (less (Local first) (i ∷ h ∷ hs) (a.address + x * e.width) (x ∷ n ∷ vs) s t3 q3)))
-        (loads k f m call handle p go params lay r ws wide flash (memory_of e.home) e.width to 0 (a.address + x * e.width)
+        (loads k f m call handle p go lay r ws wide flash (memory_of e.home) e.width to 0 (a.address + x * e.width)
         (place.address - first_address (memory_of e.home) + place.width * index) v
         (Local first) t3 w.outside q3.waits.0.0 (sum_behind (first_address (memory_of e.home)) a.address e.address (x * e.width) c_behind low')
         place_is (subst (λ z. number_at (bytes_of p (memory_of e.home) t3) z (place.address - first_address (memory_of e.home) + place.width * index) ≡ Some v)
@@ -191,7 +192,7 @@ module _ (k : Codes) (f : FirmProgram) (m : FirmProcedure) (call : FirmCaller Hi
 
         before : ColumnStands (memory_of e.home) (bytes_of p (memory_of e.home) d.state) place us
         before =
-            stands_in k f m call handle p go params lay r ws wide flash e.home (Local first ∷ i ∷ h ∷ hs) (record s { values = n * 4 ∷ x ∷ n ∷ vs }) d.state q
+            stands_in k f m call handle p go lay r ws wide flash e.home (Local first ∷ i ∷ h ∷ hs) (record s { values = n * 4 ∷ x ∷ n ∷ vs }) d.state q
             e.column place us column_at (ap (λ z. slice_get z e.column) (columns_same e.home s (n * 4 ∷ x ∷ n ∷ vs) vs) ∙ hc)
 
         c_behind : first_address (memory_of e.home) ≤ e.address
@@ -240,7 +241,7 @@ module _ (k : Codes) (f : FirmProgram) (m : FirmProcedure) (call : FirmCaller Hi
 
         stands : ColumnStands (memory_of e.home) (bytes_of p (memory_of e.home) t3) place us
         stands =
-            stands_in k f m call handle p go params lay r ws wide flash e.home (Local first ∷ i ∷ h ∷ hs)
+            stands_in k f m call handle p go lay r ws wide flash e.home (Local first ∷ i ∷ h ∷ hs)
             (record s { values = (a.address + x * e.width) ∷ x ∷ n ∷ vs }) t3 q3 e.column place us column_at
             (ap (λ z. slice_get z e.column) (columns_same e.home s ((a.address + x * e.width) ∷ x ∷ n ∷ vs) vs) ∙ hc)
 
@@ -298,7 +299,7 @@ module _ (k : Codes) (f : FirmProgram) (m : FirmProcedure) (call : FirmCaller Hi
     by_bound arrays tabled n x above a found short s vs d w fair q true c =
         subst (λ z. Alike G L (checked (is_in e a.address) (load f e.home e.column (item_index e a.address x)) (record s { values = vs }) w)
         (and_then z (linear' (place_of reach last))))
-        (sym (passed k f m call handle p go params lay r ws wide (Fails (test_of Below i (Local second))) 2 d w
+        (sym (passed k f m call handle p go lay r ws wide (Fails (test_of Below i (Local second))) 2 d w
         (ap (option_map not) (holds_of Below i (Local second) x a.length d.state (value_of_home i x d.state q.waits.1.1.0.0) q.waits.0.0
         ∙ ap Some (below_same x a.length q.waits.1.1.0.1 (omega (arith, short)) ∙ c)))))
         (by_place arrays tabled n x above a found s vs (record d { truth = None }) w fair
@@ -306,7 +307,7 @@ module _ (k : Codes) (f : FirmProgram) (m : FirmProcedure) (call : FirmCaller Hi
         ((a.address - e.address) % e.width == 0) refl refl)
     by_bound arrays tabled n x above a found short s vs d w fair q false c =
         subst (λ z. Alike G L (stops 2 0 (record s { values = vs }) w) (and_then z (linear' (place_of reach last))))
-        (sym (stopped k f m call handle p go params lay r ws wide (Fails (test_of Below i (Local second))) 2 d w
+        (sym (stopped k f m call handle p go lay r ws wide (Fails (test_of Below i (Local second))) 2 d w
         (ap (option_map not) (holds_of Below i (Local second) x a.length d.state (value_of_home i x d.state q.waits.1.1.0.0) q.waits.0.0
         ∙ ap Some (below_same x a.length q.waits.1.1.0.1 (omega (arith, short)) ∙ c)))))
         (stops_both 2 (record s { values = vs }) (record d { truth = None }) w fair)
@@ -324,7 +325,7 @@ module _ (k : Codes) (f : FirmProgram) (m : FirmProcedure) (call : FirmCaller Hi
         step_then (timed first 4 h) (Both (One (load_from Flash 2 second (table - 2) (Local first))) (bounded reach last)) answer d w t1
         (times_is first 4 h n d.state w.outside (value_of_home h n d.state q.waits.1.0.0) few)
         (step_then (load_from Flash 2 second (table - 2) (Local first)) (bounded reach last) answer (record d { state = t1 }) w t2
-        (loads k f m call handle p go params lay r ws wide flash Flash 2 second (table - 2) (n * 4) (table - first_address Flash + 4 * (n - 1) + 2) a.length
+        (loads k f m call handle p go lay r ws wide flash Flash 2 second (table - 2) (n * 4) (table - first_address Flash + 4 * (n - 1) + 2) a.length
         (Local first) t1 w.outside q1.waits.0.0
         (omega (arith, t_behind, above)) (omega (arith, t_behind, above)) (stood.lengths (n - 1) a found).0)
         (by_bound arrays tabled n x above a found short s vs (record d { state = t2 }) w fair q2 (nat_lt x a.length) refl))
@@ -376,7 +377,7 @@ module _ (k : Codes) (f : FirmProgram) (m : FirmProcedure) (call : FirmCaller Hi
     by_values s d w fair q [] at = absurd at
     by_values s d w fair q (x ∷ []) at = absurd at.1
     by_values s d w fair q (x ∷ n ∷ vs) at =
-        null_then k f m call handle p go params lay r ws wide flash h n (sought x) (linear' (reached reach last)) (record s { values = vs }) d w fair
+        null_then k f m call handle p go lay r ws wide flash h n (sought x) (linear' (reached reach last)) (record s { values = vs }) d w fair
         (value_of_home h n d.state at.1.0.0) at.1.0.1
         (λ above. by_table n x above s vs (record d { truth = None }) w fair (record { waits = at; kept = q.kept; none = q.none; ram = q.ram })
         (slice_get f.tables e.table) refl)
@@ -395,7 +396,7 @@ module _ (k : Codes) (f : FirmProgram) (m : FirmProcedure) (call : FirmCaller Hi
           → Right' (only (i ∷ h ∷ hs)) (by_temp o (λ second. made to first second)) (step' (LoadItem e))
       by_second to first has0 has1 (Some second) has2 = (
         placed_temp r hs to has0 placed.1.1,
-        λ fit s d w fair q. by_values e place table column_at table_at ea ew is h i hs placed to first second has0 has1 has2 s d w fair q s.values q.waits,
+        λ s d w fair q. by_values e place table column_at table_at ea ew is h i hs placed to first second has0 has1 has2 s d w fair q s.values q.waits,
       )
       by_second to first has0 has1 None has2 = tt
 

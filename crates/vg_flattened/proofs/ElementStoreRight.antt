@@ -36,8 +36,9 @@ use Rattle.vg_flatten_shapes.specs.declared.room.Room.{Room}
 use Rattle.vg_flatten_shapes.specs.Shapes.{Shape, only, temp}
 use Rattle.vg_flatten_shapes.specs.Blocks.{Block, One, Both, stop_where}
 use Rattle.vg_flatten_shapes.specs.Made.{Made, Gives as Makes, Refused, by_temp}
-use Rattle.vg_flatten_steps.specs.declared.elements.Reach.{Reach}
-use Rattle.vg_flatten_steps.specs.Steps.{is_width, load_from, places_in, memory_of, test_of, is_place, timed, place_of, bounded, reached, element_of, store_at, store_element, store_item}
+use Rattle.vg_flatten_places.specs.declared.elements.Reach.{Reach}
+use Rattle.vg_flatten_places.specs.Places.{is_width, load_from, places_in, memory_of, is_place, timed, place_of, bounded, reached, element_of, store_at, store_element, store_item}
+use Rattle.vg_flatten_values.specs.Values.{test_of}
 use Rattle.vg_flatten.specs.Columns.{ColumnStands, TableStands, FlashStands}
 use Rattle.vg_flattened.proofs.Alike.{IsFair, Alike, gives, wrong}
 use Rattle.vg_flattened.proofs.Related.{ArePlaced, AreAt, AreWidths, AreSame, Held, Leaves, said}
@@ -52,13 +53,13 @@ use Rattle.vg_flattened.proofs.StoreRight.{does_store}
 use Rattle.vg_flattened.proofs.ElementRight.{whole_behind, sum_small, times_small, sum_behind, sum_is, step_then, times_is, less}
 
 module _ (k : Codes) (f : FirmProgram) (m : FirmProcedure) (call : FirmCaller History) (handle : ℕ → Piece Firm History)
-    (p : LinProgram) (go : LinCaller State) (params : List ℕ) (lay : Layout) (r : Room) (ws : List ℕ) (wide : AreWidths r m.widths ws)
+    (p : LinProgram) (go : LinCaller State) (lay : Layout) (r : Room) (ws : List ℕ) (wide : AreWidths r m.widths ws)
     (flash : FlashStands lay f p) where
   abbrev Right' : Shape → Made → Piece Firm History → Type 0
-  Right' = Right k f m call handle p go params lay r ws wide
+  Right' = Right k f m call handle p go lay r ws wide
 
   abbrev linear' : Block → Piece (Deciding State) History
-  linear' = linear k f m call handle p go params lay r ws wide
+  linear' = linear k f m call handle p go lay r ws wide
 
   abbrev step' : Step → Piece Firm History
   step' = firm_step k f m call handle
@@ -101,24 +102,24 @@ module _ (k : Codes) (f : FirmProgram) (m : FirmProcedure) (call : FirmCaller Hi
         → Alike G L (Gives (record s { values = vs; columns = set_entry s.columns e.column ((a.address - e.address) / e.width + x) y }) w)
         (linear' (place_of reach last) d w)
     does_last arrays tabled n x y small-y above a found low' whole s vs d w fair q us hc old he =
-        step_then k f m call handle p go params lay r ws wide flash (load_from Flash 2 first (table - 4) (Local first))
+        step_then k f m call handle p go lay r ws wide flash (load_from Flash 2 first (table - 4) (Local first))
         (Both (One (timed second e.width i)) (Both (One sum) (One last))) answer d w t1
-        (loads k f m call handle p go params lay r ws wide flash Flash 2 first (table - 4) (n * 4) (table - first_address Flash + 4 * (n - 1)) a.address
+        (loads k f m call handle p go lay r ws wide flash Flash 2 first (table - 4) (n * 4) (table - first_address Flash + 4 * (n - 1)) a.address
         (Local first) d.state w.outside q.waits.0.0
         (omega (arith, t_behind, above, four)) (omega (arith, t_behind, above, four)) (stood.addresses (n - 1) a found).0)
-        (step_then k f m call handle p go params lay r ws wide flash (timed second e.width i) (Both (One sum) (One last)) answer (record d { state = t1 }) w t2
-        (times_is k f m call handle p go params lay r ws wide flash second e.width i x t1 w.outside (value_of_home i x t1 q1.waits.1.1.0.0) few)
-        (step_then k f m call handle p go params lay r ws wide flash sum (One last) answer (record d { state = t2 }) w t3
-        (computes_to k f m call handle p go params lay r ws wide Sum 4 first (Local first) (Local second) a.address (x * e.width) (a.address + x * e.width) t2
+        (step_then k f m call handle p go lay r ws wide flash (timed second e.width i) (Both (One sum) (One last)) answer (record d { state = t1 }) w t2
+        (times_is k f m call handle p go lay r ws wide flash second e.width i x t1 w.outside (value_of_home i x t1 q1.waits.1.1.0.0) few)
+        (step_then k f m call handle p go lay r ws wide flash sum (One last) answer (record d { state = t2 }) w t3
+        (computes_to k f m call handle p go lay r ws wide Sum 4 first (Local first) (Local second) a.address (x * e.width) (a.address + x * e.width) t2
         w.outside q2.waits.1.0.0 q2.waits.0.0 (ap Some (low_same (a.address + x * e.width) sum_few)))
         (subst (λ z. Alike G L answer (linear' (One (store_at z 0 (Local first) from)) (record d { state = t3 }) w)) (sym same_width)
-        (does_store k f m call handle p go params lay r ws wide flash hs e.column index y old (a.address + x * e.width) 0 place us (Local first) from
+        (does_store k f m call handle p go lay r ws wide flash hs e.column index y old (a.address + x * e.width) 0 place us (Local first) from
         (record s { values = vs }) (record d { state = t3 }) w fair column_at hc he (subst (λ z. y < 256 ^ z) same_width small-y) q3.waits.0.0
         (value_of_home from y t3 q3.waits.1.0.0) (sum_behind (first_address Ram) a.address e.address (x * e.width) c_behind low') place_is
-        (less k f m call handle p go params lay r ws wide flash h hs n vs s t3 (less k f m call handle p go params lay r ws wide flash i (h ∷ hs) x
+        (less k f m call handle p go lay r ws wide flash h hs n vs s t3 (less k f m call handle p go lay r ws wide flash i (h ∷ hs) x
         (n ∷ vs) s t3
-        (less k f m call handle p go params lay r ws wide flash from (i ∷ h ∷ hs) y (x ∷ n ∷ vs) s t3
-        (less k f m call handle p go params lay r ws wide flash (Local first) (from ∷ i ∷ h ∷ hs) (a.address + x * e.width) (y ∷ x ∷ n ∷ vs) s t3 q3))))))))
+        (less k f m call handle p go lay r ws wide flash from (i ∷ h ∷ hs) y (x ∷ n ∷ vs) s t3
+        (less k f m call handle p go lay r ws wide flash (Local first) (from ∷ i ∷ h ∷ hs) (a.address + x * e.width) (y ∷ x ∷ n ∷ vs) s t3 q3))))))))
       where
         answer : Answer Firm History
         answer = Gives (record s { values = vs; columns = set_entry s.columns e.column ((a.address - e.address) / e.width + x) y }) w
@@ -145,7 +146,7 @@ module _ (k : Codes) (f : FirmProgram) (m : FirmProcedure) (call : FirmCaller Hi
               values =
                   y ∷ x ∷ n ∷ vs;
             }) d.state first a.address wide placed has1 (omega (arith, small))
-            (less k f m call handle p go params lay r ws wide flash (Local first) (from ∷ i ∷ h ∷ hs) (n * 4) (y ∷ x ∷ n ∷ vs) s d.state q)
+            (less k f m call handle p go lay r ws wide flash (Local first) (from ∷ i ∷ h ∷ hs) (n * 4) (y ∷ x ∷ n ∷ vs) s d.state q)
 
         before : ColumnStands Ram d.state.ram place us
         before = q.ram.stands e.column place us column_at hc
@@ -191,8 +192,8 @@ module _ (k : Codes) (f : FirmProgram) (m : FirmProcedure) (call : FirmCaller Hi
         q3 : AreSame lay r ws (Local first ∷ from ∷ i ∷ h ∷ hs) (record s { values = (a.address + x * e.width) ∷ y ∷ x ∷ n ∷ vs }) t3
         q3 =
             put_temp lay r m.widths ws (from ∷ i ∷ h ∷ hs) (record s { values = y ∷ x ∷ n ∷ vs }) t2 first (a.address + x * e.width) wide placed has1 sum_few
-            (less k f m call handle p go params lay r ws wide flash (Local first) (from ∷ i ∷ h ∷ hs) a.address (y ∷ x ∷ n ∷ vs) s t2
-            (less k f m call handle p go params lay r ws wide flash (Local second) (Local first ∷ from ∷ i ∷ h ∷ hs) (x * e.width)
+            (less k f m call handle p go lay r ws wide flash (Local first) (from ∷ i ∷ h ∷ hs) a.address (y ∷ x ∷ n ∷ vs) s t2
+            (less k f m call handle p go lay r ws wide flash (Local second) (Local first ∷ from ∷ i ∷ h ∷ hs) (x * e.width)
             (a.address ∷ y ∷ x ∷ n ∷ vs) s t2 q2))
 
         place_is : 0 + (a.address + x * e.width) - first_address Ram ≡ place.address - first_address Ram + place.width * index
@@ -246,16 +247,16 @@ module _ (k : Codes) (f : FirmProgram) (m : FirmProcedure) (call : FirmCaller Hi
     by_bound arrays tabled n x y small-y above a found short s vs d w fair q true c =
         subst (λ z. Alike G L (checked (is_in e a.address) (store e.column (item_index e a.address x) y) (record s { values = vs }) w)
         (and_then z (linear' (place_of reach last))))
-        (sym (passed k f m call handle p go params lay r ws wide (Fails (test_of Below i (Local second))) 2 d w
+        (sym (passed k f m call handle p go lay r ws wide (Fails (test_of Below i (Local second))) 2 d w
         (ap (option_map not) (holds_of Below i (Local second) x a.length d.state (value_of_home i x d.state q.waits.1.1.1.0.0) q.waits.0.0
         ∙ ap Some (below_same x a.length q.waits.1.1.1.0.1 (omega (arith, short)) ∙ c)))))
         (by_place arrays tabled n x y small-y above a found s vs (record d { truth = None }) w fair
-        (less k f m call handle p go params lay r ws wide flash (Local second) (Local first ∷ from ∷ i ∷ h ∷ hs) a.length
+        (less k f m call handle p go lay r ws wide flash (Local second) (Local first ∷ from ∷ i ∷ h ∷ hs) a.length
         (n * 4 ∷ y ∷ x ∷ n ∷ vs) s d.state q) (nat_le e.address a.address)
         ((a.address - e.address) % e.width == 0) refl refl)
     by_bound arrays tabled n x y small-y above a found short s vs d w fair q false c =
         subst (λ z. Alike G L (stops 2 0 (record s { values = vs }) w) (and_then z (linear' (place_of reach last))))
-        (sym (stopped k f m call handle p go params lay r ws wide (Fails (test_of Below i (Local second))) 2 d w
+        (sym (stopped k f m call handle p go lay r ws wide (Fails (test_of Below i (Local second))) 2 d w
         (ap (option_map not) (holds_of Below i (Local second) x a.length d.state (value_of_home i x d.state q.waits.1.1.1.0.0) q.waits.0.0
         ∙ ap Some (below_same x a.length q.waits.1.1.1.0.1 (omega (arith, short)) ∙ c)))))
         (stops_both 2 (record s { values = vs }) (record d { truth = None }) w fair)
@@ -270,12 +271,12 @@ module _ (k : Codes) (f : FirmProgram) (m : FirmProcedure) (call : FirmCaller Hi
         (record s { values = vs }) w) (linear' (reached reach last) d w)
     by_array arrays tabled n x y small-y above s vs d w fair q None found = wrong
     by_array arrays tabled n x y small-y above s vs d w fair q (Some a) found =
-        step_then k f m call handle p go params lay r ws wide flash (timed first 4 h) (Both (One (load_from Flash 2 second (table - 2) (Local first)))
-        (bounded reach last)) answer d w t1 (times_is k f m call handle p go params lay r ws wide flash first 4 h n d.state w.outside
+        step_then k f m call handle p go lay r ws wide flash (timed first 4 h) (Both (One (load_from Flash 2 second (table - 2) (Local first)))
+        (bounded reach last)) answer d w t1 (times_is k f m call handle p go lay r ws wide flash first 4 h n d.state w.outside
         (value_of_home h n d.state q.waits.1.1.0.0) few)
-        (step_then k f m call handle p go params lay r ws wide flash (load_from Flash 2 second (table - 2) (Local first)) (bounded reach last) answer
+        (step_then k f m call handle p go lay r ws wide flash (load_from Flash 2 second (table - 2) (Local first)) (bounded reach last) answer
         (record d { state = t1 }) w t2
-        (loads k f m call handle p go params lay r ws wide flash Flash 2 second (table - 2) (n * 4) (table - first_address Flash + 4 * (n - 1) + 2) a.length
+        (loads k f m call handle p go lay r ws wide flash Flash 2 second (table - 2) (n * 4) (table - first_address Flash + 4 * (n - 1) + 2) a.length
         (Local first) t1 w.outside q1.waits.0.0
         (omega (arith, t_behind, above)) (omega (arith, t_behind, above)) (stood.lengths (n - 1) a found).0)
         (by_bound arrays tabled n x y small-y above a found short s vs (record d { state = t2 }) w fair q2 (nat_lt x a.length) refl))
@@ -327,7 +328,7 @@ module _ (k : Codes) (f : FirmProgram) (m : FirmProcedure) (call : FirmCaller Hi
         → Alike G L (checked b (taking (λ j. taking (at_item f e (λ c. store e.column c y) j))) (record s { values = x ∷ n ∷ vs }) w)
         (linear' (element_of reach last) d w)
     by_fit s d w fair q y x n vs at true fit =
-        null_then k f m call handle p go params lay r ws wide flash h n (sought y x) (linear' (reached reach last)) (record s { values = vs }) d w fair
+        null_then k f m call handle p go lay r ws wide flash h n (sought y x) (linear' (reached reach last)) (record s { values = vs }) d w fair
         (value_of_home h n d.state at.1.1.0.0) at.1.1.0.1
         (λ above. by_table n x y (grind arith) above s vs (record d { truth = None }) w fair
         (record { waits = at; kept = q.kept; none = q.none; ram = q.ram }) (slice_get f.tables e.table) refl)
@@ -357,7 +358,7 @@ module _ (k : Codes) (f : FirmProgram) (m : FirmProcedure) (call : FirmCaller Hi
           → Right' (only (from ∷ i ∷ h ∷ hs)) (by_temp o (λ second. made first second)) (step' (StoreItem e))
       by_second first has1 (Some second) has2 = (
         placed.1.1.1,
-        λ fit s d w fair q. by_values e place table column_at table_at ea ew is from h i hs placed first second has1 has2 s d w fair q s.values q.waits,
+        λ s d w fair q. by_values e place table column_at table_at ea ew is from h i hs placed first second has1 has2 s d w fair q s.values q.waits,
       )
       by_second first has1 None has2 = tt
 

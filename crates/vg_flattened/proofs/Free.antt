@@ -11,7 +11,7 @@ use Rattle.vg_flatten_shapes.specs.declared.room.Room.{Room}
 use Rattle.vg_flatten_shapes.specs.Shapes.{same_operand, same_homes, is_free}
 use Rattle.vg_flattened.proofs.Related.{IsAt, AreAt, AreKept}
 use Rattle.vg_flatten_shapes.proofs.Temps.{some_is, none_is_not}
-use Rattle.vg_flattened.proofs.Locals.{written_is, others_stay, kept_there}
+use Rattle.vg_flattened.proofs.Locals.{written_is, others_stay, kept_there, receiver_stays}
 
 -- ---- what a list of numbers has behind a write
 
@@ -90,26 +90,31 @@ homes_same xs ys e = sym (twice xs) ∙ ap reverse (rows_same (reverse xs) (reve
 
 -- ---- the local gets the value
 
-pub kept_behind_set : (r : Room) (ws vs : List ℕ) (ls : List LocalState) (i w v : ℕ) → slice_get ws i ≡ Some w → low w v ≡ v → v < 2 ^ 32
-    → AreKept r ws vs ls → AreKept r ws (slice_set vs i v) (with_local ls i v)
-kept_behind_set r ws vs ls i w v has same small kept =
+pub kept_behind_set : (r : Room) (ws : List ℕ) (self : Option ℕ) (vs : List ℕ) (ls : List LocalState) (i w v : ℕ) → slice_get ws (r.receiver + i) ≡ Some w
+    → low w v ≡ v → v < 2 ^ 32 → AreKept r ws self vs ls → AreKept r ws self (slice_set vs i v) (with_local ls (r.receiver + i) v)
+kept_behind_set r ws self vs ls i w v has same small kept =
     record {
-      there = kept_there r ws vs ls i v kept;
+      receiver = receiver_stays r self ls to v (λ n e l1 l2. let ne : 0 ≢ to = omega (arith, l1) in ne) kept.receiver;
+      there = kept_there r ws self vs ls to v kept;
       locals = λ j x lt e. by_place j x lt e (j == i) refl;
     }
   where
-    here : (o : Option ℕ) × (slice_get ls i ≡ Some (record { width = w; value = o })) → value_in (slice_get (with_local ls i v) i) ≡ Some v
-    here (o, at) = ap value_in (written_is ls i v _ at) ∙ ap Some same
+    to : ℕ
+    to = r.receiver + i
 
-    by_place : (j x : ℕ) → j < r.locals → slice_get (slice_set vs i v) j ≡ Some x → (b : Bool) → (j == i) ≡ b
-        → (value_in (slice_get (with_local ls i v) j) ≡ Some x) × (x < 2 ^ 32)
+    here : (o : Option ℕ) × (slice_get ls to ≡ Some (record { width = w; value = o })) → value_in (slice_get (with_local ls to v) to) ≡ Some v
+    here (o, at) = ap value_in (written_is ls to v _ at) ∙ ap Some same
+
+    by_place : (j x : ℕ) → r.receiver + j < r.locals → slice_get (slice_set vs i v) j ≡ Some x → (b : Bool) → (j == i) ≡ b
+        → (value_in (slice_get (with_local ls to v) (r.receiver + j)) ≡ Some x) × (x < 2 ^ 32)
     by_place j x lt e true s =
         let is : j ≡ i = grind arith in
         let x_is = set_here vs i v x (subst (λ z. slice_get (slice_set vs i v) z ≡ Some x) is e) in (
-          subst (λ z. value_in (slice_get (with_local ls i v) z) ≡ Some x) (sym is) (here (kept.there i w has) ∙ ap Some (sym x_is)),
+          subst (λ z. value_in (slice_get (with_local ls to v) (r.receiver + z)) ≡ Some x) (sym is) (here (kept.there to w has) ∙ ap Some (sym x_is)),
           subst (λ z. z < 2 ^ 32) (sym x_is) small,
         )
     by_place j x lt e false s =
         let ne : j ≢ i = grind arith in
+        let apart : r.receiver + j ≢ to = omega (arith, ne) in
         let old = kept.locals j x lt (sym (set_elsewhere vs i j v ne) ∙ e) in
-        (ap value_in (others_stay ls i j v ne) ∙ old.0, old.1)
+        (ap value_in (others_stay ls to (r.receiver + j) v apart) ∙ old.0, old.1)

@@ -6,8 +6,10 @@ pub mod Locals
 pub mod Free
 pub mod Operating
 pub mod Right
-pub mod StepRight
 pub mod Shifting
+pub mod Strings
+pub mod Joined
+pub mod StepRight
 pub mod CombinedRight
 pub mod ObjectRight
 pub mod Writing
@@ -15,7 +17,9 @@ pub mod ColumnRight
 pub mod StoreRight
 pub mod ElementRight
 pub mod ElementStoreRight
+pub mod Passed
 pub mod CallRight
+pub mod CallSteps
 pub mod CodeRight
 pub mod Standing
 pub mod BodyRight

@@ -11,7 +11,7 @@ use Rattle.vg_flatten_shapes.specs.declared.layout.Layout.{Layout}
 use Rattle.vg_flatten_shapes.specs.declared.room.Room.{Room}
 use Rattle.vg_flatten_shapes.specs.Shapes.{temp}
 use Rattle.vg_flatten_shapes.proofs.Temps.{some_is, none_is_not, temp_is}
-use Rattle.vg_flattened.proofs.Related.{IsPlaced, ArePlaced, IsAt, AreAt, AreWidths, AreKept, AreSame}
+use Rattle.vg_flattened.proofs.Related.{IsPlaced, ArePlaced, IsAt, AreAt, AreWidths, IsReceiver, AreKept, AreSame}
 use Rattle.vg_flattened.proofs.Numbers.{low_same}
 
 -- the local that was written
@@ -55,9 +55,9 @@ value_of_home (Known c) v t at = ap Some at
 
 -- ---- the locals of the procedure
 
-pub kept_there : (r : Room) (ws vs : List ℕ) (ls : List LocalState) (to x : ℕ) → AreKept r ws vs ls
+pub kept_there : (r : Room) (ws : List ℕ) (self : Option ℕ) (vs : List ℕ) (ls : List LocalState) (to x : ℕ) → AreKept r ws self vs ls
     → (i w : ℕ) → slice_get ws i ≡ Some w → (o : Option ℕ) × (slice_get (with_local ls to x) i ≡ Some (record { width = w; value = o }))
-kept_there r ws vs ls to x kept i w e = by_place (i == to) refl (kept.there i w e)
+kept_there r ws self vs ls to x kept i w e = by_place (i == to) refl (kept.there i w e)
   where
     by_place : (b : Bool) → (i == to) ≡ b → (o : Option ℕ) × (slice_get ls i ≡ Some (record { width = w; value = o }))
         → (o : Option ℕ) × (slice_get (with_local ls to x) i ≡ Some (record { width = w; value = o }))
@@ -66,13 +66,20 @@ kept_there r ws vs ls to x kept i w e = by_place (i == to) refl (kept.there i w 
         (Some (low w x), subst (λ z. slice_get (with_local ls z x) i ≡ Some (record { width = w; value = Some (low w x) })) is (written_is ls i x _ at))
     by_place false same (o, at) = let ne : i ≢ to = grind arith in (o, others_stay ls to i x ne ∙ at)
 
-pub kept_behind_temp : (r : Room) (ws vs : List ℕ) (ls : List LocalState) (k x : ℕ) → AreKept r ws vs ls → AreKept r ws vs (with_local ls (r.locals + k) x)
-kept_behind_temp r ws vs ls k x kept =
+-- the receiver stays where another local is written
+pub receiver_stays : (r : Room) (self : Option ℕ) (ls : List LocalState) (to x : ℕ) → ((n : ℕ) → self ≡ Some n → 0 < r.receiver → 0 < r.locals → 0 ≢ to)
+    → IsReceiver r self ls → IsReceiver r self (with_local ls to x)
+receiver_stays r None ls to x ne h = tt
+receiver_stays r (Some n) ls to x ne h = (h.0, ap value_in (others_stay ls to 0 x (ne n refl h.0.0 h.0.1)) ∙ h.1, h.2)
+
+pub kept_behind_temp : (r : Room) (ws : List ℕ) (self : Option ℕ) (vs : List ℕ) (ls : List LocalState) (k x : ℕ) → AreKept r ws self vs ls
+    → AreKept r ws self vs (with_local ls (r.locals + k) x)
+kept_behind_temp r ws self vs ls k x kept =
     record {
-      there = kept_there r ws vs ls (r.locals + k) x kept;
-      locals = λ i v lt e. let ne : i ≢ r.locals + k = omega arith in (
-        ap value_in (others_stay ls (r.locals + k) i x ne)
-            ∙ (kept.locals i v lt e).0,
+      receiver = receiver_stays r self ls (r.locals + k) x (λ n e l1 l2. let ne : 0 ≢ r.locals + k = omega (arith, l2) in ne) kept.receiver;
+      there = kept_there r ws self vs ls (r.locals + k) x kept;
+      locals = λ i v lt e. let ne : r.receiver + i ≢ r.locals + k = omega (arith, lt) in (
+        ap value_in (others_stay ls (r.locals + k) (r.receiver + i) x ne) ∙ (kept.locals i v lt e).0,
         (kept.locals i v lt e).1,
       );
     }
@@ -97,10 +104,23 @@ put_temp lay r widths ws hs s t to z wide placed e small same = by_temp (temp_is
             (is_there (same.kept.there (r.locals + length hs) 4 (wide.temps (length hs) lt)), small),
             homes_stay r.locals (length hs) z hs s.values t.locals (omega arith) placed same.waits,
           );
-          kept = kept_behind_temp r ws s.locals t.locals (length hs) z same.kept;
+          kept = kept_behind_temp r ws s.self s.locals t.locals (length hs) z same.kept;
           none = same.none;
           ram = same.ram;
         })
 
 pub placed_temp : (r : Room) (hs : List Operand) (to : ℕ) → temp r hs ≡ Some to → ArePlaced r.locals hs → ArePlaced r.locals (Local to ∷ hs)
 placed_temp r hs to e placed = (inr (temp_is r hs to e).0, placed)
+
+-- An operand that waits above a value keeps its own, where that value's temporary is written.
+pub value_stays : (r : Room) (hs : List Operand) (y x : Operand) (v : ℕ) (t : State) (to z : ℕ) → temp r hs ≡ Some to → ArePlaced r.locals (y ∷ x ∷ hs)
+    → value y t ≡ Some v → value y (sets to z t) ≡ Some v
+value_stays r hs (Local i) x v t to z e placed at = ap value_in (others_stay t.locals to i z apart) ∙ at
+  where
+    by_home : (i < r.locals) ⊎ (i ≡ r.locals + length (x ∷ hs)) → to ≡ r.locals + length hs → i ≢ to
+    by_home (inl lt) is = omega (arith, lt, is)
+    by_home (inr at1) is = omega (arith, at1, is)
+
+    apart : i ≢ to
+    apart = by_home placed.0 (temp_is r hs to e).0
+value_stays r hs (Known c) x v t to z e placed at = at

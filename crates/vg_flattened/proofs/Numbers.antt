@@ -2,8 +2,8 @@
 use Rattle.std.specs.Prelude.{ℕ, zero, suc, ◌+◌, ◌-◌, ◌*◌, ◌/◌, ◌%◌, ◌^◌, ◌<◌, ◌≤◌, Bool, true, false, not, ◌==◌, ◌&&◌, nat_lt, nat_le, bit_and, bit_or, bit_xor, Option, Some, None}
 use Rattle.std.specs.Prelude.{ℤ, pos, negsuc, neg_ℤ, int_lt, int_le, int_div, int_rem, if◌then◌else◌}
 use Rattle.std.specs.Int.{w32, cast_unsigned, cast_signed, int_wrapping_add, int_wrapping_sub, int_wrapping_mul, int_wrapping_neg, int_wrapping_div}
-use Rattle.std.proofs.Common.{◌≡◌, refl, sym, ap, ◌∙◌, subst, arith}
-use Rattle.std.proofs.Math.Nat.{div-le_self, mod-le}
+use Rattle.std.proofs.Common.{◌≡◌, refl, sym, ap, ◌∙◌, subst, arith, pow-suc}
+use Rattle.std.proofs.Math.Nat.{div-le_self, mod-le, mod-eq_of_lt, lt_of_lt_of_le}
 use Rattle.std.proofs.lemmas.Int.{of_z-to_z}
 use Rattle.std.proofs.lemmas.Nat.{and_le_l, or_lt, xor_lt}
 use Rattle.vg_codes.specs.Dispatch.{is_within}
@@ -80,11 +80,28 @@ at_most_unsigned x y h g = ap not (below_same y x g h) ∙ le_of
     le_of : not (nat_lt y x) ≡ nat_le x y
     le_of = grind arith
 
-pub complement_same : (bits x : ℕ) → bits ≡ 32 → x < 2 ^ 32 → low 4 (2 ^ 32 - 1 + (256 ^ 4 - low 4 x)) ≡ 2 ^ bits - 1 - x
-complement_same bits x e h = subst (λ k. low 4 (2 ^ 32 - 1 + (256 ^ 4 - low 4 x)) ≡ 2 ^ k - 1 - x) (sym e) (omega (arith, h))
+-- ---- bytes and bits
 
-pub complement_small : (bits x : ℕ) → bits ≡ 32 → 2 ^ bits - 1 - x < 2 ^ 32
-complement_small bits x e = subst (λ k. 2 ^ k - 1 - x < 2 ^ 32) (sym e) (omega arith)
+pub bytes_bits : (width : ℕ) → width ≤ 4 → 256 ^ width ≡ 2 ^ (8 * width)
+bytes_bits zero le = refl
+bytes_bits (suc zero) le = refl
+bytes_bits (suc (suc zero)) le = refl
+bytes_bits (suc (suc (suc zero))) le = refl
+bytes_bits (suc (suc (suc (suc zero)))) le = refl
+bytes_bits (suc (suc (suc (suc (suc w))))) le = absurd (omega (arith, le))
+
+-- a number of so many bytes has no more in as many, or more
+pub low_within : (n u x : ℕ) → n ≤ u → x < 256 ^ n → low u x ≡ x
+low_within n u x le lt = mod-eq_of_lt (lt_of_lt_of_le lt (powers n u le))
+  where
+    powers : (a b : ℕ) → a ≤ b → 256 ^ a ≤ 256 ^ b
+    powers zero b l = pow-pos b
+      where
+        pow-pos : (c : ℕ) → 1 ≤ 256 ^ c
+        pow-pos zero = omega arith
+        pow-pos (suc c) = let h = pow-pos c in omega (arith, h, pow-suc 256 c)
+    powers (suc a) zero l = absurd (omega (arith, l))
+    powers (suc a) (suc b) l = let h = powers a b (omega (arith, l)) in omega (arith, h, pow-suc 256 a, pow-suc 256 b)
 
 -- ---- divisions
 

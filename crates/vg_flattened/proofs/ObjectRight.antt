@@ -28,7 +28,8 @@ use Rattle.vg_flatten_shapes.specs.declared.room.Room.{Room}
 use Rattle.vg_flatten_shapes.specs.Shapes.{Shape, only, temp}
 use Rattle.vg_flatten_shapes.specs.Blocks.{Block, Skip, One, Both, Choice, stop_where}
 use Rattle.vg_flatten_shapes.specs.Made.{Made, Gives as Makes, Refused, by_temp, is_zero}
-use Rattle.vg_flatten_steps.specs.Steps.{load_nothing, store_nothing, distance, is_near, is_one_of, cast_to}
+use Rattle.vg_flatten_steps.specs.Objects.{load_nothing, store_nothing, is_near, is_one_of, cast_to}
+use Rattle.vg_flatten_places.specs.Places.{distance}
 use Rattle.vg_flattened.proofs.Alike.{IsFair, Alike, gives}
 use Rattle.vg_flattened.proofs.Related.{IsAt, ArePlaced, AreAt, AreWidths, AreSame, Held, Leaves, said}
 use Rattle.vg_flattened.proofs.Numbers.{low_small, near_same}
@@ -39,12 +40,12 @@ use Rattle.vg_flattened.proofs.StepRight.{computes_to, plain_goes}
 use Rattle.vg_flattened.proofs.CombinedRight.{stops_both, says_zero, stopped, passed}
 
 module _ (k : Codes) (f : FirmProgram) (m : FirmProcedure) (call : FirmCaller History) (handle : ℕ → Piece Firm History)
-    (p : LinProgram) (go : LinCaller State) (params : List ℕ) (lay : Layout) (r : Room) (ws : List ℕ) (wide : AreWidths r m.widths ws) where
+    (p : LinProgram) (go : LinCaller State) (lay : Layout) (r : Room) (ws : List ℕ) (wide : AreWidths r m.widths ws) where
   abbrev Right' : Shape → Made → Piece Firm History → Type 0
-  Right' = Right k f m call handle p go params lay r ws wide
+  Right' = Right k f m call handle p go lay r ws wide
 
   abbrev linear' : Block → Piece (Deciding State) History
-  linear' = linear k f m call handle p go params lay r ws wide
+  linear' = linear k f m call handle p go lay r ws wide
 
   abbrev step' : Step → Piece Firm History
   step' = firm_step k f m call handle
@@ -57,16 +58,16 @@ module _ (k : Codes) (f : FirmProgram) (m : FirmProcedure) (call : FirmCaller Hi
       → Alike G L (not_null next x s w) (linear' (stop_where 1 (Holds (is_zero h))) d w)
   null_check {G} {L} h zero next s d w i at lt goes =
       subst (λ z. Alike G L (stops 1 0 s w) z)
-      (sym (stopped k f m call handle p go params lay r ws wide (Holds (is_zero h)) 1 d w (says_zero h 0 d.state at lt)))
+      (sym (stopped k f m call handle p go lay r ws wide (Holds (is_zero h)) 1 d w (says_zero h 0 d.state at lt)))
       (stops_both 1 s (record d { truth = None }) w i)
   null_check {G} {L} h (suc n) next s d w i at lt goes =
       subst (λ z. Alike G L (next (suc n) s w) z)
-      (sym (passed k f m call handle p go params lay r ws wide (Holds (is_zero h)) 1 d w (says_zero h (suc n) d.state at lt ∙ ap Some (eqb-suc-zero n))))
+      (sym (passed k f m call handle p go lay r ws wide (Holds (is_zero h)) 1 d w (says_zero h (suc n) d.state at lt ∙ ap Some (eqb-suc-zero n))))
       (goes n refl)
 
   pub right_load_nothing : (hs : List Operand) → ArePlaced r.locals hs → Right' (only hs) (load_nothing hs) (step' LoadNothing)
   right_load_nothing [] placed = tt
-  right_load_nothing (h ∷ hs) placed = ((tt, placed.1), λ fit s d w i q. by_values s d w i q s.values q.waits)
+  right_load_nothing (h ∷ hs) placed = ((tt, placed.1), λ s d w i q. by_values s d w i q s.values q.waits)
     where
       by_values : (s : Firm) (d : Deciding State) (w : World History) → IsFair w → AreSame lay r ws (h ∷ hs) s d.state → (vs : List ℕ)
           → AreAt (h ∷ hs) vs d.state.locals
@@ -80,7 +81,7 @@ module _ (k : Codes) (f : FirmProgram) (m : FirmProcedure) (call : FirmCaller Hi
   pub right_store_nothing : (hs : List Operand) → ArePlaced r.locals hs → Right' (only hs) (store_nothing hs) (step' StoreNothing)
   right_store_nothing [] placed = tt
   right_store_nothing (v ∷ []) placed = tt
-  right_store_nothing (v ∷ h ∷ hs) placed = (placed.1.1, λ fit s d w i q. by_values s d w i q s.values q.waits)
+  right_store_nothing (v ∷ h ∷ hs) placed = (placed.1.1, λ s d w i q. by_values s d w i q s.values q.waits)
     where
       by_values : (s : Firm) (d : Deciding State) (w : World History) → IsFair w → AreSame lay r ws (v ∷ h ∷ hs) s d.state → (vs : List ℕ)
           → AreAt (v ∷ h ∷ hs) vs d.state.locals
@@ -101,8 +102,8 @@ module _ (k : Codes) (f : FirmProgram) (m : FirmProcedure) (call : FirmCaller Hi
   measured : (to first : ℕ) (h : Operand) (n : ℕ) (d : Deciding State) (w : World History) → value h d.state ≡ Some n
       → linear' (One (distance to first h)) d w ≡ Gives (record d { state = sets to (distance_of n first) d.state }) w
   measured to first h n d w at =
-      plain_goes k f m call handle p go params lay r ws wide (distance to first h) d w (sets to (distance_of n first) d.state)
-      (computes_to k f m call handle p go params lay r ws wide Difference 4 to h (Known first) n first (distance_of n first) d.state w.outside at refl refl)
+      plain_goes k f m call handle p go lay r ws wide (distance to first h) d w (sets to (distance_of n first) d.state)
+      (computes_to k f m call handle p go lay r ws wide Difference 4 to h (Known first) n first (distance_of n first) d.state w.outside at refl refl)
 
   near : (to first count n : ℕ) (t : State) → n < 2 ^ 32 → first + count < 2 ^ 32 → value (Local to) t ≡ Some (distance_of n first)
       → holds (is_near to count) t ≡ Some (is_within first count n)
@@ -142,7 +143,7 @@ module _ (k : Codes) (f : FirmProgram) (m : FirmProcedure) (call : FirmCaller Hi
 
       by_room : first + count < 2 ^ 32 → (o : Option ℕ) → temp r hs ≡ o
           → Right' (only (h ∷ hs)) (by_temp o (λ to. Makes (One (distance to first h)) (shape to))) (step' (IsWithin first count))
-      by_room few (Some to) has = (placed.1, λ fit s d w i q. by_values few to has s d w i q s.values q.waits)
+      by_room few (Some to) has = (placed.1, λ s d w i q. by_values few to has s d w i q s.values q.waits)
       by_room few None has = tt
 
       by_size : (b : Bool) → nat_lt (first + count) (2 ^ 32) ≡ b
@@ -172,11 +173,11 @@ module _ (k : Codes) (f : FirmProgram) (m : FirmProcedure) (call : FirmCaller Hi
           → Alike (Held lay r ws (only (h ∷ hs))) (Leaves lay r ws) (stop_unless b 4 (put n) s w) (linear' (stop_where 4 (Fails (is_near to count))) d w)
       by_near to n s d w i q true e =
           subst (λ z. Alike (Held lay r ws (only (h ∷ hs))) (Leaves lay r ws) (put n s w) z)
-          (sym (passed k f m call handle p go params lay r ws wide (Fails (is_near to count)) 4 d w (ap (option_map not) e)))
+          (sym (passed k f m call handle p go lay r ws wide (Fails (is_near to count)) 4 d w (ap (option_map not) e)))
           (gives i q)
       by_near to n s d w i q false e =
           subst (λ z. Alike (Held lay r ws (only (h ∷ hs))) (Leaves lay r ws) (stops 4 0 s w) z)
-          (sym (stopped k f m call handle p go params lay r ws wide (Fails (is_near to count)) 4 d w (ap (option_map not) e)))
+          (sym (stopped k f m call handle p go lay r ws wide (Fails (is_near to count)) 4 d w (ap (option_map not) e)))
           (stops_both 4 s (record d { truth = None }) w i)
 
       by_number : first + count < 2 ^ 32 → (to : ℕ) → temp r (h ∷ hs) ≡ Some to → (s : Firm) (d : Deciding State) (w : World History) → IsFair w
@@ -184,12 +185,12 @@ module _ (k : Codes) (f : FirmProgram) (m : FirmProcedure) (call : FirmCaller Hi
           → Alike (Held lay r ws (only (h ∷ hs))) (Leaves lay r ws) (stop_unless_within first count n (record s { values = vs }) w) (linear' (block to) d w)
       by_number few to has s d w i q zero vs ev at =
           subst (λ z. Alike (Held lay r ws (only (h ∷ hs))) (Leaves lay r ws) (put 0 (record s { values = vs }) w) z)
-          (sym (chooses k f m call handle p go params lay r ws wide (Fails (is_zero h)) false (inside to) Skip d w
+          (sym (chooses k f m call handle p go lay r ws wide (Fails (is_zero h)) false (inside to) Skip d w
           (says 0 d.state true (value_of_home h 0 d.state at.0.0) at.0.1 refl)))
           (gives i (record { waits = at; kept = q.kept; none = q.none; ram = q.ram }))
       by_number few to has s d w i q (suc n) vs ev at =
           subst (λ z. Alike (Held lay r ws (only (h ∷ hs))) (Leaves lay r ws) packed z)
-          (sym (chooses k f m call handle p go params lay r ws wide (Fails (is_zero h)) true (inside to) Skip d w
+          (sym (chooses k f m call handle p go lay r ws wide (Fails (is_zero h)) true (inside to) Skip d w
           (says (suc n) d.state false (value_of_home h (suc n) d.state at.0.0) at.0.1 (eqb-suc-zero n))))
           (subst (λ z. Alike (Held lay r ws (only (h ∷ hs))) (Leaves lay r ws) packed (and_then z (linear' (stop_where 4 (Fails (is_near to count))))))
           (sym (measured to first h (suc n) (record d { truth = None }) w (value_of_home h (suc n) d.state at.0.0)))
@@ -216,7 +217,7 @@ module _ (k : Codes) (f : FirmProgram) (m : FirmProcedure) (call : FirmCaller Hi
 
       by_room : first + count < 2 ^ 32 → (o : Option ℕ) → temp r (h ∷ hs) ≡ o
           → Right' (only (h ∷ hs)) (by_temp o (λ to. Makes (block to) (only (h ∷ hs)))) (step' (StopUnlessWithin first count))
-      by_room few (Some to) has = (placed, λ fit s d w i q. by_values few to has s d w i q s.values refl q.waits)
+      by_room few (Some to) has = (placed, λ s d w i q. by_values few to has s d w i q s.values refl q.waits)
       by_room few None has = tt
 
       by_size : (b : Bool) → nat_lt (first + count) (2 ^ 32) ≡ b

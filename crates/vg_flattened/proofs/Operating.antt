@@ -18,7 +18,7 @@ use Rattle.vg_lin.specs.Values.{low, computed as lin_computed, compared}
 use Rattle.vg_lin.specs.State.{State, value, holds, both}
 use Rattle.vg_flatten_shapes.specs.declared.open.Truth.{Truth}
 use Rattle.vg_flatten_shapes.specs.declared.open.Truth.TheVariants.{Holds, Fails}
-use Rattle.vg_flatten_steps.specs.Steps.{computing, comparing, by_order, test_of}
+use Rattle.vg_flatten_values.specs.Values.{computing, comparing, by_order, test_of}
 use Rattle.vg_flattened.proofs.Related.{said}
 use Rattle.vg_flattened.proofs.Numbers.{low_same, low_small, sum_same, difference_same, product_same, less_same, below_same, same_same, at_most_signed, at_most_unsigned}
 use Rattle.vg_flatten_shapes.proofs.Temps.{some_is, none_is_not}

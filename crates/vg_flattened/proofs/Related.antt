@@ -1,5 +1,5 @@
 -- How a state of linear code stands for one of the packed program.
-use Rattle.std.specs.Prelude.{◌≡◌, ◌⊎◌, ℕ, ◌+◌, ◌<◌, ◌^◌, Bool, not, List, [], ◌∷◌, length, Option, Some, None, slice_get}
+use Rattle.std.specs.Prelude.{◌≡◌, ◌⊎◌, ℕ, ◌+◌, ◌<◌, ◌≤◌, ◌^◌, Bool, not, List, [], ◌∷◌, length, Option, Some, None, slice_get}
 use Rattle.std.specs.Option.{option_map}
 use Rattle.vg_meaning.specs.Answer.{Signal, Breaks, Continues, Returns, Over}
 use Rattle.vg_firm.specs.Meaning.{State as Firm}
@@ -38,22 +38,28 @@ AreAt _ _ ls = ⊥
 
 -- ---- locals
 
--- The widths of the locals of linear code: those of the procedure, and four bytes for each temporary.
+-- The widths of the locals of linear code: those of the procedure, or wider ones, and four bytes for each temporary.
 pub record AreWidths (r : Room) (widths ws : List ℕ) : Type 0 where
-  pub locals : (i w : ℕ) → slice_get widths i ≡ Some w → slice_get ws i ≡ Some w
+  pub locals : (i w : ℕ) → slice_get widths i ≡ Some w → (v : ℕ) × (slice_get ws (r.receiver + i) ≡ Some v) × (w ≤ v)
   pub temps : (k : ℕ) → k < r.temps → slice_get ws (r.locals + k) ≡ Some 4
 
+-- The receiver's number is the first local, where there is one.
+abbrev pub IsReceiver : Room → Option ℕ → List LocalState → Type 0
+IsReceiver r (Some n) ls = ((0 < r.receiver) × (0 < r.locals)) × (value_in (slice_get ls 0) ≡ Some n) × (n < 2 ^ 32)
+IsReceiver r None ls = Unit {0}
+
 -- The locals have the values of the procedure's, and the widths that they were given.
-pub record AreKept (r : Room) (ws vs : List ℕ) (ls : List LocalState) : Type 0 where
+pub record AreKept (r : Room) (ws : List ℕ) (self : Option ℕ) (vs : List ℕ) (ls : List LocalState) : Type 0 where
+  pub receiver : IsReceiver r self ls
   pub there : (i w : ℕ) → slice_get ws i ≡ Some w → (o : Option ℕ) × (slice_get ls i ≡ Some (record { width = w; value = o }))
-  pub locals : (i v : ℕ) → i < r.locals → slice_get vs i ≡ Some v → (value_in (slice_get ls i) ≡ Some v) × (v < 2 ^ 32)
+  pub locals : (i v : ℕ) → r.receiver + i < r.locals → slice_get vs i ≡ Some v → (value_in (slice_get ls (r.receiver + i)) ≡ Some v) × (v < 2 ^ 32)
 
 -- ---- states
 
 -- The states where no test waits.
 pub record AreSame (lay : Layout) (r : Room) (ws : List ℕ) (hs : List Operand) (s : Firm) (t : State) : Type 0 where
   pub waits : AreAt hs s.values t.locals
-  pub kept : AreKept r ws s.locals t.locals
+  pub kept : AreKept r ws s.self s.locals t.locals
   pub none : t.waiting ≡ []
   pub ram : RamStands lay.ram s.columns t.ram
 

@@ -30,7 +30,6 @@ use Rattle.vg_flatten_shapes.specs.declared.room.Room.{Room}
 use Rattle.vg_flatten_shapes.specs.Shapes.{Shape, only, empty, is_empty, is_none, temp}
 use Rattle.vg_flatten_shapes.specs.Blocks.{Block, Skip, One, Both, Choice, structured, picked}
 use Rattle.vg_flatten_shapes.specs.Made.{Made, Gives as Makes, Refused, behind, after, by_temp, settled, settled_as, Tested, tested, tested_as, is_zero}
-use Rattle.vg_flatten.specs.Fitting.{CallsFit}
 use Rattle.vg_flattened.proofs.Alike.{IsFair, Alike, gives, leaves, overs, wrong, AlikePiece}
 use Rattle.vg_flattened.proofs.AlikeLaws.{alike_then}
 use Rattle.vg_flattened.proofs.Related.{ArePlaced, AreAt, AreWidths, AreSame, IsSaid, said, Held, Leaves}
@@ -43,7 +42,7 @@ unit_behind (Gives s w) = refl
 unit_behind (Ends why s w) = refl
 
 module _ (k : Codes) (f : FirmProgram) (m : FirmProcedure) (call : FirmCaller History) (handle : ℕ → Piece Firm History)
-    (p : LinProgram) (go : LinCaller State) (params : List ℕ) (lay : Layout) (r : Room) (ws : List ℕ) (wide : AreWidths r m.widths ws) where
+    (p : LinProgram) (go : LinCaller State) (lay : Layout) (r : Room) (ws : List ℕ) (wide : AreWidths r m.widths ws) where
   -- what the packed code does, and what a block does
   abbrev pub packed : Code Step → Piece Firm History
   packed c = performed full (firm_step k f m call handle) firm_truth c
@@ -55,14 +54,14 @@ module _ (k : Codes) (f : FirmProgram) (m : FirmProcedure) (call : FirmCaller Hi
   abbrev pub Does : Shape → Shape → Piece Firm History → Block → Type 0
   Does before behind' g b = AlikePiece (Held lay r ws before) (Held lay r ws behind') (Leaves lay r ws) g (linear b)
 
-  -- what was made does what the piece does, where its calls fit
+  -- what was made does what the piece does
   abbrev pub Right : Shape → Made → Piece Firm History → Type 0
-  Right before (Makes b shape) g = ArePlaced r.locals shape.homes × (CallsFit params b → Does before shape g b)
+  Right before (Makes b shape) g = ArePlaced r.locals shape.homes × Does before shape g b
   Right before (Refused why) g = Unit {0}
 
-  pub right_behind : (before s1 : Shape) (a : Block) (made : Made) (g h : Piece Firm History) → (CallsFit params a → Does before s1 g a)
+  pub right_behind : (before s1 : Shape) (a : Block) (made : Made) (g h : Piece Firm History) → Does before s1 g a
       → Right s1 made h → Right before (behind a made) (λ s w. and_then (g s w) h)
-  right_behind before s1 a (Makes b s2) g h ha (placed, hb) = (placed, λ fit s t w i q. alike_then h (linear b) (ha fit.0 s t w i q) (hb fit.1))
+  right_behind before s1 a (Makes b s2) g h ha (placed, hb) = (placed, λ s t w i q. alike_then h (linear b) (ha s t w i q) hb)
   right_behind before s1 a (Refused why) g h ha hb = tt
 
   pub right_after : (before : Shape) (made : Made) (more : Shape → Made) (g h : Piece Firm History) → Right before made g
@@ -71,17 +70,17 @@ module _ (k : Codes) (f : FirmProgram) (m : FirmProcedure) (call : FirmCaller Hi
   right_after before (Refused why) more g h ha hm = tt
 
   -- what does nothing before, or behind
-  pub right_first : (before s1 : Shape) (a : Block) (made : Made) (h : Piece Firm History) → (CallsFit params a → Does before s1 go_on a)
+  pub right_first : (before s1 : Shape) (a : Block) (made : Made) (h : Piece Firm History) → Does before s1 go_on a
       → Right s1 made h → Right before (behind a made) h
-  right_first before s1 a (Makes b s2) h ha (placed, hb) = (placed, λ fit s t w i q. alike_then h (linear b) (ha fit.0 s t w i q) (hb fit.1))
+  right_first before s1 a (Makes b s2) h ha (placed, hb) = (placed, λ s t w i q. alike_then h (linear b) (ha s t w i q) hb)
   right_first before s1 a (Refused why) h ha hb = tt
 
-  pub right_last : (before s1 : Shape) (a : Block) (made : Made) (g : Piece Firm History) → (CallsFit params a → Does before s1 g a)
+  pub right_last : (before s1 : Shape) (a : Block) (made : Made) (g : Piece Firm History) → Does before s1 g a
       → Right s1 made go_on → Right before (behind a made) g
   right_last before s1 a (Makes b s2) g ha (placed, hb) = (
     placed,
-    λ fit s t w i q. subst (λ z. Alike (Held lay r ws s2) (Leaves lay r ws) z (and_then (linear a t w) (linear b))) (unit_behind (g s w))
-        (alike_then go_on (linear b) (ha fit.0 s t w i q) (hb fit.1)),
+    λ s t w i q. subst (λ z. Alike (Held lay r ws s2) (Leaves lay r ws) z (and_then (linear a t w) (linear b))) (unit_behind (g s w))
+        (alike_then go_on (linear b) (ha s t w i q) hb),
   )
   right_last before s1 a (Refused why) g ha hb = tt
 
@@ -141,7 +140,7 @@ module _ (k : Codes) (f : FirmProgram) (m : FirmProcedure) (call : FirmCaller Hi
           (λ s1. more s1.homes)) h
       by_room x is (Some to) e =
           right_first s (only (Local to ∷ s.homes)) (Choice x (One (Copy to (Known 1))) (One (Copy to (Known 0)))) (more (Local to ∷ s.homes)) h
-          (λ fit. subst (λ z. Does (record { truth = z; homes = s.homes }) (only (Local to ∷ s.homes)) go_on (Choice x (One (Copy to (Known 1))) (One
+          (subst (λ z. Does (record { truth = z; homes = s.homes }) (only (Local to ∷ s.homes)) go_on (Choice x (One (Copy to (Known 1))) (One
           (Copy to (Known 0)))))
           (sym is) (number_made x s.homes to e placed))
           (hm (Local to ∷ s.homes) (placed_temp r s.homes to e placed))
@@ -150,7 +149,7 @@ module _ (k : Codes) (f : FirmProgram) (m : FirmProcedure) (call : FirmCaller Hi
       by_shape : (o : Option Truth) → s.truth ≡ o → Right s (after (settled_as r o s.homes) (λ s1. more s1.homes)) h
       by_shape None is =
           right_first s (only s.homes) Skip (more s.homes) h
-          (λ fit s1 d w i q. gives i (subst (λ z. Held lay r ws (record { truth = z; homes = s.homes }) s1 d) is q)) (hm s.homes placed)
+          (λ s1 d w i q. gives i (subst (λ z. Held lay r ws (record { truth = z; homes = s.homes }) s1 d) is q)) (hm s.homes placed)
       by_shape (Some x) is = by_room x is (temp r s.homes) refl
 
   -- the truth value that waits, on both sides

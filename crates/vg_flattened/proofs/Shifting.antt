@@ -5,11 +5,11 @@ use Rattle.std.proofs.Common.{◌≡◌, refl, sym, ap, ◌∙◌, subst, arith}
 use Rattle.std.proofs.lemmas.Nat.{pow-add, pow_pos, and_mask, mod_below}
 use Rattle.std.proofs.Math.Nat.{mul_assoc, mul-mod_left, mod-add-div, add-mul-mod_self_left, mod-eq_of_lt, div-le_self, div-eq_of_lt, lt_of_lt_of_le}
 use Rattle.std.proofs.Math.Pow.{pow_mono}
-use Rattle.vg_firm.specs.declared.step.Operator.TheVariants.{ShiftLeft, ShiftRight}
+use Rattle.vg_firm.specs.declared.step.Operator.TheVariants.{ShiftLeft}
 use Rattle.vg_firm.specs.Operators.{computed as firm_computed, shifted}
-use Rattle.vg_lin.specs.declared.instr.Operator.TheVariants.{And as Both', ShiftLeft as LeftShift, ShiftRight as RightShift}
+use Rattle.vg_lin.specs.declared.instr.Operator.TheVariants.{And as Both', ShiftLeft as LeftShift}
 use Rattle.vg_lin.specs.Values.{low, computed as lin_computed}
-use Rattle.vg_flatten_steps.specs.Steps.{bytes_of, bytes_around}
+use Rattle.vg_flatten_values.specs.Values.{bytes_of, bytes_around}
 use Rattle.vg_flatten_shapes.proofs.Temps.{some_is, none_is_not}
 use Rattle.vg_flattened.proofs.Numbers.{low_same, shifted_is}
 use Rattle.vg_flattened.proofs.Operating.{Computes}
@@ -132,34 +132,3 @@ module _ (bits width x y : ℕ) (wide : bits < 8 * width) (bytes : 256 ^ width �
 
 pub right_small : (x y : ℕ) → x < 2 ^ 32 → x / 2 ^ y < 2 ^ 32
 right_small x y h = let le = div-le_self x (2 ^ y) in omega (arith, le, h)
-
--- a shift by less than all bits
-pub right_below : (bits x y : ℕ) → x < 2 ^ 32 → y < 2 ^ 32 → bits ≤ 32 → nat_lt y bits ≡ true → Computes (ShiftRight bits) RightShift 4 x y
-right_below bits x y h g le lt =
-    record {
-      z = x / 2 ^ y;
-      packed = ap Some (shifted_is y bits (λ n. x / 2 ^ n) g le ∙ ap (λ b. if b then x / 2 ^ y else 0) lt);
-      linear = ap (λ b. Some (if b then low 4 x / 2 ^ y else 0)) (in_32 y bits le lt) ∙ ap (λ z. Some (z / 2 ^ y)) (low_same x h);
-      small = right_small x y h;
-    }
-  where
-    in_32 : (m n : ℕ) → n ≤ 32 → nat_lt m n ≡ true → nat_lt m 32 ≡ true
-    in_32 m n l t = grind arith
-
--- a shift of four bytes by any amount
-pub right_whole : (x y : ℕ) → x < 2 ^ 32 → y < 2 ^ 32 → Computes (ShiftRight 32) RightShift 4 x y
-right_whole x y h g =
-    record {
-      z = if nat_lt y 32 then x / 2 ^ y else 0;
-      packed = ap Some (shifted_is y 32 (λ n. x / 2 ^ n) g (omega arith));
-      linear = ap (λ z. Some (if nat_lt y 32 then z / 2 ^ y else 0)) (low_same x h);
-      small = by_size (nat_lt y 32);
-    }
-  where
-    by_size : (b : Bool) → (if b then x / 2 ^ y else 0) < 2 ^ 32
-    by_size true = right_small x y h
-    by_size false = omega arith
-
--- nothing is left of a shift by all bits, or more
-pub right_none : (bits x y : ℕ) → y < 2 ^ 32 → bits ≤ 32 → nat_lt y bits ≡ false → firm_computed (ShiftRight bits) x y ≡ Some 0
-right_none bits x y g le lt = ap Some (shifted_is y bits (λ n. x / 2 ^ n) g le ∙ ap (λ b. if b then x / 2 ^ y else 0) lt)

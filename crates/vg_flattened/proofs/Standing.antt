@@ -2,17 +2,19 @@
 use Rattle.std.specs.Prelude.{ℕ, suc, ◌+◌, List, [], ◌∷◌, ◌++◌, length, map, Option, Some, true, false}
 use Rattle.std.proofs.Common.{◌≡◌, refl, sym, ap, ◌∙◌, subst, arith}
 use Rattle.std.proofs.lemmas.List.{length-append, length-map}
-use Rattle.vg_meaning.specs.Code.{Code}
+use Rattle.vg_meaning.specs.Code.{Code, Do}
 use Rattle.vg_lin.specs.declared.instr.Instr.{Instr}
 use Rattle.vg_lin.specs.declared.instr.Instr.TheVariants.{Plain, When, Unless, Jump, Call, Return, Idle}
 use Rattle.vg_flatten_shapes.proofs.Choices.{alone, with_jump, choice_cases, nothing_anywhere}
-use Rattle.vg_lin.specs.Structured.{Step}
+use Rattle.vg_lin.specs.Structured.{Step, To}
+use Rattle.vg_lin.specs.declared.instr.Operand.{Operand}
+use Rattle.vg_lin.specs.declared.instr.Call.{Call as Calling}
 use Rattle.vg_lin.specs.Stands.{Next, Either, Stands, nothing, sequence, plain, call, idle, when, unless, flip, choice, loop, break', continue', return, before, behind}
 use Rattle.vg_flatten_shapes.specs.declared.open.Truth.{Truth}
 use Rattle.vg_flatten_shapes.specs.declared.open.Truth.TheVariants.{Holds, Fails}
 use Rattle.vg_flatten_shapes.specs.declared.open.Open.{Open}
 use Rattle.vg_flatten_shapes.specs.declared.open.Open.TheVariants.{Set, Break, Continue}
-use Rattle.vg_flatten_shapes.specs.Blocks.{Block, Skip, One, CallTo, TakeInterrupt, GiveBack, BreakOut, GoOn, Both, Choice, Repeat, structured, picked, branch, closed, set_in, choice_code, loop_code, open_code}
+use Rattle.vg_flatten_shapes.specs.Blocks.{Block, Skip, One, CallTo, TakeInterrupt, GiveBack, BreakOut, GoOn, Both, Choice, Repeat, pushing, structured, picked, branch, closed, set_in, choice_code, loop_code, call_code, open_code}
 
 -- The instructions stand from a place on.
 abbrev pub Lies : (fetch : ℕ → Option Instr) → (behind' again : ℕ) → List Open → (at : ℕ) → Type 0
@@ -108,10 +110,18 @@ module _ (fetch : ℕ → Option Instr) where
       let n = ap length e in
       goal_at x y (structured b) at (at + length (open_code b at)) at (omega (arith, n)) (h (subst (λ z. Lies fetch x y z at) (sym e) tt))
 
+  -- the pushes of a call, and the call
+  stands_call : (pushed : List Operand) (c : Calling) (x y at : ℕ) → Lies fetch x y (call_code pushed c) at
+      → Stands fetch x y (pushing pushed (Do (To c))) at (Next (at + length (call_code pushed c)))
+  stands_call [] c x y at l = goal_at x y _ at (suc at) (at + 1) (omega arith) (call l.0)
+  stands_call (a ∷ more) c x y at l =
+      sequence {mid = suc at} (plain l.0)
+      (goal_at x y _ (suc at) (suc at + length (call_code more c)) (at + suc (length (call_code more c))) (omega arith) (stands_call more c x y (suc at) l.1))
+
   pub stands : (b : Block) (x y at : ℕ) → Lies fetch x y (open_code b at) at → Stands fetch x y (structured b) at (Next (at + length (open_code b at)))
   stands Skip x y at l = goal_at x y _ at at (at + 0) (omega arith) nothing
   stands (One p) x y at l = goal_at x y _ at (suc at) (at + 1) (omega arith) (plain l.0)
-  stands (CallTo c) x y at l = goal_at x y _ at (suc at) (at + 1) (omega arith) (call l.0)
+  stands (CallTo pushed c) x y at l = stands_call pushed c x y at l
   stands TakeInterrupt x y at l = goal_at x y _ at (suc at) (at + 1) (omega arith) (idle l.0)
   stands (GiveBack a) x y at l = return l.0
   stands BreakOut x y at l = before l.0 break'

@@ -31,8 +31,8 @@ use Rattle.vg_flatten_shapes.specs.declared.room.Room.{Room}
 use Rattle.vg_flatten_shapes.specs.Shapes.{Shape, only, temp}
 use Rattle.vg_flatten_shapes.specs.Blocks.{Block, Skip, One, Both, stop_where}
 use Rattle.vg_flatten_shapes.specs.Made.{Made, Gives as Makes, Refused, by_temp, is_zero}
-use Rattle.vg_flatten_steps.specs.Steps.{is_width, multiplied, multiple, store_at, store_one, put_of, store_of}
-use Rattle.vg_flatten.specs.Columns.{FlashStands}
+use Rattle.vg_flatten_places.specs.Places.{distance, put_from, store_placed, is_width, multiplied, multiple, store_at, store_one, put_of, store_of}
+use Rattle.vg_flatten.specs.Columns.{ColumnStands, FlashStands}
 use Rattle.vg_flattened.proofs.Alike.{IsFair, Alike, gives, wrong}
 use Rattle.vg_flattened.proofs.Related.{ArePlaced, AreAt, AreWidths, AreSame, Held, Leaves}
 use Rattle.vg_flattened.proofs.Numbers.{low_same}
@@ -40,16 +40,16 @@ use Rattle.vg_flattened.proofs.Locals.{value_of_home, put_temp}
 use Rattle.vg_flattened.proofs.Right.{Right, linear}
 use Rattle.vg_flattened.proofs.StepRight.{computes_to, plain_goes}
 use Rattle.vg_flattened.proofs.Writing.{ram_behind_store}
-use Rattle.vg_flattened.proofs.ColumnRight.{found_at, reached, first_is, times_both, null_then}
+use Rattle.vg_flattened.proofs.ColumnRight.{found_at, reached, first_is, times_both, null_then, measured}
 
 module _ (k : Codes) (f : FirmProgram) (m : FirmProcedure) (call : FirmCaller History) (handle : ℕ → Piece Firm History)
-    (p : LinProgram) (go : LinCaller State) (params : List ℕ) (lay : Layout) (r : Room) (ws : List ℕ) (wide : AreWidths r m.widths ws)
+    (p : LinProgram) (go : LinCaller State) (lay : Layout) (r : Room) (ws : List ℕ) (wide : AreWidths r m.widths ws)
     (flash : FlashStands lay f p) where
   abbrev Right' : Shape → Made → Piece Firm History → Type 0
-  Right' = Right k f m call handle p go params lay r ws wide
+  Right' = Right k f m call handle p go lay r ws wide
 
   abbrev linear' : Block → Piece (Deciding State) History
-  linear' = linear k f m call handle p go params lay r ws wide
+  linear' = linear k f m call handle p go lay r ws wide
 
   abbrev step' : Step → Piece Firm History
   step' = firm_step k f m call handle
@@ -72,7 +72,7 @@ module _ (k : Codes) (f : FirmProgram) (m : FirmProcedure) (call : FirmCaller Hi
       (linear' (One (store_at place.width base index from)) d w)
   does_store hs c i x old n base place vs index from s d w fair at has there fits hv hx le e q =
       subst (λ z. Alike (Held lay r ws (only hs)) (Leaves lay r ws) (Gives (record s { columns = set_entry s.columns c i x }) w) z)
-      (sym (plain_goes k f m call handle p go params lay r ws wide (store_at place.width base index from) d w
+      (sym (plain_goes k f m call handle p go lay r ws wide (store_at place.width base index from) d w
       (record d.state { ram = with_number d.state.ram place.width (place.address - first_address Ram + place.width * i) x })
       (wrote place.width base n (place.address - first_address Ram + place.width * i) x old index from d.state w.outside hv hx le e
       ((q.ram.stands c place vs at has).held i old there).0)))
@@ -87,7 +87,7 @@ module _ (k : Codes) (f : FirmProgram) (m : FirmProcedure) (call : FirmCaller Hi
 
   right_one : (c : ℕ) (place : Place) → slice_get lay.ram c ≡ Some place → (v : Operand) (hs : List Operand) → ArePlaced r.locals (v ∷ hs)
       → Right' (only (v ∷ hs)) (Makes (One (store_at place.width place.address (Known 0) v)) (only hs)) (step' (StoreOne c place.width))
-  right_one c place at v hs placed = (placed.1, λ fit s d w i q. by_values s d w i q s.values q.waits)
+  right_one c place at v hs placed = (placed.1, λ s d w i q. by_values s d w i q s.values q.waits)
     where
       block : Block
       block = One (store_at place.width place.address (Known 0) v)
@@ -143,89 +143,20 @@ module _ (k : Codes) (f : FirmProgram) (m : FirmProcedure) (call : FirmCaller Hi
 
   -- ---- the value of an object
 
-  right_put : (c first : ℕ) (place : Place) → slice_get lay.ram c ≡ Some place → place.width * first ≤ place.address → (v h : Operand) (hs : List Operand)
-      → ArePlaced r.locals (v ∷ h ∷ hs)
-      → Right' (only (v ∷ h ∷ hs)) (put_of r place.width (place.address - place.width * first) v h hs) (step' (StoreAt c first place.width))
-  right_put c first place at le v h hs placed = by_room (temp r (v ∷ h ∷ hs)) refl
+  -- a value is put where the object's number leads, behind its null check
+  right_put_by : (c first : ℕ) (place : Place) → slice_get lay.ram c ≡ Some place → (v h : Operand) (hs : List Operand) → ArePlaced r.locals (v ∷ h ∷ hs)
+      → (inside : ℕ → Block)
+      → ((to : ℕ) → temp r (v ∷ h ∷ hs) ≡ Some to → (n x : ℕ) → first ≤ n → x < 256 ^ place.width → (s : Firm) (gs : List ℕ) (d : Deciding State)
+      (w : World History) → IsFair w → AreSame lay r ws (v ∷ h ∷ hs) (record s { values = x ∷ n ∷ gs }) d.state
+      → (vs : List ℕ) → slice_get s.columns c ≡ Some vs → (old : ℕ) → slice_get vs (n - first) ≡ Some old
+      → Alike (Held lay r ws (only hs)) (Leaves lay r ws) (Gives (record s { values = gs; columns = set_entry s.columns c (n - first) x }) w)
+      (linear' (inside to) d w))
+      → Right' (only (v ∷ h ∷ hs)) (by_temp (temp r (v ∷ h ∷ hs)) (λ to. Makes (Both (stop_where 1 (Holds (is_zero h))) (inside to)) (only hs)))
+      (step' (StoreAt c first place.width))
+  right_put_by c first place at v h hs placed inside does = by_room (temp r (v ∷ h ∷ hs)) refl
     where
-      base : ℕ
-      base = place.address - place.width * first
-
-      last : (to : ℕ) → Block
-      last to = One (store_at place.width base (multiple to place.width h) v)
-
-      inside : ℕ → Block
-      inside to = Both (multiplied to place.width h) (last to)
-
-      block : ℕ → Block
+      block : (to : ℕ) → Block
       block to = Both (stop_where 1 (Holds (is_zero h))) (inside to)
-
-      short_is : (address a b all : ℕ) → address + all ≤ 65536 → a ≤ address → b ≤ all → a + b < 2 ^ 32
-      short_is address a b all h1 h2 h3 = omega (arith, h1, h2, h3)
-
-      behind_is : (low' address a b : ℕ) → low' ≤ address → a ≤ address → low' ≤ address - a + (a + b)
-      behind_is low' address a b h1 h2 = omega (arith, h1, h2)
-
-      place_is : (low' address a b : ℕ) → low' ≤ address → a ≤ address → address - a + (a + b) - low' ≡ address - low' + b
-      place_is low' address a b h1 h2 = omega (arith, h1, h2)
-
-      once : (a b : ℕ) → b ≡ 1 → a ≡ a * b
-      once a b e1 = grind arith
-
-      does : (to : ℕ) → temp r (v ∷ h ∷ hs) ≡ Some to → (n x : ℕ) → first ≤ n → x < 256 ^ place.width → (s : Firm) (gs : List ℕ) (d : Deciding State)
-          (w : World History) → IsFair w → AreSame lay r ws (v ∷ h ∷ hs) (record s { values = x ∷ n ∷ gs }) d.state
-          → (vs : List ℕ) → slice_get s.columns c ≡ Some vs → (old : ℕ) → slice_get vs (n - first) ≡ Some old
-          → Alike (Held lay r ws (only hs)) (Leaves lay r ws) (Gives (record s { values = gs; columns = set_entry s.columns c (n - first) x }) w)
-          (linear' (inside to) d w)
-      does to has n x ge lt s gs d w i q vs hc old he = by_one (place.width == 1) refl
-        where
-          both : n * place.width ≡ place.width * first + place.width * (n - first)
-          both = times_both n first place.width ge
-
-          few : n * place.width < 2 ^ 32
-          few =
-              let stands = q.ram.stands c place vs at hc in
-              let inner = slice_get_within vs (n - first) old he in
-              let within : place.width * (n - first) ≤ place.width * length vs = mul-le-mul_left place.width (omega (arith, inner)) in
-              subst (λ z. z < 2 ^ 32) (sym both)
-              (short_is place.address (place.width * first) (place.width * (n - first)) (place.width * length vs) stands.short le within)
-
-          low_is : first_address Ram ≤ base + n * place.width
-          low_is =
-              subst (λ z. first_address Ram ≤ base + z) (sym both)
-              (behind_is (first_address Ram) place.address (place.width * first) (place.width * (n - first)) (q.ram.stands c place vs at hc).behind le)
-
-          index_is : base + n * place.width - first_address Ram ≡ place.address - first_address Ram + place.width * (n - first)
-          index_is =
-              ap (λ z. base + z - first_address Ram) both
-              ∙ place_is (first_address Ram) place.address (place.width * first) (place.width * (n - first)) (q.ram.stands c place vs at hc).behind le
-
-          product : Block
-          product = One (Compute (record { operator = Product; width = 4; to = to; left = h; right = Known place.width }))
-
-          there : AreSame lay r ws (Local to ∷ v ∷ h ∷ hs) (record s { values = n * place.width ∷ x ∷ n ∷ gs }) (sets to (n * place.width) d.state)
-          there = put_temp lay r m.widths ws (v ∷ h ∷ hs) (record s { values = x ∷ n ∷ gs }) d.state to (n * place.width) wide placed has few q
-
-          by_one : (b : Bool) → (place.width == 1) ≡ b
-              → Alike (Held lay r ws (only hs)) (Leaves lay r ws) (Gives (record s { values = gs; columns = set_entry s.columns c (n - first) x }) w)
-              (linear' (Both (if b then Skip else product) (One (store_at place.width base (if b then h else Local to) v))) d w)
-          by_one true e1 =
-              let is : place.width ≡ 1 = grind arith in
-              does_store hs c (n - first) x old (n * place.width) base place vs h v (record s { values = gs }) d w i at hc he lt
-              (value_of_home h n d.state q.waits.1.0.0 ∙ ap Some (once n place.width is)) (value_of_home v x d.state q.waits.0.0) low_is index_is
-              (record { waits = q.waits.1.1; kept = q.kept; none = q.none; ram = q.ram })
-          by_one false e1 =
-              subst (λ z. Alike (Held lay r ws (only hs)) (Leaves lay r ws)
-              (Gives (record s { values = gs; columns = set_entry s.columns c (n - first) x }) w)
-              (and_then z (linear' (One (store_at place.width base (Local to) v)))))
-              (sym (plain_goes k f m call handle p go params lay r ws wide
-              (Compute (record { operator = Product; width = 4; to = to; left = h; right = Known place.width })) d w (sets to (n * place.width) d.state)
-              (computes_to k f m call handle p go params lay r ws wide Product 4 to h (Known place.width) n place.width (n * place.width) d.state w.outside
-              (value_of_home h n d.state q.waits.1.0.0) refl (ap Some (low_same (n * place.width) few)))))
-              (does_store hs c (n - first) x old (n * place.width) base place vs (Local to) v (record s { values = gs })
-              (record d { state = sets to (n * place.width) d.state }) w i at hc he lt there.waits.0.0
-              (value_of_home v x (sets to (n * place.width) d.state) there.waits.1.0.0) low_is index_is
-              (record { waits = there.waits.1.1.1; kept = there.kept; none = there.none; ram = there.ram }))
 
       by_entry : (to : ℕ) → temp r (v ∷ h ∷ hs) ≡ Some to → (n x : ℕ) → first ≤ n → x < 256 ^ place.width → (s : Firm) (gs : List ℕ) (d : Deciding State)
           (w : World History) → IsFair w → AreSame lay r ws (v ∷ h ∷ hs) (record s { values = x ∷ n ∷ gs }) d.state
@@ -253,7 +184,7 @@ module _ (k : Codes) (f : FirmProgram) (m : FirmProcedure) (call : FirmCaller Hi
           → Alike (Held lay r ws (only hs)) (Leaves lay r ws)
           (checked b (taking (at_object first (λ j. store c j x))) (record s { values = n ∷ gs }) w) (linear' (block to) d w)
       by_fit to has s d w i n x gs at1 q true e =
-          null_then k f m call handle p go params lay r ws wide flash h n (λ z. checked (nat_le first z) (store c (z - first) x)) (linear' (inside to))
+          null_then k f m call handle p go lay r ws wide flash h n (λ z. checked (nat_le first z) (store c (z - first) x)) (linear' (inside to))
           (record s { values = gs }) d w i (value_of_home h n d.state at1.1.0.0) at1.1.0.1
           (λ above. by_first to has n x (grind arith) s gs (record d { truth = None }) w i
           (record { waits = at1; kept = q.kept; none = q.none; ram = q.ram }) (nat_le first n) refl)
@@ -269,8 +200,139 @@ module _ (k : Codes) (f : FirmProgram) (m : FirmProcedure) (call : FirmCaller Hi
 
       by_room : (o : Option ℕ) → temp r (v ∷ h ∷ hs) ≡ o
           → Right' (only (v ∷ h ∷ hs)) (by_temp o (λ to. Makes (block to) (only hs))) (step' (StoreAt c first place.width))
-      by_room (Some to) has = (placed.1.1, λ fit s d w i q. by_values to has s d w i q s.values q.waits)
+      by_room (Some to) has = (placed.1.1, λ s d w i q. by_values to has s d w i q s.values q.waits)
       by_room None has = tt
+
+  -- a value goes where a number times the width of an entry leads
+  does_put : (c first : ℕ) (place : Place) → slice_get lay.ram c ≡ Some place → (v h : Operand) (hs : List Operand) → ArePlaced r.locals (v ∷ h ∷ hs)
+      → (to : ℕ) → temp r (v ∷ h ∷ hs) ≡ Some to → (number : Operand) (a base n x : ℕ) → x < 256 ^ place.width → (s : Firm) (gs : List ℕ)
+      (d : Deciding State) (w : World History) → IsFair w → AreSame lay r ws (v ∷ h ∷ hs) (record s { values = x ∷ n ∷ gs }) d.state
+      → (vs : List ℕ) → slice_get s.columns c ≡ Some vs → (old : ℕ) → slice_get vs (n - first) ≡ Some old
+      → value number d.state ≡ Some a → a * place.width < 2 ^ 32 → first_address Ram ≤ base + a * place.width
+      → base + a * place.width - first_address Ram ≡ place.address - first_address Ram + place.width * (n - first)
+      → Alike (Held lay r ws (only hs)) (Leaves lay r ws) (Gives (record s { values = gs; columns = set_entry s.columns c (n - first) x }) w)
+      (linear' (Both (multiplied to place.width number) (One (store_at place.width base (multiple to place.width number) v))) d w)
+  does_put c first place at v h hs placed to has number a base n x lt s gs d w i q vs hc old he hv few low_is index_is = by_one (place.width == 1) refl
+    where
+      once : (e b : ℕ) → b ≡ 1 → e ≡ e * b
+      once e b e1 = grind arith
+
+      product : Block
+      product = One (Compute (record { operator = Product; width = 4; to = to; left = number; right = Known place.width }))
+
+      there : AreSame lay r ws (Local to ∷ v ∷ h ∷ hs) (record s { values = a * place.width ∷ x ∷ n ∷ gs }) (sets to (a * place.width) d.state)
+      there = put_temp lay r m.widths ws (v ∷ h ∷ hs) (record s { values = x ∷ n ∷ gs }) d.state to (a * place.width) wide placed has few q
+
+      by_one : (b : Bool) → (place.width == 1) ≡ b
+          → Alike (Held lay r ws (only hs)) (Leaves lay r ws) (Gives (record s { values = gs; columns = set_entry s.columns c (n - first) x }) w)
+          (linear' (Both (if b then Skip else product) (One (store_at place.width base (if b then number else Local to) v))) d w)
+      by_one true e1 =
+          let is : place.width ≡ 1 = grind arith in
+          does_store hs c (n - first) x old (a * place.width) base place vs number v (record s { values = gs }) d w i at hc he lt
+          (hv ∙ ap Some (once a place.width is)) (value_of_home v x d.state q.waits.0.0) low_is index_is
+          (record { waits = q.waits.1.1; kept = q.kept; none = q.none; ram = q.ram })
+      by_one false e1 =
+          subst (λ z. Alike (Held lay r ws (only hs)) (Leaves lay r ws)
+          (Gives (record s { values = gs; columns = set_entry s.columns c (n - first) x }) w)
+          (and_then z (linear' (One (store_at place.width base (Local to) v)))))
+          (sym (plain_goes k f m call handle p go lay r ws wide
+          (Compute (record { operator = Product; width = 4; to = to; left = number; right = Known place.width })) d w (sets to (a * place.width) d.state)
+          (computes_to k f m call handle p go lay r ws wide Product 4 to number (Known place.width) a place.width (a * place.width) d.state w.outside
+          hv refl (ap Some (low_same (a * place.width) few)))))
+          (does_store hs c (n - first) x old (a * place.width) base place vs (Local to) v (record s { values = gs })
+          (record d { state = sets to (a * place.width) d.state }) w i at hc he lt there.waits.0.0
+          (value_of_home v x (sets to (a * place.width) d.state) there.waits.1.0.0) low_is index_is
+          (record { waits = there.waits.1.1.1; kept = there.kept; none = there.none; ram = there.ram }))
+
+  right_put : (c first : ℕ) (place : Place) → slice_get lay.ram c ≡ Some place → place.width * first ≤ place.address → (v h : Operand) (hs : List Operand)
+      → ArePlaced r.locals (v ∷ h ∷ hs)
+      → Right' (only (v ∷ h ∷ hs)) (put_of r place.width (place.address - place.width * first) v h hs) (step' (StoreAt c first place.width))
+  right_put c first place at le v h hs placed =
+      right_put_by c first place at v h hs placed
+      (λ to. Both (multiplied to place.width h) (One (store_at place.width base (multiple to place.width h) v)))
+      (λ to has n x ge lt s gs d w i q vs hc old he. does to has n x ge lt s gs d w i q vs hc old he (q.ram.stands c place vs at hc) (times_both n first place.width ge))
+    where
+      base : ℕ
+      base = place.address - place.width * first
+
+      short_is : (address a b all : ℕ) → address + all ≤ 65536 → a ≤ address → b ≤ all → a + b < 2 ^ 32
+      short_is address a b all h1 h2 h3 = omega (arith, h1, h2, h3)
+
+      behind_is : (low' address a b : ℕ) → low' ≤ address → a ≤ address → low' ≤ address - a + (a + b)
+      behind_is low' address a b h1 h2 = omega (arith, h1, h2)
+
+      place_is : (low' address a b : ℕ) → low' ≤ address → a ≤ address → address - a + (a + b) - low' ≡ address - low' + b
+      place_is low' address a b h1 h2 = omega (arith, h1, h2)
+
+      does : (to : ℕ) → temp r (v ∷ h ∷ hs) ≡ Some to → (n x : ℕ) → first ≤ n → x < 256 ^ place.width → (s : Firm) (gs : List ℕ) (d : Deciding State)
+          (w : World History) → IsFair w → AreSame lay r ws (v ∷ h ∷ hs) (record s { values = x ∷ n ∷ gs }) d.state
+          → (vs : List ℕ) → slice_get s.columns c ≡ Some vs → (old : ℕ) → slice_get vs (n - first) ≡ Some old → ColumnStands Ram d.state.ram place vs
+          → n * place.width ≡ place.width * first + place.width * (n - first)
+          → Alike (Held lay r ws (only hs)) (Leaves lay r ws) (Gives (record s { values = gs; columns = set_entry s.columns c (n - first) x }) w)
+          (linear' (Both (multiplied to place.width h) (One (store_at place.width base (multiple to place.width h) v))) d w)
+      does to has n x ge lt s gs d w i q vs hc old he stands both =
+          let inner = slice_get_within vs (n - first) old he in
+          let within : place.width * (n - first) ≤ place.width * length vs = mul-le-mul_left place.width (omega (arith, inner)) in
+          does_put c first place at v h hs placed to has h n base n x lt s gs d w i q vs hc old he (value_of_home h n d.state q.waits.1.0.0)
+          (subst (λ z. z < 2 ^ 32) (sym both)
+          (short_is place.address (place.width * first) (place.width * (n - first)) (place.width * length vs) stands.short le within))
+          (subst (λ z. first_address Ram ≤ base + z) (sym both)
+          (behind_is (first_address Ram) place.address (place.width * first) (place.width * (n - first)) stands.behind le))
+          (ap (λ z. base + z - first_address Ram) both
+          ∙ place_is (first_address Ram) place.address (place.width * first) (place.width * (n - first)) stands.behind le)
+
+  -- the same, counted from the first object
+  right_put_from : (c first : ℕ) (place : Place) → slice_get lay.ram c ≡ Some place → (v h : Operand) (hs : List Operand) → ArePlaced r.locals (v ∷ h ∷ hs)
+      → Right' (only (v ∷ h ∷ hs)) (put_from r place.width first place.address v h hs) (step' (StoreAt c first place.width))
+  right_put_from c first place at v h hs placed =
+      right_put_by c first place at v h hs placed inside
+      (λ to has n x ge lt s gs d w i q vs hc old he. does to has n x ge lt s gs d w i q vs hc old he (q.ram.stands c place vs at hc))
+    where
+      last : (to : ℕ) → Block
+      last to = Both (multiplied to place.width (Local to)) (One (store_at place.width place.address (multiple to place.width (Local to)) v))
+
+      inside : (to : ℕ) → Block
+      inside to = Both (One (distance to first h)) (last to)
+
+      times : (a b : ℕ) → a * b ≡ b * a
+      times a b = grind arith
+
+      few_is : (address b all : ℕ) → address + all ≤ 65536 → b ≤ all → b < 2 ^ 32
+      few_is address b all h1 h2 = omega (arith, h1, h2)
+
+      low_is : (low' address b : ℕ) → low' ≤ address → low' ≤ address + b
+      low_is low' address b h1 = omega (arith, h1)
+
+      index_is : (low' address b : ℕ) → low' ≤ address → address + b - low' ≡ address - low' + b
+      index_is low' address b h1 = omega (arith, h1)
+
+      less : (a b c1 : ℕ) → a < c1 → a - b < c1
+      less a b c1 h1 = omega (arith, h1)
+
+      does : (to : ℕ) → temp r (v ∷ h ∷ hs) ≡ Some to → (n x : ℕ) → first ≤ n → x < 256 ^ place.width → (s : Firm) (gs : List ℕ) (d : Deciding State)
+          (w : World History) → IsFair w → AreSame lay r ws (v ∷ h ∷ hs) (record s { values = x ∷ n ∷ gs }) d.state
+          → (vs : List ℕ) → slice_get s.columns c ≡ Some vs → (old : ℕ) → slice_get vs (n - first) ≡ Some old → ColumnStands Ram d.state.ram place vs
+          → Alike (Held lay r ws (only hs)) (Leaves lay r ws) (Gives (record s { values = gs; columns = set_entry s.columns c (n - first) x }) w)
+          (linear' (inside to) d w)
+      does to has n x ge lt s gs d w i q vs hc old he stands =
+          let inner = slice_get_within vs (n - first) old he in
+          let within : place.width * (n - first) ≤ place.width * length vs = mul-le-mul_left place.width (omega (arith, inner)) in
+          let turned = times (n - first) place.width in
+          subst (λ z. Alike (Held lay r ws (only hs)) (Leaves lay r ws) (Gives (record s { values = gs; columns = set_entry s.columns c (n - first) x }) w)
+          (and_then z (linear' (last to))))
+          (sym (measured k f m call handle p go lay r ws wide flash to first n h d w (value_of_home h n d.state q.waits.1.0.0) ge q.waits.1.0.1))
+          (does_put c first place at v h hs placed to has (Local to) (n - first) place.address n x lt s gs (record d { state = sets to (n - first) d.state }) w i
+          (record { waits = there.waits.1; kept = there.kept; none = there.none; ram = there.ram }) vs hc old he there.waits.0.0
+          (subst (λ z. z < 2 ^ 32) (sym turned) (few_is place.address (place.width * (n - first)) (place.width * length vs) stands.short within))
+          (subst (λ z. first_address Ram ≤ place.address + z) (sym turned)
+          (low_is (first_address Ram) place.address (place.width * (n - first)) stands.behind))
+          (ap (λ z. place.address + z - first_address Ram) turned
+          ∙ index_is (first_address Ram) place.address (place.width * (n - first)) stands.behind))
+        where
+          there : AreSame lay r ws (Local to ∷ v ∷ h ∷ hs) (record s { values = (n - first) ∷ x ∷ n ∷ gs }) (sets to (n - first) d.state)
+          there =
+              put_temp lay r m.widths ws (v ∷ h ∷ hs) (record s { values = x ∷ n ∷ gs }) d.state to (n - first) wide placed has
+              (less n first (2 ^ 32) q.waits.1.0.1) q
 
   pub right_store_at : (c first width : ℕ) (hs : List Operand) → ArePlaced r.locals hs
       → Right' (only hs) (store_of r first width (slice_get lay.ram c) hs) (step' (StoreAt c first width))
@@ -282,15 +344,20 @@ module _ (k : Codes) (f : FirmProgram) (m : FirmProcedure) (call : FirmCaller Hi
       by_place (Some place) e [] placed1 = tt
       by_place (Some place) e (v ∷ []) placed1 = tt
       by_place (Some place) e (v ∷ h ∷ gs) placed1 =
-          by_width (is_width width) (width == place.width) refl (nat_le (place.width * first) place.address) refl
+          by_width (is_width width) (width == place.width) refl
         where
-          by_width : (b b1 : Bool) → (width == place.width) ≡ b1 → (b2 : Bool) → nat_le (place.width * first) place.address ≡ b2
-              → Right' (only (v ∷ h ∷ gs)) (if b && b1 && b2 then put_of r width (place.address - place.width * first) v h gs else Refused NotTaken)
+          by_address : (b : Bool) → nat_le (place.width * first) place.address ≡ b
+              → Right' (only (v ∷ h ∷ gs)) (if b then put_of r place.width (place.address - place.width * first) v h gs
+              else put_from r place.width first place.address v h gs) (step' (StoreAt c first place.width))
+          by_address true le = right_put c first place e (grind arith) v h gs placed1
+          by_address false le = right_put_from c first place e v h gs placed1
+
+          by_width : (b b1 : Bool) → (width == place.width) ≡ b1
+              → Right' (only (v ∷ h ∷ gs)) (if b && b1 then store_placed r width first place.address v h gs else Refused NotTaken)
               (step' (StoreAt c first width))
-          by_width true true same true le =
+          by_width true true same =
               let is : width ≡ place.width = grind arith in
-              subst (λ z. Right' (only (v ∷ h ∷ gs)) (put_of r z (place.address - place.width * first) v h gs) (step' (StoreAt c first z))) (sym is)
-              (right_put c first place e (grind arith) v h gs placed1)
-          by_width true true same false le = tt
-          by_width true false same b2 le = tt
-          by_width false b1 same b2 le = tt
+              subst (λ z. Right' (only (v ∷ h ∷ gs)) (store_placed r z first place.address v h gs) (step' (StoreAt c first z))) (sym is)
+              (by_address (nat_le (place.width * first) place.address) refl)
+          by_width true false same = tt
+          by_width false b1 same = tt

@@ -6,7 +6,7 @@ use Rattle.vg_lin.specs.declared.instr.Operand.{Operand}
 use Rattle.vg_lin.specs.declared.instr.Operand.TheVariants.{Local, Known}
 use Rattle.vg_lin.specs.declared.instr.Test.{Test}
 use Rattle.vg_lin.specs.declared.instr.Plain.{Plain as PlainInstr}
-use Rattle.vg_lin.specs.declared.instr.Plain.TheVariants.{Copy, Compute, Product, DivideStep, Load, Store, ReadDevice, WriteDevice, Push, Find, Stop}
+use Rattle.vg_lin.specs.declared.instr.Plain.TheVariants.{Copy, Compute, Product, DivideStep, Load, Store, ReadDevice, WriteDevice, Push, Find, CodeOf, Stop}
 use Rattle.vg_lin.specs.declared.instr.Callee.{Callee}
 use Rattle.vg_lin.specs.declared.instr.Callee.TheVariants.{Procedure as ByNumber, Code as ByCode}
 use Rattle.vg_lin.specs.declared.instr.Instr.{Instr}
@@ -49,6 +49,7 @@ IsPlain p (ReadDevice to address) = IsLocal p to
 IsPlain p (WriteDevice address a) = IsOperand p a
 IsPlain p (Push w a) = IsWidth w × IsOperand p a
 IsPlain p (Find dispatch to a) = IsLocal p to × IsOperand p a
+IsPlain p (CodeOf q to) = IsLocal p to
 IsPlain p (Stop code) = Unit {0}
 
 abbrev pub AreOperands : Procedure → Instr → Type 0

@@ -11,7 +11,7 @@ use Rattle.vg_lin.specs.declared.instr.Memory.{Memory}
 use Rattle.vg_lin.specs.declared.instr.Memory.TheVariants.{Ram, Flash}
 use Rattle.vg_lin.specs.declared.instr.Computation.{Computation}
 use Rattle.vg_lin.specs.declared.instr.Plain.{Plain}
-use Rattle.vg_lin.specs.declared.instr.Plain.TheVariants.{Copy, Compute, Product, DivideStep, Load, Store, ReadDevice, WriteDevice, Push, Find, Stop}
+use Rattle.vg_lin.specs.declared.instr.Plain.TheVariants.{Copy, Compute, Product, DivideStep, Load, Store, ReadDevice, WriteDevice, Push, Find, CodeOf, Stop}
 use Rattle.vg_lin.specs.Steps.{Went, Goes, Raises, Lacks, Fails}
 use Rattle.vg_lin.specs.Values.{low, computed, compared, next_remainder, next_dividend}
 use Rattle.vg_lin.specs.Program.{Program}
@@ -119,6 +119,7 @@ plain p (Push w a) s o =
     using (value a s) (λ x. Goes (record s { waiting = record { width = w; value = low w x } ∷ s.waiting }) o)
 plain p (Find dispatch to a) s o =
     using (value a s) (λ n. using (dispatched p.dispatches dispatch n) (λ q. Goes (sets to (p.codes.code q) s) o))
+plain p (CodeOf q to) s o = Goes (sets to (p.codes.code q) s) o
 plain p (Stop code) s o = Raises code
 
 -- ---- tests

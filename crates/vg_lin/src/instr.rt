@@ -99,6 +99,8 @@ pub enum Plain {
     Push(u8, Operand),
     /// The code number of the procedure that a dispatch has for the number of an object goes to a local.
     Find(u16, u8, Operand),
+    /// The code number of the procedure with this number goes to a local.
+    CodeOf(u16, u8),
     /// The run ends with an exception of this code.
     Stop(u8),
 }

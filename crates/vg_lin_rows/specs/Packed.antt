@@ -1,5 +1,5 @@
 -- A packed program with a loop, a dispatch, a column in RAM, an array in flash, a handler and a delegate; and its runs by computation.
-use Rattle.std.specs.Prelude.{◌≡◌, refl, ℕ, ◌+◌, ◌-◌, ◌==◌, ◌&&◌, nat_lt, nat_le, if◌then◌else◌, List, [], ◌∷◌, length, Option, Some, None}
+use Rattle.std.specs.Prelude.{◌≡◌, refl, Bool, true, false, ℕ, ◌+◌, ◌-◌, ◌==◌, ◌&&◌, nat_lt, nat_le, if◌then◌else◌, List, [], ◌∷◌, length, Option, Some, None}
 use Rattle.vg_meaning.specs.declared.event.Event.TheVariants.{Read, Write, Enter}
 use Rattle.vg_meaning.specs.Outside.{before}
 use Rattle.vg_meaning.specs.History.{Calling, History, no_history, full}
@@ -13,7 +13,7 @@ use Rattle.vg_firm.specs.declared.step.Prefix.TheVariants.{Cut}
 use Rattle.vg_firm.specs.declared.step.Elements.{Elements}
 use Rattle.vg_firm.specs.declared.step.Step.{Step}
 use Rattle.vg_firm.specs.declared.step.Step.TheVariants.{Number, Local, SetLocal, Forget, Operate, Apply, ReadDevice, WriteDevice, Load, Store, LoadAt}
-use Rattle.vg_firm.specs.declared.step.Step.TheVariants.{StoreNothing, LoadItem, Bind, CallFor, CallValue}
+use Rattle.vg_firm.specs.declared.step.Step.TheVariants.{StoreNothing, LoadItem, This, Bind, BindFor, CallFor, CallValue}
 use Rattle.vg_firm.specs.Program.{Procedure, Program}
 use Rattle.vg_firm.specs.Meaning.{State}
 use Rattle.vg_firm.specs.Session.{first_state, running}
@@ -41,6 +41,7 @@ main =
     record {
       method = 0;
       params = 0;
+      receives = false;
       widths = 4 ∷ [];
       result = 0;
       calls = 1 ∷ 2 ∷ [];
@@ -51,7 +52,7 @@ main =
 
 -- method 4, of object 1: nothing
 abbrev pub nothing_done : Procedure
-nothing_done = record { method = 4; params = 1; widths = 4 ∷ []; result = 0; calls = []; body = Nothing }
+nothing_done = record { method = 4; params = 1; receives = true; widths = 4 ∷ []; result = 0; calls = []; body = Nothing }
 
 -- method 7, of object 2: sum = sum + n; write the low byte of sum to 0x38
 abbrev pub count : Procedure
@@ -59,6 +60,7 @@ count =
     record {
       method = 7;
       params = 1;
+      receives = true;
       widths = 4 ∷ [];
       result = 0;
       calls = [];
@@ -71,6 +73,7 @@ handler index =
     record {
       method = 9;
       params = 0;
+      receives = false;
       widths = [];
       result = 0;
       calls = [];
@@ -132,7 +135,7 @@ alone body =
       flash = [];
       tables = [];
       ram = (0 ∷ []) ∷ [];
-      procedures = record { method = 0; params = 0; widths = 1 ∷ []; result = 0; calls = []; body = steps body } ∷ [];
+      procedures = record { method = 0; params = 0; receives = true; widths = 1 ∷ []; result = 0; calls = []; body = steps body } ∷ [];
       dispatches = [];
       main = 0;
       handler = λ v. None;
@@ -166,3 +169,40 @@ object_two = refl
 
 object_one : (alone_ends (Number 1 ∷ LoadAt Ram 0 2 ∷ Forget ∷ [])).ending ≡ Some Wrong
 object_one = refl
+
+-- A delegate is called on its receiver, and a procedure that gets none is called on none.
+abbrev pub delegated : (receives : Bool) → List Step → Program
+delegated receives body =
+    record {
+      flash = [];
+      tables = [];
+      ram = [];
+      procedures = record { method = 0; params = 0; receives = false; widths = []; result = 0; calls = 1 ∷ []; body = steps body }
+          ∷ record { method = 1; params = 0; receives = receives; widths = []; result = 0; calls = []; body = steps (This ∷ WriteDevice 0x38 ∷ []) } ∷ [];
+      dispatches = (record { first = 2; count = 3; procedure = 1 } ∷ []) ∷ [];
+      main = 0;
+      handler = λ v. None;
+    }
+
+abbrev pub delegate_shows : (receives : Bool) → List Step → Shown
+delegate_shows receives body = shown (packed_run (delegated receives body) 5 [] [])
+
+-- the object 4 has the method
+bound_object : (delegate_shows true (Number 4 ∷ BindFor 0 ∷ CallValue 0 ∷ Forget ∷ [])).trace ≡ Write 0x38 4 ∷ []
+bound_object = refl
+
+dispatched_object : (delegate_shows true (Number 4 ∷ CallFor 0 0 ∷ Forget ∷ [])).trace ≡ Write 0x38 4 ∷ []
+dispatched_object = refl
+
+bound_component : (delegate_shows true (Bind 1 ∷ CallValue 0 ∷ Forget ∷ [])).trace ≡ Write 0x38 0 ∷ []
+bound_component = refl
+
+-- null is no object, and no delegate
+null_object : (delegate_shows true (Number 0 ∷ BindFor 0 ∷ Forget ∷ [])).ending ≡ Some (Stops 1 None)
+null_object = refl
+
+null_delegate : (delegate_shows true (Number 0 ∷ CallValue 0 ∷ Forget ∷ [])).ending ≡ Some (Stops 1 None)
+null_delegate = refl
+
+gets_none : (delegate_shows false (Bind 1 ∷ CallValue 0 ∷ Forget ∷ [])).ending ≡ Some Wrong
+gets_none = refl

@@ -1,5 +1,5 @@
 use Rattle.std.proofs.Common.{◌≡◌, ◌++◌, drop, map}
-use Rattle.vg_flatten.specs.Fitting.{AllSet}
+use Rattle.vg_flatten.specs.Closing.{AllSet}
 use Rattle.vg_flatten_shapes.specs.Blocks.{set_in}
 use Rattle.vg_flatten.proofs.procedure.sealed.Given as goal
 

@@ -2,17 +2,23 @@ use Rattle.std.proofs.Common.{◌++◌, ◌+◌, ◌-◌, ◌≡◌, length, ari
 use Rattle.vg_firm.specs.Held.{code_of, procedure_of}
 use Rattle.vg_flatten_shapes.specs.Shapes.{empty}
 use Rattle.vg_flatten_control.specs.Flat.{flat}
-use Rattle.vg_flatten.specs.Flattened.{zero_list}
+use Rattle.vg_flatten.specs.Flattened.{zero_list, receivers}
 use Rattle.vg_flatten_shapes.specs.Laying.{IsPiece}
 use Rattle.vg_flatten.proofs.Finished.{whole_laid}
+use Rattle.vg_flatten.proofs.Whole.{own_long}
 use Rattle.vg_flatten.proofs.procedure.whole_code.Goals as goal
 
 pub returns : goal.returns
 returns c =
+    let own = own_long c.args.procedure.now.receives c.args.procedure.now.widths in
+    let receiver = c.requires.receiver in
+    let locals = c.requires.locals in
     whole_laid (procedure_of c.args.procedure.now)
     (flat c.args.layout.now c.args.room (code_of c.args.procedure.now.body) empty) c.in_ok-body.body c.in_ok-first.first
     c.push.new.self c.in_ok-append.field-0 c.in_ok-at.at
-    (c.in_ok-first.ensures ∙ ap (λ z. zero_list (z - c.args.procedure.now.params) c.args.procedure.now.params) c.requires.locals)
+    (c.in_ok-first.ensures
+    ∙ ap (λ z. zero_list (c.args.room.locals - z) z) (ap (λ z. z + c.args.procedure.now.params) receiver)
+    ∙ ap (λ z. zero_list z (receivers c.args.procedure.now.receives + c.args.procedure.now.params)) (omega (arith, own, receiver, locals)))
     (c.in_ok-at.ensures ∙ ap (λ z. 0 + z) c.len.ensures)
     (subst (λ z. IsPiece c.in_ok-body.body c.in_ok-at.at (flat c.args.layout.now c.args.room
     (code_of c.args.procedure.now.body) z)) c.new.ensures c.in_ok-body.ensures)

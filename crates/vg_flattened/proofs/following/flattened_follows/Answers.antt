@@ -2,4 +2,4 @@ use Rattle.vg_flattened.proofs.RunRight.{follows}
 use Rattle.vg_flattened.proofs.following.flattened_follows.Goals as goal
 
 pub returns : goal.returns
-returns c = λ k lay f params p flat. follows k lay f params p flat
+returns c = λ k lay f p flat. follows k lay f p flat

@@ -2,18 +2,17 @@
 ghost use Rattle.std.specs.Prelude.{◌≡◌, ◌+◌, ◌≤◌, Some, None, slice_get};
 ghost use Rattle.vg_flatten_shapes.specs.Blocks.{open_code};
 ghost use Rattle.vg_flatten_shapes.specs.Laying.{Lays, LaysCode};
-ghost use Rattle.vg_flatten_steps.specs.Steps.{is_place, timed, place_of, bounded, reached, element_of, load_element, load_item, places_in};
-ghost use Rattle.vg_flatten_steps.specs.Steps.{store_element, store_item};
+ghost use Rattle.vg_flatten_places.specs.Places.{is_place, timed, place_of, bounded, reached, element_of, load_element, load_item, places_in};
+ghost use Rattle.vg_flatten_places.specs.Places.{store_element, store_item};
 
 use crate::columns::{is_width, load_from, memory_of, places_in, store_at};
-use crate::operators::{is_zero, test_of};
-use crate::put::temp;
 use std::alloc::Global;
 use vg_base::{Refusal, Row};
 use vg_firm::Elements;
 use vg_flatten_shapes::{
     Fault, Homes, Layout, Open, Piece, Place, Room, Truth, append, place_behind, stop_where,
 };
+use vg_flatten_values::{is_zero, temp, test_of};
 use vg_lin::{Comparison, Computation, Instr, Memory, Operand, Operator, Plain};
 
 /// How an element is reached: by two temporaries and the address of a table, from an array's number and an index.
@@ -178,7 +177,7 @@ fn load_item_at(
 }
 
 /// An element, by the array's number and the index.
-pub(crate) fn load_item(
+pub fn load_item(
     alloc: Global,
     layout: &Layout,
     room: Room,
@@ -267,7 +266,7 @@ fn store_item_at(
 }
 
 /// An element gets a value, by the array's number and the index.
-pub(crate) fn store_item(
+pub fn store_item(
     alloc: Global,
     layout: &Layout,
     room: Room,

@@ -1,14 +1,14 @@
 // What shifts become.
 ghost use Rattle.std.specs.Prelude.{◌≡◌, ◌+◌, ◌-◌, ◌≤◌, ◌<◌, ◌^◌, Some, None};
 ghost use Rattle.vg_flatten_shapes.specs.Laying.{Lays};
-ghost use Rattle.vg_flatten_steps.specs.Steps.{shifted_left, shifted_right, shifted_by, shifted_where, masked, bytes_of, bytes_around};
+ghost use Rattle.vg_flatten_values.specs.Values.{shifted_left, shifted_right, concatenated, masked, bytes_of, bytes_around, bytes_for};
 
-use crate::operators::{bytes_of, computed, test_of};
+use crate::operators::{bytes_of, computed};
 use crate::put::{put_behind, put_home, temp};
 use std::alloc::Global;
 use vg_base::{Refusal, Row};
-use vg_flatten_shapes::{Fault, Homes, Open, Piece, Room, Truth, choice};
-use vg_lin::{Comparison, Computation, Instr, Operand, Operator, Plain};
+use vg_flatten_shapes::{Fault, Homes, Open, Piece, Room};
+use vg_lin::{Computation, Instr, Operand, Operator, Plain};
 
 pub(crate) fn shifted_left(
     alloc: Global,
@@ -38,12 +38,12 @@ pub(crate) fn shifted_left(
         }
         None => match bytes_around(bits) {
             Some(width) => masked(alloc, room, at, bits, width, left, right, homes),
-            None => Err(Refusal::Fault(Fault::NotTaken)),
+            None => Ok(put_home(alloc, Operand::Known(0), homes)?),
         },
     }
 }
 
-fn bytes_around(bits: u8) -> Option<u8>
+pub(crate) fn bytes_around(bits: u8) -> Option<u8>
     ensures { result ≡ bytes_around bits }
 {
     if bits < 8 {
@@ -95,11 +95,26 @@ fn masked(
 }
 
 /// The number of so many bits that are set.
-fn mask_of(bits: u8) -> u32
+pub(crate) fn mask_of(bits: u8) -> u32
     requires { bits < 32 }
     ensures { result ≡ 2 ^ bits - 1 }
 {
     (1u32 << bits) - 1
+}
+
+/// The bytes that hold a string of so many bits.
+pub(crate) fn bytes_for(bits: u8) -> u8
+    ensures { result ≡ bytes_for bits }
+{
+    if bits <= 8 {
+        1
+    } else if bits <= 16 {
+        2
+    } else if bits <= 24 {
+        3
+    } else {
+        4
+    }
 }
 
 pub(crate) fn shifted_right(
@@ -115,21 +130,38 @@ pub(crate) fn shifted_right(
     requires settled { homes.truth ≡ None }
     ensures { Lays result at (shifted_right room bits left right homes.homes) }
 {
+    let width = bytes_for(bits);
     match right {
         Operand::Known(count) => {
-            if bits > 32 {
-                return Err(Refusal::Fault(Fault::NotTaken));
-            }
             if count < bits as u32 {
-                return computed(alloc, room, at, Operator::ShiftRight, 4, left, right, homes);
+                return computed(
+                    alloc,
+                    room,
+                    at,
+                    Operator::ShiftRight,
+                    width,
+                    left,
+                    right,
+                    homes,
+                );
             }
             Ok(put_home(alloc, Operand::Known(0), homes)?)
         }
-        Operand::Local(_) => shifted_by(alloc, room, at, bits, left, right, homes),
+        Operand::Local(_) => computed(
+            alloc,
+            room,
+            at,
+            Operator::ShiftRight,
+            width,
+            left,
+            right,
+            homes,
+        ),
     }
 }
 
-fn shifted_by(
+/// A string is put behind another.
+pub(crate) fn concatenated(
     alloc: Global,
     room: Room,
     at: u16,
@@ -140,51 +172,24 @@ fn shifted_by(
 ) -> Result<Piece, Refusal<Fault>>
     requires room { room.locals + room.temps ≤ 252 }
     requires settled { homes.truth ≡ None }
-    ensures { Lays result at (shifted_by room bits left right homes.homes) }
-{
-    if bits == 32 {
-        return computed(alloc, room, at, Operator::ShiftRight, 4, left, right, homes);
-    }
-    if bits < 32 {
-        return shifted_where(alloc, room, at, bits, left, right, homes);
-    }
-    Err(Refusal::Fault(Fault::NotTaken))
-}
-
-/// A shift by an amount that may be as many bits as there are, or more.
-fn shifted_where(
-    alloc: Global,
-    room: Room,
-    at: u16,
-    bits: u8,
-    left: Operand,
-    right: Operand,
-    homes: Homes,
-) -> Result<Piece, Refusal<Fault>>
-    requires room { room.locals + room.temps ≤ 252 }
-    requires settled { homes.truth ≡ None }
-    requires few { bits < 32 }
-    ensures { Lays result at (shifted_where room bits left right homes.homes) }
+    ensures { Lays result at (concatenated room bits left right homes.homes) }
 {
     let to = temp(room, &homes)?;
     let shift = Computation {
-        operator: Operator::ShiftRight,
+        operator: Operator::ShiftLeft,
         width: 4,
         to,
         left,
+        right: Operand::Known(bits as u32),
+    };
+    let sum = Computation {
+        operator: Operator::Plus,
+        width: 4,
+        to,
+        left: Operand::Local(to),
         right,
     };
-    let test = test_of(Comparison::Below, right, Operand::Known(bits as u32));
-    let shifted = [Open::Set(Instr::Plain(Plain::Compute(shift)))];
-    let none = [Open::Set(Instr::Plain(Plain::Copy(to, Operand::Known(0))))];
-    let code = choice(
-        alloc,
-        at,
-        Truth::Holds(test),
-        shifted.as_slice(),
-        none.as_slice(),
-    )?;
-    let mut homes = homes;
-    homes.push(Operand::Local(to))?;
-    Ok(Piece { code, homes })
+    let mut code = Row::new(alloc);
+    code.push(Open::Set(Instr::Plain(Plain::Compute(shift))))?;
+    Ok(put_behind(code, to, Instr::Plain(Plain::Compute(sum)), homes)?)
 }

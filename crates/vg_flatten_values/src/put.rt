@@ -22,7 +22,7 @@ pub fn temp(room: Room, homes: &Homes) -> Result<u8, Refusal<Fault>>
 }
 
 /// An instruction whose value then waits in a temporary.
-pub(crate) fn put_into(alloc: Global, to: u8, instr: Instr, homes: Homes) -> Result<Piece, NoMemory>
+pub fn put_into(alloc: Global, to: u8, instr: Instr, homes: Homes) -> Result<Piece, NoMemory>
     ensures { IfOk result (λ p. (p.code ≡ Set instr ∷ []) × (p.homes ≡ record { truth = homes.truth; homes = Local to ∷ homes.homes })) }
 {
     let mut homes = homes;
@@ -47,7 +47,7 @@ pub(crate) fn put_behind(
 }
 
 /// The home waits above the others, and costs nothing.
-pub(crate) fn put_home(alloc: Global, home: Operand, homes: Homes) -> Result<Piece, NoMemory>
+pub fn put_home(alloc: Global, home: Operand, homes: Homes) -> Result<Piece, NoMemory>
     ensures { IfOk result (λ p. (p.code ≡ []) × (p.homes ≡ record { truth = homes.truth; homes = home ∷ homes.homes })) }
 {
     let mut homes = homes;

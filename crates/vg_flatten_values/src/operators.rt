@@ -1,12 +1,13 @@
 // What operators become.
-ghost use Rattle.std.specs.Prelude.{◌≡◌, ◌+◌, ◌≤◌, None};
-ghost use Rattle.vg_flatten_steps.specs.Steps.{operated, applied, computed, computing, comparing, operated_as, combined, bytes_of, test_of, by_order};
+ghost use Rattle.std.specs.Prelude.{◌≡◌, ◌+◌, ◌-◌, ◌^◌, ◌≤◌, ◌∷◌, None};
+ghost use Rattle.vg_firm.specs.declared.step.Prefix.TheVariants.{Complement};
+ghost use Rattle.vg_flatten_values.specs.Values.{operated, applied, computed, computing, comparing, operated_as, combined, bytes_of, test_of, by_order, cut, cut_bits, bytes_around};
 ghost use Rattle.vg_flatten_shapes.specs.Made.{is_zero};
 ghost use Rattle.vg_flatten_shapes.specs.Laying.{Lays};
 
 use crate::divisions::divided;
-use crate::put::{put_into, put_truth, temp};
-use crate::shifts::{shifted_left, shifted_right};
+use crate::put::{put_home, put_into, put_truth, temp};
+use crate::shifts::{bytes_around, bytes_for, concatenated, mask_of, shifted_left, shifted_right};
 use std::alloc::Global;
 use vg_base::Refusal;
 use vg_firm::{Operator as FirmOperator, Order, Prefix};
@@ -38,7 +39,7 @@ pub(crate) fn computed(
     Ok(put_into(alloc, to, Instr::Plain(Plain::Compute(computation)), homes)?)
 }
 
-pub(crate) fn operated(
+pub fn operated(
     alloc: Global,
     room: Room,
     at: u16,
@@ -107,7 +108,8 @@ fn combined(
         ),
         FirmOperator::ShiftLeft(bits) => shifted_left(alloc, room, at, bits, left, right, homes),
         FirmOperator::ShiftRight(bits) => shifted_right(alloc, room, at, bits, left, right, homes),
-        _ => Err(Refusal::Fault(Fault::NotTaken)),
+        FirmOperator::Concat(bits) => concatenated(alloc, room, at, bits, left, right, homes),
+        _ => Ok(put_home(alloc, Operand::Known(0), homes)?),
     }
 }
 
@@ -134,7 +136,7 @@ fn by_order(order: Order) -> Comparison
     }
 }
 
-pub(crate) fn test_of(comparison: Comparison, left: Operand, right: Operand) -> Test
+pub fn test_of(comparison: Comparison, left: Operand, right: Operand) -> Test
     ensures { result ≡ test_of comparison left right }
 {
     Test {
@@ -175,7 +177,7 @@ pub(crate) fn bytes_of(bits: u8) -> Option<u8>
     }
 }
 
-pub(crate) fn applied(
+pub fn applied(
     alloc: Global,
     room: Room,
     at: u16,
@@ -200,29 +202,100 @@ pub(crate) fn applied(
                 home,
                 homes,
             ),
-            Prefix::Cut(bits) => match bytes_of(bits) {
-                Some(width) => computed(
-                    alloc,
-                    room,
-                    at,
-                    Operator::Plus,
-                    width,
-                    home,
-                    Operand::Known(0),
-                    homes,
-                ),
-                None => Err(Refusal::Fault(Fault::NotTaken)),
-            },
-            Prefix::Complement(bits) => {
-                if bits == 32 {
-                    let all = Operand::Known(u32::MAX);
-                    return computed(alloc, room, at, Operator::Minus, 4, all, home, homes);
-                }
-                Err(Refusal::Fault(Fault::NotTaken))
-            }
+            Prefix::Cut(bits) => cut(alloc, room, at, bits, home, homes),
+            Prefix::Complement(bits) => complement(alloc, room, at, bits, home, homes),
         },
         None => Err(Refusal::Fault(Fault::NotTaken)),
     }
+}
+
+/// So many low bits of a number.
+fn cut(
+    alloc: Global,
+    room: Room,
+    at: u16,
+    bits: u8,
+    home: Operand,
+    homes: Homes,
+) -> Result<Piece, Refusal<Fault>>
+    requires room { room.locals + room.temps ≤ 252 }
+    requires settled { homes.truth ≡ None }
+    ensures { Lays result at (cut room bits (bytes_of bits) home homes.homes) }
+{
+    match bytes_of(bits) {
+        Some(width) => {
+            computed(
+                alloc,
+                room,
+                at,
+                Operator::Plus,
+                width,
+                home,
+                Operand::Known(0),
+                homes,
+            )
+        }
+        None => cut_bits(alloc, room, at, bits, home, homes),
+    }
+}
+
+/// The same, where they are no whole bytes.
+fn cut_bits(
+    alloc: Global,
+    room: Room,
+    at: u16,
+    bits: u8,
+    home: Operand,
+    homes: Homes,
+) -> Result<Piece, Refusal<Fault>>
+    requires room { room.locals + room.temps ≤ 252 }
+    requires settled { homes.truth ≡ None }
+    ensures { Lays result at (cut_bits room bits (bytes_around bits) home homes.homes) }
+{
+    match bytes_around(bits) {
+        Some(width) => {
+            let mask = Operand::Known(mask_of(bits));
+            computed(alloc, room, at, Operator::And, width, home, mask, homes)
+        }
+        None => Ok(put_home(alloc, home, homes)?),
+    }
+}
+
+/// The opposite of each bit of a string.
+fn complement(
+    alloc: Global,
+    room: Room,
+    at: u16,
+    bits: u8,
+    home: Operand,
+    homes: Homes,
+) -> Result<Piece, Refusal<Fault>>
+    requires room { room.locals + room.temps ≤ 252 }
+    requires settled { homes.truth ≡ None }
+    ensures { Lays result at (applied room (Complement bits) (home ∷ homes.homes)) }
+{
+    if bits <= 32 {
+        let all = Operand::Known(all_of(bits));
+        return computed(
+            alloc,
+            room,
+            at,
+            Operator::Minus,
+            bytes_for(bits),
+            all,
+            home,
+            homes,
+        );
+    }
+    Ok(put_home(alloc, Operand::Known(0), homes)?)
+}
+
+/// The number of a string of so many bits that are set.
+fn all_of(bits: u8) -> u32
+    requires { bits ≤ 32 }
+    ensures { result ≡ 2 ^ bits - 1 }
+{
+    if bits == 32 { u32::MAX } else { mask_of(bits) }
 }
 
 /// The test that a number is 0.

@@ -2,17 +2,16 @@
 ghost use Rattle.std.specs.Prelude.{◌≡◌, ◌+◌, ◌≤◌, Some, None, slice_get};
 ghost use Rattle.vg_flatten_shapes.specs.Blocks.{open_code};
 ghost use Rattle.vg_flatten_shapes.specs.Laying.{Lays, LaysCode};
-ghost use Rattle.vg_flatten_steps.specs.Steps.{is_width, load_from, multiplied, multiple, fetched, load_one, load_of, length_of, places_in, memory_of};
-ghost use Rattle.vg_flatten_steps.specs.Steps.{store_at, store_one, put_of, store_of};
+ghost use Rattle.vg_flatten_places.specs.Places.{is_width, load_from, multiplied, multiple, distance, fetched, fetched_from, load_placed, load_one, load_of, length_of, places_in, memory_of};
+ghost use Rattle.vg_flatten_places.specs.Places.{store_at, store_one, put_of, put_from, store_placed, store_of};
 
-use crate::operators::is_zero;
-use crate::put::{put_into, temp};
 use std::alloc::Global;
 use vg_base::{Refusal, Row};
 use vg_firm::Home;
 use vg_flatten_shapes::{
     Fault, Homes, Layout, Open, Piece, Place, Room, Truth, append, one, place_behind, stop_where,
 };
+use vg_flatten_values::{is_zero, put_into, temp};
 use vg_lin::{Address, Computation, Instr, Memory, Operand, Operator, Plain};
 
 pub(crate) fn is_width(width: u8) -> bool
@@ -126,7 +125,7 @@ fn load_one(
 }
 
 /// The one value of a column.
-pub(crate) fn load(
+pub fn load(
     alloc: Global,
     layout: &Layout,
     room: Room,
@@ -145,6 +144,75 @@ pub(crate) fn load(
     }
 }
 
+/// How far a number is behind another.
+pub fn distance(to: u8, first: u16, home: Operand) -> Plain
+    ensures { result ≡ distance to first home }
+{
+    Plain::Compute(Computation {
+        operator: Operator::Minus,
+        width: 4,
+        to,
+        left: home,
+        right: Operand::Known(first as u32),
+    })
+}
+
+/// The same, where the number is counted from another one.
+fn fetched_from(
+    alloc: Global,
+    room: Room,
+    at: u16,
+    memory: Memory,
+    first: u16,
+    place: Place,
+    home: Operand,
+    homes: Homes,
+) -> Result<Piece, Refusal<Fault>>
+    requires room { room.locals + room.temps ≤ 252 }
+    requires settled { homes.truth ≡ None }
+    ensures { Lays result at (fetched_from room memory place.width first place.address home homes.homes) }
+{
+    let to = temp(room, &homes)?;
+    let number = Operand::Local(to);
+    let check = stop_where(alloc, at, 1, Truth::Holds(is_zero(home)))?;
+    let distance_at = place_behind(at, check.len())?;
+    let inside = place_behind(distance_at, 1)?;
+    let mut rest = multiplied(alloc, inside, to, place.width, number)?;
+    let index = multiple(to, place.width, number);
+    let load = load_from(memory, place.width, to, place.address, index);
+    rest.push(Open::Set(Instr::Plain(load)))?;
+    let mut code = check;
+    code.push(Open::Set(Instr::Plain(distance(to, first, home))))?;
+    let code = append(code, rest.as_slice())?;
+    let mut homes = homes;
+    homes.push(Operand::Local(to))?;
+    Ok(Piece { code, homes })
+}
+
+/// The value of an object at its place.
+fn load_placed(
+    alloc: Global,
+    room: Room,
+    at: u16,
+    memory: Memory,
+    first: u16,
+    place: Place,
+    home: Operand,
+    homes: Homes,
+) -> Result<Piece, Refusal<Fault>>
+    requires room { room.locals + room.temps ≤ 252 }
+    requires settled { homes.truth ≡ None }
+    ensures { Lays result at (load_placed room memory place.width first place.address home homes.homes) }
+{
+    let before = place.width as u32 * first as u32;
+    if before <= place.address as u32 {
+        let width = place.width;
+        let base = place.address - before as u16;
+        return fetched(alloc, room, at, memory, width, width, base, home, homes);
+    }
+    fetched_from(alloc, room, at, memory, first, place, home, homes)
+}
+
 fn load_of(
     alloc: Global,
     room: Room,
@@ -161,20 +229,8 @@ fn load_of(
     let mut homes = homes;
     match homes.pop() {
         Some(home) => {
-            let before = place.width as u32 * first as u32;
-            if is_width(place.width) && before <= place.address as u32 {
-                let base = place.address - before as u16;
-                return fetched(
-                    alloc,
-                    room,
-                    at,
-                    memory,
-                    place.width,
-                    place.width,
-                    base,
-                    home,
-                    homes,
-                );
+            if is_width(place.width) {
+                return load_placed(alloc, room, at, memory, first, place, home, homes);
             }
             Err(Refusal::Fault(Fault::NotTaken))
         }
@@ -183,7 +239,7 @@ fn load_of(
 }
 
 /// The value of an object, whose column begins with that of the first.
-pub(crate) fn load_at(
+pub fn load_at(
     alloc: Global,
     layout: &Layout,
     room: Room,
@@ -227,7 +283,7 @@ fn length_of(
 }
 
 /// The length of an array, by the table of its type.
-pub(crate) fn length(
+pub fn length(
     alloc: Global,
     layout: &Layout,
     room: Room,
@@ -275,7 +331,7 @@ fn store_one(
 }
 
 /// The one value of a column gets another.
-pub(crate) fn store(
+pub fn store(
     alloc: Global,
     layout: &Layout,
     at: u16,
@@ -322,6 +378,63 @@ fn put_of(
     Ok(Piece { code, homes })
 }
 
+/// The same, where the number is counted from another one.
+fn put_from(
+    alloc: Global,
+    room: Room,
+    at: u16,
+    first: u16,
+    place: Place,
+    value: Operand,
+    home: Operand,
+    homes: Homes,
+) -> Result<Piece, Refusal<Fault>>
+    requires room { room.locals + room.temps ≤ 252 }
+    requires settled { homes.truth ≡ None }
+    ensures { Lays result at (put_from room place.width first place.address value home homes.homes) }
+{
+    let mut homes = homes;
+    homes.push(home)?;
+    homes.push(value)?;
+    let to = temp(room, &homes)?;
+    homes.pop();
+    homes.pop();
+    let number = Operand::Local(to);
+    let check = stop_where(alloc, at, 1, Truth::Holds(is_zero(home)))?;
+    let distance_at = place_behind(at, check.len())?;
+    let inside = place_behind(distance_at, 1)?;
+    let mut rest = multiplied(alloc, inside, to, place.width, number)?;
+    let index = multiple(to, place.width, number);
+    rest.push(Open::Set(Instr::Plain(store_at(place.width, place.address, index, value))))?;
+    let mut code = check;
+    code.push(Open::Set(Instr::Plain(distance(to, first, home))))?;
+    let code = append(code, rest.as_slice())?;
+    Ok(Piece { code, homes })
+}
+
+/// The value of an object at its place gets another.
+fn store_placed(
+    alloc: Global,
+    room: Room,
+    at: u16,
+    first: u16,
+    place: Place,
+    value: Operand,
+    home: Operand,
+    homes: Homes,
+) -> Result<Piece, Refusal<Fault>>
+    requires room { room.locals + room.temps ≤ 252 }
+    requires settled { homes.truth ≡ None }
+    ensures { Lays result at (store_placed room place.width first place.address value home homes.homes) }
+{
+    let before = place.width as u32 * first as u32;
+    if before <= place.address as u32 {
+        let base = place.address - before as u16;
+        return put_of(alloc, room, at, place.width, base, value, home, homes);
+    }
+    put_from(alloc, room, at, first, place, value, home, homes)
+}
+
 fn store_of(
     alloc: Global,
     room: Room,
@@ -338,10 +451,8 @@ fn store_of(
     let mut homes = homes;
     match (homes.pop(), homes.pop()) {
         (Some(value), Some(home)) => {
-            let before = place.width as u32 * first as u32;
-            if is_width(width) && width == place.width && before <= place.address as u32 {
-                let base = place.address - before as u16;
-                return put_of(alloc, room, at, width, base, value, home, homes);
+            if is_width(width) && width == place.width {
+                return store_placed(alloc, room, at, first, place, value, home, homes);
             }
             Err(Refusal::Fault(Fault::NotTaken))
         }
@@ -350,7 +461,7 @@ fn store_of(
 }
 
 /// The value of an object gets another.
-pub(crate) fn store_to(
+pub fn store_to(
     alloc: Global,
     layout: &Layout,
     room: Room,

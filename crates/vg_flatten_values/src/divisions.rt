@@ -2,7 +2,7 @@
 ghost use Rattle.std.specs.Prelude.{◌≡◌, ◌+◌, ◌≤◌, None};
 ghost use Rattle.vg_flatten_shapes.specs.Blocks.{open_code};
 ghost use Rattle.vg_flatten_shapes.specs.Laying.{Lays, LaysCode};
-ghost use Rattle.vg_flatten_steps.specs.Steps.{divided, divisor_checked, may_be_zero};
+ghost use Rattle.vg_flatten_values.specs.Values.{divided, divisor_checked, may_be_zero};
 
 use crate::operators::is_zero;
 use crate::put::{put_behind, temp};

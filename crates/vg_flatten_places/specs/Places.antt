@@ -1,0 +1,170 @@
+-- What loads and stores become, from where values wait.
+use Rattle.std.specs.Prelude.{ℕ, ◌-◌, ◌*◌, Bool, ◌==◌, ◌&&◌, nat_lt, nat_le, List, [], ◌∷◌, length, Option, Some, None, if◌then◌else◌}
+use Rattle.vg_firm.specs.declared.step.Home.{Home}
+use Rattle.vg_firm.specs.declared.step.Home.TheVariants.{Ram as InRam, Flash as InFlash}
+use Rattle.vg_firm.specs.declared.step.Elements.{Elements}
+use Rattle.vg_lin.specs.declared.instr.Operand.{Operand}
+use Rattle.vg_lin.specs.declared.instr.Operand.TheVariants.{Local as InLocal, Known}
+use Rattle.vg_lin.specs.declared.instr.Operator.TheVariants.{Plus as Sum, Minus as Difference, Times as Product}
+use Rattle.vg_lin.specs.declared.instr.Comparison.TheVariants.{Below}
+use Rattle.vg_lin.specs.declared.instr.Plain.{Plain}
+use Rattle.vg_lin.specs.declared.instr.Plain.TheVariants.{Compute, Load, Store as StoreBytes}
+use Rattle.vg_lin.specs.declared.instr.Memory.{Memory}
+use Rattle.vg_lin.specs.declared.instr.Memory.TheVariants.{Ram, Flash}
+use Rattle.vg_flatten_shapes.specs.declared.fault.Fault.TheVariants.{NotTaken}
+use Rattle.vg_flatten_shapes.specs.declared.layout.Layout.{Layout}
+use Rattle.vg_flatten_shapes.specs.declared.layout.Place.{Place}
+use Rattle.vg_flatten_shapes.specs.declared.room.Room.{Room}
+use Rattle.vg_flatten_shapes.specs.declared.open.Truth.TheVariants.{Holds, Fails}
+use Rattle.vg_flatten_places.specs.declared.elements.Reach.{Reach}
+use Rattle.vg_flatten_shapes.specs.Shapes.{only, temp}
+use Rattle.vg_flatten_shapes.specs.Blocks.{Block, Skip, One, Both, stop_where}
+use Rattle.vg_flatten_shapes.specs.Made.{Made, Gives, Refused, by_temp, is_zero}
+use Rattle.vg_flatten_values.specs.Values.{test_of}
+
+-- ---- columns and tables
+
+-- A number of bytes that a load takes.
+abbrev pub is_width : (width : ℕ) → Bool
+is_width width = nat_lt 0 width && nat_lt width 5
+
+abbrev pub load_from : Memory → (width to base : ℕ) → Operand → Plain
+load_from memory width to base index = Load memory width to (record { base = base; index = index })
+
+-- A number, so many times.
+abbrev pub multiplied : (to by : ℕ) → Operand → Block
+multiplied to by h = if by == 1 then Skip else One (Compute (record { operator = Product; width = 4; to = to; left = h; right = Known by }))
+
+abbrev pub multiple : (to by : ℕ) → Operand → Operand
+multiple to by h = if by == 1 then h else InLocal to
+
+-- Behind the null check of a number, so many bytes: those at a base, so many times further as the number says.
+abbrev pub fetched : Room → Memory → (width by base : ℕ) → Operand → List Operand → Made
+fetched r memory width by base h hs =
+    by_temp (temp r hs) (λ to. Gives (Both (stop_where 1 (Holds (is_zero h)))
+    (Both (multiplied to by h) (One (load_from memory width to base (multiple to by h))))) (only (InLocal to ∷ hs)))
+
+-- The one value of a column.
+abbrev pub load_one : Room → Memory → Option Place → List Operand → Made
+load_one r memory (Some place) hs =
+    if is_width place.width then by_temp (temp r hs) (λ to. Gives (One (load_from memory place.width to place.address (Known 0))) (only (InLocal to ∷ hs)))
+    else Refused NotTaken
+load_one r memory None hs = Refused NotTaken
+
+-- How far a number is behind another.
+abbrev pub distance : (to first : ℕ) → Operand → Plain
+distance to first h = Compute (record { operator = Difference; width = 4; to = to; left = h; right = Known first })
+
+-- The same, where the number is counted from another one.
+abbrev pub fetched_from : Room → Memory → (width first base : ℕ) → Operand → List Operand → Made
+fetched_from r memory width first base h hs =
+    by_temp (temp r hs) (λ to. Gives (Both (stop_where 1 (Holds (is_zero h))) (Both (One (distance to first h))
+    (Both (multiplied to width (InLocal to)) (One (load_from memory width to base (multiple to width (InLocal to))))))) (only (InLocal to ∷ hs)))
+
+-- The value of an object: the column begins with that of the first, and an object of the number 0 may be at no address at all.
+abbrev pub load_placed : Room → Memory → (width first address : ℕ) → Operand → List Operand → Made
+load_placed r memory width first address h hs =
+    if nat_le (width * first) address then fetched r memory width width (address - width * first) h hs else fetched_from r memory width first address h hs
+
+abbrev pub load_of : Room → Memory → (first : ℕ) → Option Place → List Operand → Made
+load_of r memory first (Some place) (h ∷ hs) =
+    if is_width place.width then load_placed r memory place.width first place.address h hs else Refused NotTaken
+load_of r memory first _ _ = Refused NotTaken
+
+-- The length of an array: four bytes of a table are the place of one, and the upper two its length.
+abbrev pub length_of : Room → Option ℕ → List Operand → Made
+length_of r (Some table) (h ∷ hs) = if nat_le 2 table then fetched r Flash 2 4 (table - 2) h hs else Refused NotTaken
+length_of r _ _ = Refused NotTaken
+
+-- A store at a base, so many bytes further as a number says, behind its null check.
+abbrev pub store_at : (width base : ℕ) → (index value : Operand) → Plain
+store_at width base index value = StoreBytes width (record { base = base; index = index }) value
+
+-- The one value of a column gets a value of so many bytes, as many as an entry has.
+abbrev pub store_one : (width : ℕ) → Option Place → List Operand → Made
+store_one width (Some place) (v ∷ hs) =
+    if is_width width && (width == place.width) then Gives (One (store_at width place.address (Known 0) v)) (only hs) else Refused NotTaken
+store_one width _ _ = Refused NotTaken
+
+-- The value of an object does.
+abbrev pub put_of : Room → (width base : ℕ) → (v h : Operand) → List Operand → Made
+put_of r width base v h hs =
+    by_temp (temp r (v ∷ h ∷ hs)) (λ to. Gives (Both (stop_where 1 (Holds (is_zero h)))
+    (Both (multiplied to width h) (One (store_at width base (multiple to width h) v)))) (only hs))
+
+abbrev pub put_from : Room → (width first base : ℕ) → (v h : Operand) → List Operand → Made
+put_from r width first base v h hs =
+    by_temp (temp r (v ∷ h ∷ hs)) (λ to. Gives (Both (stop_where 1 (Holds (is_zero h))) (Both (One (distance to first h))
+    (Both (multiplied to width (InLocal to)) (One (store_at width base (multiple to width (InLocal to)) v))))) (only hs))
+
+abbrev pub store_placed : Room → (width first address : ℕ) → (v h : Operand) → List Operand → Made
+store_placed r width first address v h hs =
+    if nat_le (width * first) address then put_of r width (address - width * first) v h hs else put_from r width first address v h hs
+
+abbrev pub store_of : Room → (first width : ℕ) → Option Place → List Operand → Made
+store_of r first width (Some place) (v ∷ h ∷ hs) =
+    if is_width width && (width == place.width) then store_placed r width first place.address v h hs else Refused NotTaken
+store_of r first width _ _ = Refused NotTaken
+
+-- The places of the columns of a home, and the memory where they are.
+abbrev pub places_in : Layout → Home → List Place
+places_in lay InRam = lay.ram
+places_in lay InFlash = lay.flash
+
+abbrev pub memory_of : Home → Memory
+memory_of InRam = Ram
+memory_of InFlash = Flash
+
+-- ---- elements of arrays
+
+-- The column of a type of arrays stands where its elements are said to stand, in as many bytes.
+abbrev pub is_place : Elements → Place → Bool
+is_place e place = (e.address == place.address) && (e.width == place.width)
+
+abbrev pub timed : (to by : ℕ) → Operand → Plain
+timed to by h = Compute (record { operator = Product; width = 4; to = to; left = h; right = Known by })
+
+-- What is done with the address of an element, which is so many times its width behind that of the array.
+abbrev pub place_of : Reach → (last : Plain) → Block
+place_of x last =
+    Both (One (load_from Flash 2 x.first (x.table - 4) (InLocal x.first)))
+    (Both (One (timed x.second x.width x.index))
+    (Both (One (Compute (record { operator = Sum; width = 4; to = x.first; left = InLocal x.first; right = InLocal x.second }))) (One last)))
+
+-- The same behind the bounds check.
+abbrev pub bounded : Reach → (last : Plain) → Block
+bounded x last = Both (stop_where 2 (Fails (test_of Below x.index (InLocal x.second)))) (place_of x last)
+
+-- The same behind a load of the length of the array.
+abbrev pub reached : Reach → (last : Plain) → Block
+reached x last = Both (One (timed x.first 4 x.home)) (Both (One (load_from Flash 2 x.second (x.table - 2) (InLocal x.first))) (bounded x last))
+
+-- The same behind the null check.
+abbrev pub element_of : Reach → (last : Plain) → Block
+element_of x last = Both (stop_where 1 (Holds (is_zero x.home))) (reached x last)
+
+-- What is done with two temporaries above these.
+abbrev pub by_two : Room → List Operand → ((first second : ℕ) → Made) → Made
+by_two r hs go = by_temp (temp r hs) (λ first. by_temp (temp r (InLocal first ∷ hs)) (λ second. go first second))
+
+abbrev pub load_element : Room → Elements → (table : ℕ) → (h i : Operand) → List Operand → Made
+load_element r e table h i hs =
+    by_temp (temp r hs) (λ to. by_two r (i ∷ h ∷ hs) (λ first second.
+    Gives (element_of (record { first = first; second = second; table = table; width = e.width; home = h; index = i })
+    (load_from (memory_of e.home) e.width to 0 (InLocal first))) (only (InLocal to ∷ hs))))
+
+abbrev pub load_item : Room → Elements → Option Place → Option ℕ → List Operand → Made
+load_item r e (Some place) (Some table) (i ∷ h ∷ hs) =
+    if is_width e.width && is_place e place && nat_le 4 table then load_element r e table h i hs else Refused NotTaken
+load_item r e _ _ _ = Refused NotTaken
+
+abbrev pub store_element : Room → (width table : ℕ) → (v h i : Operand) → List Operand → Made
+store_element r width table v h i hs =
+    by_two r (v ∷ i ∷ h ∷ hs) (λ first second.
+    Gives (element_of (record { first = first; second = second; table = table; width = width; home = h; index = i })
+    (store_at width 0 (InLocal first) v)) (only hs))
+
+abbrev pub store_item : Room → Elements → Option Place → Option ℕ → List Operand → Made
+store_item r e (Some place) (Some table) (v ∷ i ∷ h ∷ hs) =
+    if is_width e.width && is_place e place && nat_le 4 table then store_element r e.width table v h i hs else Refused NotTaken
+store_item r e _ _ _ = Refused NotTaken

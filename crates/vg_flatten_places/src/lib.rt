@@ -1,0 +1,8 @@
+//! What loads from columns and tables, and stores to columns, become, as pieces of linear code.
+#![tactic(auto)]
+
+pub mod columns;
+pub mod elements;
+
+pub use columns::{distance, length, load, load_at, store, store_to};
+pub use elements::{load_item, store_item};
