@@ -1,5 +1,5 @@
 -- Operators on numbers compute the numbers of what operators on values compute, and values stay in their ranges.
-use Rattle.std.proofs.Common.{◌≡◌, refl, sym, ap, subst, ◌∙◌, arith, ℕ, zero, suc, ◌+◌, ◌-◌, ◌*◌, ◌/◌, ◌%◌, ◌^◌, ◌<◌, ◌≤◌, Bool, true, false, not, ◌==◌, nat_lt, nat_le, ℤ, pos, negsuc, FitsSigned}
+use Rattle.std.proofs.Common.{◌≡◌, refl, sym, ap, subst, ◌∙◌, arith, ℕ, zero, suc, ◌+◌, ◌-◌, ◌*◌, ◌/◌, ◌%◌, ◌^◌, ◌<◌, ◌≤◌, Bool, true, false, not, ◌==◌, ◌&&◌, nat_lt, nat_le, ℤ, pos, negsuc, FitsSigned}
 use Rattle.std.proofs.Common.{neg_ℤ, unsigned_abs, int_lt, int_le, bit_and, bit_or, bit_xor, int_rem, int_div, if◌then◌else◌, List, Option, Some, None}
 use Rattle.std.specs.Ordering.{int_eq}
 use Rattle.std.specs.Int.{w32, cast_unsigned, cast_signed, int_wrapping_add, int_wrapping_sub, int_wrapping_mul, int_wrapping_neg, int_wrapping_div}
@@ -26,7 +26,7 @@ use Rattle.vg_core.specs.declared.program.Tables.{Tables}
 use Rattle.vg_core.specs.Operators.{scalar_value, operator_of, prefix_of}
 use Rattle.vg_core.specs.State.{is_of}
 use Rattle.vg_firm.specs.declared.step.Prefix.TheVariants.{Cut}
-use Rattle.vg_firm.specs.Operators.{as_number, computed, applied}
+use Rattle.vg_firm.specs.Operators.{as_number, computed, applied, has_strings, has_string, is_string}
 use Rattle.vg_firm.specs.Operators as firm
 use Rattle.vg_coded.specs.Numbers.{scalar_number, IsInRange}
 use Rattle.vg_coded.specs.Operators.{bits_of, operator_for, prefix_for, cut_for, cut_by, StandsFor}
@@ -96,35 +96,36 @@ module _ (a b : ℤ) (ha : FitsSigned w32 a) (hb : FitsSigned w32 b) where
       (signed_Decides a b)
 
 divided : (a b : ℤ) → FitsSigned w32 a → FitsSigned w32 b
-    → StandsFor (firm.unless_zero (cast_unsigned w32 b) (firm.on_ints (int_wrapping_div w32) (cast_unsigned w32 a) (cast_unsigned w32 b)))
-      (source.unless_zero b (AnInt (int_wrapping_div w32 a b)))
-divided a (pos zero) ha hb = (refl, refl)
+    → StandsFor true (firm.unless_zero (cast_unsigned w32 b) (firm.on_ints (int_wrapping_div w32) (cast_unsigned w32 a) (cast_unsigned w32 b)))
+    (source.unless_zero b (AnInt (int_wrapping_div w32 a b)))
+divided a (pos zero) ha hb = (refl, refl, refl)
 divided a (pos (suc n)) ha hb =
-    (as_int _ (quotient a (pos (suc n)) ha), ap Some (on_numbers a (pos (suc n)) ha hb (int_wrapping_div w32)))
+    (as_int _ (quotient a (pos (suc n)) ha), refl, ap Some (on_numbers a (pos (suc n)) ha hb (int_wrapping_div w32)))
 divided a (negsuc n) ha hb =
-    (as_int _ (quotient a (negsuc n) ha), none_zero _ _ (below_zero n hb) ∙ ap Some (on_numbers a (negsuc n) ha hb (int_wrapping_div w32)))
+    (as_int _ (quotient a (negsuc n) ha), refl, none_zero _ _ (below_zero n hb) ∙ ap Some (on_numbers a (negsuc n) ha hb (int_wrapping_div w32)))
 
 left_over : (a b : ℤ) → FitsSigned w32 a → FitsSigned w32 b
-    → StandsFor (firm.unless_zero (cast_unsigned w32 b) (firm.on_ints int_rem (cast_unsigned w32 a) (cast_unsigned w32 b)))
-      (source.unless_zero b (AnInt (int_rem a b)))
-left_over a (pos zero) ha hb = (refl, refl)
-left_over a (pos (suc n)) ha hb = (remainder a (pos (suc n)) (omega arith) hb, ap Some (on_numbers a (pos (suc n)) ha hb int_rem))
+    → StandsFor true (firm.unless_zero (cast_unsigned w32 b) (firm.on_ints int_rem (cast_unsigned w32 a) (cast_unsigned w32 b)))
+    (source.unless_zero b (AnInt (int_rem a b)))
+left_over a (pos zero) ha hb = (refl, refl, refl)
+left_over a (pos (suc n)) ha hb = (remainder a (pos (suc n)) (omega arith) hb, refl, ap Some (on_numbers a (pos (suc n)) ha hb int_rem))
 left_over a (negsuc n) ha hb =
-    (remainder a (negsuc n) (omega arith) hb, none_zero _ _ (below_zero n hb) ∙ ap Some (on_numbers a (negsuc n) ha hb int_rem))
+    (remainder a (negsuc n) (omega arith) hb, refl, none_zero _ _ (below_zero n hb) ∙ ap Some (on_numbers a (negsuc n) ha hb int_rem))
 
 ints : (op : Operator) (a b : ℤ) → FitsSigned w32 a → FitsSigned w32 b
-    → StandsFor (computed (operator_for op IntType IntType) (cast_unsigned w32 a) (cast_unsigned w32 b)) (on_ints (operator_of op) a b)
-ints Plus a b ha hb = (wrapped _, ap Some (on_numbers a b ha hb (int_wrapping_add w32)))
-ints Minus a b ha hb = (wrapped _, ap Some (on_numbers a b ha hb (int_wrapping_sub w32)))
-ints Times a b ha hb = (wrapped _, ap Some (on_numbers a b ha hb (int_wrapping_mul w32)))
+    → StandsFor (has_strings (operator_for op IntType IntType) (cast_unsigned w32 a) (cast_unsigned w32 b))
+    (computed (operator_for op IntType IntType) (cast_unsigned w32 a) (cast_unsigned w32 b)) (on_ints (operator_of op) a b)
+ints Plus a b ha hb = (wrapped _, refl, ap Some (on_numbers a b ha hb (int_wrapping_add w32)))
+ints Minus a b ha hb = (wrapped _, refl, ap Some (on_numbers a b ha hb (int_wrapping_sub w32)))
+ints Times a b ha hb = (wrapped _, refl, ap Some (on_numbers a b ha hb (int_wrapping_mul w32)))
 ints Divide a b ha hb = divided a b ha hb
 ints Remainder a b ha hb = left_over a b ha hb
-ints Less a b ha hb = (tt, tested a b ha hb int_lt)
-ints AtMost a b ha hb = (tt, tested a b ha hb int_le)
-ints Greater a b ha hb = (tt, tested_back a b ha hb int_lt)
-ints AtLeast a b ha hb = (tt, tested_back a b ha hb int_le)
-ints Equal a b ha hb = (tt, ap (λ z. Some (as_number z)) (same_ints a b ha hb))
-ints Unequal a b ha hb = (tt, ap (λ z. Some (as_number (not z))) (same_ints a b ha hb))
+ints Less a b ha hb = (tt, refl, tested a b ha hb int_lt)
+ints AtMost a b ha hb = (tt, refl, tested a b ha hb int_le)
+ints Greater a b ha hb = (tt, refl, tested_back a b ha hb int_lt)
+ints AtLeast a b ha hb = (tt, refl, tested_back a b ha hb int_le)
+ints Equal a b ha hb = (tt, refl, ap (λ z. Some (as_number z)) (same_ints a b ha hb))
+ints Unequal a b ha hb = (tt, refl, ap (λ z. Some (as_number (not z))) (same_ints a b ha hb))
 ints And a b ha hb = tt
 ints Or a b ha hb = tt
 ints Xor a b ha hb = tt
@@ -132,13 +133,13 @@ ints ShiftLeft a b ha hb = tt
 ints ShiftRight a b ha hb = tt
 ints Concat a b ha hb = tt
 
-chars : (op : Operator) (a b : ℕ) → StandsFor (computed (operator_for op CharType CharType) a b) (on_chars (operator_of op) a b)
-chars Less a b = (tt, refl)
-chars AtMost a b = (tt, refl)
-chars Greater a b = (tt, refl)
-chars AtLeast a b = (tt, refl)
-chars Equal a b = (tt, refl)
-chars Unequal a b = (tt, refl)
+chars : (op : Operator) (a b : ℕ) → StandsFor (has_strings (operator_for op CharType CharType) a b) (computed (operator_for op CharType CharType) a b) (on_chars (operator_of op) a b)
+chars Less a b = (tt, refl, refl)
+chars AtMost a b = (tt, refl, refl)
+chars Greater a b = (tt, refl, refl)
+chars AtLeast a b = (tt, refl, refl)
+chars Equal a b = (tt, refl, refl)
+chars Unequal a b = (tt, refl, refl)
 chars Plus a b = tt
 chars Minus a b = tt
 chars Times a b = tt
@@ -153,22 +154,46 @@ chars Concat a b = tt
 
 -- ---- bit strings
 
-where_it_holds : (c : Bool) (o : Option ℕ) (s : Scalar) → (c ≡ true → IsInRange s × (o ≡ Some (scalar_number s))) → StandsFor o (only_if c s)
-where_it_holds true o s h = h refl
-where_it_holds false o s h = tt
+both : (a b : Bool) → a ≡ true → b ≡ true → (a && b) ≡ true
+both true true e f = refl
+both true false e f = f
+both false b e f = e
 
-raws : (op : Operator) (j x k y : ℕ) → x < 2 ^ j → y < 2 ^ k
-    → StandsFor (computed (operator_for op (RawType j) (RawType k)) x y) (on_raws (operator_of op) j x k y)
-raws And j x k y p q = where_it_holds (j == k) _ _ (λ e. (let a = and_le_l x y in omega (arith, a, p), refl))
-raws Or j x k y p q =
-    where_it_holds (j == k) _ _ (λ e. (or_lt j x y p (subst (λ z. y < 2 ^ z) (sym ((unsigned_Decides j k).0 e)) q), refl))
-raws Xor j x k y p q =
-    where_it_holds (j == k) _ _ (λ e. (xor_lt j x y p (subst (λ z. y < 2 ^ z) (sym ((unsigned_Decides j k).0 e)) q), refl))
-raws Concat j x k y p q =
-    where_it_holds (nat_le (j + k) 32) _ _ (λ e. (let a = mul-add-lt x (2 ^ k) y (2 ^ j) p q in let c : k + j ≡ j + k = omega arith in
-    subst (λ z. x * 2 ^ k + y < z) (sym (pow-add 2 k j) ∙ ap (λ z. 2 ^ z) c) a, refl))
-raws Equal j x k y p q = where_it_holds (j == k) _ _ (λ e. (tt, refl))
-raws Unequal j x k y p q = where_it_holds (j == k) _ _ (λ e. (tt, refl))
+below : (a b : ℕ) → a < b → nat_lt a b ≡ true
+below a b h = grind (arith, h)
+
+at_most : (a b : ℕ) → a ≤ b → nat_le a b ≡ true
+at_most a b h = grind (arith, h)
+
+-- a bit string is one of so many bits
+string : (k x : ℕ) → (k ≤ 32) × (x < 2 ^ k) → is_string k x ≡ true
+string k x (le, lt) = both (nat_le k 32) (nat_lt x (2 ^ k)) (at_most k 32 le) (below x (2 ^ k) lt)
+
+where_it_holds : (c b : Bool) (o : Option ℕ) (s : Scalar) → (c ≡ true → IsInRange s × (b ≡ true) × (o ≡ Some (scalar_number s))) → StandsFor b o (only_if c s)
+where_it_holds true b o s h = h refl
+where_it_holds false b o s h = tt
+
+raws : (op : Operator) (j x k y : ℕ) → (j ≤ 32) × (x < 2 ^ j) → (k ≤ 32) × (y < 2 ^ k)
+    → StandsFor (has_strings (operator_for op (RawType j) (RawType k)) x y) (computed (operator_for op (RawType j) (RawType k)) x y) (on_raws (operator_of op) j x k y)
+raws And j x k y (s, p) (r, q) = where_it_holds (j == k) true _ _ (λ e. ((s, let a = and_le_l x y in omega (arith, a, p)), refl, refl))
+raws Or j x k y (s, p) (r, q) =
+    where_it_holds (j == k) true _ _ (λ e. ((s, or_lt j x y p (subst (λ z. y < 2 ^ z) (sym ((unsigned_Decides j k).0 e)) q)), refl, refl))
+raws Xor j x k y (s, p) (r, q) =
+    where_it_holds (j == k) true _ _ (λ e. ((s, xor_lt j x y p (subst (λ z. y < 2 ^ z) (sym ((unsigned_Decides j k).0 e)) q)), refl, refl))
+raws Concat j x k y (s, p) (r, q) = where_it_holds (nat_le (j + k) 32) _ _ _ (λ e. put_together (grind (arith, e)))
+  where
+    small : x * 2 ^ k + y < 2 ^ (j + k)
+    small =
+        let a = mul-add-lt x (2 ^ k) y (2 ^ j) p q in let c : k + j ≡ j + k = omega arith in
+        subst (λ z. x * 2 ^ k + y < z) (sym (pow-add 2 k j) ∙ ap (λ z. 2 ^ z) c) a
+
+    put_together : j + k ≤ 32
+        → ((j + k ≤ 32) × (x * 2 ^ k + y < 2 ^ (j + k))) × ((is_string k y && nat_lt (x * 2 ^ k + y) (2 ^ 32)) ≡ true)
+        × (Some (x * 2 ^ k + y) ≡ Some (x * 2 ^ k + y))
+    put_together le =
+        ((le, small), both (is_string k y) _ (string k y (r, q)) (below (x * 2 ^ k + y) (2 ^ 32) (let m = pow_mono le in omega (arith, m, small))), refl)
+raws Equal j x k y p q = where_it_holds (j == k) true _ _ (λ e. (tt, refl, refl))
+raws Unequal j x k y p q = where_it_holds (j == k) true _ _ (λ e. (tt, refl, refl))
 raws Plus j x k y p q = tt
 raws Minus j x k y p q = tt
 raws Times j x k y p q = tt
@@ -195,13 +220,13 @@ right_small k x n p = by (nat_lt n k)
     by true = let e = div-le_self x (2 ^ n) in omega (arith, e, p)
     by false = pow_pos k
 
-shifts : (op : Operator) (k x : ℕ) (n : ℤ) → x < 2 ^ k → FitsSigned w32 n
-    → StandsFor (computed (operator_for op (RawType k) IntType) x (cast_unsigned w32 n)) (shifted (operator_of op) k x n)
+shifts : (op : Operator) (k x : ℕ) (n : ℤ) → (k ≤ 32) × (x < 2 ^ k) → FitsSigned w32 n
+    → StandsFor (has_strings (operator_for op (RawType k) IntType) x (cast_unsigned w32 n)) (computed (operator_for op (RawType k) IntType) x (cast_unsigned w32 n)) (shifted (operator_of op) k x n)
 shifts ShiftLeft k x (pos n) p h =
-    (left_small k x n, ap (λ z. Some (firm.shifted z k (λ m. x * 2 ^ m % 2 ^ k))) (to_z-of_z w32 (pos n) h))
-shifts ShiftLeft k x (negsuc n) p h = (pow_pos k, ap (λ z. Some (firm.shifted z k (λ m. x * 2 ^ m % 2 ^ k))) (to_z-of_z w32 (negsuc n) h))
-shifts ShiftRight k x (pos n) p h = (right_small k x n p, ap (λ z. Some (firm.shifted z k (λ m. x / 2 ^ m))) (to_z-of_z w32 (pos n) h))
-shifts ShiftRight k x (negsuc n) p h = (pow_pos k, ap (λ z. Some (firm.shifted z k (λ m. x / 2 ^ m))) (to_z-of_z w32 (negsuc n) h))
+    ((p.0, left_small k x n), string k x p, ap (λ z. Some (firm.shifted z k (λ m. x * 2 ^ m % 2 ^ k))) (to_z-of_z w32 (pos n) h))
+shifts ShiftLeft k x (negsuc n) p h = ((p.0, pow_pos k), string k x p, ap (λ z. Some (firm.shifted z k (λ m. x * 2 ^ m % 2 ^ k))) (to_z-of_z w32 (negsuc n) h))
+shifts ShiftRight k x (pos n) p h = ((p.0, right_small k x n p.1), string k x p, ap (λ z. Some (firm.shifted z k (λ m. x / 2 ^ m))) (to_z-of_z w32 (pos n) h))
+shifts ShiftRight k x (negsuc n) p h = ((p.0, pow_pos k), string k x p, ap (λ z. Some (firm.shifted z k (λ m. x / 2 ^ m))) (to_z-of_z w32 (negsuc n) h))
 shifts Plus k x n p h = tt
 shifts Minus k x n p h = tt
 shifts Times k x n p h = tt
@@ -227,9 +252,9 @@ same_truths false true = refl
 same_truths false false = refl
 
 -- a comparison for sameness is one of numbers that are the same where what they stand for is
-pub comparisons : (op : Operator) (t u : CoreType) (x y : ℕ) (b : Bool) → (x == y) ≡ b → StandsFor (computed (operator_for op t u) x y) (compared (operator_of op) b)
-comparisons Equal t u x y b e = (tt, ap (λ z. Some (as_number z)) e)
-comparisons Unequal t u x y b e = (tt, ap (λ z. Some (as_number (not z))) e)
+pub comparisons : (op : Operator) (t u : CoreType) (x y : ℕ) (b : Bool) → (x == y) ≡ b → StandsFor (has_strings (operator_for op t u) x y) (computed (operator_for op t u) x y) (compared (operator_of op) b)
+comparisons Equal t u x y b e = (tt, refl, ap (λ z. Some (as_number z)) e)
+comparisons Unequal t u x y b e = (tt, refl, ap (λ z. Some (as_number (not z))) e)
 comparisons Plus t u x y b e = tt
 comparisons Minus t u x y b e = tt
 comparisons Times t u x y b e = tt
@@ -255,22 +280,24 @@ IsNumber _ = Unit {0}
 
 module _ (p : Tables) (cells : List Cell) where
   pub scalars : (op : Operator) (t u : CoreType) (x y : Scalar) → is_of p cells t (scalar_value x) ≡ true → is_of p cells u (scalar_value y) ≡ true
-      → IsInRange x → IsInRange y → StandsFor (computed (operator_for op t u) (scalar_number x) (scalar_number y)) (on_scalars (operator_of op) x y)
+      → IsInRange x → IsInRange y
+      → StandsFor (has_strings (operator_for op t u) (scalar_number x) (scalar_number y)) (computed (operator_for op t u) (scalar_number x) (scalar_number y))
+      (on_scalars (operator_of op) x y)
   scalars op t u (AnInt a) (AnInt b) et eu ha hb =
-      subst (λ z. StandsFor (computed (operator_for op z u) (cast_unsigned w32 a) (cast_unsigned w32 b)) (on_ints (operator_of op) a b)) (sym (int_type p cells t a et))
-      (subst (λ z. StandsFor (computed (operator_for op IntType z) (cast_unsigned w32 a) (cast_unsigned w32 b)) (on_ints (operator_of op) a b)) (sym (int_type p cells u b eu))
+      subst (λ z. StandsFor (has_strings (operator_for op z u) (cast_unsigned w32 a) (cast_unsigned w32 b)) (computed (operator_for op z u) (cast_unsigned w32 a) (cast_unsigned w32 b)) (on_ints (operator_of op) a b)) (sym (int_type p cells t a et))
+      (subst (λ z. StandsFor (has_strings (operator_for op IntType z) (cast_unsigned w32 a) (cast_unsigned w32 b)) (computed (operator_for op IntType z) (cast_unsigned w32 a) (cast_unsigned w32 b)) (on_ints (operator_of op) a b)) (sym (int_type p cells u b eu))
       (ints op a b ha hb))
   scalars op t u (AChar a) (AChar b) et eu ha hb =
-      subst (λ z. StandsFor (computed (operator_for op z u) a b) (on_chars (operator_of op) a b)) (sym (char_type p cells t a et))
-      (subst (λ z. StandsFor (computed (operator_for op CharType z) a b) (on_chars (operator_of op) a b)) (sym (char_type p cells u b eu))
+      subst (λ z. StandsFor (has_strings (operator_for op z u) a b) (computed (operator_for op z u) a b) (on_chars (operator_of op) a b)) (sym (char_type p cells t a et))
+      (subst (λ z. StandsFor (has_strings (operator_for op CharType z) a b) (computed (operator_for op CharType z) a b) (on_chars (operator_of op) a b)) (sym (char_type p cells u b eu))
       (chars op a b))
   scalars op t u (Bits j a) (Bits k b) et eu ha hb =
-      subst (λ z. StandsFor (computed (operator_for op z u) a b) (on_raws (operator_of op) j a k b)) (sym (raw_type p cells t j a et))
-      (subst (λ z. StandsFor (computed (operator_for op (RawType j) z) a b) (on_raws (operator_of op) j a k b)) (sym (raw_type p cells u k b eu))
+      subst (λ z. StandsFor (has_strings (operator_for op z u) a b) (computed (operator_for op z u) a b) (on_raws (operator_of op) j a k b)) (sym (raw_type p cells t j a et))
+      (subst (λ z. StandsFor (has_strings (operator_for op (RawType j) z) a b) (computed (operator_for op (RawType j) z) a b) (on_raws (operator_of op) j a k b)) (sym (raw_type p cells u k b eu))
       (raws op j a k b ha hb))
   scalars op t u (Bits k a) (AnInt b) et eu ha hb =
-      subst (λ z. StandsFor (computed (operator_for op z u) a (cast_unsigned w32 b)) (shifted (operator_of op) k a b)) (sym (raw_type p cells t k a et))
-      (subst (λ z. StandsFor (computed (operator_for op (RawType k) z) a (cast_unsigned w32 b)) (shifted (operator_of op) k a b)) (sym (int_type p cells u b eu))
+      subst (λ z. StandsFor (has_strings (operator_for op z u) a (cast_unsigned w32 b)) (computed (operator_for op z u) a (cast_unsigned w32 b)) (shifted (operator_of op) k a b)) (sym (raw_type p cells t k a et))
+      (subst (λ z. StandsFor (has_strings (operator_for op (RawType k) z) a (cast_unsigned w32 b)) (computed (operator_for op (RawType k) z) a (cast_unsigned w32 b)) (shifted (operator_of op) k a b)) (sym (int_type p cells u b eu))
       (shifts op k a b ha hb))
   scalars op t u (ATruth a) (ATruth b) et eu ha hb = comparisons op t u (as_number a) (as_number b) (same_truth a b) (same_truths a b)
   scalars op t u (AnInt a) (ATruth b) et eu ha hb = tt
@@ -290,11 +317,14 @@ module _ (p : Tables) (cells : List Cell) where
   not_number false = refl
 
   pub prefixes : (op : Prefix) (t : CoreType) (x : Scalar) → is_of p cells t (scalar_value x) ≡ true → IsInRange x
-      → StandsFor (Some (applied (prefix_for op t) (scalar_number x))) (prefixed (prefix_of op) x)
-  prefixes Negative t (AnInt a) et ha = (wrapped _, ap (λ z. Some (cast_unsigned w32 (int_wrapping_neg w32 z))) (to_z-of_z w32 a ha))
-  prefixes Not t (ATruth b) et ha = (tt, ap Some (not_number b))
-  prefixes Complement t (Bits k a) et ha =
-      (let e = pow_pos k in omega (arith, ha, e), ap (λ z. Some (2 ^ bits_of z - 1 - a)) (raw_type p cells t k a et))
+      → StandsFor (has_string (prefix_for op t) (scalar_number x)) (Some (applied (prefix_for op t) (scalar_number x))) (prefixed (prefix_of op) x)
+  prefixes Negative t (AnInt a) et ha = (wrapped _, refl, ap (λ z. Some (cast_unsigned w32 (int_wrapping_neg w32 z))) (to_z-of_z w32 a ha))
+  prefixes Not t (ATruth b) et ha = (tt, refl, ap Some (not_number b))
+  prefixes Complement t (Bits k a) et ha = (
+    (ha.0, let e = pow_pos k in let lt = ha.1 in omega (arith, lt, e)),
+    ap (λ z. is_string (bits_of z) a) (raw_type p cells t k a et) ∙ string k a ha,
+    ap (λ z. Some (2 ^ bits_of z - 1 - a)) (raw_type p cells t k a et),
+  )
   prefixes Negative t (ATruth b) et ha = tt
   prefixes Negative t (AChar b) et ha = tt
   prefixes Negative t (Bits k b) et ha = tt
@@ -325,35 +355,35 @@ module _ (p : Tables) (cells : List Cell) where
       bits_small (pos n) h = omega (arith, h)
       bits_small (negsuc n) h = omega (arith, h)
   number_small t (AChar c) et hc is = subst (λ z. c < 2 ^ bits_of z) (sym (char_type p cells t c et)) hc
-  number_small t (Bits k b) et hb is = subst (λ z. b < 2 ^ bits_of z) (sym (raw_type p cells t k b et)) hb
+  number_small t (Bits k b) et hb is = subst (λ z. b < 2 ^ bits_of z) (sym (raw_type p cells t k b et)) hb.1
   number_small t (ATruth b) et hb is = absurd is
 
-  in_int : (t : CoreType) (n : ℕ) → n < 2 ^ bits_of t → StandsFor (Some (cut_by (cut_for t IntType) n)) (Is (in_format ToInt n))
-  in_int t n h = (wrapped n, ap Some (cut_is t IntType n h ∙ sym (of_z-to_z w32 (n % 2 ^ 32) (mod-lt n {m = 2 ^ 32} (omega arith)))))
+  in_int : (t : CoreType) (n : ℕ) → n < 2 ^ bits_of t → StandsFor true (Some (cut_by (cut_for t IntType) n)) (Is (in_format ToInt n))
+  in_int t n h = (wrapped n, refl, ap Some (cut_is t IntType n h ∙ sym (of_z-to_z w32 (n % 2 ^ 32) (mod-lt n {m = 2 ^ 32} (omega arith)))))
 
-  in_char : (t : CoreType) (n : ℕ) → n < 2 ^ bits_of t → StandsFor (Some (cut_by (cut_for t CharType) n)) (Is (in_format ToChar n))
-  in_char t n h = (mod-lt n {m = 256} (omega arith), ap Some (cut_is t CharType n h))
+  in_char : (t : CoreType) (n : ℕ) → n < 2 ^ bits_of t → StandsFor true (Some (cut_by (cut_for t CharType) n)) (Is (in_format ToChar n))
+  in_char t n h = (mod-lt n {m = 256} (omega arith), refl, ap Some (cut_is t CharType n h))
 
-  in_bits : (t : CoreType) (k n : ℕ) → n < 2 ^ bits_of t → StandsFor (Some (cut_by (cut_for t (RawType k)) n)) (Is (in_format (ToBits k) n))
-  in_bits t k n h = (mod-lt n {m = 2 ^ k} (pow_pos k), ap Some (cut_is t (RawType k) n h))
+  in_bits : (t : CoreType) (k n : ℕ) → k ≤ 32 → n < 2 ^ bits_of t → StandsFor true (Some (cut_by (cut_for t (RawType k)) n)) (Is (in_format (ToBits k) n))
+  in_bits t k n le h = ((le, mod-lt n {m = 2 ^ k} (pow_pos k)), refl, ap Some (cut_is t (RawType k) n h))
 
   pub to_int : (t : CoreType) (x : Scalar) → is_of p cells t (scalar_value x) ≡ true → IsInRange x
-      → StandsFor (Some (cut_by (cut_for t IntType) (scalar_number x))) (recast ToInt x)
+      → StandsFor true (Some (cut_by (cut_for t IntType) (scalar_number x))) (recast ToInt x)
   to_int t (AnInt a) et h = in_int t (cast_unsigned w32 a) (number_small t (AnInt a) et h tt)
   to_int t (AChar c) et h = in_int t c (number_small t (AChar c) et h tt)
   to_int t (Bits k b) et h = in_int t b (number_small t (Bits k b) et h tt)
   to_int t (ATruth b) et h = tt
 
   pub to_char : (t : CoreType) (x : Scalar) → is_of p cells t (scalar_value x) ≡ true → IsInRange x
-      → StandsFor (Some (cut_by (cut_for t CharType) (scalar_number x))) (recast ToChar x)
+      → StandsFor true (Some (cut_by (cut_for t CharType) (scalar_number x))) (recast ToChar x)
   to_char t (AnInt a) et h = in_char t (cast_unsigned w32 a) (number_small t (AnInt a) et h tt)
   to_char t (AChar c) et h = in_char t c (number_small t (AChar c) et h tt)
   to_char t (Bits k b) et h = in_char t b (number_small t (Bits k b) et h tt)
   to_char t (ATruth b) et h = tt
 
-  pub to_bits : (t : CoreType) (k : ℕ) (x : Scalar) → is_of p cells t (scalar_value x) ≡ true → IsInRange x
-      → StandsFor (Some (cut_by (cut_for t (RawType k)) (scalar_number x))) (recast (ToBits k) x)
-  to_bits t k (AnInt a) et h = in_bits t k (cast_unsigned w32 a) (number_small t (AnInt a) et h tt)
-  to_bits t k (AChar c) et h = in_bits t k c (number_small t (AChar c) et h tt)
-  to_bits t k (Bits j b) et h = in_bits t k b (number_small t (Bits j b) et h tt)
-  to_bits t k (ATruth b) et h = tt
+  pub to_bits : (t : CoreType) (k : ℕ) (x : Scalar) → k ≤ 32 → is_of p cells t (scalar_value x) ≡ true → IsInRange x
+      → StandsFor true (Some (cut_by (cut_for t (RawType k)) (scalar_number x))) (recast (ToBits k) x)
+  to_bits t k (AnInt a) le et h = in_bits t k (cast_unsigned w32 a) le (number_small t (AnInt a) et h tt)
+  to_bits t k (AChar c) le et h = in_bits t k c le (number_small t (AChar c) et h tt)
+  to_bits t k (Bits j b) le et h = in_bits t k b le (number_small t (Bits j b) et h tt)
+  to_bits t k (ATruth b) le et h = tt

@@ -63,7 +63,7 @@ module _ (n : Numbering) (k : Codes) (small : HasSmallNumbers n k) (p : Tables) 
   value_fits IntType (Int z) e h = below (cast_unsigned w32 z) (256 ^ 4) (int_small z h)
   value_fits BoolType (Truth b) e h = truth_small b
   value_fits CharType (Char c) e h = below c 256 h
-  value_fits (RawType w) (Raw j b) e h = raw_fits j w b e h
+  value_fits (RawType w) (Raw j b) e h = raw_fits j w b e h.1
   value_fits NullType Null e h = refl
   value_fits (ClassType c) Null e h = refl
   value_fits (ArrayType c) Null e h = refl

@@ -1,5 +1,5 @@
 -- One number for each value.
-use Rattle.std.specs.Prelude.{ℕ, Bool, ◌<◌, ◌^◌, Option, Some, None, FitsSigned}
+use Rattle.std.specs.Prelude.{ℕ, Bool, ◌<◌, ◌≤◌, ◌^◌, Option, Some, None, FitsSigned}
 use Rattle.std.specs.Int.{w32, cast_unsigned}
 use Rattle.vg_source.specs.Operators.{Scalar, AnInt, ATruth, AChar, Bits}
 use Rattle.vg_codes.specs.Codes.{Codes, delegate}
@@ -41,9 +41,9 @@ coded n k (Obj cell) = n.number cell
 coded n k (Arr cell) = n.number cell
 coded n k (Bound receiver m) = delegate k (known (n.procedure m)) (receiver_number n receiver)
 
--- A scalar is in its range: an int of 32 bits, a char of eight, and no bit above a bit string's width.
+-- A scalar is in its range: an int of 32 bits, a char of eight, a string of at most 32 bits and none above them.
 abbrev pub IsInRange : Scalar → Type 0
 IsInRange (AnInt n) = FitsSigned w32 n
 IsInRange (ATruth b) = Unit {0}
 IsInRange (AChar c) = c < 256
-IsInRange (Bits width bits) = bits < 2 ^ width
+IsInRange (Bits width bits) = (width ≤ 32) × (bits < 2 ^ width)

@@ -1,5 +1,5 @@
 -- The operators of packed programs that stand for those of typed ones.
-use Rattle.std.specs.Prelude.{◌≡◌, ℕ, nat_lt, Option, Some, None, if◌then◌else◌}
+use Rattle.std.specs.Prelude.{◌≡◌, ℕ, Bool, true, nat_lt, Option, Some, None, if◌then◌else◌}
 use Rattle.vg_source.specs.Operators.{Scalar, Computed, Is, Fails, Unfit}
 use Rattle.vg_core.specs.declared.types.CoreType.{CoreType}
 use Rattle.vg_core.specs.declared.types.CoreType.TheVariants.{IntType, CharType, RawType}
@@ -58,11 +58,12 @@ prefix_for Complement t = firm_prefix.Complement (bits_of t)
 abbrev pub cut_for : (t u : CoreType) → Option FirmPrefix
 cut_for t u = if nat_lt (bits_of u) (bits_of t) then Some (firm_prefix.Cut (bits_of u)) else None
 
--- A number stands for what an operator made, and nothing for a division by 0; what no legal program computes owes nothing.
-abbrev pub StandsFor : Option ℕ → Computed → Type 0
-StandsFor o (Is s) = IsInRange s × (o ≡ Some (scalar_number s))
-StandsFor o (Fails code) = (code ≡ 3) × (o ≡ None)
-StandsFor o Unfit = Unit {0}
+-- An operator on numbers, whose operands are as they must be where this holds, gives the number of what was computed, and nothing for a
+-- division by 0; what no legal program computes owes nothing.
+abbrev pub StandsFor : (holds : Bool) → Option ℕ → Computed → Type 0
+StandsFor b o (Is s) = IsInRange s × (b ≡ true) × (o ≡ Some (scalar_number s))
+StandsFor b o (Fails code) = (code ≡ 3) × (b ≡ true) × (o ≡ None)
+StandsFor b o Unfit = Unit {0}
 
 -- What a cast among numbers makes of a number.
 abbrev pub cut_by : Option FirmPrefix → ℕ → ℕ

@@ -1,5 +1,5 @@
 // The laws of operators.
-ghost use Rattle.std.specs.Prelude.{◌≡◌, ℕ, Bool, true, List, Option, Some};
+ghost use Rattle.std.specs.Prelude.{◌≡◌, ◌≤◌, ℕ, Bool, true, List, Option, Some};
 ghost use Rattle.std.specs.Option.{option_map};
 ghost use Rattle.vg_source.specs.Operators.{Scalar, Format, ToInt, ToChar, ToBits, on_scalars, prefixed, recast};
 ghost use Rattle.vg_core.specs.declared.heap.Cell.{Cell};
@@ -10,7 +10,7 @@ ghost use Rattle.vg_core.specs.declared.types.CoreType.{CoreType};
 ghost use Rattle.vg_core.specs.declared.types.CoreType.TheVariants.{IntType, CharType, RawType};
 ghost use Rattle.vg_core.specs.Operators.{scalar_value, operator_of, prefix_of};
 ghost use Rattle.vg_core.specs.State.{is_of};
-ghost use Rattle.vg_firm.specs.Operators.{computed, applied};
+ghost use Rattle.vg_firm.specs.Operators.{computed, has_strings, applied, has_string};
 ghost use Rattle.vg_coded.specs.Numbers.{scalar_number, IsInRange};
 ghost use Rattle.vg_coded.specs.Operators.{operator_for, prefix_for, cut_for, StandsFor, cut_by};
 
@@ -19,14 +19,15 @@ ghost use Rattle.vg_coded.specs.Operators.{operator_for, prefix_for, cut_for, St
 pub fn operators_agree()
     ensures two { (p : Tables) (cells : List Cell) (op : Operator) (t u : CoreType) (x y : Scalar)
         → is_of p cells t (scalar_value x) ≡ true → is_of p cells u (scalar_value y) ≡ true → IsInRange x → IsInRange y
-        → StandsFor (computed (operator_for op t u) (scalar_number x) (scalar_number y)) (on_scalars (operator_of op) x y) }
+        → StandsFor (has_strings (operator_for op t u) (scalar_number x) (scalar_number y))
+        (computed (operator_for op t u) (scalar_number x) (scalar_number y)) (on_scalars (operator_of op) x y) }
     ensures one { (p : Tables) (cells : List Cell) (op : Prefix) (t : CoreType) (x : Scalar)
         → is_of p cells t (scalar_value x) ≡ true → IsInRange x
-        → StandsFor (Some (applied (prefix_for op t) (scalar_number x))) (prefixed (prefix_of op) x) }
+        → StandsFor (has_string (prefix_for op t) (scalar_number x)) (Some (applied (prefix_for op t) (scalar_number x))) (prefixed (prefix_of op) x) }
     ensures to_int { (p : Tables) (cells : List Cell) (t : CoreType) (x : Scalar) → is_of p cells t (scalar_value x) ≡ true → IsInRange x
-        → StandsFor (Some (cut_by (cut_for t IntType) (scalar_number x))) (recast ToInt x) }
+        → StandsFor true (Some (cut_by (cut_for t IntType) (scalar_number x))) (recast ToInt x) }
     ensures to_char { (p : Tables) (cells : List Cell) (t : CoreType) (x : Scalar) → is_of p cells t (scalar_value x) ≡ true → IsInRange x
-        → StandsFor (Some (cut_by (cut_for t CharType) (scalar_number x))) (recast ToChar x) }
-    ensures to_bits { (p : Tables) (cells : List Cell) (t : CoreType) (k : ℕ) (x : Scalar) → is_of p cells t (scalar_value x) ≡ true → IsInRange x
-        → StandsFor (Some (cut_by (cut_for t (RawType k)) (scalar_number x))) (recast (ToBits k) x) }
+        → StandsFor true (Some (cut_by (cut_for t CharType) (scalar_number x))) (recast ToChar x) }
+    ensures to_bits { (p : Tables) (cells : List Cell) (t : CoreType) (k : ℕ) (x : Scalar) → k ≤ 32 → is_of p cells t (scalar_value x) ≡ true → IsInRange x
+        → StandsFor true (Some (cut_by (cut_for t (RawType k)) (scalar_number x))) (recast (ToBits k) x) }
 {}

@@ -14,4 +14,4 @@ pub returns-clause-to_char : goal.returns-clause-to_char
 returns-clause-to_char c = λ p cells t x et h. to_char p cells t x et h
 
 pub returns-clause-to_bits : goal.returns-clause-to_bits
-returns-clause-to_bits c = λ p cells t k x et h. to_bits p cells t k x et h
+returns-clause-to_bits c = λ p cells t k x le et h. to_bits p cells t k x le et h
