@@ -1,6 +1,7 @@
 -- Operators on numbers compute the numbers of what operators on values compute, and values stay in their ranges.
-use Rattle.std.proofs.Common.{◌≡◌, refl, sym, ap, subst, ◌∙◌, arith, ℕ, zero, suc, ◌+◌, ◌-◌, ◌*◌, ◌/◌, ◌%◌, ◌^◌, ◌<◌, ◌≤◌, Bool, true, false, not, ◌==◌, ◌&&◌, nat_lt, nat_le, ℤ, pos, negsuc, FitsSigned}
-use Rattle.std.proofs.Common.{neg_ℤ, unsigned_abs, int_lt, int_le, bit_and, bit_or, bit_xor, int_rem, int_div, if◌then◌else◌, List, Option, Some, None}
+use Rattle.std.proofs.Common.{◌≡◌, refl, sym, ap, subst, ◌∙◌, arith, ℕ, zero, suc, ◌+◌, ◌-◌, ◌*◌, ◌/◌, ◌%◌, ◌^◌, ◌<◌, ◌≤◌, Bool, true, false, not, ◌==◌, ◌&&◌}
+use Rattle.std.proofs.Common.{nat_lt, nat_le, ℤ, pos, negsuc, FitsSigned}
+use Rattle.std.proofs.Common.{neg_ℤ, unsigned_abs, int_lt, int_le, int_rem, int_div, if◌then◌else◌, List, Option, Some, None}
 use Rattle.std.specs.Ordering.{int_eq}
 use Rattle.std.specs.Int.{w32, cast_unsigned, cast_signed, int_wrapping_add, int_wrapping_sub, int_wrapping_mul, int_wrapping_neg, int_wrapping_div}
 use Rattle.std.specs.Bool.{one_answer}
@@ -12,10 +13,10 @@ use Rattle.std.proofs.Math.Pow.{pow_mono}
 use Rattle.std.proofs.Math.Nat.{mod-lt, div-le_self, mod-eq_of_lt}
 use Rattle.std.proofs.lemmas.Nat.{pow_pos, pow-add, mul-add-lt, and_le_l, or_lt, xor_lt}
 use Rattle.vg_source.specs.Operators as source
-use Rattle.vg_source.specs.Operators.{Scalar, AnInt, ATruth, AChar, Bits, Computed, Is, Fails, Unfit, on_ints, on_chars, on_raws, shifted, only_if, compared, same_truth, on_scalars}
-use Rattle.vg_source.specs.Operators.{prefixed, recast, Format, ToInt, ToChar, ToBits, in_format}
+use Rattle.vg_source.specs.Operators.{Scalar, AnInt, ATruth, AChar, Bits, Is, on_ints, on_chars, on_raws, shifted, only_if, compared, same_truth, on_scalars}
+use Rattle.vg_source.specs.Operators.{prefixed, recast, ToInt, ToChar, ToBits, in_format}
 use Rattle.vg_core.specs.declared.types.CoreType.{CoreType}
-use Rattle.vg_core.specs.declared.types.CoreType.TheVariants.{IntType, BoolType, CharType, RawType}
+use Rattle.vg_core.specs.declared.types.CoreType.TheVariants.{IntType, CharType, RawType}
 use Rattle.vg_core.specs.declared.heap.Cell.{Cell}
 use Rattle.vg_core.specs.declared.operator.Operator.{Operator}
 use Rattle.vg_core.specs.declared.operator.Operator.TheVariants.{Plus, Minus, Times, Divide, Remainder, Less, AtMost, Greater, AtLeast, Equal, Unequal}
@@ -30,7 +31,7 @@ use Rattle.vg_firm.specs.Operators.{as_number, computed, applied, has_strings, h
 use Rattle.vg_firm.specs.Operators as firm
 use Rattle.vg_coded.specs.Numbers.{scalar_number, IsInRange}
 use Rattle.vg_coded.specs.Operators.{bits_of, operator_for, prefix_for, cut_for, cut_by, StandsFor}
-use Rattle.vg_coded.proofs.Typed.{int_type, bool_type, char_type, raw_type}
+use Rattle.vg_coded.proofs.Typed.{int_type, char_type, raw_type}
 
 -- ---- ranges
 
@@ -82,10 +83,12 @@ module _ (a b : ℤ) (ha : FitsSigned w32 a) (hb : FitsSigned w32 b) where
   on_numbers : (go : ℤ → ℤ → ℤ) → firm.on_ints go (cast_unsigned w32 a) (cast_unsigned w32 b) ≡ cast_unsigned w32 (go a b)
   on_numbers go = λ i. cast_unsigned w32 (go (ra i) (rb i))
 
-  tested : (go : ℤ → ℤ → Bool) → Some (as_number (go (cast_signed w32 (cast_unsigned w32 a)) (cast_signed w32 (cast_unsigned w32 b)))) ≡ Some (as_number (go a b))
+  tested : (go : ℤ → ℤ → Bool) → Some (as_number (go (cast_signed w32 (cast_unsigned w32 a)) (cast_signed w32 (cast_unsigned w32 b)))) ≡ Some
+      (as_number (go a b))
   tested go = λ i. Some (as_number (go (ra i) (rb i)))
 
-  tested_back : (go : ℤ → ℤ → Bool) → Some (as_number (go (cast_signed w32 (cast_unsigned w32 b)) (cast_signed w32 (cast_unsigned w32 a)))) ≡ Some (as_number (go b a))
+  tested_back : (go : ℤ → ℤ → Bool) → Some (as_number (go (cast_signed w32 (cast_unsigned w32 b)) (cast_signed w32 (cast_unsigned w32 a)))) ≡ Some
+      (as_number (go b a))
   tested_back go = λ i. Some (as_number (go (rb i) (ra i)))
 
   same_ints : (cast_unsigned w32 a == cast_unsigned w32 b) ≡ int_eq a b
@@ -133,7 +136,8 @@ ints ShiftLeft a b ha hb = tt
 ints ShiftRight a b ha hb = tt
 ints Concat a b ha hb = tt
 
-chars : (op : Operator) (a b : ℕ) → StandsFor (has_strings (operator_for op CharType CharType) a b) (computed (operator_for op CharType CharType) a b) (on_chars (operator_of op) a b)
+chars : (op : Operator) (a b : ℕ) → StandsFor (has_strings (operator_for op CharType CharType) a b) (computed (operator_for op CharType CharType) a b)
+    (on_chars (operator_of op) a b)
 chars Less a b = (tt, refl, refl)
 chars AtMost a b = (tt, refl, refl)
 chars Greater a b = (tt, refl, refl)
@@ -174,7 +178,8 @@ where_it_holds true b o s h = h refl
 where_it_holds false b o s h = tt
 
 raws : (op : Operator) (j x k y : ℕ) → (j ≤ 32) × (x < 2 ^ j) → (k ≤ 32) × (y < 2 ^ k)
-    → StandsFor (has_strings (operator_for op (RawType j) (RawType k)) x y) (computed (operator_for op (RawType j) (RawType k)) x y) (on_raws (operator_of op) j x k y)
+    → StandsFor (has_strings (operator_for op (RawType j) (RawType k)) x y) (computed (operator_for op (RawType j) (RawType k)) x y)
+    (on_raws (operator_of op) j x k y)
 raws And j x k y (s, p) (r, q) = where_it_holds (j == k) true _ _ (λ e. ((s, let a = and_le_l x y in omega (arith, a, p)), refl, refl))
 raws Or j x k y (s, p) (r, q) =
     where_it_holds (j == k) true _ _ (λ e. ((s, or_lt j x y p (subst (λ z. y < 2 ^ z) (sym ((unsigned_Decides j k).0 e)) q)), refl, refl))
@@ -221,7 +226,8 @@ right_small k x n p = by (nat_lt n k)
     by false = pow_pos k
 
 shifts : (op : Operator) (k x : ℕ) (n : ℤ) → (k ≤ 32) × (x < 2 ^ k) → FitsSigned w32 n
-    → StandsFor (has_strings (operator_for op (RawType k) IntType) x (cast_unsigned w32 n)) (computed (operator_for op (RawType k) IntType) x (cast_unsigned w32 n)) (shifted (operator_of op) k x n)
+    → StandsFor (has_strings (operator_for op (RawType k) IntType) x (cast_unsigned w32 n))
+    (computed (operator_for op (RawType k) IntType) x (cast_unsigned w32 n)) (shifted (operator_of op) k x n)
 shifts ShiftLeft k x (pos n) p h =
     ((p.0, left_small k x n), string k x p, ap (λ z. Some (firm.shifted z k (λ m. x * 2 ^ m % 2 ^ k))) (to_z-of_z w32 (pos n) h))
 shifts ShiftLeft k x (negsuc n) p h = ((p.0, pow_pos k), string k x p, ap (λ z. Some (firm.shifted z k (λ m. x * 2 ^ m % 2 ^ k))) (to_z-of_z w32 (negsuc n) h))
@@ -252,7 +258,8 @@ same_truths false true = refl
 same_truths false false = refl
 
 -- a comparison for sameness is one of numbers that are the same where what they stand for is
-pub comparisons : (op : Operator) (t u : CoreType) (x y : ℕ) (b : Bool) → (x == y) ≡ b → StandsFor (has_strings (operator_for op t u) x y) (computed (operator_for op t u) x y) (compared (operator_of op) b)
+pub comparisons : (op : Operator) (t u : CoreType) (x y : ℕ) (b : Bool) → (x == y) ≡ b
+    → StandsFor (has_strings (operator_for op t u) x y) (computed (operator_for op t u) x y) (compared (operator_of op) b)
 comparisons Equal t u x y b e = (tt, refl, ap (λ z. Some (as_number z)) e)
 comparisons Unequal t u x y b e = (tt, refl, ap (λ z. Some (as_number (not z))) e)
 comparisons Plus t u x y b e = tt
@@ -284,20 +291,28 @@ module _ (p : Tables) (cells : List Cell) where
       → StandsFor (has_strings (operator_for op t u) (scalar_number x) (scalar_number y)) (computed (operator_for op t u) (scalar_number x) (scalar_number y))
       (on_scalars (operator_of op) x y)
   scalars op t u (AnInt a) (AnInt b) et eu ha hb =
-      subst (λ z. StandsFor (has_strings (operator_for op z u) (cast_unsigned w32 a) (cast_unsigned w32 b)) (computed (operator_for op z u) (cast_unsigned w32 a) (cast_unsigned w32 b)) (on_ints (operator_of op) a b)) (sym (int_type p cells t a et))
-      (subst (λ z. StandsFor (has_strings (operator_for op IntType z) (cast_unsigned w32 a) (cast_unsigned w32 b)) (computed (operator_for op IntType z) (cast_unsigned w32 a) (cast_unsigned w32 b)) (on_ints (operator_of op) a b)) (sym (int_type p cells u b eu))
+      subst (λ z. StandsFor (has_strings (operator_for op z u) (cast_unsigned w32 a) (cast_unsigned w32 b))
+      (computed (operator_for op z u) (cast_unsigned w32 a) (cast_unsigned w32 b)) (on_ints (operator_of op) a b)) (sym (int_type p cells t a et))
+      (subst (λ z. StandsFor (has_strings (operator_for op IntType z) (cast_unsigned w32 a) (cast_unsigned w32 b))
+      (computed (operator_for op IntType z) (cast_unsigned w32 a) (cast_unsigned w32 b)) (on_ints (operator_of op) a b)) (sym (int_type p cells u b eu))
       (ints op a b ha hb))
   scalars op t u (AChar a) (AChar b) et eu ha hb =
-      subst (λ z. StandsFor (has_strings (operator_for op z u) a b) (computed (operator_for op z u) a b) (on_chars (operator_of op) a b)) (sym (char_type p cells t a et))
-      (subst (λ z. StandsFor (has_strings (operator_for op CharType z) a b) (computed (operator_for op CharType z) a b) (on_chars (operator_of op) a b)) (sym (char_type p cells u b eu))
+      subst (λ z. StandsFor (has_strings (operator_for op z u) a b) (computed (operator_for op z u) a b) (on_chars (operator_of op) a b))
+      (sym (char_type p cells t a et))
+      (subst (λ z. StandsFor (has_strings (operator_for op CharType z) a b) (computed (operator_for op CharType z) a b) (on_chars (operator_of op) a b))
+      (sym (char_type p cells u b eu))
       (chars op a b))
   scalars op t u (Bits j a) (Bits k b) et eu ha hb =
-      subst (λ z. StandsFor (has_strings (operator_for op z u) a b) (computed (operator_for op z u) a b) (on_raws (operator_of op) j a k b)) (sym (raw_type p cells t j a et))
-      (subst (λ z. StandsFor (has_strings (operator_for op (RawType j) z) a b) (computed (operator_for op (RawType j) z) a b) (on_raws (operator_of op) j a k b)) (sym (raw_type p cells u k b eu))
+      subst (λ z. StandsFor (has_strings (operator_for op z u) a b) (computed (operator_for op z u) a b) (on_raws (operator_of op) j a k b))
+      (sym (raw_type p cells t j a et))
+      (subst (λ z. StandsFor (has_strings (operator_for op (RawType j) z) a b) (computed (operator_for op (RawType j) z) a b)
+      (on_raws (operator_of op) j a k b)) (sym (raw_type p cells u k b eu))
       (raws op j a k b ha hb))
   scalars op t u (Bits k a) (AnInt b) et eu ha hb =
-      subst (λ z. StandsFor (has_strings (operator_for op z u) a (cast_unsigned w32 b)) (computed (operator_for op z u) a (cast_unsigned w32 b)) (shifted (operator_of op) k a b)) (sym (raw_type p cells t k a et))
-      (subst (λ z. StandsFor (has_strings (operator_for op (RawType k) z) a (cast_unsigned w32 b)) (computed (operator_for op (RawType k) z) a (cast_unsigned w32 b)) (shifted (operator_of op) k a b)) (sym (int_type p cells u b eu))
+      subst (λ z. StandsFor (has_strings (operator_for op z u) a (cast_unsigned w32 b)) (computed (operator_for op z u) a (cast_unsigned w32 b))
+      (shifted (operator_of op) k a b)) (sym (raw_type p cells t k a et))
+      (subst (λ z. StandsFor (has_strings (operator_for op (RawType k) z) a (cast_unsigned w32 b))
+      (computed (operator_for op (RawType k) z) a (cast_unsigned w32 b)) (shifted (operator_of op) k a b)) (sym (int_type p cells u b eu))
       (shifts op k a b ha hb))
   scalars op t u (ATruth a) (ATruth b) et eu ha hb = comparisons op t u (as_number a) (as_number b) (same_truth a b) (same_truths a b)
   scalars op t u (AnInt a) (ATruth b) et eu ha hb = tt

@@ -1,5 +1,6 @@
 -- The number of a value fits into the bytes of its type.
-use Rattle.std.proofs.Common.{◌≡◌, refl, sym, ap, subst, ◌∙◌, arith, ℕ, zero, suc, ◌+◌, ◌*◌, ◌/◌, ◌%◌, ◌^◌, ◌<◌, ◌≤◌, Bool, true, false, ◌==◌, nat_lt, List, Option, Some, None, ℤ, pos, negsuc, FitsSigned}
+use Rattle.std.proofs.Common.{◌≡◌, refl, sym, ap, subst, ◌∙◌, arith, ℕ, zero, suc, ◌+◌, ◌*◌, ◌/◌, ◌^◌, ◌<◌, ◌≤◌, Bool, true, false, ◌==◌, nat_lt, List}
+use Rattle.std.proofs.Common.{Option, Some, None, ℤ, pos, negsuc, FitsSigned}
 use Rattle.std.specs.Int.{w32, cast_unsigned}
 use Rattle.std.specs.Cmp.{unsigned_Decides}
 use Rattle.std.proofs.Math.Pow.{pow_mono}
@@ -7,7 +8,8 @@ use Rattle.std.proofs.Math.Nat.{pow-suc}
 use Rattle.std.proofs.lemmas.Nat.{pow-add}
 use Rattle.vg_codes.specs.Codes.{Codes, delegate}
 use Rattle.vg_core.specs.declared.types.CoreType.{CoreType}
-use Rattle.vg_core.specs.declared.types.CoreType.TheVariants.{IntType, BoolType, CharType, RawType, NullType, ClassType, ArrayType, FunctionType, NoType, MoreTypes}
+use Rattle.vg_core.specs.declared.types.CoreType.TheVariants.{IntType, BoolType, CharType, RawType, NullType, ClassType, ArrayType, FunctionType, NoType}
+use Rattle.vg_core.specs.declared.types.CoreType.TheVariants.{MoreTypes}
 use Rattle.vg_core.specs.declared.value.CoreValue.{CoreValue}
 use Rattle.vg_core.specs.declared.value.CoreValue.TheVariants.{Int, Bool as Truth, Char, Raw, Null, Obj, Arr, Bound}
 use Rattle.vg_core.specs.declared.heap.Cell.{Cell}
@@ -17,7 +19,7 @@ use Rattle.vg_firm.specs.Operators.{as_number}
 use Rattle.vg_firm.specs.Meaning.{fits}
 use Rattle.vg_coded.specs.Numbers.{Numbering, known, receiver_number, coded}
 use Rattle.vg_coded.specs.Widths.{bytes_for, width_of}
-use Rattle.vg_coded.specs.Kept.{HasSmallNumbers, IsReceiver, IsKept}
+use Rattle.vg_coded.specs.Kept.{HasSmallNumbers, IsKept}
 
 below : (a b : ℕ) → a < b → nat_lt a b ≡ true
 below a b h = grind (arith, h)

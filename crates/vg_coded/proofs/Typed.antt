@@ -1,8 +1,9 @@
 -- The type of a scalar.
-use Rattle.std.proofs.Common.{◌≡◌, ℕ, Bool, true, false, List, ℤ, refl, arith, ◌==◌, sym, ap}
+use Rattle.std.proofs.Common.{◌≡◌, ℕ, Bool, true, false, List, ℤ, refl, sym, ap}
 use Rattle.std.specs.Cmp.{unsigned_Decides}
 use Rattle.vg_core.specs.declared.types.CoreType.{CoreType}
-use Rattle.vg_core.specs.declared.types.CoreType.TheVariants.{IntType, BoolType, CharType, RawType, NullType, ClassType, ArrayType, FunctionType, NoType, MoreTypes}
+use Rattle.vg_core.specs.declared.types.CoreType.TheVariants.{IntType, BoolType, CharType, RawType, NullType, ClassType, ArrayType, FunctionType, NoType}
+use Rattle.vg_core.specs.declared.types.CoreType.TheVariants.{MoreTypes}
 use Rattle.vg_core.specs.declared.value.CoreValue.TheVariants.{Int, Bool as Truth, Char, Raw}
 use Rattle.vg_core.specs.declared.heap.Cell.{Cell}
 use Rattle.vg_core.specs.declared.program.Tables.{Tables}

@@ -1,8 +1,8 @@
 -- The operators of packed programs that stand for those of typed ones.
 use Rattle.std.specs.Prelude.{◌≡◌, ℕ, Bool, true, nat_lt, Option, Some, None, if◌then◌else◌}
-use Rattle.vg_source.specs.Operators.{Scalar, Computed, Is, Fails, Unfit}
+use Rattle.vg_source.specs.Operators.{Computed, Is, Fails, Unfit}
 use Rattle.vg_core.specs.declared.types.CoreType.{CoreType}
-use Rattle.vg_core.specs.declared.types.CoreType.TheVariants.{IntType, CharType, RawType}
+use Rattle.vg_core.specs.declared.types.CoreType.TheVariants.{CharType, RawType}
 use Rattle.vg_core.specs.declared.operator.Operator.{Operator}
 use Rattle.vg_core.specs.declared.operator.Operator.TheVariants.{Plus, Minus, Times, Divide, Remainder, Less, AtMost, Greater, AtLeast, Equal, Unequal}
 use Rattle.vg_core.specs.declared.operator.Operator.TheVariants.{And, Or, Xor, ShiftLeft, ShiftRight, Concat}

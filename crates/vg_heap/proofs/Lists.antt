@@ -1,5 +1,5 @@
 -- Numbers are the same or not, and lists with another element in one place.
-use Rattle.std.proofs.Common.{◌≡◌, ◌≢◌, ◌⊎◌, refl, sym, ap, ◌∙◌, arith, ℕ, zero, suc, List, [], ◌∷◌, Some, None, slice_get, slice_set}
+use Rattle.std.proofs.Common.{◌≡◌, ◌≢◌, ◌⊎◌, refl, sym, ap, arith, ℕ, zero, suc, List, [], ◌∷◌, Some, None, slice_get, slice_set}
 use Rattle.std.proofs.lemmas.Option.{none-some}
 use mathlib.Core.Logic.{inl, inr}
 

@@ -1,5 +1,5 @@
 -- A store changes one place, and no kind of a cell.
-use Rattle.std.proofs.Common.{◌≡◌, ◌≢◌, ◌⊎◌, ◌↔◌, refl, sym, ap, ◌∙◌, arith, ℕ, zero, suc, Bool, true, false, List, [], ◌∷◌, length, map, Option, Some, None}
+use Rattle.std.proofs.Common.{◌≡◌, ◌≢◌, ◌⊎◌, refl, sym, ap, ◌∙◌, arith, ℕ, zero, suc, Bool, true, false, List, [], ◌∷◌, map, Option, Some, None}
 use Rattle.std.proofs.Common.{slice_get, slice_set}
 use Rattle.std.proofs.lemmas.Option.{same_Some, none-some}
 use Rattle.std.proofs.lemmas.List.{length-set}
@@ -14,9 +14,10 @@ use Rattle.vg_core.specs.declared.program.Owner.{Owner}
 use Rattle.vg_core.specs.declared.program.Owner.TheVariants.{InClass, InComponent}
 use Rattle.vg_core.specs.declared.program.Tables.{Tables}
 use Rattle.vg_core.specs.Tables.{above_in, is_in, has_fields_of, slot_where, slot_in, slot_of, global_slot}
-use Rattle.vg_core.specs.Heap.{kind_of, ArrayOf, Place, OfComponent, OfObject, OfArray, value_in, with_value, field_in, item_in, value_at, with_field, with_item, set_at}
+use Rattle.vg_core.specs.Heap.{kind_of, ArrayOf, Place, OfComponent, OfObject, OfArray, value_in, with_value, field_in, item_in, value_at, with_field}
+use Rattle.vg_core.specs.Heap.{with_item, set_at}
 use Rattle.vg_core.specs.Typing.{WellFormed}
-use Rattle.vg_heap.proofs.Lists.{same_or_not, get_set, get_past, get_other}
+use Rattle.vg_heap.proofs.Lists.{same_or_not, get_set, get_other}
 
 -- ---- places
 
@@ -71,7 +72,6 @@ put_in : (o : Option ℕ) (vs : List CoreValue) (old v : CoreValue) → value_in
 put_in None vs old v e = absurd (none-some old e)
 put_in (Some i) vs old v e = get_set vs i old v e
 
-
 put_apart : (a b : Option ℕ) (vs : List CoreValue) (v : CoreValue) → ((i : ℕ) → a ≡ Some i → b ≡ Some i → ⊥) → value_in b (with_value a v vs) ≡ value_in b vs
 put_apart None b vs v n = refl
 put_apart (Some i) None vs v n = refl
@@ -88,7 +88,8 @@ module _ (p : Tables) (formed : WellFormed p) where
       nothing_above d (Some k) q t = (k, q)
       nothing_above d None q t = absurd (let clash : false ≡ true = t in cc)
 
-      of_class : (y : Field) (d : ℕ) (b : Bool) → is_in (above_in (slice_get p.classes c)) d ≡ b → slot_where b y ≡ Some i → (k : Class) × (slice_get p.classes c ≡ Some k)
+      of_class : (y : Field) (d : ℕ) (b : Bool) → is_in (above_in (slice_get p.classes c)) d ≡ b → slot_where b y ≡ Some i → (k : Class)
+          × (slice_get p.classes c ≡ Some k)
       of_class y d true q t = nothing_above d (slice_get p.classes c) refl q
       of_class y d false q t = absurd (none-some i t)
 
@@ -143,14 +144,16 @@ module _ (p : Tables) (formed : WellFormed p) (h : Heap) (v : CoreValue) where
           ∙ (put_apart (slot_of p c f) (slot_of p c g) vs v (λ i a b. n (ap (λ z. OfObject z g) e ∙ ap (OfObject k) (sym (one_field p formed c f g i a b))))
           ∙ (sym (ap (field_in p g) q) ∙ ap (λ z. field_in p g (slice_get h.cells z)) (sym e))))
 
-      by : (o : Option Cell) → slice_get h.cells k ≡ o → (j ≡ k) ⊎ (j ≢ k) → field_in p g (slice_get (with_field p f v o h.cells k) j) ≡ field_in p g (slice_get h.cells j)
+      by : (o : Option Cell) → slice_get h.cells k ≡ o → (j ≡ k) ⊎ (j ≢ k)
+          → field_in p g (slice_get (with_field p f v o h.cells k) j) ≡ field_in p g (slice_get h.cells j)
       by None q d = refl
       by (Some (Array u vs)) q d = refl
       by (Some (Object c vs)) q (inl e) = here c vs q e
       by (Some (Object c vs)) q (inr d) = ap (field_in p g) (get_other h.cells k j (Object c (with_value (slot_of p c f) v vs)) d)
   field_apart k f (OfArray j i) n = by (slice_get h.cells k) refl (same_or_not j k)
     where
-      by : (o : Option Cell) → slice_get h.cells k ≡ o → (j ≡ k) ⊎ (j ≢ k) → item_in i (slice_get (with_field p f v o h.cells k) j) ≡ item_in i (slice_get h.cells j)
+      by : (o : Option Cell) → slice_get h.cells k ≡ o → (j ≡ k) ⊎ (j ≢ k)
+          → item_in i (slice_get (with_field p f v o h.cells k) j) ≡ item_in i (slice_get h.cells j)
       by None q d = refl
       by (Some (Array u vs)) q d = refl
       by (Some (Object c vs)) q (inr d) = ap (item_in i) (get_other h.cells k j (Object c (with_value (slot_of p c f) v vs)) d)
@@ -163,7 +166,8 @@ module _ (p : Tables) (formed : WellFormed p) (h : Heap) (v : CoreValue) where
   item_apart k i (OfComponent g) n = refl
   item_apart k i (OfObject j g) n = by (slice_get h.cells k) refl (same_or_not j k)
     where
-      by : (o : Option Cell) → slice_get h.cells k ≡ o → (j ≡ k) ⊎ (j ≢ k) → field_in p g (slice_get (with_item i v o h.cells k) j) ≡ field_in p g (slice_get h.cells j)
+      by : (o : Option Cell) → slice_get h.cells k ≡ o → (j ≡ k) ⊎ (j ≢ k)
+          → field_in p g (slice_get (with_item i v o h.cells k) j) ≡ field_in p g (slice_get h.cells j)
       by None q d = refl
       by (Some (Object c vs)) q d = refl
       by (Some (Array u vs)) q (inr d) = ap (field_in p g) (get_other h.cells k j (Array u (slice_set vs i v)) d)
@@ -181,7 +185,8 @@ module _ (p : Tables) (formed : WellFormed p) (h : Heap) (v : CoreValue) where
           ∙ (get_other vs i m v (λ d. n (ap (λ z. OfArray z m) e ∙ ap (OfArray k) d))
           ∙ (sym (ap (item_in m) q) ∙ ap (λ z. item_in m (slice_get h.cells z)) (sym e))))
 
-      by : (o : Option Cell) → slice_get h.cells k ≡ o → (j ≡ k) ⊎ (j ≢ k) → item_in m (slice_get (with_item i v o h.cells k) j) ≡ item_in m (slice_get h.cells j)
+      by : (o : Option Cell) → slice_get h.cells k ≡ o → (j ≡ k) ⊎ (j ≢ k)
+          → item_in m (slice_get (with_item i v o h.cells k) j) ≡ item_in m (slice_get h.cells j)
       by None q d = refl
       by (Some (Object c vs)) q d = refl
       by (Some (Array u vs)) q (inl e) = here u vs q e
