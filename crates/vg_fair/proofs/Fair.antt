@@ -1,12 +1,12 @@
 -- The laws of "the same in fair worlds": what is built of parts that do the same does the same. Each law is by cases on how the parts
 -- are the same; loops go by induction on their turns, whole code by that on the code.
-use Rattle.std.specs.Prelude.{◌≡◌, ℕ, zero, suc, ◌<◌, Bool, true, false, List, [], ◌∷◌, length}
-use Rattle.std.proofs.Common.{refl, sym, subst}
+use Rattle.std.specs.Prelude.{◌≡◌, ℕ, zero, suc, ◌<◌, Bool, true, false, List, [], ◌∷◌}
+use Rattle.std.proofs.Common.{sym, subst}
 use Rattle.vg_meaning.specs.History.{Active, Recorder}
 use Rattle.vg_meaning.specs.World.{World, Phase, Starting, Running}
 use Rattle.vg_meaning.specs.Outside.{AreReads}
-use Rattle.vg_meaning.specs.Answer.{End, OutOfDepth, Signal, Breaks, Continues, Returns, Over, Answer, Piece, go_on, over, and_then, unless, passes, stops}
-use Rattle.vg_meaning.specs.Clock.{tick_at, ticked}
+use Rattle.vg_meaning.specs.Answer.{End, OutOfDepth, Signal, Breaks, Continues, Returns, Over, Answer, Piece, go_on, and_then, unless, passes, stops}
+use Rattle.vg_meaning.specs.Clock.{tick_at}
 use Rattle.vg_meaning.specs.Calls.{closed, closing, unless_deep, note_call, opened, returned}
 use Rattle.vg_meaning.specs.Loops.{Test, Tested, Untested, choose, turned, turns, loop}
 use Rattle.vg_meaning.specs.Devices.{read_from, read_device, write_in, write_device}
