@@ -1,19 +1,17 @@
 -- Bodies, calls and whole runs.
-use Rattle.std.proofs.Common.{◌≡◌, refl, sym, ap, subst, ◌∙◌, arith, append_assoc, ℕ, zero, suc, ◌+◌, ◌-◌, ◌==◌, ◌&&◌, Bool, true, false, List, [], ◌∷◌, ◌++◌, length, map, take, drop}
-use Rattle.std.proofs.Common.{reverse, replicate, Option, Some, None, slice_get, if◌then◌else◌}
+use Rattle.std.proofs.Common.{◌≡◌, refl, sym, ap, subst, ◌∙◌, arith, append_assoc, ℕ, zero, suc, ◌+◌, ◌-◌, ◌==◌, Bool, true, false, List, [], ◌∷◌, ◌++◌}
+use Rattle.std.proofs.Common.{length, map, take, drop}
+use Rattle.std.proofs.Common.{reverse, replicate, Option, Some, None, if◌then◌else◌}
 use Rattle.std.proofs.lemmas.Option.{none-some}
 use Rattle.std.proofs.lemmas.Nat.{pow_pos}
 use Rattle.std.proofs.lemmas.List.{take-map, drop-map, map-append, length-map, length-reverse}
 use Rattle.vg_meaning.specs.History.{Calling, Recorder}
 use Rattle.vg_meaning.specs.World.{World}
 use Rattle.vg_meaning.specs.Outside.{AreReads}
-use Rattle.vg_meaning.specs.Answer.{Signal, Returns, Answer, Gives, Piece, go_on, and_then}
-use Rattle.vg_meaning.specs.Calls.{opened, returned}
+use Rattle.vg_meaning.specs.Answer.{Signal, Answer, Gives, Piece, go_on}
+use Rattle.vg_meaning.specs.Calls.{opened}
 use Rattle.vg_meaning.specs.Code.{performed, replaced}
-use Rattle.vg_meaning.specs.Interrupts.{idles}
-use Rattle.vg_meaning.specs.Loops.{Test, Tested, Untested}
 use Rattle.vg_meaning.specs.Same.{Nowhere, SameTest, Left}
-use Rattle.vg_meaning.specs.Shapes.{Fits}
 use Rattle.vg_meaning.specs.Safe.{Safe, NoWay, IsRight}
 use Rattle.vg_meaning.specs.Safe as safety
 use Rattle.vg_meaning.proofs.Safe.{safe_then}
@@ -22,7 +20,8 @@ use Rattle.vg_fair.proofs.Fair.{alike_then, alike_opened, alike_returned, alike_
 use Rattle.vg_source.specs.Session.{running_world}
 use Rattle.vg_codes.specs.Codes.{Codes}
 use Rattle.vg_core.specs.declared.types.CoreType.{CoreType}
-use Rattle.vg_core.specs.declared.types.CoreType.TheVariants.{IntType, BoolType, CharType, RawType, NullType, ClassType, ArrayType, FunctionType, NoType, MoreTypes}
+use Rattle.vg_core.specs.declared.types.CoreType.TheVariants.{IntType, BoolType, CharType, RawType, NullType, ClassType, ArrayType, FunctionType, NoType}
+use Rattle.vg_core.specs.declared.types.CoreType.TheVariants.{MoreTypes}
 use Rattle.vg_core.specs.declared.value.CoreValue.{CoreValue}
 use Rattle.vg_core.specs.declared.value.CoreValue.TheVariants.{Int, Bool as Truth, Char, Raw, Null, Obj, Arr, Bound}
 use Rattle.vg_core.specs.declared.heap.Cell.{Cell}
@@ -31,16 +30,15 @@ use Rattle.vg_core.specs.declared.program.Handler.{Handler}
 use Rattle.vg_core.specs.declared.program.Owner.{Owner}
 use Rattle.vg_core.specs.declared.program.Owner.TheVariants.{InComponent}
 use Rattle.vg_core.specs.declared.program.Target.TheVariants.{Run}
-use Rattle.vg_core.specs.declared.step.Step.{Step}
 use Rattle.vg_core.specs.Heap.{Kind, kind_of, default}
 use Rattle.vg_core.specs.Program.{Body, Program, Signature, signature_of, method_signature, body_of}
 use Rattle.vg_core.specs.Session.{call_alone, with_heap, handler_of, running}
 use Rattle.vg_core.specs.Session as session
-use Rattle.vg_core.specs.State.{State, is_of, are_of, onto, entered, left}
-use Rattle.vg_core.specs.Types.{HasType, HasTypes, AreKinds, SelfOf}
-use Rattle.vg_core.specs.Typing.{Takes, Holds as HoldsTruth, Returned, Subs, locals_of, TypedBody, IsEntry, AreEntries, WellTyped}
+use Rattle.vg_core.specs.State.{State, is_of, are_of, onto, entered}
+use Rattle.vg_core.specs.Types.{HasTypes, AreKinds, SelfOf}
+use Rattle.vg_core.specs.Typing.{Holds as HoldsTruth, Subs, locals_of, TypedBody, IsEntry, AreEntries, WellTyped}
 use Rattle.vg_core.specs.Meaning as core
-use Rattle.vg_sound.specs.Good.{TypedHeap, Good, GoodAt, CallsRight, HasTypedHeap}
+use Rattle.vg_sound.specs.Good.{TypedHeap, Good, CallsRight, HasTypedHeap}
 use Rattle.vg_sound.proofs.Values.{defaults_typed, front, turned_round, all_fit as all_fit_types, subs_length, onto_length}
 use Rattle.vg_sound.proofs.Cells.{is_typed}
 use Rattle.vg_sound.proofs.Pieces.{safe_taking}
@@ -51,14 +49,14 @@ use Rattle.vg_firm.specs.Program.{Procedure, Program as FirmProgram}
 use Rattle.vg_firm.specs.Meaning as firm
 use Rattle.vg_firm.specs.Meaning.{State as FirmState}
 use Rattle.vg_firm.specs.Session as calls
-use Rattle.vg_firm.specs.Session.{all_fit, arguments, is_among, guarded, may_receive, may_enter}
+use Rattle.vg_firm.specs.Session.{all_fit, guarded, may_receive, may_enter}
 use Rattle.vg_coded.specs.Numbers.{coded}
 use Rattle.vg_coded.specs.Kept.{IsKept}
 use Rattle.vg_coded.specs.Widths.{width_of}
 use Rattle.vg_coded.proofs.Fitting.{value_fits}
 use Rattle.vg_packing.specs.Layout.{Layout}
 use Rattle.vg_packing.specs.Pass.{move, packed}
-use Rattle.vg_packing.specs.Allowed.{IsSmall, AreSmall, Allowed, allowing}
+use Rattle.vg_packing.specs.Allowed.{IsSmall, AreSmall, allowing}
 use Rattle.vg_packing.specs.Packs.{AreKept, Holds, Receiver, Packs, packs}
 use Rattle.vg_packing.specs.Laid.{SameEntry, IsPacked, Laid}
 use Rattle.vg_packing.proofs.Lists.{kept_take, kept_drop, kept_onto, onto_is, map_reverse}
@@ -117,7 +115,8 @@ eq_true a b e = grind (arith, e)
 -- ---- both hold
 
 -- where two runs do the same, and the first is never Wrong, what holds of its state holds beside
-both_hold : {K : Type 0} {R G : State → FirmState → Type 0} {T : State → K → Type 0} {L : Signal → State → FirmState → Type 0} {a : Answer State K} {b : Answer FirmState K}
+both_hold : {K : Type 0} {R G : State → FirmState → Type 0} {T : State → K → Type 0} {L : Signal → State → FirmState
+    → Type 0} {a : Answer State K} {b : Answer FirmState K}
     → Alike R Nowhere a b → Safe T NoWay IsRight a → ((s : State) (t : FirmState) (h : K) → R s t → T s h → G s t) → Alike G L a b
 both_hold (gives {s = s} {t = t} {w = w} i q) (safety.gives j) h = gives i (h s t w.history q j)
 both_hold (leaves i q) j h = absurd q
@@ -263,10 +262,26 @@ module _ (p : Program) (good : WellTyped p) (l : Layout) (k : Codes) (f : FirmPr
         → Typed p l.kinds ts o x s
         → SameTest (λ s1 t1. Packs p.tables l k f o s1 t1 × Typed p l.kinds ts o y s1) (core.truth s) (firm.truth t)
     same_truth ts o x y e _ _ (packs {vs = []} z ls ks rs q) j = tt
-    same_truth ts o x y e _ _ (packs {vs = Truth true ∷ vs} (a, z) ls ks rs q) j =
-        (packs z ls ks rs q, record { heap = j.heap; values = (subst (HasTypes p.tables l.kinds (Truth true ∷ vs)) e j.values).1; locals = j.locals; self = j.self })
-    same_truth ts o x y e _ _ (packs {vs = Truth false ∷ vs} (a, z) ls ks rs q) j =
-        (packs z ls ks rs q, record { heap = j.heap; values = (subst (HasTypes p.tables l.kinds (Truth false ∷ vs)) e j.values).1; locals = j.locals; self = j.self })
+    same_truth ts o x y e _ _ (packs {vs = Truth true ∷ vs} (a, z) ls ks rs q) j = (
+      packs z ls ks rs q,
+      record {
+        heap = j.heap;
+        values = (subst (HasTypes p.tables l.kinds
+            (Truth true ∷ vs)) e j.values).1;
+        locals = j.locals;
+        self = j.self;
+      },
+    )
+    same_truth ts o x y e _ _ (packs {vs = Truth false ∷ vs} (a, z) ls ks rs q) j = (
+      packs z ls ks rs q,
+      record {
+        heap = j.heap;
+        values = (subst (HasTypes p.tables l.kinds
+            (Truth false ∷ vs)) e j.values).1;
+        locals = j.locals;
+        self = j.self;
+      },
+    )
     same_truth ts o x y e _ _ (packs {vs = Int n ∷ vs} z ls ks rs q) j = tt
     same_truth ts o x y e _ _ (packs {vs = Char n ∷ vs} z ls ks rs q) j = tt
     same_truth ts o x y e _ _ (packs {vs = Raw n m ∷ vs} z ls ks rs q) j = tt
@@ -396,7 +411,8 @@ module _ (p : Program) (good : WellTyped p) (l : Layout) (k : Codes) (f : FirmPr
         (same_checked p l k f o (Typed p l.kinds ts o (us ++ x)) Nowhere (length g.params == length us) _ _ (λ e1 s1 t1 w1 i1 z1 j1.
         same_checked p l k f o (Typed p l.kinds ts o (us ++ x)) Nowhere (are_of p.tables s1.heap.cells (onto g.params []) (take (length us) s1.values)) _ _
         (λ e2 s2 t2 w2 i2 z2 j2. alike_opened r (Calling m) _ _
-        (body_alike (core.called r p n) (safe_called p good r n) (calls.called r k f n) handle m q g b is (guarded_calls (l.edges m) n same) o ts us x self number
+        (body_alike (core.called r p n) (safe_called p good r n) (calls.called r k f n) handle m q g b is
+        (guarded_calls (l.edges m) n same) o ts us x self number
         subs kept selfis rec) s2 t2 w2 i2 (z2, j2)) s1 t1 w1 i1 z1 j1)) s t w i z j))
       where
         handle : ℕ → Piece FirmState K

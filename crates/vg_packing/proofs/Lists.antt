@@ -1,5 +1,6 @@
 -- Lists of kept values.
-use Rattle.std.proofs.Common.{append_assoc, ◌≡◌, refl, sym, ap, subst, ◌∙◌, ℕ, zero, suc, List, [], ◌∷◌, ◌++◌, map, take, drop, reverse, Option, Some, None, slice_get, slice_set}
+use Rattle.std.proofs.Common.{append_assoc, ◌≡◌, refl, sym, ap, subst, ◌∙◌, ℕ, zero, suc, List, [], ◌∷◌, ◌++◌, map, take, drop, reverse, Some, slice_get}
+use Rattle.std.proofs.Common.{slice_set}
 use Rattle.std.proofs.lemmas.Option.{same_Some, none-some}
 use Rattle.std.proofs.lemmas.List.{map-append, reverse-append}
 use Rattle.vg_core.specs.declared.value.CoreValue.{CoreValue}

@@ -1,14 +1,14 @@
 -- Pieces that do the same: values that wait, checks, objects and arrays behind their null checks.
-use Rattle.std.proofs.Common.{◌≡◌, ◌≢◌, ◌⊎◌, refl, sym, ap, subst, ◌∙◌, arith, ℕ, zero, suc, ◌+◌, ◌<◌, ◌==◌, Bool, true, false, List, [], ◌∷◌, ◌++◌, length, map, take, drop}
+use Rattle.std.proofs.Common.{◌≡◌, refl, sym, ap, subst, ◌∙◌, arith, ℕ, zero, suc, ◌+◌, ◌<◌, ◌==◌, Bool, true, false, List, [], ◌∷◌, ◌++◌, length, map, take}
+use Rattle.std.proofs.Common.{drop}
 use Rattle.std.proofs.Common.{Option, Some, None, option_map, slice_get}
-use Rattle.std.proofs.lemmas.Option.{same_Some, none-some, slice_get-map}
+use Rattle.std.proofs.lemmas.Option.{slice_get-map}
 use Rattle.std.proofs.lemmas.List.{take-map, drop-map, map-append}
 use Rattle.std.specs.Cmp.{unsigned_Decides}
-use mathlib.Core.Logic.{inl, inr}
 use Rattle.vg_meaning.specs.World.{World}
-use Rattle.vg_meaning.specs.Answer.{Signal, Answer, Piece}
+use Rattle.vg_meaning.specs.Answer.{Signal, Piece}
 use Rattle.vg_meaning.specs.Same.{Nowhere}
-use Rattle.vg_fair.specs.Fair.{IsFair, Alike, gives, leaves, overs, wrong}
+use Rattle.vg_fair.specs.Fair.{IsFair, Alike, gives, wrong}
 use Rattle.vg_fair.proofs.Fair.{alike_stops, alike_nowhere}
 use Rattle.vg_codes.specs.Codes.{Codes}
 use Rattle.vg_source.specs.Operators.{Scalar, AnInt, ATruth, AChar, Bits, Computed, Is, Fails, Unfit}
@@ -19,13 +19,12 @@ use Rattle.vg_core.specs.declared.heap.Cell.{Cell}
 use Rattle.vg_core.specs.declared.heap.Cell.TheVariants.{Object, Array}
 use Rattle.vg_core.specs.declared.heap.Heap.{Heap}
 use Rattle.vg_core.specs.declared.program.Owner.{Owner}
-use Rattle.vg_core.specs.Heap.{Kind, ObjectOf, ArrayOf, kind_of, class_in}
+use Rattle.vg_core.specs.Heap.{Kind, ArrayOf, kind_of, class_in}
 use Rattle.vg_core.specs.Operators.{scalar_value}
 use Rattle.vg_core.specs.Program.{Program}
 use Rattle.vg_core.specs.State.{State}
 use Rattle.vg_core.specs.Tables.{is_below}
 use Rattle.vg_core.specs.Types.{HasType, HasTypes, SelfOf}
-use Rattle.vg_core.specs.Typing.{WellFormed}
 use Rattle.vg_core.specs.Meaning as core
 use Rattle.vg_sound.specs.Good.{TypedHeap}
 use Rattle.vg_firm.specs.Program.{Program as FirmProgram}
@@ -36,8 +35,7 @@ use Rattle.vg_coded.specs.Kept.{IsKept}
 use Rattle.vg_coded.specs.Operators.{StandsFor}
 use Rattle.vg_packing.specs.Layout.{Layout}
 use Rattle.vg_packing.specs.Allowed.{IsObject, IsArray}
-use Rattle.vg_packing.specs.Packs.{AreKept, Holds, Packs, packs}
-use Rattle.vg_packing.specs.Laid.{Laid}
+use Rattle.vg_packing.specs.Packs.{Holds, Packs, packs}
 use Rattle.vg_packing.proofs.Lists.{kept_get, kept_append, kept_take, kept_drop}
 
 -- A state in a body of this owner, whose parameters and locals have the types ts and where values of the types x wait, with cells of the
@@ -195,12 +193,22 @@ module _ {K : Type 0} (p : Program) (l : Layout) (k : Codes) (f : FirmProgram) (
           where
             by : (c : Option Cell) → slice_get heap.cells j ≡ c
                 → Alike (Packs p.tables l k f o) L (core.in_array t (a j) c (record { values = vs; locals = ls; self = self; heap = heap }) w)
-                (b (l.numbering.number j) (record { values = map (coded l.numbering k) vs; locals = map (coded l.numbering k) ls; self = number; columns = cols }) w)
+                (b (l.numbering.number j) (record {
+                  values = map (coded l.numbering k) vs;
+                  locals = map
+                      (coded l.numbering k) ls;
+                  self = number;
+                  columns = cols;
+                }) w)
             by None e = wrong
             by (Some (Object d us)) e = wrong
             by (Some (Array u us)) e =
                 same_checked (u == t) (a j us) (b (l.numbering.number j))
-                (λ same. h j us (kind_there p l k f heap cols q j (Array u us) e ∙ ap (λ z2. Some (ArrayOf z2 (length us))) ((unsigned_Decides u t).0 same), kept))
+                (λ same. h j us (
+                  kind_there p l k f heap cols q j (Array u us) e
+                      ∙ ap (λ z2. Some (ArrayOf z2 (length us))) ((unsigned_Decides u t).0 same),
+                  kept,
+                ))
                 _ _ w i (packs x y z r q) known
 
   -- ---- values that wait, with their types

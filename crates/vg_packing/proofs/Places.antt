@@ -1,13 +1,12 @@
 -- Loads and stores that do the same, whatever the place; elements of arrays; class tests and casts.
-use Rattle.std.proofs.Common.{◌≡◌, ◌≢◌, ◌⊎◌, refl, sym, ap, subst, ◌∙◌, arith, ℕ, zero, suc, ◌+◌, ◌-◌, ◌*◌, ◌/◌, ◌%◌, ◌^◌, ◌<◌, ◌≤◌, Bool, true, false, ◌==◌, ◌&&◌}
-use Rattle.std.proofs.Common.{nat_lt, nat_le, List, [], ◌∷◌, length, map, Option, Some, None, option_map, slice_get, ℤ, pos, negsuc, FitsSigned}
-use Rattle.std.proofs.lemmas.Option.{same_Some, none-some, slice_get-map}
-use Rattle.std.proofs.Math.Nat.{mul-add, mul-div_cancel_left}
+use Rattle.std.proofs.Common.{◌≡◌, refl, sym, ap, subst, ◌∙◌, arith, ℕ, zero, suc, ◌+◌, ◌-◌, ◌*◌, ◌/◌, ◌%◌, ◌^◌, ◌<◌, ◌≤◌, Bool, true, false, ◌==◌, ◌&&◌}
+use Rattle.std.proofs.Common.{nat_lt, nat_le, List, [], ◌∷◌, length, map, Option, Some, None, option_map, slice_get, pos, negsuc, FitsSigned}
+use Rattle.std.proofs.lemmas.Option.{none-some, slice_get-map}
+use Rattle.std.proofs.Math.Nat.{mul-div_cancel_left}
 use Rattle.std.proofs.lemmas.Nat.{mod-mul-add}
 use Rattle.std.specs.Int.{w32, cast_unsigned}
-use Rattle.vg_meaning.specs.World.{World}
-use Rattle.vg_meaning.specs.Answer.{Signal, Answer, Gives, Piece, go_on, stops}
-use Rattle.vg_fair.specs.Fair.{IsFair, Alike, gives, leaves, overs, wrong}
+use Rattle.vg_meaning.specs.Answer.{Signal, Gives, Piece, go_on, stops}
+use Rattle.vg_fair.specs.Fair.{Alike, gives, wrong}
 use Rattle.vg_fair.proofs.Fair.{alike_stops}
 use Rattle.vg_codes.specs.Codes.{Codes}
 use Rattle.vg_codes.specs.Dispatch.{is_within}
@@ -22,7 +21,7 @@ use Rattle.vg_core.specs.declared.program.Field.{Field}
 use Rattle.vg_core.specs.declared.program.Owner.{Owner}
 use Rattle.vg_core.specs.declared.program.Owner.TheVariants.{InClass, InComponent}
 use Rattle.vg_core.specs.declared.program.Tables.{Tables}
-use Rattle.vg_core.specs.Heap.{kind_of, Place, OfComponent, OfObject, OfArray, value_in, field_in, value_at, set_at}
+use Rattle.vg_core.specs.Heap.{kind_of, Place, OfObject, OfArray, value_in, field_in, value_at, set_at}
 use Rattle.vg_core.specs.Program.{Program}
 use Rattle.vg_core.specs.State.{State, is_of}
 use Rattle.vg_core.specs.Tables.{is_in, above_in, is_below, last_from, last_of, top, both_same, one_hierarchy, has_fields_of, slot_where, slot_in, slot_of}
@@ -30,7 +29,6 @@ use Rattle.vg_core.specs.Typing.{WellFormed}
 use Rattle.vg_core.specs.Meaning as core
 use Rattle.vg_firm.specs.declared.step.Home.{Home}
 use Rattle.vg_firm.specs.declared.step.Home.TheVariants.{Ram, Flash}
-use Rattle.vg_firm.specs.declared.step.Elements.{Elements}
 use Rattle.vg_firm.specs.declared.step.ArrayPlace.{ArrayPlace}
 use Rattle.vg_firm.specs.Operators.{as_number}
 use Rattle.vg_firm.specs.Program.{Program as FirmProgram}
@@ -39,12 +37,11 @@ use Rattle.vg_firm.specs.Meaning.{State as FirmState}
 use Rattle.vg_coded.specs.Numbers.{coded}
 use Rattle.vg_coded.specs.Kept.{IsKept}
 use Rattle.vg_packing.specs.Layout.{Column, Layout, Spot, spot, first_in, first_with}
-use Rattle.vg_packing.specs.Pass.{width_in}
 use Rattle.vg_packing.specs.Allowed.{IsObject, IsArray, IsRead}
-use Rattle.vg_packing.specs.Packs.{IsKeptPlace, columns_at, entry_at, Packs, packs}
+use Rattle.vg_packing.specs.Packs.{IsKeptPlace, columns_at, Packs, packs}
 use Rattle.vg_packing.specs.Laid.{IsTabled, Laid}
 use Rattle.vg_packing.proofs.Columns.{held_set, held_dropped}
-use Rattle.vg_packing.proofs.Pieces.{Any, kind_there, SameFrom, same_put, same_checked, same_stop_unless, same_of_width, same_object, same_class, same_array}
+use Rattle.vg_packing.proofs.Pieces.{SameFrom, same_put, same_checked, same_stop_unless, same_class, same_array}
 
 -- ---- numbers
 
@@ -259,7 +256,8 @@ module _ (p : Program) (formed : WellFormed p.tables) (l : Layout) (k : Codes) (
         → From (core.with_item at t a array index) (firm.at_item f (l.items t) b (coded l.numbering k index) (coded l.numbering k array))
     same_item at t a b h index array li la =
         same_array p l k f o J L at t (λ j vs. core.with_int (λ n. core.with_index at (length vs) n (λ i. a (OfArray j i))) index)
-        (λ n. firm.with_found (firm.array_at f (l.items t).table n) (at_place (coded l.numbering k index))) (λ j vs is. there j vs is (laid.tables j t (length vs) is))
+        (λ n. firm.with_found (firm.array_at f (l.items t).table n) (at_place (coded l.numbering k index)))
+        (λ j vs is. there j vs is (laid.tables j t (length vs) is))
         array la
       where
         at_place : ℕ → ArrayPlace → Piece FirmState K

@@ -1,13 +1,14 @@
 -- Operators on any two operands: scalars, and references by their cells.
-use Rattle.std.proofs.Common.{◌≡◌, ◌≢◌, ◌⊎◌, refl, sym, ap, subst, ◌∙◌, arith, ℕ, zero, suc, ◌<◌, Bool, true, false, ◌==◌, List, length, map, Option, Some, None, slice_get}
+use Rattle.std.proofs.Common.{◌≡◌, ◌⊎◌, refl, sym, ap, subst, ◌∙◌, arith, ℕ, ◌<◌, true, false, ◌==◌, List, length, Option, Some, None, slice_get}
 use Rattle.std.specs.Bool.{one_answer}
 use Rattle.std.specs.Cmp.{unsigned_Decides}
 use Rattle.std.proofs.lemmas.Bool.Decides.{Decides-like}
 use mathlib.Core.Logic.{inl, inr}
 use Rattle.vg_codes.specs.Codes.{Codes}
-use Rattle.vg_source.specs.Operators.{Scalar, AnInt, ATruth, AChar, Bits, Operand, Plain, NoCell, ObjectCell, ArrayCell, binary}
+use Rattle.vg_source.specs.Operators.{AnInt, ATruth, AChar, Bits, Operand, Plain, NoCell, ObjectCell, ArrayCell, binary}
 use Rattle.vg_core.specs.declared.types.CoreType.{CoreType}
-use Rattle.vg_core.specs.declared.types.CoreType.TheVariants.{IntType, BoolType, CharType, RawType, NullType, ClassType, ArrayType, FunctionType, NoType, MoreTypes}
+use Rattle.vg_core.specs.declared.types.CoreType.TheVariants.{IntType, BoolType, CharType, RawType, NullType, ClassType, ArrayType, FunctionType, NoType}
+use Rattle.vg_core.specs.declared.types.CoreType.TheVariants.{MoreTypes}
 use Rattle.vg_core.specs.declared.value.CoreValue.{CoreValue}
 use Rattle.vg_core.specs.declared.value.CoreValue.TheVariants.{Int, Bool as Truth, Char, Raw, Null, Obj, Arr, Bound}
 use Rattle.vg_core.specs.declared.heap.Cell.{Cell}
@@ -15,15 +16,15 @@ use Rattle.vg_core.specs.declared.heap.Cell.TheVariants.{Object, Array}
 use Rattle.vg_core.specs.declared.heap.Heap.{Heap}
 use Rattle.vg_core.specs.declared.operator.Operator.{Operator}
 use Rattle.vg_core.specs.declared.program.Tables.{Tables}
-use Rattle.vg_core.specs.Heap.{ObjectOf, ArrayOf}
 use Rattle.vg_core.specs.Operators.{scalar_value, operand_of, operator_of}
 use Rattle.vg_core.specs.Program.{Program}
 use Rattle.vg_core.specs.State.{is_object, is_array, is_of}
-use Rattle.vg_core.specs.Tables.{is_below, top, both_same, one_hierarchy}
-use Rattle.vg_core.specs.Typing.{Sub, same, below, null_class, null_array, null_function, OpTakes, of_ints, order_ints, order_chars, of_bits, shifts, concat, compare_up, compare_down, WellFormed}
+use Rattle.vg_core.specs.Tables.{is_below, one_hierarchy}
+use Rattle.vg_core.specs.Typing.{Sub, same, below, null_class, null_array, null_function, OpTakes, of_ints, order_ints, order_chars, of_bits, shifts, concat}
+use Rattle.vg_core.specs.Typing.{compare_up, compare_down, WellFormed}
 use Rattle.vg_firm.specs.Operators.{computed, has_strings}
 use Rattle.vg_firm.specs.Program.{Program as FirmProgram}
-use Rattle.vg_coded.specs.Numbers.{scalar_number, coded, IsInRange}
+use Rattle.vg_coded.specs.Numbers.{coded}
 use Rattle.vg_coded.specs.Kept.{IsKept}
 use Rattle.vg_coded.specs.Operators.{operator_for, StandsFor}
 use Rattle.vg_coded.proofs.Computing.{comparisons, scalars}
@@ -32,7 +33,7 @@ use Rattle.vg_packing.specs.Allowed.{IsObject, IsArray}
 use Rattle.vg_packing.specs.Packs.{Holds}
 use Rattle.vg_packing.specs.Laid.{Laid}
 use Rattle.vg_packing.proofs.Pieces.{kind_there}
-use Rattle.vg_packing.proofs.Places.{hierarchy_of, same_hierarchy}
+use Rattle.vg_packing.proofs.Places.{same_hierarchy}
 
 -- ---- operands as values
 
@@ -132,7 +133,8 @@ near_arrays p op t u r (compare_down h1 h2 h3 sub) c d e g = sym (sub_arrays p u
 
 -- ---- what lies in the cells
 
-object_there : (p : Tables) (c : ℕ) (o : Option Cell) → is_object p c o ≡ true → (d : ℕ) × (vs : List CoreValue) × (o ≡ Some (Object d vs)) × (is_below p d c ≡ true)
+object_there : (p : Tables) (c : ℕ) (o : Option Cell) → is_object p c o ≡ true → (d : ℕ) × (vs : List CoreValue) × (o ≡ Some (Object d vs))
+    × (is_below p d c ≡ true)
 object_there p c (Some (Object d vs)) e = (d, vs, refl, e)
 object_there p c (Some (Array t vs)) e = absurd (let clash : false ≡ true = e in cc)
 object_there p c None e = absurd (let clash : false ≡ true = e in cc)

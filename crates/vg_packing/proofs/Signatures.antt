@@ -31,7 +31,8 @@ module _ (p : Tables) where
   pub params_are : (y : Method) (ps r : ℕ) (params : List CoreType) → HasFunction p y → function_of p y ≡ Some (FunctionType ps r) → IsRow p params ps
       → y.params ≡ params
   params_are y ps r params (qs, q, e, row, res) ef h =
-      let same : FunctionType qs q ≡ FunctionType ps r = the_same _ _ (sym e ∙ ef) in one_row y.params params ps (subst (IsRow p y.params) (front_of same) row) h
+      let same : FunctionType qs q ≡ FunctionType ps r = the_same _ _ (sym e ∙ ef) in one_row y.params params ps
+      (subst (IsRow p y.params) (front_of same) row) h
     where
       front_of : FunctionType qs q ≡ FunctionType ps r → qs ≡ ps
       front_of z = cc

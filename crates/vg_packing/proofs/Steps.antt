@@ -1,27 +1,26 @@
 -- Each step and what stands for it do the same.
-use Rattle.std.proofs.Common.{◌≡◌, ◌⊎◌, refl, sym, ap, subst, ◌∙◌, arith, ℕ, zero, suc, ◌+◌, ◌-◌, ◌*◌, ◌/◌, ◌%◌, ◌<◌, ◌≤◌, ◌^◌, Bool, true, false, ◌==◌, ◌&&◌, nat_lt, nat_le}
+use Rattle.std.proofs.Common.{◌≡◌, ◌⊎◌, refl, sym, ap, subst, ◌∙◌, arith, ℕ, ◌+◌, ◌-◌, ◌*◌, ◌/◌, ◌%◌, ◌<◌, ◌^◌, Bool, true, false, ◌==◌, ◌&&◌, nat_lt, nat_le}
 use Rattle.std.proofs.Common.{List, [], ◌∷◌, ◌++◌, length, map, take, drop, Option, Some, None, option_map, slice_get, slice_set, if◌then◌else◌}
-use Rattle.std.proofs.lemmas.Option.{same_Some, none-some, slice_get-map}
+use Rattle.std.proofs.lemmas.Option.{none-some, slice_get-map}
 use Rattle.std.proofs.lemmas.List.{map-set}
 use Rattle.std.proofs.lemmas.Nat.{mod-mul-add, div-mul-add}
 use Rattle.std.specs.Cmp.{unsigned_Decides}
 use mathlib.Core.Logic.{inl, inr}
 use Rattle.vg_meaning.specs.History.{Recorder}
-use Rattle.vg_meaning.specs.World.{World}
-use Rattle.vg_meaning.specs.Answer.{Signal, Answer, Gives, Piece, go_on}
+use Rattle.vg_meaning.specs.Answer.{Signal, Gives, Piece, go_on}
 use Rattle.vg_meaning.specs.Devices.{write_device}
-use Rattle.vg_meaning.specs.Code.{Code, Nothing, Do, performed}
+use Rattle.vg_meaning.specs.Code.{Code, performed}
 use Rattle.vg_meaning.specs.Same.{Nowhere}
-use Rattle.vg_fair.specs.Fair.{IsFair, Alike, gives, wrong}
+use Rattle.vg_fair.specs.Fair.{Alike, gives, wrong}
 use Rattle.vg_fair.proofs.Fair.{alike_stops, alike_read, alike_write}
 use Rattle.vg_source.specs.Operators.{binary, prefixed, Operand, Scalar, AnInt, ATruth, AChar, Bits, Format, ToInt, ToChar, ToBits, recast}
 use Rattle.vg_codes.specs.Codes.{Codes, delegate, code_in, receiver_in}
 use Rattle.vg_codes.specs.Dispatch.{dispatched}
 use Rattle.vg_core.specs.declared.types.CoreType.{CoreType}
-use Rattle.vg_core.specs.declared.types.CoreType.TheVariants.{IntType, BoolType, CharType, RawType, NullType, ClassType, ArrayType, FunctionType, NoType, MoreTypes}
+use Rattle.vg_core.specs.declared.types.CoreType.TheVariants.{IntType, BoolType, CharType, RawType, NullType, ClassType, ArrayType, FunctionType, NoType}
+use Rattle.vg_core.specs.declared.types.CoreType.TheVariants.{MoreTypes}
 use Rattle.vg_core.specs.declared.value.CoreValue.{CoreValue}
 use Rattle.vg_core.specs.declared.value.CoreValue.TheVariants.{Int, Bool as Truth, Char, Raw, Null, Obj, Arr, Bound}
-use Rattle.vg_core.specs.declared.heap.Cell.{Cell}
 use Rattle.vg_core.specs.declared.heap.Heap.{Heap}
 use Rattle.vg_core.specs.declared.operator.Operator.{Operator}
 use Rattle.vg_core.specs.declared.operator.Prefix.{Prefix}
@@ -31,17 +30,18 @@ use Rattle.vg_core.specs.declared.program.Owner.{Owner}
 use Rattle.vg_core.specs.declared.program.Owner.TheVariants.{InClass, InComponent}
 use Rattle.vg_core.specs.declared.program.Target.TheVariants.{Run}
 use Rattle.vg_core.specs.declared.step.Step.{Step}
-use Rattle.vg_core.specs.declared.step.Step.TheVariants.{Put, Literal, This, Local, ComponentField, Register, ComponentMethod, Apply, Operate, CastTo}
-use Rattle.vg_core.specs.declared.step.Step.TheVariants.{IsBelow, Field as FieldOf, Item, Length, MethodOf, CallMethod, CallValue, CallComponent}
-use Rattle.vg_core.specs.declared.step.Step.TheVariants.{SetLocal, SetComponentField, SetRegister, SetField, SetItem, Forget}
-use Rattle.vg_core.specs.Heap.{kind_of, ObjectOf, Place, OfComponent, OfObject, OfArray, value_at}
+use Rattle.vg_core.specs.declared.step.Step.TheVariants.{Literal, This, Local, ComponentField, Register, ComponentMethod, CastTo}
+use Rattle.vg_core.specs.declared.step.Step.TheVariants.{Field as FieldOf, Item, MethodOf, CallMethod, CallValue, CallComponent}
+use Rattle.vg_core.specs.declared.step.Step.TheVariants.{SetLocal, SetComponentField, SetRegister, SetField, SetItem}
+use Rattle.vg_core.specs.Heap.{OfComponent, OfObject, OfArray, value_at}
 use Rattle.vg_core.specs.Operators.{scalar_value, operand_of, scalar_of, byte_of, operator_of, prefix_of}
 use Rattle.vg_core.specs.Program.{Program, Signature, signature_of, method_signature}
 use Rattle.vg_core.specs.State.{State, is_of, onto}
-use Rattle.vg_core.specs.Tables.{is_below, dispatch, field_type, type_in, slot_of, IsRow}
-use Rattle.vg_core.specs.Types.{HasType, HasTypes, SelfOf, ReceiverOf, IsDelegate}
+use Rattle.vg_core.specs.Tables.{is_below, dispatch, field_type, type_in, IsRow}
+use Rattle.vg_core.specs.Types.{HasType, SelfOf, ReceiverOf, IsDelegate}
 use Rattle.vg_core.specs.Typing.{Sub, Subs, OpTakes, WellFormed, Overrides}
-use Rattle.vg_core.specs.Typing.{Takes, t_put, t_literal, t_this, t_local, t_component_field, t_register, t_component_method, t_apply, t_operate, t_cast, t_is_below}
+use Rattle.vg_core.specs.Typing.{Takes, t_put, t_literal, t_this, t_local, t_component_field, t_register, t_component_method, t_apply, t_operate, t_cast}
+use Rattle.vg_core.specs.Typing.{t_is_below}
 use Rattle.vg_core.specs.Typing.{t_field, t_item, t_length, t_method_of, t_call_method, t_call_value, t_call_component, t_new_object, t_new_array, t_set_local}
 use Rattle.vg_core.specs.Typing.{t_set_component_field, t_set_register, t_set_field, t_set_item, t_forget, t_super}
 use Rattle.vg_core.specs.Meaning as core
@@ -52,7 +52,7 @@ use Rattle.vg_firm.specs.declared.step.Prefix.{Prefix as FirmPrefix}
 use Rattle.vg_firm.specs.declared.step.Prefix.TheVariants.{Negative, Not, Complement, Cut}
 use Rattle.vg_firm.specs.declared.step.Step.{Step as FirmStep}
 use Rattle.vg_firm.specs.declared.step.Step.TheVariants as steps
-use Rattle.vg_firm.specs.Operators.{as_number, computed, has_strings, applied, has_string}
+use Rattle.vg_firm.specs.Operators.{computed, has_strings, applied, has_string}
 use Rattle.vg_firm.specs.Program.{Procedure, Program as FirmProgram}
 use Rattle.vg_firm.specs.Session.{is_among}
 use Rattle.vg_firm.specs.Meaning as firm
@@ -65,7 +65,7 @@ use Rattle.vg_coded.proofs.Computing.{prefixes, to_int, to_char, to_bits}
 use Rattle.vg_coded.proofs.Fitting.{value_fits}
 use Rattle.vg_packing.specs.Layout.{Column, Layout, first_with, spot_in, item_spot}
 use Rattle.vg_packing.specs.Pass.{width_in, load, store, load_at, store_at, cut, cast, move}
-use Rattle.vg_packing.specs.Allowed.{IsObject, IsArray, IsRead, IsWritten, IsDispatched, IsSmall, Allowed}
+use Rattle.vg_packing.specs.Allowed.{IsObject, IsRead, IsWritten, IsDispatched, IsSmall, Allowed}
 use Rattle.vg_packing.specs.Packs.{Holds, Receiver, Packs, packs}
 use Rattle.vg_packing.specs.Laid.{Laid}
 use Rattle.vg_packing.proofs.Lists.{kept_get, kept_set}
@@ -336,7 +336,8 @@ module _ {K : Type 0} (p : Program) (formed : WellFormed p.tables) (l : Layout) 
     same_delegate J a b r m q e h =
         let c = laid.small.codes m q e in
         subst (λ z. From J a (firm.not_null go (delegate k z (receiver_number l.numbering r)))) (sym (ap known e))
-        (subst (From J a) (sym (not_null_of p l k f o J L go (delegate k q (receiver_number l.numbering r)) (positive (k.code q) (receiver_number l.numbering r) c.1)))
+        (subst (From J a) (sym (not_null_of p l k f o J L go (delegate k q (receiver_number l.numbering r))
+        (positive (k.code q) (receiver_number l.numbering r) c.1)))
         (subst (λ n. From J a (firm.with_found (k.at_code n) (λ z. b z (Some (delegate k q (receiver_number l.numbering r) / 65536)))))
         (sym (low (k.code q) (receiver_number l.numbering r) c.2))
         (subst (λ n. From J a (firm.with_found n (λ z. b z (Some (delegate k q (receiver_number l.numbering r) / 65536))))) (sym c.0)
@@ -351,7 +352,8 @@ module _ {K : Type 0} (p : Program) (formed : WellFormed p.tables) (l : Layout) 
   -- ---- steps
 
   module _ (L : Signal → State → FirmState → Type 0) (r : Recorder K) (cs : List ℕ) (o : Owner) (ts : List CoreType) (m : Procedure)
-      (wide : m.widths ≡ map width_of ts) (call : core.Caller K) (call' : firm.Caller K) (handle : ℕ → Piece FirmState K) (calls : SameCalls cs call call') where
+      (wide : m.widths ≡ map width_of ts) (call : core.Caller K) (call' : firm.Caller K) (handle : ℕ → Piece FirmState K)
+      (calls : SameCalls cs call call') where
     -- From typed states the step and what stands for it do the same.
     abbrev Stands : List CoreType → Step → FirmStep → Type 0
     Stands x s t = SameFrom p l k f o (Typed p l.kinds ts o x) L (core.step p.tables call s) (firm.step k f m call' handle t)
@@ -463,7 +465,8 @@ module _ {K : Type 0} (p : Program) (formed : WellFormed p.tables) (l : Layout) 
     step_field : (x : List CoreType) (at g : ℕ) (c : Option Column) → l.column g ≡ c → IsRead p.tables l g
         → Stands x (FieldOf at g) (load_at c (first_with p.tables l g))
     step_field x at g None e a =
-        same_take p l k f o (Typed p l.kinds ts o x) L _ _ (same_object p l k f o Any L at (λ j. core.get_place p.tables (OfObject j g)) (λ n. firm.put 0) nowhere)
+        same_take p l k f o (Typed p l.kinds ts o x) L _ _ (same_object p l k f o Any L at (λ j. core.get_place p.tables (OfObject j g))
+        (λ n. firm.put 0) nowhere)
       where
         nowhere : (j : ℕ) → 0 < l.numbering.number j → AnyFrom (core.get_place p.tables (OfObject j g)) (firm.put 0)
         nowhere j kept _ _ w i (packs {vs = vs} {ls = ls} {self = self} {h = heap} {number = number} {cols = cols} y z ks rec q) j1 =
@@ -549,7 +552,8 @@ module _ {K : Type 0} (p : Program) (formed : WellFormed p.tables) (l : Layout) 
             (below n 256 (subst (λ z. n < 2 ^ z) ((unsigned_Decides j 8).0 e) h)) (written n)
         raw false j n e h = λ s t w i q j1. wrong
 
-        by : (v : CoreValue) → IsKept l.numbering v → AnyFrom (core.with_found (byte_of v) (write_device a)) (firm.of_width 1 (write_device a) (coded l.numbering k v))
+        by : (v : CoreValue) → IsKept l.numbering v → AnyFrom (core.with_found (byte_of v) (write_device a))
+            (firm.of_width 1 (write_device a) (coded l.numbering k v))
         by (Raw j n) kept = raw (j == 8) j n refl kept.1
         by (Int n) kept = λ s t w i q j1. wrong
         by (Truth n) kept = λ s t w i q j1. wrong

@@ -5,7 +5,7 @@ use Rattle.vg_core.specs.declared.program.Field.{Field}
 use Rattle.vg_core.specs.declared.program.Owner.{Owner}
 use Rattle.vg_core.specs.declared.program.Owner.TheVariants.{InClass, InComponent}
 use Rattle.vg_core.specs.declared.program.Tables.{Tables}
-use Rattle.vg_core.specs.Heap.{Kind, ObjectOf, ArrayOf, Place, OfComponent, OfObject, OfArray}
+use Rattle.vg_core.specs.Heap.{Kind, ArrayOf, Place, OfComponent, OfObject, OfArray}
 use Rattle.vg_firm.specs.declared.step.Home.{Home}
 use Rattle.vg_firm.specs.declared.step.Elements.{Elements}
 use Rattle.vg_coded.specs.Numbers.{Numbering}

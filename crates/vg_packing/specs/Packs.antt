@@ -1,5 +1,5 @@
 -- How the states of the two programs are related.
-use Rattle.std.specs.Prelude.{◌≡◌, ℕ, ◌<◌, List, [], ◌∷◌, map, Option, Some, None}
+use Rattle.std.specs.Prelude.{◌≡◌, ℕ, ◌<◌, List, [], ◌∷◌, map, Option, Some}
 use Rattle.vg_codes.specs.Codes.{Codes}
 use Rattle.vg_core.specs.declared.heap.Heap.{Heap}
 use Rattle.vg_core.specs.declared.program.Owner.{Owner}

@@ -1,5 +1,5 @@
 -- The pass: each step becomes at most one.
-use Rattle.std.specs.Prelude.{ℕ, Option, Some, None, map, length, slice_get}
+use Rattle.std.specs.Prelude.{ℕ, Option, Some, None, map, length}
 use Rattle.vg_meaning.specs.Code.{Code, Nothing, Do, replaced}
 use Rattle.vg_codes.specs.Codes.{Codes}
 use Rattle.vg_core.specs.declared.types.CoreType.{CoreType}
