@@ -59,32 +59,34 @@ from_either Inside v h = let z = ap is_earlier (h (λ e. clash Inside Inside Lat
 
 module _ (os : List Object) (way : List ℕ) (k : Object) (m : Among k os) where
   -- an object of the class or below it is within the interval
-  pub within : place (class_key way) (key k) ≡ Inside → (1 + before os (class_key way) ≤ 1 + before os (key k)) × (1 + before os (key k) < 1 + before os (class_key way) + inside os (class_key way))
+  pub within : place (class_key way) (key k) ≡ Inside → (1 + before os (class_key way) ≤ 1 + before os (key k))
+      × (1 + before os (key k) < 1 + before os (class_key way) + inside os (class_key way))
   within e = (low, high)
     where
       low : 1 + before os (class_key way) ≤ 1 + before os (key k)
       low = let a = total_most (λ o. is_earlier (place (class_key way) (key o))) (λ o. is_earlier (place (key k) (key o)))
-              (λ o. if_earlier (place (class_key way) (key o)) (place (key k) (key o)) (earlier_than_class (class_key way) (key k) (key o) e)) os in
+          (λ o. if_earlier (place (class_key way) (key o)) (place (key k) (key o)) (earlier_than_class (class_key way) (key k) (key o) e)) os in
           let b = earlier_total os (class_key way) in let c = earlier_total os (key k) in omega (arith, a, b, c)
 
       high : 1 + before os (key k) < 1 + before os (class_key way) + inside os (class_key way)
-      high = let a = total_less (λ o. is_earlier (place (key k) (key o))) (λ o. is_earlier (place (class_key way) (key o)) + is_inside (place (class_key way) (key o)))
-              (λ o. if_either (place (key k) (key o)) (place (class_key way) (key o)) (earlier_than_inside (class_key way) (key k) (key o) e)) k os m
-              (let x = ap is_earlier (itself (key k)) in let y = ap is_inside e in omega (arith, x, y)) in
+      high = let a = total_less (λ o. is_earlier (place (key k) (key o)))
+          (λ o. is_earlier (place (class_key way) (key o)) + is_inside (place (class_key way) (key o)))
+          (λ o. if_either (place (key k) (key o)) (place (class_key way) (key o)) (earlier_than_inside (class_key way) (key k) (key o) e)) k os m
+          (let x = ap is_earlier (itself (key k)) in let y = ap is_inside e in omega (arith, x, y)) in
           let b = both_total os (class_key way) in let c = earlier_total os (key k) in omega (arith, a, b, c)
 
   -- every other is outside
   pub below_first : place (class_key way) (key k) ≡ Earlier → 1 + before os (key k) < 1 + before os (class_key way)
   below_first e =
       let a = total_less (λ o. is_earlier (place (key k) (key o))) (λ o. is_earlier (place (class_key way) (key o)))
-              (λ o. if_earlier (place (key k) (key o)) (place (class_key way) (key o)) (earlier_than (class_key way) (key k) (key o) e)) k os m
-              (let x = ap is_earlier (itself (key k)) in let y = ap is_earlier e in omega (arith, x, y)) in
+      (λ o. if_earlier (place (key k) (key o)) (place (class_key way) (key o)) (earlier_than (class_key way) (key k) (key o) e)) k os m
+      (let x = ap is_earlier (itself (key k)) in let y = ap is_earlier e in omega (arith, x, y)) in
       let b = earlier_total os (class_key way) in let c = earlier_total os (key k) in omega (arith, a, b, c)
 
   pub behind_last : place (class_key way) (key k) ≡ Later → 1 + before os (class_key way) + inside os (class_key way) ≤ 1 + before os (key k)
   behind_last e =
       let a = total_most (λ o. is_earlier (place (class_key way) (key o)) + is_inside (place (class_key way) (key o))) (λ o. is_earlier (place (key k) (key o)))
-              (λ o. from_either (place (class_key way) (key o)) (place (key k) (key o)) (earlier_than_later (class_key way) (key k) (key o) e)) os in
+      (λ o. from_either (place (class_key way) (key o)) (place (key k) (key o)) (earlier_than_later (class_key way) (key k) (key o) e)) os in
       let b = both_total os (class_key way) in let c = earlier_total os (key k) in omega (arith, a, b, c)
 
 -- ---- one number, one object
@@ -111,7 +113,8 @@ one_key (x ∷ xs) [] a b e = by (heads 0 (suc x) (class_key xs ++ 0 ∷ a ∷ [
     by (inr (inr (l, f))) = absurd (omega (arith, l))
 one_key (x ∷ xs) (y ∷ ys) a b e = by (heads (suc y) (suc x) (class_key xs ++ 0 ∷ a ∷ []) (class_key ys ++ 0 ∷ b ∷ [])) (one_key xs ys a b)
   where
-    by : Heads (suc y) (suc x) (place (suc x ∷ class_key xs ++ 0 ∷ a ∷ []) (suc y ∷ class_key ys ++ 0 ∷ b ∷ [])) (place (class_key xs ++ 0 ∷ a ∷ []) (class_key ys ++ 0 ∷ b ∷ []))
+    by : Heads (suc y) (suc x) (place (suc x ∷ class_key xs ++ 0 ∷ a ∷ []) (suc y ∷ class_key ys ++ 0 ∷ b ∷ []))
+        (place (class_key xs ++ 0 ∷ a ∷ []) (class_key ys ++ 0 ∷ b ∷ []))
         → (place (class_key xs ++ 0 ∷ a ∷ []) (class_key ys ++ 0 ∷ b ∷ []) ≡ Inside → a ≡ b) → a ≡ b
     by (inl (l, f)) h = absurd (clash _ Earlier Inside f e (λ z. omega (arith, z)))
     by (inr (inl (l, f))) h = absurd (clash _ Later Inside f e (λ z. omega (arith, z)))
@@ -120,8 +123,8 @@ one_key (x ∷ xs) (y ∷ ys) a b e = by (heads (suc y) (suc x) (class_key xs ++
 less_number : (os : List Object) (j k : Object) → Among j os → place (key k) (key j) ≡ Earlier → 1 + before os (key j) < 1 + before os (key k)
 less_number os j k m e =
     let a = total_less (λ o. is_earlier (place (key j) (key o))) (λ o. is_earlier (place (key k) (key o)))
-            (λ o. if_earlier (place (key j) (key o)) (place (key k) (key o)) (earlier_than (key k) (key j) (key o) e)) j os m
-            (let x = ap is_earlier (itself (key j)) in let y = ap is_earlier e in omega (arith, x, y)) in
+    (λ o. if_earlier (place (key j) (key o)) (place (key k) (key o)) (earlier_than (key k) (key j) (key o) e)) j os m
+    (let x = ap is_earlier (itself (key j)) in let y = ap is_earlier e in omega (arith, x, y)) in
     let b = earlier_total os (key j) in let c = earlier_total os (key k) in omega (arith, a, b, c)
 
 pub one_number : (os : List Object) (j k : Object) → Among j os → Among k os → 1 + before os (key j) ≡ 1 + before os (key k) → k.cell ≡ j.cell
@@ -130,4 +133,5 @@ one_number os j k mj mk e = by (place (key k) (key j)) refl
     by : (w : Where) → place (key k) (key j) ≡ w → k.cell ≡ j.cell
     by Earlier f = let a = less_number os j k mj f in absurd (omega (arith, a, e))
     by Inside f = one_key k.way j.way k.cell j.cell f
-    by Later f = let a = less_number os k j mk (earlier_than_later (key k) (key j) (key k) f (λ z. clash _ Inside Later (itself (key k)) z (λ y. omega (arith, y)))) in absurd (omega (arith, a, e))
+    by Later f = let a = less_number os k j mk (earlier_than_later (key k) (key j) (key k) f
+        (λ z. clash _ Inside Later (itself (key k)) z (λ y. omega (arith, y)))) in absurd (omega (arith, a, e))

@@ -1,5 +1,6 @@
 -- The numbers of kept cells: intervals, one number for one cell, and how many there are.
-use Rattle.std.proofs.Common.{◌≡◌, ◌⊎◌, refl, sym, ap, subst, ◌∙◌, arith, ℕ, zero, suc, ◌+◌, ◌<◌, ◌≤◌, Bool, true, false, ◌==◌, ◌&&◌, nat_le, nat_lt, List, [], ◌∷◌}
+use Rattle.std.proofs.Common.{◌≡◌, ◌⊎◌, refl, sym, ap, subst, ◌∙◌, arith, ℕ, zero, suc, ◌+◌, ◌<◌, ◌≤◌, Bool, true, false, ◌==◌, ◌&&◌, nat_le, nat_lt, List}
+use Rattle.std.proofs.Common.{[], ◌∷◌}
 use Rattle.std.proofs.Common.{length, Option, Some, None, slice_get, if◌then◌else◌}
 use Rattle.std.proofs.lemmas.Option.{same_Some, none-some, slice_get_within}
 use mathlib.Core.Logic.{inl, inr}
@@ -7,8 +8,9 @@ use Rattle.vg_codes.specs.Dispatch.{is_within}
 use Rattle.vg_core.specs.declared.program.Tables.{Tables}
 use Rattle.vg_core.specs.Heap.{Kind, ObjectOf, ArrayOf}
 use Rattle.vg_core.specs.Tables.{is_below, top, both_same, one_hierarchy}
-use Rattle.vg_numbers.specs.Keys.{Where, Earlier, Inside, Later, place, class_key, Object, key, is_earlier, before, inside}
-use Rattle.vg_numbers.specs.Numbers.{AreChains, way, is_of_hierarchy, way_of, objects, beside, is_array_of, one_if, arrays_before, numbered, number, first, count}
+use Rattle.vg_numbers.specs.Keys.{Where, Earlier, Inside, Later, place, class_key, Object, key, is_earlier, before}
+use Rattle.vg_numbers.specs.Numbers.{AreChains, way, is_of_hierarchy, way_of, objects, beside, is_array_of, one_if, arrays_before, numbered, number, first}
+use Rattle.vg_numbers.specs.Numbers.{count}
 use Rattle.vg_numbers.proofs.Places.{clash, itself}
 use Rattle.vg_numbers.proofs.Intervals.{Among, here, there, total, total_less, earlier_total, within, below_first, behind_last, one_number}
 use Rattle.vg_numbers.proofs.Ways.{both_same_is, below_inside, inside_below}
@@ -36,7 +38,7 @@ among p t kept at (a ∷ κ) (suc j) d e ks h =
   where
     by : (b : Bool) → Among (record { way = way p d; cell = suc at + j }) (objects p t kept (suc at) κ)
         → Among (record { way = way p d; cell = suc at + j })
-          (if b then record { way = way_of p a; cell = at } ∷ objects p t kept (suc at) κ else objects p t kept (suc at) κ)
+        (if b then record { way = way_of p a; cell = at } ∷ objects p t kept (suc at) κ else objects p t kept (suc at) κ)
     by true m = there m
     by false m = m
 
@@ -86,7 +88,8 @@ not_true false h = refl
 pub spans : (p : Tables) → AreChains p → (κ : List Kind) (kept : ℕ → Bool) (j d c : ℕ) → slice_get κ j ≡ Some (ObjectOf d) → kept j ≡ true
     → one_hierarchy p d c ≡ true → is_below p d c ≡ is_within (first p κ kept c) (count p κ kept c) (number p κ kept j)
 spans p chains κ kept j d c e ks one =
-    subst (λ n. is_below p d c ≡ is_within (first p κ kept c) (count p κ kept c) n) (sym (number_of_object p κ kept j d e ks ∙ ap (λ t. 1 + before (objects p t kept 0 κ) (key (record { way = way p d; cell = j }))) tops))
+    subst (λ n. is_below p d c ≡ is_within (first p κ kept c) (count p κ kept c) n)
+    (sym (number_of_object p κ kept j d e ks ∙ ap (λ t. 1 + before (objects p t kept 0 κ) (key (record { way = way p d; cell = j }))) tops))
     (by (place (class_key (way p c)) (key (record { way = way p d; cell = j }))) refl)
   where
     tops : top p d ≡ top p c
@@ -99,13 +102,18 @@ spans p chains κ kept j d c e ks one =
         → is_below p d c ≡ is_within (first p κ kept c) (count p κ kept c) (1 + before (beside p κ kept c) (key (record { way = way p d; cell = j })))
     by Inside f =
         let r = within (beside p κ kept c) (way p c) (record { way = way p d; cell = j }) member f in
-        inside_below p chains d c j one f ∙ sym (inside_interval (first p κ kept c) (count p κ kept c) (1 + before (beside p κ kept c) (key (record { way = way p d; cell = j }))) r.0 r.1)
+        inside_below p chains d c j one f ∙ sym (inside_interval (first p κ kept c) (count p κ kept c)
+        (1 + before (beside p κ kept c) (key (record { way = way p d; cell = j }))) r.0 r.1)
     by Earlier f =
-        not_true (is_below p d c) (λ b. clash (place (class_key (way p c)) (key (record { way = way p d; cell = j }))) Inside Earlier (below_inside p chains d c j b) f (λ z. omega (arith, z)))
-        ∙ sym (below_interval (first p κ kept c) (count p κ kept c) (1 + before (beside p κ kept c) (key (record { way = way p d; cell = j }))) (below_first (beside p κ kept c) (way p c) (record { way = way p d; cell = j }) member f))
+        not_true (is_below p d c) (λ b. clash (place (class_key (way p c)) (key (record { way = way p d; cell = j }))) Inside Earlier
+        (below_inside p chains d c j b) f (λ z. omega (arith, z)))
+        ∙ sym (below_interval (first p κ kept c) (count p κ kept c) (1 + before (beside p κ kept c) (key (record { way = way p d; cell = j })))
+        (below_first (beside p κ kept c) (way p c) (record { way = way p d; cell = j }) member f))
     by Later f =
-        not_true (is_below p d c) (λ b. clash (place (class_key (way p c)) (key (record { way = way p d; cell = j }))) Inside Later (below_inside p chains d c j b) f (λ z. omega (arith, z)))
-        ∙ sym (behind_interval (first p κ kept c) (count p κ kept c) (1 + before (beside p κ kept c) (key (record { way = way p d; cell = j }))) (behind_last (beside p κ kept c) (way p c) (record { way = way p d; cell = j }) member f))
+        not_true (is_below p d c) (λ b. clash (place (class_key (way p c)) (key (record { way = way p d; cell = j }))) Inside Later
+        (below_inside p chains d c j b) f (λ z. omega (arith, z)))
+        ∙ sym (behind_interval (first p κ kept c) (count p κ kept c) (1 + before (beside p κ kept c) (key (record { way = way p d; cell = j })))
+        (behind_last (beside p κ kept c) (way p c) (record { way = way p d; cell = j }) member f))
 
 pub no_null : (p : Tables) (κ : List Kind) (kept : ℕ → Bool) (c : ℕ) → is_within (first p κ kept c) (count p κ kept c) 0 ≡ false
 no_null p κ kept c = below_interval (first p κ kept c) (count p κ kept c) 0 (omega arith)
@@ -227,7 +235,8 @@ few p κ kept j = by (kept j) refl (slice_get κ j) refl
         let lt = slice_get_within κ j (ArrayOf t n) e in let h = no_more_arrays t kept 0 κ j in omega (arith, lt, h)
     by true ks (Some (ObjectOf d)) e = there_is (one_top p d)
       where
-        there_is : (both_same (top p d) (top p d) ≡ true) ⊎ (top p d ≡ None) → 1 + before (beside p κ kept d) (key (record { way = way p d; cell = j })) ≤ length κ
+        there_is : (both_same (top p d) (top p d) ≡ true) ⊎ (top p d ≡ None)
+            → 1 + before (beside p κ kept d) (key (record { way = way p d; cell = j })) ≤ length κ
         there_is (inl h) =
             let a = fewer (beside p κ kept d) (record { way = way p d; cell = j }) (among_all p (top p d) κ kept j d e ks h) in
             let c = no_more_objects p (top p d) kept 0 κ in omega (arith, a, c)
@@ -251,6 +260,6 @@ few p κ kept j = by (kept j) refl (slice_get κ j) refl
 
                 none : (b : Bool) → b ≡ false → before (objects p None kept (suc at) κ1) (key (record { way = way p d; cell = j })) ≡ 0
                     → before (if b then record { way = way_of p a; cell = at } ∷ objects p None kept (suc at) κ1 else objects p None kept (suc at) κ1)
-                      (key (record { way = way p d; cell = j })) ≡ 0
+                    (key (record { way = way p d; cell = j })) ≡ 0
                 none false q h1 = h1
                 none true q h1 = absurd (let clash1 : true ≡ false = q in cc)

@@ -49,7 +49,8 @@ earlier_than (c ∷ cs) [] j p q = absurd (clash Inside Inside Earlier refl q (�
 earlier_than (c ∷ cs) (k ∷ ks) [] p q = refl
 earlier_than (c ∷ cs) (k ∷ ks) (j ∷ js) p q = by (heads k c cs ks) (heads j k ks js) (earlier_than cs ks js)
   where
-    by : Heads k c (place (c ∷ cs) (k ∷ ks)) (place cs ks) → Heads j k (place (k ∷ ks) (j ∷ js)) (place ks js) → (place cs ks ≡ Earlier → place ks js ≡ Earlier → place cs js ≡ Earlier) → place (c ∷ cs) (j ∷ js) ≡ Earlier
+    by : Heads k c (place (c ∷ cs) (k ∷ ks)) (place cs ks) → Heads j k (place (k ∷ ks) (j ∷ js)) (place ks js)
+        → (place cs ks ≡ Earlier → place ks js ≡ Earlier → place cs js ≡ Earlier) → place (c ∷ cs) (j ∷ js) ≡ Earlier
     by (inl (a, e)) (inl (b, f)) h = earlier_head j c cs js (omega (arith, a, b))
     by (inl (a, e)) (inr (inr (b, f))) h = earlier_head j c cs js (omega (arith, a, b))
     by (inr (inr (a, e))) (inl (b, f)) h = earlier_head j c cs js (omega (arith, a, b))
@@ -68,7 +69,8 @@ earlier_than_inside (c ∷ cs) (k ∷ ks) (j ∷ js) p q = by (heads k c cs ks) 
     same e (inl h) = inl (same_head j c cs js e ∙ h)
     same e (inr h) = inr (same_head j c cs js e ∙ h)
 
-    by : Heads k c (place (c ∷ cs) (k ∷ ks)) (place cs ks) → Heads j k (place (k ∷ ks) (j ∷ js)) (place ks js) → (place cs ks ≡ Inside → place ks js ≡ Earlier → (place cs js ≡ Earlier) ⊎ (place cs js ≡ Inside))
+    by : Heads k c (place (c ∷ cs) (k ∷ ks)) (place cs ks) → Heads j k (place (k ∷ ks) (j ∷ js)) (place ks js)
+        → (place cs ks ≡ Inside → place ks js ≡ Earlier → (place cs js ≡ Earlier) ⊎ (place cs js ≡ Inside))
         → (place (c ∷ cs) (j ∷ js) ≡ Earlier) ⊎ (place (c ∷ cs) (j ∷ js) ≡ Inside)
     by (inr (inr (a, e))) (inl (b, f)) h = inl (earlier_head j c cs js (omega (arith, a, b)))
     by (inr (inr (a, e))) (inr (inr (b, f))) h = same (b ∙ a) (h (sym e ∙ p) (sym f ∙ q))
@@ -83,7 +85,8 @@ earlier_than_class (c ∷ cs) [] j p q = absurd (clash Earlier Earlier Inside re
 earlier_than_class (c ∷ cs) (k ∷ ks) [] p q = refl
 earlier_than_class (c ∷ cs) (k ∷ ks) (j ∷ js) p q = by (heads k c cs ks) (heads j c cs js) (earlier_than_class cs ks js)
   where
-    by : Heads k c (place (c ∷ cs) (k ∷ ks)) (place cs ks) → Heads j c (place (c ∷ cs) (j ∷ js)) (place cs js) → (place cs ks ≡ Inside → place cs js ≡ Earlier → place ks js ≡ Earlier) → place (k ∷ ks) (j ∷ js) ≡ Earlier
+    by : Heads k c (place (c ∷ cs) (k ∷ ks)) (place cs ks) → Heads j c (place (c ∷ cs) (j ∷ js)) (place cs js)
+        → (place cs ks ≡ Inside → place cs js ≡ Earlier → place ks js ≡ Earlier) → place (k ∷ ks) (j ∷ js) ≡ Earlier
     by (inr (inr (a, e))) (inl (b, f)) h = earlier_head j k ks js (omega (arith, a, b))
     by (inr (inr (a, e))) (inr (inr (b, f))) h = same_head j k ks js (b ∙ sym a) ∙ h (sym e ∙ p) (sym f ∙ q)
     by (inr (inr (a, e))) (inr (inl (b, f))) h = absurd (clash _ Later Earlier f q (λ z. omega (arith, z)))
@@ -97,7 +100,8 @@ earlier_than_later (c ∷ cs) [] j p q = absurd (clash Earlier Earlier Later ref
 earlier_than_later (c ∷ cs) (k ∷ ks) [] p q = refl
 earlier_than_later (c ∷ cs) (k ∷ ks) (j ∷ js) p q = by (heads k c cs ks) (heads j c cs js) (earlier_than_later cs ks js)
   where
-    by : Heads k c (place (c ∷ cs) (k ∷ ks)) (place cs ks) → Heads j c (place (c ∷ cs) (j ∷ js)) (place cs js) → (place cs ks ≡ Later → ((place cs js ≡ Later) → ⊥) → place ks js ≡ Earlier) → place (k ∷ ks) (j ∷ js) ≡ Earlier
+    by : Heads k c (place (c ∷ cs) (k ∷ ks)) (place cs ks) → Heads j c (place (c ∷ cs) (j ∷ js)) (place cs js)
+        → (place cs ks ≡ Later → ((place cs js ≡ Later) → ⊥) → place ks js ≡ Earlier) → place (k ∷ ks) (j ∷ js) ≡ Earlier
     by (inr (inl (a, e))) (inl (b, f)) h = earlier_head j k ks js (omega (arith, a, b))
     by (inr (inl (a, e))) (inr (inr (b, f))) h = earlier_head j k ks js (omega (arith, a, b))
     by (inr (inr (a, e))) (inl (b, f)) h = earlier_head j k ks js (omega (arith, a, b))

@@ -1,7 +1,7 @@
 -- A class is below another exactly where the way down to it goes through the other.
-use Rattle.std.proofs.Common.{◌≡◌, ◌⊎◌, refl, sym, ap, subst, ◌∙◌, arith, ℕ, zero, suc, ◌<◌, Bool, true, false, ◌==◌, ◌||◌, List, [], ◌∷◌, ◌++◌, map, append_assoc}
-use Rattle.std.proofs.Common.{Option, Some, None, slice_get, if◌then◌else◌, nat_lt}
-use Rattle.std.proofs.lemmas.Option.{same_Some, none-some}
+use Rattle.std.proofs.Common.{◌≡◌, ◌⊎◌, refl, sym, ap, subst, ◌∙◌, arith, ℕ, suc, Bool, true, false, ◌==◌, ◌||◌, List, [], ◌∷◌, ◌++◌, append_assoc}
+use Rattle.std.proofs.Common.{Option, Some, None, slice_get}
+use Rattle.std.proofs.lemmas.Option.{none-some}
 use Rattle.std.proofs.lemmas.List.{map-append}
 use Rattle.std.specs.Cmp.{unsigned_Decides}
 use mathlib.Core.Logic.{inl, inr}
@@ -9,9 +9,9 @@ use Rattle.vg_core.specs.declared.program.Class.{Class}
 use Rattle.vg_core.specs.declared.program.Tables.{Tables}
 use Rattle.vg_core.specs.State.{onto}
 use Rattle.vg_core.specs.Tables.{is_in, above_in, is_below, last_of, top, both_same, one_hierarchy}
-use Rattle.vg_numbers.specs.Keys.{Where, Earlier, Inside, Later, place, class_key, Object, key}
+use Rattle.vg_numbers.specs.Keys.{Earlier, Inside, Later, place, class_key, key}
 use Rattle.vg_numbers.specs.Numbers.{IsChain, AreChains, way}
-use Rattle.vg_numbers.proofs.Places.{Heads, heads, clash, itself, same_head}
+use Rattle.vg_numbers.proofs.Places.{Heads, heads, clash, same_head}
 
 eq_refl : (n : ℕ) → (n == n) ≡ true
 eq_refl n = grind arith

@@ -1,5 +1,5 @@
 -- Where objects stand among one another, by their classes and by when they were made.
-use Rattle.std.specs.Prelude.{◌≡◌, ℕ, suc, ◌+◌, List, [], ◌∷◌, ◌++◌, map, if◌then◌else◌, nat_lt}
+use Rattle.std.specs.Prelude.{ℕ, suc, ◌+◌, List, [], ◌∷◌, ◌++◌, map, if◌then◌else◌, nat_lt}
 
 -- Where one list of numbers stands against another: earlier or later, as in a dictionary, or inside, where it begins with the other.
 pub data Where : Type 0 where

@@ -1,5 +1,5 @@
 -- The numbers of the cells that are kept.
-use Rattle.std.specs.Prelude.{◌≡◌, ◌⊎◌, ℕ, zero, suc, ◌+◌, ◌==◌, ◌&&◌, Bool, true, false, List, [], ◌∷◌, Option, Some, None, slice_get, if◌then◌else◌}
+use Rattle.std.specs.Prelude.{◌≡◌, ◌⊎◌, ℕ, zero, suc, ◌+◌, ◌==◌, ◌&&◌, Bool, true, false, List, [], ◌∷◌, Option, Some, slice_get, if◌then◌else◌}
 use Rattle.vg_core.specs.declared.program.Class.{Class}
 use Rattle.vg_core.specs.declared.program.Tables.{Tables}
 use Rattle.vg_core.specs.Heap.{Kind, ObjectOf, ArrayOf}
