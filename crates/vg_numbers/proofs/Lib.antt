@@ -1,0 +1,4 @@
+pub mod Places
+pub mod Intervals
+pub mod Ways
+pub mod Numbers

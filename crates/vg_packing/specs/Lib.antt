@@ -1,0 +1,5 @@
+pub mod Layout
+pub mod Pass
+pub mod Allowed
+pub mod Packs
+pub mod Laid
