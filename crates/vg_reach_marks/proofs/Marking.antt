@@ -167,7 +167,7 @@ marks_first a b c x rule rank from also er open' ec eb p h q by hf ha =
 pub stays : (p : Program) (h : Heap) (a : Marked) → Sound p h a → Goes p h a a
 stays p h a q = (q, record { kept = λ y r e. e; order = λ i y e. e; left = refl })
 
-none_past : {A : Type 0} (xs : List A) (n : ℕ) → n < length xs → slice_get xs n ≡ None → ⊥
+pub none_past : {A : Type 0} (xs : List A) (n : ℕ) → n < length xs → slice_get xs n ≡ None → ⊥
 none_past [] n lt e = omega (arith, lt)
 none_past (x ∷ xs) zero lt e = none-some x (sym e)
 none_past (x ∷ xs) (suc n) lt e = none_past xs n (omega (arith, lt)) e
