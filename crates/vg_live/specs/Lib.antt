@@ -1,0 +1,4 @@
+pub mod Uses
+pub mod Rules
+pub mod Sets
+pub mod Least
