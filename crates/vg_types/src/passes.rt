@@ -65,9 +65,18 @@ fn members_program(alloc: Global, names: &Names, root: &Node) -> Result<Program,
         (members_breach (declarations_at names.now root.now)) }
 {
     let declared = declare(alloc, names, root)?;
-    inherited(names, root, &declared)?;
-    let entered = entries(alloc, names, root, &declared)?;
-    let bodies = bodies_of(alloc, names, root, &declared)?;
+    match inherited(names, root, &declared) {
+        Ok(()) => {}
+        Err(fault) => return Err(fault),
+    }
+    let entered = match entries(alloc, names, root, &declared) {
+        Ok(entered) => entered,
+        Err(fault) => return Err(fault),
+    };
+    let bodies = match bodies_of(alloc, names, root, &declared) {
+        Ok(bodies) => bodies,
+        Err(fault) => return Err(fault),
+    };
     Ok(program_of(declared, entered, bodies))
 }
 
