@@ -1,0 +1,8 @@
+use Rattle.vg_recorded.proofs.Runs.{grows_alone, grows_idling}
+use Rattle.vg_recorded.proofs.recording.traces_grow.Goals as goal
+
+pub returns-clause-calls : goal.returns-clause-calls
+returns-clause-calls g c = λ r p t. grows_alone r p t
+
+pub returns-clause-idle : goal.returns-clause-idle
+returns-clause-idle g c = λ r p n. grows_idling r p n

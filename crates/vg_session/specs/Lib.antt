@@ -1,0 +1,2 @@
+pub mod Initialises
+pub mod Ends
