@@ -93,9 +93,10 @@ none_some a e = cc
 
 pub exactly : (bytes : List ℕ) (clock : ℕ) (r : Answer) → Answers bytes clock r → IsSettled r → (why : Fault)
     → (fault_in r ≡ Some why) ↔ HasFault why bytes clock
-exactly bytes clock (Ok built) h settled why =
-    (λ e. absurd (none_some why e),
-    λ k. absurd (starts_and_first why bytes clock h.image.writes (built_starts bytes clock built h) h.image.first (sorted why bytes clock k)))
+exactly bytes clock (Ok built) h settled why = (
+  λ e. absurd (none_some why e),
+  λ k. absurd (starts_and_first why bytes clock h.image.writes (built_starts bytes clock built h) h.image.first (sorted why bytes clock k)),
+)
 exactly bytes clock (Err (refusal.Fault w)) h settled why =
     (λ e. subst (λ x. HasFault x bytes clock) (same_fault w why e) h, λ k. ap Some (one_fault w why bytes clock h k))
 exactly bytes clock (Err refusal.NoMemory) h settled why = absurd settled

@@ -34,7 +34,7 @@ image_of_text : (bytes : List ℕ) (clock : ℕ) (image : List ℕ) (layout : La
     → IsImageOf bytes clock None image layout
 image_of_text bytes clock image layout writes same (tree, legal, heap, starts) first agrees never spelled =
     let agreed : Agrees (sessions tree empty_heap) image 0x0100 4096 =
-        subst (λ s. Agrees s image 0x0100 4096) (sym (text_sessions bytes writes tree first legal.reads)) agrees in
+    subst (λ s. Agrees s image 0x0100 4096) (sym (text_sessions bytes writes tree first legal.reads)) agrees in
     subst (λ l. IsImageOf bytes clock None image l) same
     (record {
       tree = tree;

@@ -80,7 +80,7 @@ write_fault_of (Some (Sim hex script steps)) s told out note h e = inl (sims.wri
 -- nothing was put to the second sink before the first put
 pub note_before_of : (c : Option Command) (s : Status) (told : Option (List File)) (out note : Change) → AnswerBy c s told out note → IsBeforePuts s
     → IsSame note
-note_before_of None s told out note h before = h.1
+note_before_of None s told out note h before = h.2
 note_before_of (Some (Build file clock)) s told out note h before = (builds.before_by s told file clock out note h before).1
 note_before_of (Some (Run file script steps)) s told out note h before = h.1
 note_before_of (Some (Sim hex script steps)) s told out note h before = h.1

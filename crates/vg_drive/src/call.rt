@@ -179,7 +179,7 @@ fn obey<S: Shelf, O: Sink, N: Sink>(
     out: &mut O,
     note: &mut N,
 ) -> Status
-    requires { HasSteps (command_in command.entry) }
+    requires { HasSteps (command_in command) }
     ensures fetched { FetchedBy result (S.asked shelf.old) (S.asked shelf.new) (requests_of (Some (command_in command.entry))) }
     ensures read { result ≡ Status.ReadFault → Rose (S.faults shelf.old) (S.faults shelf.new) }
     ensures holds { AnswerBy (Some (command_in command.entry)) result (S.told shelf.old)

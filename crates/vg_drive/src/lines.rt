@@ -1,11 +1,11 @@
 // The line that says why nothing was built or run.
-ghost use Rattle.std.specs.Prelude.{◌≡◌, ◌++◌, ℕ, decimal, codes, length, ◌≤◌};
+ghost use Rattle.std.specs.Prelude.{◌≡◌, ◌++◌, ◌∷◌, [], ◌<◌, ◌≤◌, ℕ, decimal, codes, length, slice_index};
+ghost use Rattle.hex.specs.Hex.{lower_digits};
 ghost use Rattle.vg_script.specs.Traces.{byte_digits};
 ghost use Rattle.vg_drive.specs.Lines.{fault_line, hex_line, refusal_line, place_text, what_text};
 
 use crate::status::Status;
 use arrayvec::ArrayString;
-use hex::encode_to_slice;
 use itoa::Buffer;
 use vg_base::Place;
 use vg_front::Fault;
@@ -99,21 +99,42 @@ fn init_stop_line(code: u8, place: Place) -> ArrayString<LONGEST_LINE>
     line
 }
 
+#[tactic(auto, unfolding(hex::specs::Hex::encode_with))]
 fn touches_line(address: u8) -> ArrayString<LONGEST_LINE>
     ensures { result.bytes ≡ codes "init touches " ++ byte_digits address ++ codes "\n" }
 {
     let mut line = ArrayString::new();
     line.push_str("init touches ");
-    let mut digits = [0u8; 2];
-    match encode_to_slice([address], &mut digits) {
-        Ok(()) => {}
-        Err(_) => unreachable!(),
-    }
-    for digit in digits {
-        line.push(digit as char);
-    }
+    line.push_str(hex_digit(address / 16));
+    line.push_str(hex_digit(address % 16));
     line.push_str("\n");
     line
+}
+
+// A hexadecimal digit, in lower case.
+fn hex_digit(value: u8) -> &'static str
+    requires { value < 16 }
+    ensures digit { result.now ≡ slice_index lower_digits value ∷ [] }
+    ensures short { length result.now ≡ 1 }
+{
+    match value {
+        0 => "0",
+        1 => "1",
+        2 => "2",
+        3 => "3",
+        4 => "4",
+        5 => "5",
+        6 => "6",
+        7 => "7",
+        8 => "8",
+        9 => "9",
+        10 => "a",
+        11 => "b",
+        12 => "c",
+        13 => "d",
+        14 => "e",
+        _ => "f",
+    }
 }
 
 // A line that says the same in each case.

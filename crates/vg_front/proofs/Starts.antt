@@ -35,7 +35,7 @@ fails_so : (texts : List (List ℕ)) (tree : Node) (p : Program) (clock : ℕ) (
     → core.started p clock ≡ core.Failed why → failure_of tree why ≡ Some f → FailsSo tree clock f
 fails_so texts tree p clock why f is legal e g =
     let same : source.started (source_of tree) clock ≡ source.Failed why =
-        sym (initialised texts tree p is clock) ∙ ap (named_start (naming_of texts p.tables) p.tables) e in
+    sym (initialised texts tree p is clock) ∙ ap (named_start (naming_of texts p.tables) p.tables) e in
     (legal, ap (start_fault tree) same ∙ g)
 
 -- the same, of what initialisation answers
@@ -120,7 +120,7 @@ made_is : (bytes : List ℕ) (names : List (List ℕ)) (tree : Tree) (clock : �
 made_is bytes names tree clock s text reads m =
     let same : tree_at s.names s.tree ≡ tree_at names tree = ap (λ x. tree_at x s.tree) m.names_is ∙ ap (tree_at names) m.tree_is in
     let program : IsProgramOf s.names (tree_at names tree) (program_at s.program) =
-        subst (λ x. IsProgramOf x (tree_at names tree) (program_at s.program)) (sym m.names_is) m.program in
+    subst (λ x. IsProgramOf x (tree_at names tree) (program_at s.program)) (sym m.names_is) m.program in
     record {
       legal = subst (IsLegal bytes) (sym same) (record { text = text; reads = reads; legal = m.legal });
       program = subst (λ t. IsProgramOf s.names t (program_at s.program)) (sym same) program;
@@ -137,7 +137,10 @@ answered bytes names tree clock (Err refusal.NoMemory) text reads h = tt
 
 -- the bytes of what starts are a text that starts
 pub start_is_start : (bytes : List ℕ) (clock : ℕ) (s : Start) → IsStartOf bytes clock s → StartsIn bytes clock
-start_is_start bytes clock s is =
-    (tree_at s.names s.tree, is.legal, named_heap (naming_of s.names s.program.tables) s.program.tables s.heap,
-    sym (initialised s.names (tree_at s.names s.tree) (program_at s.program) is.program clock)
-    ∙ ap (named_start (naming_of s.names s.program.tables) s.program.tables) is.starts)
+start_is_start bytes clock s is = (
+  tree_at s.names s.tree,
+  is.legal,
+  named_heap (naming_of s.names s.program.tables) s.program.tables s.heap,
+  sym (initialised s.names (tree_at s.names s.tree) (program_at s.program) is.program clock)
+      ∙ ap (named_start (naming_of s.names s.program.tables) s.program.tables) is.starts,
+)

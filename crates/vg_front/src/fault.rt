@@ -16,9 +16,15 @@ pub enum Fault {
         place: Place,
     },
     /// The node at this place breaks the rule of this number, from 1 to 25, and is the first that breaks one.
-    Broken { rule: u8, place: Place },
+    Broken {
+        rule: u8,
+        place: Place,
+    },
     /// Initialisation stops by the exception of this code, at the node at this place.
-    InitTrap { code: u8, place: Place },
+    InitTrap {
+        code: u8,
+        place: Place,
+    },
     /// Initialisation needs a tick when its clock is spent.
     InitSteps,
     /// Initialisation opens a 401st active call.

@@ -53,12 +53,7 @@ pub fn started(alloc: Global, text: &[u8], steps: u32) -> Result<Start, Refusal<
 }
 
 // The typed program of a tree, and what follows.
-fn checked(
-    alloc: Global,
-    names: Names,
-    tree: Tree,
-    steps: u32,
-) -> Result<Start, Refusal<Fault>>
+fn checked(alloc: Global, names: Names, tree: Tree, steps: u32) -> Result<Start, Refusal<Fault>>
     requires { node_count tree < 2 ^ 32 }
     ensures { GoesOn names tree steps result }
 {

@@ -66,11 +66,13 @@ fn meaning(table: &Table, words: &str) -> Result<Option<Row<u8>>, NoMemory> {
             push_part(&mut answer, file.as_bytes())?;
             push_part(&mut answer, Buffer::new().format(init_steps).as_bytes())?;
         }
-        Some(Command::Run {
-            file,
-            script,
-            steps,
-        }) => push_pair(&mut answer, "run", file, script, steps)?,
+        Some(
+            Command::Run {
+                file,
+                script,
+                steps,
+            },
+        ) => push_pair(&mut answer, "run", file, script, steps)?,
         Some(Command::Sim { hex, script, steps }) => {
             push_pair(&mut answer, "sim", hex, script, steps)?
         }

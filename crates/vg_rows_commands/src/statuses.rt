@@ -79,9 +79,7 @@ fn init_fault(name: &str, first: u32, place: Place) -> Option<Status> {
     match name {
         "init-steps" => Some(Status::Refused(Fault::InitSteps)),
         "init-depth" => Some(Status::Refused(Fault::InitDepth)),
-        "init-touches" => Some(Status::Refused(Fault::InitTouches(
-            u8::try_from(first).ok()?,
-        ))),
+        "init-touches" => Some(Status::Refused(Fault::InitTouches(u8::try_from(first).ok()?))),
         "init-too-big" => Some(Status::Refused(Fault::InitTooBig)),
         _ => match name.strip_prefix("init-stop-") {
             Some(code) => {

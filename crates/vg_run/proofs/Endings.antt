@@ -37,9 +37,11 @@ ended_as session_end.NoMemory end s a b is ends puts = cc
 pub shown_run : (e : SessionEnd) (end : RunEnd) (line : EndLine) (s : Session) (a b c : Option (List ℕ)) → Ok end ≡ run_end e → EndsAs e s.ending
     → Puts e a b s.trace → line ≡ end_line (ending_in end) → AppendsAll b c (ending_line line) → PlaysRun (Ended end) s a c
 shown_run e end line s a b c is ends puts l last =
-    let h = ended_as e end s a b is ends puts in
-    (h.0, subst (λ x. AppendsAll a c (trace_lines s.trace ++ x)) (ap ending_line l ∙ sym (ap end_text h.0))
-    (appends_both a b c (trace_lines s.trace) (ending_line line) h.1 last))
+    let h = ended_as e end s a b is ends puts in (
+      h.0,
+      subst (λ x. AppendsAll a c (trace_lines s.trace ++ x)) (ap ending_line l ∙ sym (ap end_text h.0))
+          (appends_both a b c (trace_lines s.trace) (ending_line line) h.1 last),
+    )
 
 -- the line of the ending was not put whole
 pub failed_end : (e : SessionEnd) (end : RunEnd) (line : EndLine) (s : Session) (a b c : Option (List ℕ)) → Ok end ≡ run_end e → EndsAs e s.ending
