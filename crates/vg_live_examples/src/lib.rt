@@ -1,0 +1,2 @@
+//! What is live in worked programs over numbers, as theorems.
+#![tactic(auto)]
