@@ -41,7 +41,7 @@ assigned = record {
 }
 
 -- The heap that its constructors leave.
-abbrev heap : Heap
+abbrev pub heap : Heap
 heap = first_heap assigned
 
 started_so : started assigned 1000 ≡ Started heap
@@ -51,7 +51,7 @@ main_live : Live assigned heap (Some (Method 0))
 main_live = by main (omega arith) none none
 
 -- `a`, by rule 5 from `main`
-a_live : Live assigned heap (Some (Field 1))
+pub a_live : Live assigned heap (Some (Field 1))
 a_live = by (component_field 0 refl) (omega arith) main_live none
 
 -- ---- `log` is dead
@@ -98,5 +98,5 @@ closed _ _ _ _ (in_object v e c) t a b = tt
 closed _ _ _ _ (in_array i v e c) t a b = tt
 closed _ _ _ _ (literal i e) t a b = tt
 
-log_dead : Live assigned heap (Some (Field 0)) → ⊥
+pub log_dead : Live assigned heap (Some (Field 0)) → ⊥
 log_dead live = least assigned heap Others closed (Some (Field 0)) live
