@@ -1,0 +1,4 @@
+//! What is live in worked programs over numbers, as theorems.
+#![tactic(auto)]
+
+pub mod assigned;
