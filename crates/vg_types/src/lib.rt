@@ -3,6 +3,7 @@
 
 mod checked;
 mod laws;
+mod passes;
 
 pub use checked::{TypeFault, check};
 pub use laws::{initialised_alike, sessions_alike, texts_end};
