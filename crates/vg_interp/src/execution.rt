@@ -59,7 +59,7 @@ fn row(run: &mut Run, program: &Program, most: u32, codes: &[Code]) -> Result<()
     ensures kept { GoesOn result run.old run.new }
 {
     for code in codes {
-        exec(run, program, most, code)?;
+        part(run, program, most, code)?;
     }
     Ok(())
 }
@@ -72,9 +72,30 @@ fn chain(run: &mut Run, program: &Program, most: u32, codes: &[Code]) -> Result<
     ensures kept { GoesOn result run.old run.new }
 {
     for code in codes {
-        exec(run, program, most, code)?;
+        part(run, program, most, code)?;
     }
     Ok(())
+}
+
+// Runs a part of a row or a chain. Most are steps, which are performed at once.
+#[cycle(exec)]
+fn part(run: &mut Run, program: &Program, most: u32, code: &Code) -> Result<(), Signal>
+    ensures answers { Answers result (state run.new) (world run.new)
+        (does (program_at program.now) most (code_of code.now) (state run.old) (world run.old)) }
+    ensures kept { GoesOn result run.old run.new }
+{
+    match code {
+        Code::Do(step) => perform(run, program, most, *step),
+        Code::Row(_)
+        | Code::Chain(_)
+        | Code::If(_, _)
+        | Code::Arms(_, _)
+        | Code::Arm(_, _)
+        | Code::Loop(_, _, _)
+        | Code::Break
+        | Code::Continue
+        | Code::Return => exec(run, program, most, code),
+    }
 }
 
 // Runs the block of the first arm whose condition holds, or what is done where none does.
@@ -220,7 +241,7 @@ fn turn(
     }
 }
 
-// Performs one step.
+// Performs one step. The frequent ones copy no signal where they went well.
 #[cycle(exec)]
 fn perform(run: &mut Run, program: &Program, most: u32, step: Step) -> Result<(), Signal>
     ensures answers { Answers result (state run.new) (world run.new)
@@ -251,23 +272,44 @@ fn perform(run: &mut Run, program: &Program, most: u32, step: Step) -> Result<()
         }
         Step::NewObject(at, class, count) => construct(run, program, most, at, class, count),
         Step::Super(class, count) => construct_above(run, program, most, class, count),
-        Step::Put(value) => values::put(run, tables, value),
+        Step::Put(value) => {
+            values::put(run, tables, value)?;
+            Ok(())
+        }
         Step::Literal(number) => values::literal(run, tables, number),
         Step::This => values::receiver(run, tables),
-        Step::Local(number) => values::local(run, tables, number),
-        Step::ComponentField(field) => places::component_field(run, tables, field),
+        Step::Local(number) => {
+            values::local(run, tables, number)?;
+            Ok(())
+        }
+        Step::ComponentField(field) => {
+            places::component_field(run, tables, field)?;
+            Ok(())
+        }
         Step::Register(address) => devices::register(run, tables, address),
         Step::ComponentMethod(method) => values::component_method(run, tables, method),
         Step::Apply(op, type_) => operators::apply(run, tables, op, type_),
-        Step::Operate(at, op, left, right) => operators::operate(run, tables, at, op, left, right),
+        Step::Operate(at, op, left, right) => {
+            operators::operate(run, tables, at, op, left, right)?;
+            Ok(())
+        }
         Step::CastTo(at, from, to) => operators::cast_to(run, tables, at, from, to),
         Step::IsBelow(class) => operators::test_class(run, tables, class),
-        Step::Field(at, field) => places::field(run, tables, at, field),
-        Step::Item(at, t) => places::item(run, tables, at, t),
+        Step::Field(at, field) => {
+            places::field(run, tables, at, field)?;
+            Ok(())
+        }
+        Step::Item(at, t) => {
+            places::item(run, tables, at, t)?;
+            Ok(())
+        }
         Step::Length(at, t) => places::length(run, tables, at, t),
         Step::MethodOf(at, class, selector) => methods::method_of(run, tables, at, class, selector),
         Step::NewArray(at, t) => methods::new_array(run, tables, at, t),
-        Step::SetLocal(number, type_) => values::set_local(run, tables, number, type_),
+        Step::SetLocal(number, type_) => {
+            values::set_local(run, tables, number, type_)?;
+            Ok(())
+        }
         Step::SetComponentField(field) => places::set_component_field(run, tables, field),
         Step::SetRegister(address) => devices::set_register(run, tables, address),
         Step::SetField(at, field) => places::set_field(run, tables, at, field),

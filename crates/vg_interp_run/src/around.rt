@@ -93,6 +93,13 @@ impl Around {
         }
     }
 
+    /// The events so far, the oldest first.
+    pub fn events(&self) -> &[Event]
+        ensures { result.now ≡ self.now.outside.trace }
+    {
+        self.trace.as_slice()
+    }
+
     /// How many interrupts are left.
     pub fn interrupts_left(&self) -> usize
         ensures { result ≡ length self.now.outside.interrupts }

@@ -39,8 +39,8 @@ fn idle(run: &mut Run, program: &Program, count: usize) -> Result<(), Signal>
     take(run, program)
 }
 
-// Takes the next interrupt, and calls its handler, where it has one.
-fn take(run: &mut Run, program: &Program) -> Result<(), Signal>
+/// Takes the next interrupt, and calls its handler, where it has one.
+pub fn take(run: &mut Run, program: &Program) -> Result<(), Signal>
     ensures { Answers result (state run.new) (world run.new)
         (take_interrupt (session.handle depth_alone (program_at program.now)) (state run.old) (world run.old)) }
 {

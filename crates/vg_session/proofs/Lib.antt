@@ -1,1 +1,4 @@
 pub mod Told
+pub mod Putting
+pub mod Ending
+pub mod Idling

@@ -20,6 +20,10 @@ use Rattle.vg_session.specs.declared.session.SessionEnd.TheVariants.{Idle, Stop,
 abbrev pub session_on : Program → Heap → Lists → (budget : ℕ) → Session
 session_on p heap script budget = session (program_at p) heap (Some 400) script.reads script.interrupts budget
 
+-- The lines of events.
+abbrev pub lines : List Event → List ℕ
+lines events = flat_map event_line events
+
 -- The session has this ending; nothing is said where a put failed or memory was wanting.
 abbrev pub EndsAs : SessionEnd → Option Ending → Type 0
 EndsAs Idle e = e ≡ Some ending.Idle
@@ -32,9 +36,9 @@ EndsAs NoMemory e = Unit {0}
 
 -- The sink has the lines of all events behind what it had, or a front of them where a put failed or memory was wanting.
 abbrev pub Puts : SessionEnd → (before now : Option (List ℕ)) → List Event → Type 0
-Puts SinkFailed before now events = AppendsFront before now (flat_map event_line events)
-Puts NoMemory before now events = AppendsFront before now (flat_map event_line events)
-Puts _ before now events = AppendsAll before now (flat_map event_line events)
+Puts SinkFailed before now events = AppendsFront before now (lines events)
+Puts NoMemory before now events = AppendsFront before now (lines events)
+Puts _ before now events = AppendsAll before now (lines events)
 
 -- A put fails only where the sink's count of faults rises.
 abbrev pub Causes : SessionEnd → (before now : ℕ) → Type 0

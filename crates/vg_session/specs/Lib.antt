@@ -1,2 +1,3 @@
 pub mod Initialises
 pub mod Ends
+pub mod Playing

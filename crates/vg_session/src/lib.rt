@@ -3,6 +3,8 @@
 #![tactic(auto)]
 
 pub mod initialisation;
+mod lines;
+mod playing;
 pub mod session;
 
 pub use initialisation::{InitFault, init};

@@ -49,12 +49,12 @@ exec-returns-in-Arms-clause-answers t c =
     (sym (arms_same c.args.code.now c.in-Arms.all c.in-Arms.last c.as_slice-in-Arms.result.now c.deref-in-Arms.result.now c.in-Arms.is
     c.as_slice-in-Arms.ensures.value c.deref-in-Arms.ensures)) c.arms.ensures.answers
 
-pub row-exec-requires : goal.row-exec-requires
-row-exec-requires t c =
+pub row-part-requires : goal.row-part-requires
+row-part-requires t c =
     let e = part_weighs c.args.codes.now c.loop-code.code-index c.code-item.result c.loop-code-test.true c.code-item.is in (omega (arith, e, c.decreases), c.requires)
 
-pub chain-exec-requires : goal.chain-exec-requires
-chain-exec-requires t c =
+pub chain-part-requires : goal.chain-part-requires
+chain-part-requires t c =
     let e = part_weighs c.args.codes.now c.loop-code.code-index c.code-item.result c.loop-code-test.true c.code-item.is in (omega (arith, e, c.decreases), c.requires)
 
 pub arms-exec-requires : goal.arms-exec-requires

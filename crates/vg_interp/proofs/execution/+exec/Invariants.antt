@@ -17,6 +17,9 @@ decreases-row l = l.most * whole l.program.now + 8 * weights l.codes.now
 abbrev pub decreases-chain : goal.decreases-chain
 decreases-chain l = l.most * whole l.program.now + 8 * weights l.codes.now
 
+abbrev pub decreases-part : goal.decreases-part
+decreases-part l = l.most * whole l.program.now + 8 * weight l.code.now + 2
+
 abbrev pub decreases-arms : goal.decreases-arms
 decreases-arms l = l.most * whole l.program.now + 8 * (weights l.all.now + weight l.last.now) + 2
 
