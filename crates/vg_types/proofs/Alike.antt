@@ -6,7 +6,7 @@ use Rattle.vg_source.specs.Program.{source_of}
 use Rattle.vg_source.specs.Session as source
 use Rattle.vg_source.specs.Values as source_value
 use Rattle.vg_core.specs.declared.heap.Heap.{Heap}
-use Rattle.vg_core.specs.Naming.{Naming, naming_of, named_heap, named}
+use Rattle.vg_core.specs.Naming.{Naming, naming_of, named_heap}
 use Rattle.vg_core.specs.Program.{Program}
 use Rattle.vg_core.specs.Session.{started, session}
 use Rattle.vg_sound.specs.Good.{HasTypedHeap}

@@ -1,23 +1,18 @@
 -- Tables, entries and bodies of a text, put together, are its typed program.
-use Rattle.std.proofs.Common.{◌≡◌, ℕ, true, List, map, Option, None, Result, Ok, Err, sym, ap, ◌∙◌, subst}
-use Rattle.vg_base.specs.declared.refusal.Refusal.{Refusal}
-use Rattle.vg_base.specs.declared.refusal.Refusal.TheVariants.{Fault, NoMemory}
+use Rattle.std.proofs.Common.{◌≡◌, ℕ, true, List, map, Option, None, sym, ap, ◌∙◌, subst}
 use Rattle.vg_syntax.specs.Tree.{Node}
 use Rattle.vg_tree.specs.declared.node.Node as held_node
-use Rattle.vg_source.specs.Program.{declarations_of, source_of, program_of, entries_in, main_of, handlers_in}
+use Rattle.vg_source.specs.Program.{program_of, entries_in, main_of, handlers_in}
 use Rattle.vg_rules.specs.Breach.{Breach, ◌or◌}
 use Rattle.vg_rules.specs.Signatures.{signatures_breach}
 use Rattle.vg_rules.specs.Inherited.{inherited_breach}
 use Rattle.vg_core.specs.declared.program.Program.{Program as HeldProgram}
 use Rattle.vg_core.specs.declared.program.Target.TheVariants.{Run}
-use Rattle.vg_core.specs.declared.program.Tables.{Tables}
 use Rattle.vg_core.specs.HeldProgram.{body_at, program_at}
-use Rattle.vg_core.specs.Naming.{Naming, naming_of, named, named_target, named_handler}
+use Rattle.vg_core.specs.Naming.{naming_of, named, named_target, named_handler}
 use Rattle.vg_core.specs.Program.{Program}
 use Rattle.vg_core.specs.Typing.{IsEntry, AreEntries, WellFormed, WellTyped}
 use Rattle.vg_renamed.specs.NamesTell.{NamesTell}
-use Rattle.vg_types_views.specs.declared.broken.Broken.{Broken}
-use Rattle.vg_types_views.specs.Judges.{Judges}
 use Rattle.vg_types_tables.specs.declared.declared.Declared.{Declared}
 use Rattle.vg_types_tables.specs.Views.{declarations_at}
 use Rattle.vg_types_tables.specs.Declares.{Declares}
@@ -32,7 +27,6 @@ use Rattle.vg_types_routines.specs.declared.pass.Bodies.{Bodies}
 use Rattle.vg_types_routines.specs.Bodies.{AllBodies}
 use Rattle.vg_types_assembled.specs.Assembled.{IsOf}
 use Rattle.vg_types_assembled.proofs.Assembling.{all_typed, program_named, names_told}
-use Rattle.vg_types.specs.Programs.{IsProgramOf}
 use Rattle.vg_types.specs.Passes.{IsMovedFrom, IsProgramFor}
 
 module _ (texts : List (List ℕ)) (root : held_node.Node) (d : Declared) (e : ProgramEntries) (b : Bodies) (q : HeldProgram)
@@ -89,10 +83,3 @@ module _ (texts : List (List ℕ)) (root : held_node.Node) (d : Declared) (e : P
 -- where three parts have no breach there is none
 pub none_of_three : (a b c : Option Breach) → a ≡ None → b ≡ None → c ≡ None → a or b or c ≡ None
 none_of_three a b c e f g = ap (λ z. z or b or c) e ∙ ap (λ z. z or c) f ∙ g
-
--- what is answered to declarations is answered to each tree that has them
-pub for_tree : (texts : List (List ℕ)) (ds tree : Node) (r : Result HeldProgram (Refusal Broken)) (b : Option Breach) → declarations_of tree ≡ ds
-    → Judges (λ p. IsProgramFor texts ds (program_at p)) r b → Judges (λ p. IsProgramOf texts tree (program_at p)) r b
-for_tree texts ds tree (Ok p) b same h = (h.0, h.1 tree same)
-for_tree texts ds tree (Err (Fault f)) b same h = h
-for_tree texts ds tree (Err NoMemory) b same h = tt
