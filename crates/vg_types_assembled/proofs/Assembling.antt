@@ -1,5 +1,5 @@
 -- Bodies at the numbers of what they are bodies of, in order of the text.
-use Rattle.std.proofs.Common.{◌≡◌, ℕ, zero, suc, ◌+◌, List, [], ◌∷◌, ◌++◌, length, map, Option, Some, slice_get, refl, sym, ap, ◌∙◌, subst, arith}
+use Rattle.std.proofs.Common.{◌≡◌, ℕ, zero, suc, ◌+◌, true, List, [], ◌∷◌, ◌++◌, length, map, Option, Some, None, slice_get, refl, sym, ap, ◌∙◌, subst, arith}
 use Rattle.std.specs.Option.{option_map}
 use Rattle.std.proofs.lemmas.List.{append_assoc}
 use Rattle.std.proofs.lemmas.Option.{slice_get-map}
@@ -11,7 +11,7 @@ use Rattle.vg_source.specs.Steps as source
 use Rattle.vg_source.specs.Declared.{written_type}
 use Rattle.vg_source.specs.Resolved as resolved_owner
 use Rattle.vg_source.specs.Resolved.{Fresh, resolved}
-use Rattle.vg_source.specs.Program.{scope_of, routine_of, constructor_in, construction, initialisation}
+use Rattle.vg_source.specs.Program.{scope_of, routine_of, constructor_in, construction, initialisation, program_of, entries_in, main_of, handlers_in}
 use Rattle.vg_core.specs.declared.program.Body.{Body as HeldBody}
 use Rattle.vg_core.specs.declared.program.Owner.{Owner}
 use Rattle.vg_core.specs.declared.program.Owner.TheVariants.{InClass, InComponent}
@@ -21,7 +21,7 @@ use Rattle.vg_core.specs.declared.program.Target.TheVariants.{Run, Construct, St
 use Rattle.vg_core.specs.HeldProgram.{body_at}
 use Rattle.vg_core.specs.Program.{Body, Program, Signature, signature_of, body_of, method_signature}
 use Rattle.vg_core.specs.Program as program
-use Rattle.vg_core.specs.Naming.{named_routine}
+use Rattle.vg_core.specs.Naming.{named, named_routine, named_target, named_handler}
 use Rattle.vg_core.specs.Typing.{TypedBody}
 use Rattle.vg_types_tables.specs.declared.declared.Declared.{Declared}
 use Rattle.vg_types_tables.specs.Views.{declarations_at, naming, owner_view}
@@ -34,12 +34,17 @@ use Rattle.vg_types_bodies.proofs.Makings.{row_length}
 use Rattle.vg_types_bodies.proofs.Routines.{method_is}
 use Rattle.vg_types_bodies.proofs.Signatures.{same_row}
 use Rattle.vg_types_routines.specs.Bodies.{IsMethodBody, MethodBodies, IsMakingBody, IsStartBody, AllBodies}
+use Rattle.vg_rules.specs.Signatures.{signatures_breach}
+use Rattle.vg_renamed.specs.NamesTell.{NamesTell}
+use Rattle.vg_types_declared.specs.Apart.{have_members}
 use Rattle.vg_types_declared.specs.Named.{Keeps}
 use Rattle.vg_types_declared.proofs.Slotting.{Of, first, second, of_two}
 use Rattle.vg_types_named.specs.Left.{Left}
 use Rattle.vg_types_named.specs.Targets.{count_methods, method_targets, targets_from, IsWritten, AreWritten, IsMade, IsStarted, AreSigned}
 use Rattle.vg_types_named.specs.Routines.{Runs, MethodsRun, AllRun}
 use Rattle.vg_types_named.proofs.Lists.{count_push}
+use Rattle.vg_types_named.proofs.Routines.{told}
+use Rattle.vg_types_named.proofs.Routines.{whole as whole_program}
 use Rattle.vg_types_named.proofs.Signed.{at_behind, signed, targets}
 use Rattle.vg_types_named.proofs.Telling.{one_some, class_here, one_class, one_component}
 use Rattle.vg_types_named.proofs.Telling.{targets as signed_stands}
@@ -317,3 +322,27 @@ pub all_typed : (texts : List (List ℕ)) (root : held_node.Node) (d : Declared)
     → AllBodies texts root d (declarations_at texts root) ms ks ss → IsOf d ms ks ss p → AreTyped p
 all_typed texts root d ms ks ss p kept h l f i =
     subst AreTyped (the_program d ms ks ss p i) (typed_of texts root d kept h l ms ks ss p.main p.handlers f)
+
+-- with the entries of the text it is the source program of the text
+pub program_named : (texts : List (List ℕ)) (root : held_node.Node) (d : Declared) (ms ks ss : List HeldBody) (p : Program)
+    → Keeps (declarations_at texts root) → Declares texts root d → Left texts (declarations_at texts root) d
+    → AllBodies texts root d (declarations_at texts root) ms ks ss → IsOf d ms ks ss p
+    → named_target (naming texts d) p.tables (Run p.main) ≡ main_of (entries_in (declarations_at texts root))
+    → map (named_handler (naming texts d) p.tables) p.handlers ≡ handlers_in (entries_in (declarations_at texts root))
+    → program_of (declarations_at texts root) ≡ named (naming texts d) p
+program_named texts root d ms ks ss p kept h l f i m n =
+    whole_program texts (declarations_at texts root) d p kept l i.tables (record {
+      runs = all_run texts root d ms ks ss p kept h l f i;
+      literals_are = ap (λ z. z.literals) i.tables ∙ h.literals;
+      main = m;
+      handlers = n;
+    })
+
+-- where rule 6 is kept its names tell its numbers apart
+pub names_told : (texts : List (List ℕ)) (root : held_node.Node) (d : Declared) (ms ks ss : List HeldBody) (p : Program)
+    → Keeps (declarations_at texts root) → Declares texts root d → Left texts (declarations_at texts root) d
+    → AllBodies texts root d (declarations_at texts root) ms ks ss → IsOf d ms ks ss p
+    → signatures_breach (declarations_at texts root) (declarations_at texts root) ≡ None → have_members (declarations_at texts root) ≡ true
+    → NamesTell (naming texts d) p
+names_told texts root d ms ks ss p kept h l f i rule members =
+    told texts (declarations_at texts root) d p kept rule members l i.tables (all_run texts root d ms ks ss p kept h l f i)

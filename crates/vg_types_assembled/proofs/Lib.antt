@@ -1,1 +1,1 @@
-mod Assembling
+pub mod Assembling

@@ -13,7 +13,7 @@ ghost use Rattle.vg_types_tables.specs.Views.{declarations_at, naming};
 ghost use Rattle.vg_types_tables.specs.Declares.{Declares};
 ghost use Rattle.vg_types_declared.specs.Named.{Keeps};
 ghost use Rattle.vg_types_named.specs.Left.{Left};
-ghost use Rattle.vg_types_named.specs.Members.{have_members};
+ghost use Rattle.vg_types_declared.specs.Apart.{have_members};
 ghost use Rattle.vg_types_named.specs.Routines.{AllRun};
 ghost use Rattle.vg_types_routines.specs.Bodies.{AllBodies};
 ghost use Rattle.vg_types_assembled.specs.Assembled.{IsOf, AreTyped};

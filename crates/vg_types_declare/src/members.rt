@@ -5,7 +5,7 @@ ghost use Rattle.vg_types_declared.specs.Apart.{is_member, are_members, has_memb
 
 use vg_tree::Node;
 
-/// Whether members alone stand in the classes of these declarations, as in those of each text.
+/// Whether members alone stand in the classes and components of these declarations, as in those of each text.
 pub(crate) fn have_members(declarations: &[Node]) -> bool
     ensures { IsTrue result → (texts : List (List ℕ)) → have_members (row_at texts declarations.now) ≡ true }
 {
@@ -17,13 +17,13 @@ pub(crate) fn have_members(declarations: &[Node]) -> bool
     true
 }
 
-// Whether members alone stand in a declaration, where it is a class.
+// Whether members alone stand in a declaration, where it is a class or a component.
 fn has_members(declaration: &Node) -> bool
     ensures { IsTrue result → (texts : List (List ℕ)) → has_members (node_at texts declaration.now) ≡ true }
 {
     match declaration {
         Node::ClassDecl(_, _, _, members) => are_members(members),
-        Node::ComponentDecl(_, _, _) => true,
+        Node::ComponentDecl(_, _, members) => are_members(members),
         Node::DeviceDecl(_, _, _) => true,
         Node::ProgramDecl(_, _, _) => true,
         _ => false,

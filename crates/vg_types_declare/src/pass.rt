@@ -38,6 +38,7 @@ pub fn declare(alloc: Global, names: &Names, root: &Node) -> Result<Declared, No
     ensures declares { IfOk result (Declares names.now root.now) }
     ensures left { IfOk result (Left names.now (declarations_at names.now root.now)) }
     ensures dispatches { IfOk result (Dispatches names.now root.now) }
+    ensures members { IfOk result (λ d. have_members (declarations_at names.now root.now) ≡ true) }
 {
     match root {
         Node::Row(nodes) => declare_shaped(alloc, names, root, nodes.as_slice()),
@@ -46,7 +47,7 @@ pub fn declare(alloc: Global, names: &Names, root: &Node) -> Result<Declared, No
     }
 }
 
-// The tables of the declarations of a row, where members alone stand in its classes.
+// The tables of the declarations of a row, where members alone stand in its classes and components.
 fn declare_shaped(
     alloc: Global,
     names: &Names,
@@ -60,6 +61,7 @@ fn declare_shaped(
     ensures declares { IfOk result (Declares names.now root.now) }
     ensures left { IfOk result (Left names.now (declarations_at names.now root.now)) }
     ensures dispatches { IfOk result (Dispatches names.now root.now) }
+    ensures members { IfOk result (λ d. have_members (declarations_at names.now root.now) ≡ true) }
 {
     if have_members(nodes) {
         declare_row(alloc, names, root, nodes)

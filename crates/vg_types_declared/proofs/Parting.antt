@@ -189,7 +189,8 @@ all_apart ds (Then (ClassDecl at x above ms) rest) v b m l a =
     (record { leads = λ y. refl; within = tt }) (record { apart = λ y. tt; new = λ y e. refl })))
 all_apart ds (Then (ComponentDecl at x ms) rest) v b m l a =
     let q = or_none (members_breach ds rules.OfComponent [] false ms) (signatures_breach ds rest) b in
-    all_apart ds rest (with_component ms v) q.1 m (component_leads v ms l) (component_apart v ms l a)
+    let p = both (are_members ms) (have_members rest) m in
+    all_apart ds rest (with_component ms v) q.1 p.1 (component_leads v ms l) (component_apart v ms l a)
 all_apart ds (Then (DeviceDecl at x registers) rest) v b m l a =
     let q = or_none (registers_breach [] registers) (signatures_breach ds rest) b in all_apart ds rest v q.1 m l a
 all_apart ds (Then _ rest) v b m l a = all_apart ds rest v b m l a
@@ -213,6 +214,7 @@ members_same i _ = refl
 
 has_same : (i : ℕ) (d : Node) → has_members (numbered i d) ≡ has_members d
 has_same i (ClassDecl at c above ms) = members_same (i + 1) ms
+has_same i (ComponentDecl at c ms) = members_same (i + 1) ms
 has_same i _ = refl
 
 pub have_same : (i : ℕ) (ds : Node) → have_members (numbered i ds) ≡ have_members ds

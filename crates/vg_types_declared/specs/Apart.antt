@@ -1,6 +1,6 @@
 -- Names of fields and names of methods.
 use Rattle.std.specs.Prelude.{◌≡◌, ℕ, ◌&&◌, Bool, true, false, Option, Some, None, slice_get}
-use Rattle.vg_syntax.specs.Tree.{Node, Then, ClassDecl, FieldDecl, MethodDecl, ConstructorDecl}
+use Rattle.vg_syntax.specs.Tree.{Node, Then, ClassDecl, ComponentDecl, FieldDecl, MethodDecl, ConstructorDecl}
 use Rattle.vg_source.specs.Names.{Name}
 use Rattle.vg_types_tables.specs.declared.declared.MemberNumber.{MemberNumber}
 use Rattle.vg_types_tables.specs.declared.declared.MemberNumber.TheVariants.{Field, Method}
@@ -20,9 +20,10 @@ abbrev pub are_members : Node → Bool
 are_members (Then m rest) = is_member m && are_members rest
 are_members _ = true
 
--- Where a declaration is a class, members alone stand in it; and so it is for all declarations of a row.
+-- Where a declaration is a class or a component, members alone stand in it; and so it is for all declarations of a row.
 abbrev pub has_members : Node → Bool
 has_members (ClassDecl at c above members) = are_members members
+has_members (ComponentDecl at c members) = are_members members
 has_members _ = true
 
 abbrev pub have_members : Node → Bool

@@ -13,15 +13,30 @@ use Rattle.vg_core.specs.declared.program.Class.{Class}
 use Rattle.vg_core.specs.declared.program.Method.{Method}
 use Rattle.vg_core.specs.declared.program.Tables.{Tables}
 use Rattle.vg_core.specs.Tables.{is_below, is_in, above_in, has_selector, find_selector, methods_in}
+use Rattle.vg_core.specs.Typing.{WellFormed}
 use Rattle.vg_types_tables.specs.declared.declared.Declared.{Declared}
 use Rattle.vg_types_tables.specs.Views.{declarations_at, naming, type_view, row_view}
-use Rattle.vg_types_tables.specs.Declares.{Declares, IsClass}
+use Rattle.vg_types_tables.specs.Declares.{Declares, IsFormed, IsClass}
 use Rattle.vg_types_tables.proofs.Entries.{known_entry, row_function_view}
 use Rattle.vg_types_tables.proofs.OneClass.{one_type}
 use Rattle.vg_types_inherited.specs.Dispatches.{IsDeclaredAbove, Dispatches, AllOverride}
 use Rattle.vg_types_inherited.proofs.Kept.{types_kept}
 
 -- ---- the tables alone
+
+-- tables that keep all but what overrides what, and that too
+pub well_formed : (p : Tables) → IsFormed p → AllOverride p → WellFormed p
+well_formed p h o = record {
+  itself = h.itself;
+  trans = h.trans;
+  one_top = h.one_top;
+  slots = h.slots;
+  global_slots = h.global_slots;
+  overrides = o;
+  functions = h.functions;
+  one_number = h.one_number;
+  char_type = h.char_type;
+}
 
 -- a method that is found has its selector
 record Selected (p : Tables) (s m : ℕ) : Type 0 where

@@ -4,4 +4,4 @@ mod Made
 mod Rules
 mod Inheriting
 mod Kept
-mod Dispatching
+pub mod Dispatching

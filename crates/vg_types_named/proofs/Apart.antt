@@ -11,7 +11,7 @@ use Rattle.vg_rules.specs.Written.{type_keeps, param_types_keep}
 use Rattle.vg_rules.specs.Signatures.{Home, OfComponent, home_of, constructor_keeps, params_differ, members_breach, registers_breach, signatures_breach}
 use Rattle.vg_types_names.specs.Declarations.{are_declarations}
 use Rattle.vg_types_declared.specs.Lists.{class_list, component_list}
-use Rattle.vg_types_named.specs.Members.{are_members, have_members}
+use Rattle.vg_types_declared.specs.Apart.{are_members, have_members}
 
 none_or : (a b : Option Breach) → a or b ≡ None → (a ≡ None) × (b ≡ None)
 none_or None b e = (refl, e)

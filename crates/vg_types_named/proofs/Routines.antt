@@ -18,7 +18,7 @@ use Rattle.vg_types_declared.proofs.Slotting.{Of, first, second, of_two}
 use Rattle.vg_types_named.specs.Left.{Left}
 use Rattle.vg_types_named.specs.Targets.{count_methods, method_targets, targets_from}
 use Rattle.vg_types_named.specs.Routines.{Runs, MethodsRun, AllRun, IsAdded}
-use Rattle.vg_types_named.specs.Members.{have_members}
+use Rattle.vg_types_declared.specs.Apart.{have_members}
 use Rattle.vg_types_named.proofs.Signed.{targets}
 use Rattle.vg_types_named.proofs.Telling.{one_some}
 use Rattle.vg_types_named.proofs.Telling.{targets as signed_stands}

@@ -36,7 +36,7 @@ use Rattle.vg_types_declared.proofs.Forming.{Viewed, viewed, view_at, there}
 use Rattle.vg_types_declared.proofs.Naming.{text_same, listed, component_found}
 use Rattle.vg_types_declared.proofs.Owning.{method_is}
 use Rattle.vg_types_named.specs.Left.{Left}
-use Rattle.vg_types_named.specs.Members.{have_members}
+use Rattle.vg_types_declared.specs.Apart.{have_members}
 use Rattle.vg_types_named.proofs.Apart.{both, homes_apart, all_differ}
 use Rattle.vg_types_named.proofs.Keys.{field_key, method_key, InRange, AllOnes, ones}
 use Rattle.vg_types_named.proofs.Tables.{fields, class_there}

@@ -1,4 +1,3 @@
 pub mod Left
 pub mod Targets
 pub mod Routines
-pub mod Members

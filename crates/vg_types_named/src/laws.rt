@@ -11,7 +11,7 @@ ghost use Rattle.vg_core.specs.declared.program.Target.{Target};
 ghost use Rattle.vg_renamed.specs.NamesTell.{Inherited, NamesTell};
 ghost use Rattle.vg_renamed.specs.IsNamed.{KeysTell};
 ghost use Rattle.vg_rules.specs.Signatures.{signatures_breach};
-ghost use Rattle.vg_types_named.specs.Members.{have_members};
+ghost use Rattle.vg_types_declared.specs.Apart.{have_members};
 ghost use Rattle.vg_types_tables.specs.Declares.{IsClass};
 ghost use Rattle.vg_core.specs.Naming.{Naming, keyed, named, named_classes, named_components, routines_at};
 ghost use Rattle.vg_core.specs.Meaning.{defaults};
