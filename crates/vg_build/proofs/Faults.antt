@@ -1,163 +1,139 @@
 -- What an answer says of the bytes: which texts are refused, and which are built.
-use Rattle.std.proofs.Common.{◌≡◌, ℕ, ◌⊎◌, ◌↔◌, List, [], Option, Some, None, Result, Ok, Err, refl, sym, ap, ◌∙◌, subst, inl, inr}
+use Rattle.std.proofs.Common.{◌≡◌, ℕ, suc, ◌≤◌, ◌⊎◌, ◌↔◌, List, Option, Some, None, Ok, Err, refl, sym, ap, ◌∙◌, subst, inl, inr, arith}
 use Rattle.std.specs.Prelude.{IsOk}
-use Rattle.std.specs.Option.{option_map}
 use Rattle.vg_base.specs.declared.place.Place.{Place}
 use Rattle.vg_base.specs.declared.refusal.Refusal.{Refusal}
 use Rattle.vg_base.specs.declared.refusal.Refusal.TheVariants as refusal
-use Rattle.vg_syntax.specs.Faults.{IsText, NoTreeIn, TooDeepIn}
-use Rattle.vg_syntax.specs.Reads.{Reads}
-use Rattle.vg_syntax.specs.Tree.{Node}
-use Rattle.vg_rules.specs.declared.what.What.{What}
-use Rattle.vg_rules.specs.Refusal as refused
-use Rattle.vg_rules.specs.Refusal.{Refused, refusal_of}
+use Rattle.vg_syntax.specs.Faults.{IsText}
 use Rattle.vg_first_text.specs.declared.device_write.DeviceWrite.{DeviceWrite}
 use Rattle.vg_first_text.specs.FirstText.{IsFirst}
-use Rattle.vg_texts.proofs.Values.{some_tree, one_tree}
-use Rattle.vg_texts.proofs.Once.{no_fault, not_deep, one_cause, one_end, one_bracket}
-use Rattle.vg_first_laws.proofs.Texts.{first_is_text, first_has_no_fault, first_is_not_deep}
-use Rattle.vg_first_laws.proofs.Means.{text_is_legal}
-use Rattle.vg_build.specs.declared.fault.Fault.{Fault}
-use Rattle.vg_build.specs.declared.fault.Fault.TheVariants.{NoTree, TooDeep, TooMany, Broken, NotBuilt}
-use Rattle.vg_build.specs.Judged.{fault_of, tree_fault, RefusedIn, KeptIn, JudgedBy}
-use Rattle.vg_build.specs.Mirrors.{ReadBy}
-use Rattle.vg_build.specs.Answer.{Answer, Answers, HasFault, IsNotBuilt, IsSettled, fault_in, first_place}
+use Rattle.vg_texts.proofs.Values.{some_tree}
+use Rattle.vg_first_laws.specs.Trees.{empty_heap}
+use Rattle.vg_first_laws.proofs.Texts.{first_is_text}
+use Rattle.vg_first_laws.proofs.Means.{text_is_legal, text_starts}
+use Rattle.vg_front.specs.declared.fault.Fault.{Fault}
+use Rattle.vg_front.specs.declared.fault.Fault.TheVariants.{NoTree, TooDeep, TooMany, Broken, InitTrap, InitSteps, InitDepth, InitTouches, InitTooBig, NotBuilt}
+use Rattle.vg_front.specs.Answer as front
+use Rattle.vg_front.specs.Answer.{IsOfInit, Starts}
+use Rattle.vg_front.specs.Starting.{FailsIn, StartsIn}
+use Rattle.vg_front.proofs.Once as once
+use Rattle.vg_build.specs.Image.{IsBuiltOf}
+use Rattle.vg_build.specs.declared.building.Built.{Built}
+use Rattle.vg_build.specs.Answer.{Answer, Answers, HasFault, IsCause, IsNotBuilt, IsSettled, fault_in, first_place}
 
-place_of_no_tree : (p q : Place) → Some (NoTree p) ≡ Some (NoTree q) → p ≡ q
-place_of_no_tree p q e = cc
+same_fault : (a b : Fault) → Some a ≡ Some b → a ≡ b
+same_fault a b e = cc
 
-place_of_too_deep : (p q : Place) → Some (TooDeep p) ≡ Some (TooDeep q) → p ≡ q
-place_of_too_deep p q e = cc
+same_place : (p q : Place) → NotBuilt p ≡ NotBuilt q → p ≡ q
+same_place p q e = cc
 
-place_of_not_built : (p q : Place) → Some (NotBuilt p) ≡ Some (NotBuilt q) → p ≡ q
-place_of_not_built p q e = cc
+-- ---- the faults of a text, and the one that a form is not built
 
-some_same : (a b : Fault) → Some a ≡ Some b → a ≡ b
-some_same a b e = cc
+abbrev Sorted : Fault → List ℕ → ℕ → Type 0
+Sorted why bytes clock = ((why ≡ NotBuilt first_place) × IsNotBuilt bytes clock) ⊎ front.HasFault why bytes clock
 
--- ---- what is asked of a tree
+sorted : (why : Fault) (bytes : List ℕ) (clock : ℕ) → HasFault why bytes clock → Sorted why bytes clock
+sorted (NoTree p) bytes clock h = inr h
+sorted (TooDeep p) bytes clock h = inr h
+sorted (TooMany what limit p) bytes clock h = inr h
+sorted (Broken rule p) bytes clock h = inr h
+sorted (InitTrap code p) bytes clock h = inr h
+sorted InitSteps bytes clock h = inr h
+sorted InitDepth bytes clock h = inr h
+sorted (InitTouches address) bytes clock h = inr h
+sorted InitTooBig bytes clock h = inr h
+sorted (NotBuilt p) bytes clock h = inl (ap NotBuilt h.1, h.0)
 
--- a text is not refused and kept
-kept_or_refused : (bytes : List ℕ) (why : Fault) → KeptIn bytes → RefusedIn bytes why → ⊥
-kept_or_refused bytes why (text, tree, reads, kept) (text', tree', reads', refused) =
-    let clash : None ≡ Some why = sym kept ∙ ap tree_fault (one_tree bytes tree tree' reads reads') ∙ refused in cc
+-- a fault of the text is one of the command
+has_fault : (why : Fault) (bytes : List ℕ) (clock : ℕ) → front.HasFault why bytes clock → HasFault why bytes clock
+has_fault (NoTree p) bytes clock h = h
+has_fault (TooDeep p) bytes clock h = h
+has_fault (TooMany what limit p) bytes clock h = h
+has_fault (Broken rule p) bytes clock h = h
+has_fault (InitTrap code p) bytes clock h = h
+has_fault InitSteps bytes clock h = h
+has_fault InitDepth bytes clock h = h
+has_fault (InitTouches address) bytes clock h = h
+has_fault InitTooBig bytes clock h = h
+has_fault (NotBuilt p) bytes clock h = absurd h
 
--- a legal tree is refused for nothing
-legal_is_kept : (tree : Node) → refusal_of tree ≡ None → tree_fault tree ≡ None
-legal_is_kept tree legal = ap (option_map (fault_of tree)) legal
+one_sorted : (a b : Fault) (bytes : List ℕ) (clock : ℕ) → Sorted a bytes clock → Sorted b bytes clock → a ≡ b
+one_sorted a b bytes clock (inl h) (inl k) = h.0 ∙ sym k.0
+one_sorted a b bytes clock (inl h) (inr k) = absurd (once.no_start_fault bytes clock b h.1.0 k)
+one_sorted a b bytes clock (inr h) (inl k) = absurd (once.no_start_fault bytes clock a k.1.0 h)
+one_sorted a b bytes clock (inr h) (inr k) = once.one_fault bytes clock a b h k
 
-first_is_kept : (bytes : List ℕ) (writes : List DeviceWrite) → IsFirst bytes writes → KeptIn bytes
-first_is_kept bytes writes first =
+-- the bytes have at most one fault
+one_fault : (a b : Fault) (bytes : List ℕ) (clock : ℕ) → HasFault a bytes clock → HasFault b bytes clock → a ≡ b
+one_fault a b bytes clock h k = one_sorted a b bytes clock (sorted a bytes clock h) (sorted b bytes clock k)
+
+-- ---- programs of constants
+
+-- a program of constants starts, with each clock from 1 on
+first_starts : (bytes : List ℕ) (clock : ℕ) (writes : List DeviceWrite) → 1 ≤ clock → IsFirst bytes writes → StartsIn bytes clock
+first_starts bytes 0 writes some first = absurd (omega (arith, some))
+first_starts bytes (suc clock) writes some first =
     let text : IsText bytes = first_is_text bytes writes first in
     let (tree, reads) = some_tree bytes text in
-    (text, tree, reads, legal_is_kept tree (text_is_legal bytes writes tree first reads))
+    (tree, record { text = text; reads = reads; legal = text_is_legal bytes writes tree first reads }, empty_heap, text_starts bytes writes tree first reads clock)
 
--- two answers for one text are one
-one_refusal : (bytes : List ℕ) (a b : Fault) → RefusedIn bytes a → RefusedIn bytes b → Some a ≡ Some b
-one_refusal bytes a b (text, tree, reads, e) (text', tree', reads', e') = sym e ∙ ap tree_fault (one_tree bytes tree tree' reads reads') ∙ e'
+starts_and_first : (why : Fault) (bytes : List ℕ) (clock : ℕ) (writes : List DeviceWrite) → StartsIn bytes clock → IsFirst bytes writes
+    → Sorted why bytes clock → ⊥
+starts_and_first why bytes clock writes starts first (inl h) = h.1.1 writes first
+starts_and_first why bytes clock writes starts first (inr h) = once.no_start_fault bytes clock why starts h
 
--- the answers that come of what is asked of a tree
-abbrev IsAsked : Fault → Type 0
-IsAsked (TooMany what limit place) = Unit {0}
-IsAsked (Broken rule place) = Unit {0}
-IsAsked _ = ⊥
+-- what was built starts
+built_starts : (bytes : List ℕ) (clock : ℕ) (built : Built) → IsBuiltOf bytes clock built → StartsIn bytes clock
+built_starts bytes clock built is = (is.image.tree, is.image.legal, is.image.heap, is.image.starts)
 
--- exactly the texts whose tree is refused so are refused so
-pub refused_of : (bytes : List ℕ) (r : Answer) → Answers bytes r → IsSettled r → (why : Fault) → IsAsked why → (fault_in r ≡ Some why) ↔ RefusedIn bytes why
-refused_of bytes (Ok built) h settled why asked =
-    (λ e. cc, λ k. absurd (kept_or_refused bytes why (first_is_kept bytes h.image.writes h.image.first) k))
-refused_of bytes (Err (refusal.Fault (NoTree p))) h settled why asked =
-    (λ e. absurd (subst IsAsked (sym (some_same (NoTree p) why e)) asked), λ k. absurd (no_fault bytes p k.0 h))
-refused_of bytes (Err (refusal.Fault (TooDeep p))) h settled why asked =
-    (λ e. absurd (subst IsAsked (sym (some_same (TooDeep p) why e)) asked), λ k. absurd (not_deep bytes p k.0 h))
-refused_of bytes (Err (refusal.Fault (TooMany what limit p))) h settled why asked =
-    (λ e. subst (RefusedIn bytes) (some_same (TooMany what limit p) why e) h, λ k. one_refusal bytes _ why h k)
-refused_of bytes (Err (refusal.Fault (Broken rule p))) h settled why asked =
-    (λ e. subst (RefusedIn bytes) (some_same (Broken rule p) why e) h, λ k. one_refusal bytes _ why h k)
-refused_of bytes (Err (refusal.Fault (NotBuilt p))) h settled why asked =
-    (λ e. absurd (subst IsAsked (sym (some_same (NotBuilt p) why e)) asked), λ k. absurd (kept_or_refused bytes why h.0.0 k))
-refused_of bytes (Err refusal.NoMemory) h settled why asked = absurd settled
+-- ---- exactly which texts are refused, and for what
 
-pub too_many_of : (bytes : List ℕ) (r : Answer) → Answers bytes r → IsSettled r → (what : What) (limit : ℕ) (place : Place)
-    → (fault_in r ≡ Some (TooMany what limit place)) ↔ RefusedIn bytes (TooMany what limit place)
-too_many_of bytes r h settled what limit place = refused_of bytes r h settled (TooMany what limit place) tt
+none_some : (a : Fault) → None ≡ Some a → ⊥
+none_some a e = cc
 
-pub broken_of : (bytes : List ℕ) (r : Answer) → Answers bytes r → IsSettled r → (rule : ℕ) (place : Place)
-    → (fault_in r ≡ Some (Broken rule place)) ↔ RefusedIn bytes (Broken rule place)
-broken_of bytes r h settled rule place = refused_of bytes r h settled (Broken rule place) tt
+pub exactly : (bytes : List ℕ) (clock : ℕ) (r : Answer) → Answers bytes clock r → IsSettled r → (why : Fault)
+    → (fault_in r ≡ Some why) ↔ HasFault why bytes clock
+exactly bytes clock (Ok built) h settled why =
+    (λ e. absurd (none_some why e),
+    λ k. absurd (starts_and_first why bytes clock h.image.writes (built_starts bytes clock built h) h.image.first (sorted why bytes clock k)))
+exactly bytes clock (Err (refusal.Fault w)) h settled why =
+    (λ e. subst (λ x. HasFault x bytes clock) (same_fault w why e) h, λ k. ap Some (one_fault w why bytes clock h k))
+exactly bytes clock (Err refusal.NoMemory) h settled why = absurd settled
 
--- what is answered for a tree is too many of something or a rule
-asked_of : (tree : Node) (o : Option Refused) (why : Fault) → option_map (fault_of tree) o ≡ Some why → IsAsked why
-asked_of tree None why e = let clash : None ≡ Some why = e in cc
-asked_of tree (Some (refused.TooMany what limit node)) why e = subst IsAsked (some_same _ why e) tt
-asked_of tree (Some (refused.Broken rule node)) why e = subst IsAsked (some_same _ why e) tt
-
-has_fault : (bytes : List ℕ) (why : Fault) → IsAsked why → RefusedIn bytes why → HasFault why bytes
-has_fault bytes (NoTree p) asked h = absurd asked
-has_fault bytes (TooDeep p) asked h = absurd asked
-has_fault bytes (TooMany what limit p) asked h = h
-has_fault bytes (Broken rule p) asked h = h
-has_fault bytes (NotBuilt p) asked h = absurd asked
-
--- what is answered for the tree of a text is answered for the text
-pub read_by : (bytes : List ℕ) (tree : Node) → IsText bytes → Reads bytes tree → (r : Result (Unit {0}) (Refusal Fault)) → JudgedBy tree r → ReadBy bytes r
-read_by bytes tree text reads (Ok u) k = record { text = text; tree = tree; reads = reads; kept = k }
-read_by bytes tree text reads (Err (refusal.Fault why)) k =
-    has_fault bytes why (asked_of tree (refusal_of tree) why k) (text, tree, reads, k)
-read_by bytes tree text reads (Err refusal.NoMemory) k = tt
-
--- exactly the texts that cease to be one at this place are refused there
-pub no_tree_of : (bytes : List ℕ) (r : Answer) → Answers bytes r → IsSettled r → (place : Place) → (fault_in r ≡ Some (NoTree place)) ↔ NoTreeIn bytes place
-no_tree_of bytes (Ok built) h settled place = (λ e. cc, λ k. absurd (first_has_no_fault bytes h.image.writes h.image.first place k))
-no_tree_of bytes (Err (refusal.Fault (NoTree p))) h settled place =
-    (λ e. subst (λ q. NoTreeIn bytes q) (place_of_no_tree p place e) h, λ k. ap (λ q. Some (NoTree q)) (one_end bytes p place h k))
-no_tree_of bytes (Err (refusal.Fault (TooDeep p))) h settled place = (λ e. cc, λ k. absurd (one_cause bytes place p k h))
-no_tree_of bytes (Err (refusal.Fault (NotBuilt p))) h settled place = (λ e. cc, λ k. absurd (no_fault bytes place h.0.0.0 k))
-no_tree_of bytes (Err (refusal.Fault (TooMany what limit p))) h settled place = (λ e. cc, λ k. absurd (no_fault bytes place h.0 k))
-no_tree_of bytes (Err (refusal.Fault (Broken rule p))) h settled place = (λ e. cc, λ k. absurd (no_fault bytes place h.0 k))
-no_tree_of bytes (Err refusal.NoMemory) h settled place = absurd settled
-
--- exactly the texts whose first 65th open bracket stands at this place are refused there
-pub too_deep_of : (bytes : List ℕ) (r : Answer) → Answers bytes r → IsSettled r → (place : Place) → (fault_in r ≡ Some (TooDeep place)) ↔ TooDeepIn bytes place
-too_deep_of bytes (Ok built) h settled place = (λ e. cc, λ k. absurd (first_is_not_deep bytes h.image.writes h.image.first place k))
-too_deep_of bytes (Err (refusal.Fault (NoTree p))) h settled place = (λ e. cc, λ k. absurd (one_cause bytes p place h k))
-too_deep_of bytes (Err (refusal.Fault (TooDeep p))) h settled place =
-    (λ e. subst (λ q. TooDeepIn bytes q) (place_of_too_deep p place e) h, λ k. ap (λ q. Some (TooDeep q)) (one_bracket bytes p place h k))
-too_deep_of bytes (Err (refusal.Fault (NotBuilt p))) h settled place = (λ e. cc, λ k. absurd (not_deep bytes place h.0.0.0 k))
-too_deep_of bytes (Err (refusal.Fault (TooMany what limit p))) h settled place = (λ e. cc, λ k. absurd (not_deep bytes place h.0 k))
-too_deep_of bytes (Err (refusal.Fault (Broken rule p))) h settled place = (λ e. cc, λ k. absurd (not_deep bytes place h.0 k))
-too_deep_of bytes (Err refusal.NoMemory) h settled place = absurd settled
+pub init_of : (bytes : List ℕ) (clock : ℕ) (r : Answer) → Answers bytes clock r → IsSettled r → (why : Fault) → IsOfInit why
+    → (fault_in r ≡ Some why) ↔ FailsIn bytes clock why
+init_of bytes clock r h settled (NoTree p) of_init = absurd of_init
+init_of bytes clock r h settled (TooDeep p) of_init = absurd of_init
+init_of bytes clock r h settled (TooMany what limit p) of_init = absurd of_init
+init_of bytes clock r h settled (Broken rule p) of_init = absurd of_init
+init_of bytes clock r h settled (InitTrap code p) of_init = exactly bytes clock r h settled (InitTrap code p)
+init_of bytes clock r h settled InitSteps of_init = exactly bytes clock r h settled InitSteps
+init_of bytes clock r h settled InitDepth of_init = exactly bytes clock r h settled InitDepth
+init_of bytes clock r h settled (InitTouches address) of_init = exactly bytes clock r h settled (InitTouches address)
+init_of bytes clock r h settled InitTooBig of_init = exactly bytes clock r h settled InitTooBig
+init_of bytes clock r h settled (NotBuilt p) of_init = absurd of_init
 
 -- exactly the texts of a form that is not built are refused so
-pub not_built_of : (bytes : List ℕ) (r : Answer) → Answers bytes r → IsSettled r → (fault_in r ≡ Some (NotBuilt first_place)) ↔ IsNotBuilt bytes
-not_built_of bytes (Ok built) h settled = (λ e. cc, λ k. absurd (k.1 h.image.writes h.image.first))
-not_built_of bytes (Err (refusal.Fault (NoTree p))) h settled = (λ e. cc, λ k. absurd (no_fault bytes p k.0.0 h))
-not_built_of bytes (Err (refusal.Fault (TooDeep p))) h settled = (λ e. cc, λ k. absurd (not_deep bytes p k.0.0 h))
-not_built_of bytes (Err (refusal.Fault (NotBuilt p))) h settled = (λ e. h.0, λ k. ap (λ q. Some (NotBuilt q)) h.1)
-not_built_of bytes (Err (refusal.Fault (TooMany what limit p))) h settled = (λ e. cc, λ k. absurd (kept_or_refused bytes _ k.0 h))
-not_built_of bytes (Err (refusal.Fault (Broken rule p))) h settled = (λ e. cc, λ k. absurd (kept_or_refused bytes _ k.0 h))
-not_built_of bytes (Err refusal.NoMemory) h settled = absurd settled
+pub not_built_of : (bytes : List ℕ) (clock : ℕ) (r : Answer) → Answers bytes clock r → IsSettled r
+    → (fault_in r ≡ Some (NotBuilt first_place)) ↔ IsNotBuilt bytes clock
+not_built_of bytes clock r h settled =
+    let same = exactly bytes clock r h settled (NotBuilt first_place) in (λ e. (same.0 e).0, λ k. same.1 (k, refl))
 
 -- and that at the first place
-pub first_of : (bytes : List ℕ) (r : Answer) → Answers bytes r → (place : Place) → fault_in r ≡ Some (NotBuilt place) → place ≡ first_place
-first_of bytes (Ok built) h place e = cc
-first_of bytes (Err (refusal.Fault (NoTree p))) h place e = cc
-first_of bytes (Err (refusal.Fault (TooDeep p))) h place e = cc
-first_of bytes (Err (refusal.Fault (NotBuilt p))) h place e = subst (λ q. q ≡ first_place) (place_of_not_built p place e) h.1
-first_of bytes (Err (refusal.Fault (TooMany what limit p))) h place e = cc
-first_of bytes (Err (refusal.Fault (Broken rule p))) h place e = cc
-first_of bytes (Err refusal.NoMemory) h place e = cc
+pub first_of : (bytes : List ℕ) (clock : ℕ) (r : Answer) → Answers bytes clock r → (place : Place) → fault_in r ≡ Some (NotBuilt place) → place ≡ first_place
+first_of bytes clock (Ok built) h place e = absurd (none_some (NotBuilt place) e)
+first_of bytes clock (Err (refusal.Fault w)) h place e = (subst (λ x. HasFault x bytes clock) (same_fault w (NotBuilt place) e) h).1
+first_of bytes clock (Err refusal.NoMemory) h place e = absurd (none_some (NotBuilt place) e)
 
--- a program of constants has no fault
-first_not_refused : (why : Fault) (bytes : List ℕ) (writes : List DeviceWrite) → HasFault why bytes → IsFirst bytes writes → ⊥
-first_not_refused (NoTree p) bytes writes h first = first_has_no_fault bytes writes first p h
-first_not_refused (TooDeep p) bytes writes h first = first_is_not_deep bytes writes first p h
-first_not_refused (TooMany what limit p) bytes writes h first = kept_or_refused bytes _ (first_is_kept bytes writes first) h
-first_not_refused (Broken rule p) bytes writes h first = kept_or_refused bytes _ (first_is_kept bytes writes first) h
-first_not_refused (NotBuilt p) bytes writes h first = h.0.1 writes first
+-- a program of constants is built, or memory is wanting
+pub complete_of : (bytes : List ℕ) (clock : ℕ) (r : Answer) → Answers bytes clock r → 1 ≤ clock → (writes : List DeviceWrite) → IsFirst bytes writes
+    → IsOk r ⊎ (r ≡ Err refusal.NoMemory)
+complete_of bytes clock (Ok built) h some writes first = inl refl
+complete_of bytes clock (Err (refusal.Fault why)) h some writes first =
+    absurd (starts_and_first why bytes clock writes (first_starts bytes clock writes some first) first (sorted why bytes clock h))
+complete_of bytes clock (Err refusal.NoMemory) h some writes first = inr refl
 
--- so it is built, or memory is wanting
-pub complete_of : (bytes : List ℕ) (r : Answer) → Answers bytes r → (writes : List DeviceWrite) → IsFirst bytes writes → IsOk r ⊎ (r ≡ Err refusal.NoMemory)
-complete_of bytes (Ok built) h writes first = inl refl
-complete_of bytes (Err (refusal.Fault why)) h writes first = absurd (first_not_refused why bytes writes h first)
-complete_of bytes (Err refusal.NoMemory) h writes first = inr refl
+-- what is answered to a text is answered by the command
+pub started_by : (bytes : List ℕ) (clock : ℕ) (why : Refusal Fault) → Starts bytes clock (Err why) → IsCause why bytes clock
+started_by bytes clock (refusal.Fault why) h = has_fault why bytes clock h
+started_by bytes clock refusal.NoMemory h = tt

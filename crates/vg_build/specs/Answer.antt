@@ -3,13 +3,13 @@ use Rattle.std.specs.Prelude.{ℕ, ◌≡◌, List, Option, Some, None, Result, 
 use Rattle.vg_base.specs.declared.place.Place.{Place}
 use Rattle.vg_base.specs.declared.refusal.Refusal.{Refusal}
 use Rattle.vg_base.specs.declared.refusal.Refusal.TheVariants as refusal
-use Rattle.vg_syntax.specs.Faults.{NoTreeIn, TooDeepIn}
 use Rattle.vg_first_text.specs.declared.device_write.DeviceWrite.{DeviceWrite}
 use Rattle.vg_first_text.specs.FirstText.{IsFirst}
+use Rattle.vg_front.specs.declared.fault.Fault.{Fault}
+use Rattle.vg_front.specs.declared.fault.Fault.TheVariants.{NotBuilt}
+use Rattle.vg_front.specs.Answer as front
+use Rattle.vg_front.specs.Starting.{StartsIn}
 use Rattle.vg_build.specs.declared.building.Built.{Built}
-use Rattle.vg_build.specs.declared.fault.Fault.{Fault}
-use Rattle.vg_build.specs.declared.fault.Fault.TheVariants.{NoTree, TooDeep, TooMany, Broken, NotBuilt}
-use Rattle.vg_build.specs.Judged.{RefusedIn, KeptIn}
 use Rattle.vg_build.specs.Image.{IsBuiltOf}
 
 -- an image with its texts, or why there is none
@@ -32,28 +32,25 @@ fault_in (Err refusal.NoMemory) = None
 abbrev pub IsNoFirst : List ℕ → Type 0
 IsNoFirst bytes = (writes : List DeviceWrite) → IsFirst bytes writes → ⊥
 
--- the bytes are a text of the language that is refused for nothing, of a form that is not built yet
-abbrev pub IsNotBuilt : List ℕ → Type 0
-IsNotBuilt bytes = KeptIn bytes × IsNoFirst bytes
+-- the bytes are a legal text that starts with this clock, of a form that is not built yet
+abbrev pub IsNotBuilt : List ℕ → (clock : ℕ) → Type 0
+IsNotBuilt bytes clock = StartsIn bytes clock × IsNoFirst bytes
 
 -- the first place of a text
 abbrev pub first_place : Place
 first_place = record { line = 1; col = 1 }
 
--- the bytes have this fault; a form that is not built stands at the first place
-abbrev pub HasFault : Fault → List ℕ → Type 0
-HasFault (NoTree place) bytes = NoTreeIn bytes place
-HasFault (TooDeep place) bytes = TooDeepIn bytes place
-HasFault (TooMany what limit place) bytes = RefusedIn bytes (TooMany what limit place)
-HasFault (Broken rule place) bytes = RefusedIn bytes (Broken rule place)
-HasFault (NotBuilt place) bytes = IsNotBuilt bytes × (place ≡ first_place)
+-- the bytes have this fault, where initialisation has this clock; a form that is not built stands at the first place
+abbrev pub HasFault : Fault → List ℕ → (clock : ℕ) → Type 0
+HasFault (NotBuilt place) bytes clock = IsNotBuilt bytes clock × (place ≡ first_place)
+HasFault why bytes clock = front.HasFault why bytes clock
 
 -- why nothing was built of the bytes: they have a fault, or memory was wanting
-abbrev pub IsCause : Refusal Fault → List ℕ → Type 0
-IsCause (refusal.Fault why) bytes = HasFault why bytes
-IsCause refusal.NoMemory bytes = Unit {0}
+abbrev pub IsCause : Refusal Fault → List ℕ → (clock : ℕ) → Type 0
+IsCause (refusal.Fault why) bytes clock = HasFault why bytes clock
+IsCause refusal.NoMemory bytes clock = Unit {0}
 
 -- what an answer says of the bytes
-abbrev pub Answers : List ℕ → Answer → Type 0
-Answers bytes (Ok built) = IsBuiltOf bytes built
-Answers bytes (Err why) = IsCause why bytes
+abbrev pub Answers : List ℕ → (clock : ℕ) → Answer → Type 0
+Answers bytes clock (Ok built) = IsBuiltOf bytes clock built
+Answers bytes clock (Err why) = IsCause why bytes clock

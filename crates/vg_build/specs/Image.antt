@@ -1,14 +1,13 @@
 -- What it means that an image does what the bytes of a source text say.
-use Rattle.std.specs.Prelude.{ℕ, suc, ◌≡◌, ◌+◌, ◌≤◌, List, Option, None}
+use Rattle.std.specs.Prelude.{ℕ, ◌≡◌, ◌+◌, ◌≤◌, List, Option, None}
 use Rattle.vg_syntax.specs.Tree.{Node}
-use Rattle.vg_syntax.specs.Reads.{Reads}
 use Rattle.vg_source.specs.Values.{Heap}
 use Rattle.vg_source.specs.Program.{source_of}
 use Rattle.vg_source.specs.Session.{Started, started}
 use Rattle.vg_source.specs.Peak.{sessions}
-use Rattle.vg_rules.specs.Refusal.{refusal_of}
 use Rattle.vg_first_text.specs.declared.device_write.DeviceWrite.{DeviceWrite}
 use Rattle.vg_first_text.specs.FirstText.{IsFirst}
+use Rattle.vg_front.specs.Judged.{IsLegal}
 use Rattle.avr_isa.specs.Agrees.{Agrees, NeverReaches}
 use Rattle.vg_hex.specs.HexText.{hex_text}
 use Rattle.vg_hex.specs.HexImage.{HexImage}
@@ -20,14 +19,13 @@ use Rattle.vg_build.specs.Layout.{layout_text, stated}
 abbrev pub static_of : List DeviceWrite → ℕ
 static_of writes = 0
 
--- The image does what the bytes say, where this stack is asked for, or none.
-pub record IsImageOf (bytes : List ℕ) (asked : Option ℕ) (image : List ℕ) (layout : Layout) : Type 0 where
+-- The image does what the bytes say, where initialisation has this clock and this stack is asked for, or none.
+pub record IsImageOf (bytes : List ℕ) (clock : ℕ) (asked : Option ℕ) (image : List ℕ) (layout : Layout) : Type 0 where
   -- the bytes are a text of the language with this tree, which keeps all rules and is initialised to this heap; and a program of constants with these writes
   pub tree : Node
-  pub reads : Reads bytes tree
-  pub legal : refusal_of tree ≡ None
+  pub legal : IsLegal bytes tree
   pub heap : Heap
-  pub starts : (clock : ℕ) → started (source_of tree) (suc clock) ≡ Started heap
+  pub starts : started (source_of tree) clock ≡ Started heap
   pub writes : List DeviceWrite
   pub first : IsFirst bytes writes
   -- the static area is the program's, the stack is the stated one, both fit into SRAM, and the stack ends where SRAM does
@@ -43,7 +41,7 @@ pub record IsImageOf (bytes : List ℕ) (asked : Option ℕ) (image : List ℕ) 
   pub only : (other : List ℕ) → HexImage (hex_text image) other → other ≡ image
 
 -- what is built of the bytes: an image that does what they say, its HEX text, and the text of its layout
-pub record IsBuiltOf (bytes : List ℕ) (built : Built) : Type 0 where
-  pub image : IsImageOf bytes None built.image built.layout
+pub record IsBuiltOf (bytes : List ℕ) (clock : ℕ) (built : Built) : Type 0 where
+  pub image : IsImageOf bytes clock None built.image built.layout
   pub hex : built.hex ≡ hex_text built.image
   pub note : built.note ≡ layout_text built.layout

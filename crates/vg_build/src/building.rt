@@ -6,23 +6,23 @@ ghost use Rattle.vg_syntax.specs.Faults.{NoTreeIn, TooDeepIn};
 ghost use Rattle.vg_first_text.specs.declared.device_write.DeviceWrite.{DeviceWrite as Write};
 ghost use Rattle.vg_first_text.specs.FirstSession.{AreDevices};
 ghost use Rattle.vg_first_text.specs.FirstText.{IsFirst};
+ghost use Rattle.vg_front.specs.Answer.{IsOfInit};
+ghost use Rattle.vg_front.specs.Judged.{RefusedIn};
+ghost use Rattle.vg_front.specs.Starting.{FailsIn};
+ghost use Rattle.vg_front.specs.declared.fault.Fault as fault;
 ghost use Rattle.vg_build.specs.Answer.{Answers, IsCause, IsNotBuilt, IsSettled, fault_in, first_place};
 ghost use Rattle.vg_build.specs.Image.{IsBuiltOf};
-ghost use Rattle.vg_build.specs.Judged.{RefusedIn};
 ghost use Rattle.vg_rules.specs.declared.what.What.{What};
-ghost use Rattle.vg_build.specs.Mirrors.{IsMadeOf, ReadBy};
-ghost use Rattle.vg_build.specs.declared.fault.Fault as fault;
+ghost use Rattle.vg_build.specs.Mirrors.{IsMadeOf, StartedBy};
 
-use crate::fault::Fault;
-use crate::judging::judged;
 use crate::layout::{Layout, layout_text};
 use avr_isa::Image;
 use std::alloc::Global;
-use vg_base::{Names, NoMemory, Place, Refusal, Row};
+use vg_base::{NoMemory, Place, Refusal, Row};
 use vg_first_image::image_of;
 use vg_first_text::{DeviceWrite, read_first};
+use vg_front::{Fault, started};
 use vg_hex::write;
-use vg_reader::{ReadFault, read};
 
 /// What is built of a source text.
 #[derive(Drop)]
@@ -36,16 +36,17 @@ pub struct Built {
     pub note: Row<u8>,
 }
 
-/// Builds the image of a source text of at most 262,144 bytes, whose stack has all of SRAM above the static area.
+/// Builds the image of a source text of at most 262,144 bytes, whose stack has all of SRAM above the static area. Its initialisation may take so many
+/// ticks.
 ///
 /// Today a text of the language is built where it is a program of constants: one component whose one method writes at most 100 bytes to device
-/// registers. Every other one is refused as not built, at its first place.
-pub fn build(alloc: Global, text: &[u8]) -> Result<Built, Refusal<Fault>>
+/// registers. Every other one that starts is refused as not built, at its first place.
+pub fn build(alloc: Global, text: &[u8], init_steps: u32) -> Result<Built, Refusal<Fault>>
     requires { length text.now ≤ text_limit }
 
     // The image, its HEX text and its layout, or why there are none.
-    ensures headline { IfOk result (λ built. IsBuiltOf text.now built) }
-    ensures refused { IfErr result (λ why. IsCause why text.now) }
+    ensures headline { IfOk result (λ built. IsBuiltOf text.now init_steps built) }
+    ensures refused { IfErr result (λ why. IsCause why text.now init_steps) }
 
     // Exactly which texts are refused, and which are built.
     ensures no_tree { IsSettled result → (place : Place) → (fault_in result ≡ Some (fault.Fault.NoTree place)) ↔ NoTreeIn text.now place }
@@ -54,19 +55,20 @@ pub fn build(alloc: Global, text: &[u8]) -> Result<Built, Refusal<Fault>>
         → (fault_in result ≡ Some (fault.Fault.TooMany what limit place)) ↔ RefusedIn text.now (fault.Fault.TooMany what limit place) }
     ensures broken { IsSettled result → (rule : ℕ) (place : Place)
         → (fault_in result ≡ Some (fault.Fault.Broken rule place)) ↔ RefusedIn text.now (fault.Fault.Broken rule place) }
-    ensures not_built { IsSettled result → (fault_in result ≡ Some (fault.Fault.NotBuilt first_place)) ↔ IsNotBuilt text.now }
+    ensures init { IsSettled result → (why : fault.Fault.Fault) → IsOfInit why → (fault_in result ≡ Some why) ↔ FailsIn text.now init_steps why }
+    ensures not_built { IsSettled result → (fault_in result ≡ Some (fault.Fault.NotBuilt first_place)) ↔ IsNotBuilt text.now init_steps }
     ensures not_built_first { (place : Place) → fault_in result ≡ Some (fault.Fault.NotBuilt place) → place ≡ first_place }
-    ensures complete { (writes : List Write) → IsFirst text.now writes → IsOk result ⊎ (result ≡ Err Refusal.NoMemory) }
+    ensures complete { 1 ≤ init_steps → (writes : List Write) → IsFirst text.now writes → IsOk result ⊎ (result ≡ Err Refusal.NoMemory) }
 {
-    answer_to(alloc, text)
+    answer_to(alloc, text, init_steps)
 }
 
 // The same, said case by case.
-fn answer_to(alloc: Global, text: &[u8]) -> Result<Built, Refusal<Fault>>
+fn answer_to(alloc: Global, text: &[u8], init_steps: u32) -> Result<Built, Refusal<Fault>>
     requires { length text.now ≤ text_limit }
-    ensures { Answers text.now result }
+    ensures { Answers text.now init_steps result }
 {
-    match check_text(alloc, text) {
+    match check_text(alloc, text, init_steps) {
         Ok(()) => {}
         Err(refusal) => return Err(refusal),
     }
@@ -83,19 +85,14 @@ fn answer_to(alloc: Global, text: &[u8]) -> Result<Built, Refusal<Fault>>
     }
 }
 
-// Whether the bytes are a text of the language that is refused for nothing that is asked.
-fn check_text(alloc: Global, text: &[u8]) -> Result<(), Refusal<Fault>>
+// Whether the bytes are a legal text that starts.
+fn check_text(alloc: Global, text: &[u8], init_steps: u32) -> Result<(), Refusal<Fault>>
     requires { length text.now ≤ text_limit }
-    ensures { ReadBy text.now result }
+    ensures { StartedBy text.now init_steps result }
 {
-    let mut names = Names::new(alloc);
-    match read(alloc, text, &mut names) {
-        Ok(tree) => judged(alloc, &names, &tree),
-        Err(Refusal::Fault(ReadFault::NoTree(place))) => Err(Refusal::Fault(Fault::NoTree(place))),
-        Err(Refusal::Fault(ReadFault::TooDeep(place))) => {
-            Err(Refusal::Fault(Fault::TooDeep(place)))
-        }
-        Err(Refusal::NoMemory) => Err(Refusal::NoMemory),
+    match started(alloc, text, init_steps) {
+        Ok(_) => Ok(()),
+        Err(refusal) => Err(refusal),
     }
 }
 

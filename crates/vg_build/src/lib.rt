@@ -2,10 +2,7 @@
 #![tactic(auto)]
 
 mod building;
-mod fault;
-mod judging;
 mod layout;
 
 pub use building::{Built, build};
-pub use fault::Fault;
 pub use layout::{Layout, layout_text};

@@ -14,25 +14,23 @@ use Rattle.vg_fetch.specs.declared.fetch.NoFile.{NoFile}
 use Rattle.vg_fetch.specs.declared.fetch.NoFile.TheVariants as missing
 use Rattle.vg_first_text.specs.declared.device_write.DeviceWrite.{DeviceWrite}
 use Rattle.vg_first_text.specs.FirstText.{IsFirst}
-use Rattle.vg_syntax.specs.Faults.{NoTreeIn, TooDeepIn}
 use Rattle.vg_hex.specs.HexText.{hex_text}
-use Rattle.vg_rules.specs.declared.what.What.{What}
-use Rattle.vg_build.specs.Judged.{RefusedIn}
 use Rattle.vg_build.specs.Answer as of_bytes
-use Rattle.vg_build.specs.Answer.{Answer, Answers, IsNotBuilt, fault_in, first_place}
+use Rattle.vg_build.specs.Answer.{Answer, Answers, HasFault, IsNotBuilt, fault_in, first_place}
 use Rattle.vg_build.specs.Image.{IsBuiltOf, IsImageOf}
 use Rattle.vg_build.specs.Layout.{layout_text, stated}
 use Rattle.vg_build.specs.declared.building.Built.{Built}
-use Rattle.vg_build.specs.declared.fault.Fault.{Fault}
-use Rattle.vg_build.specs.declared.fault.Fault.TheVariants.{NoTree, TooDeep, TooMany, Broken, NotBuilt}
+use Rattle.vg_front.specs.declared.fault.Fault.{Fault}
+use Rattle.vg_front.specs.declared.fault.Fault.TheVariants.{NotBuilt}
 use Rattle.vg_build.specs.declared.layout.Layout.{Layout}
-use Rattle.vg_build.proofs.Faults.{broken_of, complete_of, first_of, no_tree_of, not_built_of, too_deep_of, too_many_of}
+use Rattle.vg_build.proofs.Faults.{complete_of, exactly, first_of}
 use Rattle.vg_drive.specs.declared.status.Status.{Status}
 use Rattle.vg_drive.specs.declared.status.Status.TheVariants.{Done, Refused, ReadFault, WriteFault, NoMemory}
 use Rattle.vg_drive.specs.Answers.{AppendsBegun, ForImage}
 use Rattle.vg_drive.specs.Commands.{IsAnswerOfBuild, constants_layout}
 use Rattle.vg_drive.specs.Mirrors.{BuildBy, Change, Fails, GainsAll, GainsFront, IsSame, PutBy, PutFails}
 use Rattle.vg_drive.specs.Statuses.{IsBeforePuts, IsDoneOrNoMemory, IsSettled, IsShown, status_without_file}
+use Rattle.vg_drive.proofs.Files.{of_file, with_file}
 use Rattle.vg_drive.proofs.Statuses.{missing_no_refusal, missing_no_write, missing_not_shown, missing_of_build, missing_unsettled}
 use Rattle.vg_drive.proofs.Statuses.{refusal_no_write, refusal_not_shown, refusal_of_build}
 
@@ -83,15 +81,11 @@ put_answer (Err why) s out note h = subst IsAnswerOfBuild (sym h.0) (refusal_of_
 
 -- THE BYTES OF THE FILE
 
-of_file : (told : Option (List File)) (file bytes : List ℕ) (P : List ℕ → Type 0) → ForFile told file (λ b. b ≡ bytes) → P bytes → ForFile told file P
-of_file None file bytes P whole h = tt
-of_file (Some files) file bytes P whole h = subst P (sym whole) h
-
-of_image : (told : Option (List File)) (file bytes : List ℕ) (built : Built) (P : List ℕ → Layout → Type 0) → ForFile told file (λ b. b ≡ bytes)
-    → IsBuiltOf bytes built → P built.image built.layout → ForImage told file P
-of_image None file bytes built P whole is h = (built.image, built.layout, h)
-of_image (Some files) file bytes built P whole is h =
-    (built.image, built.layout, subst (λ b. IsImageOf b None built.image built.layout) (sym whole) is.image, h)
+of_image : (told : Option (List File)) (file : List ℕ) (clock : ℕ) (bytes : List ℕ) (built : Built) (P : List ℕ → Layout → Type 0)
+    → ForFile told file (λ b. b ≡ bytes) → IsBuiltOf bytes clock built → P built.image built.layout → ForImage told file clock P
+of_image None file clock bytes built P whole is h = (built.image, built.layout, h)
+of_image (Some files) file clock bytes built P whole is h =
+    (built.image, built.layout, subst (λ b. IsImageOf b clock None built.image built.layout) (sym whole) is.image, h)
 
 -- REFUSALS
 
@@ -99,52 +93,27 @@ of_image (Some files) file bytes built P whole is h =
 chain : (A B C : Type 0) → A ↔ B → B ↔ C → A ↔ C
 chain A B C f g = (λ a. g.0 (f.0 a), λ c. f.1 (g.1 c))
 
-pub no_tree_by : (s : Status) (told : Option (List File)) (file : List ℕ) (out note : Change) → BuildBy s told file out note → IsSettled s
-    → ForFile told file (λ bytes. (place : Place) → (s ≡ Refused (NoTree place)) ↔ NoTreeIn bytes place)
-no_tree_by s told file out note (inl h) settled = absurd (missing_unsettled h.0.reason (subst IsSettled h.0.tells settled))
-no_tree_by s told file out note (inr h) settled =
-    of_file told file h.bytes (λ bytes. (place : Place) → (s ≡ Refused (NoTree place)) ↔ NoTreeIn bytes place) h.whole
-    (λ place. chain _ _ _ (refused_iff h.answer s out note h.puts (NoTree place))
-    (no_tree_of h.bytes h.answer h.says (settled_answer h.answer s out note h.puts settled) place))
+-- exactly the faults of the bytes are named
+pub exactly_by : (s : Status) (told : Option (List File)) (file : List ℕ) (clock : ℕ) (out note : Change) → BuildBy s told file clock out note → IsSettled s
+    → ForFile told file (λ bytes. (why : Fault) → (s ≡ Refused why) ↔ HasFault why bytes clock)
+exactly_by s told file clock out note (inl h) settled = absurd (missing_unsettled h.0.reason (subst IsSettled h.0.tells settled))
+exactly_by s told file clock out note (inr h) settled =
+    of_file told file h.bytes (λ bytes. (why : Fault) → (s ≡ Refused why) ↔ HasFault why bytes clock) h.whole
+    (λ why. chain _ _ _ (refused_iff h.answer s out note h.puts why)
+    (exactly h.bytes clock h.answer h.says (settled_answer h.answer s out note h.puts settled) why))
 
-pub too_deep_by : (s : Status) (told : Option (List File)) (file : List ℕ) (out note : Change) → BuildBy s told file out note → IsSettled s
-    → ForFile told file (λ bytes. (place : Place) → (s ≡ Refused (TooDeep place)) ↔ TooDeepIn bytes place)
-too_deep_by s told file out note (inl h) settled = absurd (missing_unsettled h.0.reason (subst IsSettled h.0.tells settled))
-too_deep_by s told file out note (inr h) settled =
-    of_file told file h.bytes (λ bytes. (place : Place) → (s ≡ Refused (TooDeep place)) ↔ TooDeepIn bytes place) h.whole
-    (λ place. chain _ _ _ (refused_iff h.answer s out note h.puts (TooDeep place))
-    (too_deep_of h.bytes h.answer h.says (settled_answer h.answer s out note h.puts settled) place))
+-- exactly the legal texts of a form that is not built are refused so
+pub not_built_by : (s : Status) (told : Option (List File)) (file : List ℕ) (clock : ℕ) (out note : Change) → BuildBy s told file clock out note → IsSettled s
+    → ForFile told file (λ bytes. (s ≡ Refused (NotBuilt first_place)) ↔ IsNotBuilt bytes clock)
+not_built_by s told file clock out note h settled =
+    with_file told file _ (λ bytes. (s ≡ Refused (NotBuilt first_place)) ↔ IsNotBuilt bytes clock)
+    (λ bytes f. let same = f (NotBuilt first_place) in (λ e. (same.0 e).0, λ k. same.1 (k, refl))) (exactly_by s told file clock out note h settled)
 
-pub too_many_by : (s : Status) (told : Option (List File)) (file : List ℕ) (out note : Change) → BuildBy s told file out note → IsSettled s
-    → ForFile told file (λ bytes. (what : What) (limit : ℕ) (place : Place) → (s ≡ Refused (TooMany what limit place)) ↔ RefusedIn bytes (TooMany what limit place))
-too_many_by s told file out note (inl h) settled = absurd (missing_unsettled h.0.reason (subst IsSettled h.0.tells settled))
-too_many_by s told file out note (inr h) settled =
-    of_file told file h.bytes
-    (λ bytes. (what : What) (limit : ℕ) (place : Place) → (s ≡ Refused (TooMany what limit place)) ↔ RefusedIn bytes (TooMany what limit place)) h.whole
-    (λ what limit place. chain _ _ _ (refused_iff h.answer s out note h.puts (TooMany what limit place))
-    (too_many_of h.bytes h.answer h.says (settled_answer h.answer s out note h.puts settled) what limit place))
-
-pub broken_by : (s : Status) (told : Option (List File)) (file : List ℕ) (out note : Change) → BuildBy s told file out note → IsSettled s
-    → ForFile told file (λ bytes. (rule : ℕ) (place : Place) → (s ≡ Refused (Broken rule place)) ↔ RefusedIn bytes (Broken rule place))
-broken_by s told file out note (inl h) settled = absurd (missing_unsettled h.0.reason (subst IsSettled h.0.tells settled))
-broken_by s told file out note (inr h) settled =
-    of_file told file h.bytes (λ bytes. (rule : ℕ) (place : Place) → (s ≡ Refused (Broken rule place)) ↔ RefusedIn bytes (Broken rule place)) h.whole
-    (λ rule place. chain _ _ _ (refused_iff h.answer s out note h.puts (Broken rule place))
-    (broken_of h.bytes h.answer h.says (settled_answer h.answer s out note h.puts settled) rule place))
-
-pub not_built_by : (s : Status) (told : Option (List File)) (file : List ℕ) (out note : Change) → BuildBy s told file out note → IsSettled s
-    → ForFile told file (λ bytes. (s ≡ Refused (NotBuilt first_place)) ↔ IsNotBuilt bytes)
-not_built_by s told file out note (inl h) settled = absurd (missing_unsettled h.0.reason (subst IsSettled h.0.tells settled))
-not_built_by s told file out note (inr h) settled =
-    of_file told file h.bytes (λ bytes. (s ≡ Refused (NotBuilt first_place)) ↔ IsNotBuilt bytes) h.whole
-    (chain _ _ _ (refused_iff h.answer s out note h.puts (NotBuilt first_place))
-    (not_built_of h.bytes h.answer h.says (settled_answer h.answer s out note h.puts settled)))
-
-pub first_by : (s : Status) (told : Option (List File)) (file : List ℕ) (out note : Change) → BuildBy s told file out note
+pub first_by : (s : Status) (told : Option (List File)) (file : List ℕ) (clock : ℕ) (out note : Change) → BuildBy s told file clock out note
     → (place : Place) → s ≡ Refused (NotBuilt place) → place ≡ first_place
-first_by s told file out note (inl h) place e = absurd (missing_no_refusal h.0.reason (NotBuilt place) (sym h.0.tells ∙ e))
-first_by s told file out note (inr h) place e =
-    first_of h.bytes h.answer h.says place ((refused_iff h.answer s out note h.puts (NotBuilt place)).0 e)
+first_by s told file clock out note (inl h) place e = absurd (missing_no_refusal h.0.reason (NotBuilt place) (sym h.0.tells ∙ e))
+first_by s told file clock out note (inr h) place e =
+    first_of h.bytes clock h.answer h.says place ((refused_iff h.answer s out note h.puts (NotBuilt place)).0 e)
 
 -- COMPLETENESS
 
@@ -177,28 +146,28 @@ or_rest : (A B shelf rest : Type 0) → (B → rest) → A ⊎ B → A ⊎ (shel
 or_rest A B shelf rest f (inl a) = inl a
 or_rest A B shelf rest f (inr b) = inr (inr (f b))
 
-pub complete_by : (s : Status) (told : Option (List File)) (file : List ℕ) (out note : Change) (shelf rest : Type 0) → BuildBy s told file out note
+pub complete_by : (s : Status) (told : Option (List File)) (file : List ℕ) (clock : ℕ) (out note : Change) (shelf rest : Type 0) → BuildBy s told file clock out note
     → (s ≡ ReadFault → shelf) → (Fails out ⊎ Fails note → rest)
     → ForFile told file (λ bytes. (writes : List DeviceWrite) → IsFirst bytes writes → length bytes ≤ text_limit → IsDoneOrNoMemory s ⊎ (shelf ⊎ rest))
-complete_by s told file out note shelf rest (inl h) read fails =
+complete_by s told file clock out note shelf rest (inl h) read fails =
     unless_long told file _ (missing_completes h.0.reason s _ shelf rest h.0.tells h.0.too_long read)
-complete_by s told file out note shelf rest (inr h) read fails =
+complete_by s told file clock out note shelf rest (inr h) read fails =
     of_file told file h.bytes
     (λ bytes. (writes : List DeviceWrite) → IsFirst bytes writes → length bytes ≤ text_limit → IsDoneOrNoMemory s ⊎ (shelf ⊎ rest)) h.whole
-    (λ writes first short. or_rest _ _ shelf rest fails (put_completes h.answer s out note h.puts (complete_of h.bytes h.answer h.says writes first)))
+    (λ writes first short. or_rest _ _ shelf rest fails (put_completes h.answer s out note h.puts (complete_of h.bytes clock h.answer h.says h.some writes first)))
 
 -- WHAT IS PUT
 
 not_missing : (s : Status) (reason : NoFile) → s ≡ status_without_file reason → IsShown s → ⊥
 not_missing s reason tells shown = missing_not_shown reason (subst IsShown tells shown)
 
-pub headline_by : (s : Status) (told : Option (List File)) (file : List ℕ) (out note : Change) → BuildBy s told file out note → s ≡ Done
-    → ForImage told file (λ image layout. GainsAll out (hex_text image) × AppendsBegun note.before note.after (layout_text layout))
-headline_by s told file out note (inl h) e = absurd (not_missing s h.0.reason h.0.tells (subst IsShown (sym e) tt))
-headline_by s told file out note (inr h) e =
+pub headline_by : (s : Status) (told : Option (List File)) (file : List ℕ) (clock : ℕ) (out note : Change) → BuildBy s told file clock out note → s ≡ Done
+    → ForImage told file clock (λ image layout. GainsAll out (hex_text image) × AppendsBegun note.before note.after (layout_text layout))
+headline_by s told file clock out note (inl h) e = absurd (not_missing s h.0.reason h.0.tells (subst IsShown (sym e) tt))
+headline_by s told file clock out note (inr h) e =
     let (built, same, hex, lines) = done_is h.answer s out note h.puts (subst IsShown (sym e) tt) in
-    let is : IsBuiltOf h.bytes built = subst (λ r. Answers h.bytes r) same h.says in
-    of_image told file h.bytes built (λ image layout. GainsAll out (hex_text image) × AppendsBegun note.before note.after (layout_text layout)) h.whole is
+    let is : IsBuiltOf h.bytes clock built = subst (λ r. Answers h.bytes clock r) same h.says in
+    of_image told file clock h.bytes built (λ image layout. GainsAll out (hex_text image) × AppendsBegun note.before note.after (layout_text layout)) h.whole is
     (subst (λ t. GainsAll out t) is.hex hex, ([], subst (λ t. GainsAll note t) (is.note ∙ sym (append-nil (layout_text built.layout))) lines))
 
 -- a piece is a front of itself
@@ -224,56 +193,56 @@ fails_of_put : (built : Built) (out note : Change) → PutFails built out note �
 fails_of_put built out note (inl f) = inl f.1
 fails_of_put built out note (inr f) = inr f.2
 
-pub out_front_by : (s : Status) (told : Option (List File)) (file : List ℕ) (out note : Change) → BuildBy s told file out note → s ≡ WriteFault
-    → ForImage told file (λ image layout. GainsFront out (hex_text image) × (Fails out ⊎ GainsAll out (hex_text image)))
-out_front_by s told file out note (inl h) e = absurd (missing_no_write h.0.reason (sym h.0.tells ∙ e))
-out_front_by s told file out note (inr h) e =
+pub out_front_by : (s : Status) (told : Option (List File)) (file : List ℕ) (clock : ℕ) (out note : Change) → BuildBy s told file clock out note → s ≡ WriteFault
+    → ForImage told file clock (λ image layout. GainsFront out (hex_text image) × (Fails out ⊎ GainsAll out (hex_text image)))
+out_front_by s told file clock out note (inl h) e = absurd (missing_no_write h.0.reason (sym h.0.tells ∙ e))
+out_front_by s told file clock out note (inr h) e =
     let (built, same, fails) = failed_is h.answer s out note h.puts e in
-    let is : IsBuiltOf h.bytes built = subst (λ r. Answers h.bytes r) same h.says in
-    of_image told file h.bytes built (λ image layout. GainsFront out (hex_text image) × (Fails out ⊎ GainsAll out (hex_text image))) h.whole is
+    let is : IsBuiltOf h.bytes clock built = subst (λ r. Answers h.bytes clock r) same h.says in
+    of_image told file clock h.bytes built (λ image layout. GainsFront out (hex_text image) × (Fails out ⊎ GainsAll out (hex_text image))) h.whole is
     (subst (λ t. GainsFront out t × (Fails out ⊎ GainsAll out t)) is.hex (out_of_put built out note fails))
 
-pub write_fault_by : (s : Status) (told : Option (List File)) (file : List ℕ) (out note : Change) → BuildBy s told file out note → s ≡ WriteFault
+pub write_fault_by : (s : Status) (told : Option (List File)) (file : List ℕ) (clock : ℕ) (out note : Change) → BuildBy s told file clock out note → s ≡ WriteFault
     → Fails out ⊎ Fails note
-write_fault_by s told file out note (inl h) e = absurd (missing_no_write h.0.reason (sym h.0.tells ∙ e))
-write_fault_by s told file out note (inr h) e =
+write_fault_by s told file clock out note (inl h) e = absurd (missing_no_write h.0.reason (sym h.0.tells ∙ e))
+write_fault_by s told file clock out note (inr h) e =
     let (built, same, fails) = failed_is h.answer s out note h.puts e in fails_of_put built out note fails
 
-pub before_by : (s : Status) (told : Option (List File)) (file : List ℕ) (out note : Change) → BuildBy s told file out note → IsBeforePuts s
+pub before_by : (s : Status) (told : Option (List File)) (file : List ℕ) (clock : ℕ) (out note : Change) → BuildBy s told file clock out note → IsBeforePuts s
     → IsSame out × IsSame note
-before_by s told file out note (inl h) before = (h.0.out_same, h.1)
-before_by s told file out note (inr h) before = before_same h.answer s out note h.puts before
+before_by s told file clock out note (inl h) before = (h.0.out_same, h.1)
+before_by s told file clock out note (inr h) before = before_same h.answer s out note h.puts before
 
-pub answers_by : (s : Status) (told : Option (List File)) (file : List ℕ) (out note : Change) → BuildBy s told file out note → IsAnswerOfBuild s
-answers_by s told file out note (inl h) = subst IsAnswerOfBuild (sym h.0.tells) (missing_of_build h.0.reason)
-answers_by s told file out note (inr h) = put_answer h.answer s out note h.puts
+pub answers_by : (s : Status) (told : Option (List File)) (file : List ℕ) (clock : ℕ) (out note : Change) → BuildBy s told file clock out note → IsAnswerOfBuild s
+answers_by s told file clock out note (inl h) = subst IsAnswerOfBuild (sym h.0.tells) (missing_of_build h.0.reason)
+answers_by s told file clock out note (inr h) = put_answer h.answer s out note h.puts
 
 -- THE SECOND SINK
 
 -- a program of constants has no static area, so all SRAM is for its stack
-layout_is : (bytes image : List ℕ) (layout : Layout) → IsImageOf bytes None image layout → layout ≡ constants_layout
-layout_is bytes image layout is =
+layout_is : (bytes : List ℕ) (clock : ℕ) (image : List ℕ) (layout : Layout) → IsImageOf bytes clock None image layout → layout ≡ constants_layout
+layout_is bytes clock image layout is =
     let none : layout.static_bytes ≡ 0 = is.static_is in
     let all : layout.stack ≡ 4096 = is.stack_is ∙ ap (λ n. stated None n) none in
     let floor : layout.floor ≡ 0x0100 = let sum = is.floor_is in omega (arith, all, sum) in
     ap (λ n. record layout { static_bytes = n }) none ∙ ap (λ n. record layout { static_bytes = 0; floor = n }) floor
     ∙ ap (λ n. record { static_bytes = 0; floor = 0x0100; stack = n }) all
 
-note_is : (bytes : List ℕ) (built : Built) → IsBuiltOf bytes built → built.note ≡ layout_text constants_layout
-note_is bytes built is = is.note ∙ ap layout_text (layout_is bytes built.image built.layout is.image)
+note_is : (bytes : List ℕ) (clock : ℕ) (built : Built) → IsBuiltOf bytes clock built → built.note ≡ layout_text constants_layout
+note_is bytes clock built is = is.note ∙ ap layout_text (layout_is bytes clock built.image built.layout is.image)
 
-pub second_by : (s : Status) (told : Option (List File)) (file : List ℕ) (out note : Change) → BuildBy s told file out note → IsShown s
+pub second_by : (s : Status) (told : Option (List File)) (file : List ℕ) (clock : ℕ) (out note : Change) → BuildBy s told file clock out note → IsShown s
     → GainsAll note (layout_text constants_layout)
-second_by s told file out note (inl h) shown = absurd (not_missing s h.0.reason h.0.tells shown)
-second_by s told file out note (inr h) shown =
+second_by s told file clock out note (inl h) shown = absurd (not_missing s h.0.reason h.0.tells shown)
+second_by s told file clock out note (inr h) shown =
     let (built, same, hex, lines) = done_is h.answer s out note h.puts shown in
-    let is : IsBuiltOf h.bytes built = subst (λ r. Answers h.bytes r) same h.says in
-    subst (λ t. GainsAll note t) (note_is h.bytes built is) lines
+    let is : IsBuiltOf h.bytes clock built = subst (λ r. Answers h.bytes clock r) same h.says in
+    subst (λ t. GainsAll note t) (note_is h.bytes clock built is) lines
 
-pub second_front_by : (s : Status) (told : Option (List File)) (file : List ℕ) (out note : Change) → BuildBy s told file out note → s ≡ WriteFault
+pub second_front_by : (s : Status) (told : Option (List File)) (file : List ℕ) (clock : ℕ) (out note : Change) → BuildBy s told file clock out note → s ≡ WriteFault
     → GainsFront note (layout_text constants_layout)
-second_front_by s told file out note (inl h) e = absurd (missing_no_write h.0.reason (sym h.0.tells ∙ e))
-second_front_by s told file out note (inr h) e =
+second_front_by s told file clock out note (inl h) e = absurd (missing_no_write h.0.reason (sym h.0.tells ∙ e))
+second_front_by s told file clock out note (inr h) e =
     let (built, same, fails) = failed_is h.answer s out note h.puts e in
-    let is : IsBuiltOf h.bytes built = subst (λ r. Answers h.bytes r) same h.says in
-    subst (λ t. GainsFront note t) (note_is h.bytes built is) (note_of_put built out note fails)
+    let is : IsBuiltOf h.bytes clock built = subst (λ r. Answers h.bytes clock r) same h.says in
+    subst (λ t. GainsFront note t) (note_is h.bytes clock built is) (note_of_put built out note fails)

@@ -1,6 +1,9 @@
+pub mod Files
 pub mod Statuses
 pub mod Fetches
 pub mod Builds
 pub mod Sims
 pub mod Commands
 pub mod Notes
+pub mod Plays
+pub mod Sources

@@ -2,7 +2,7 @@
 use Rattle.std.proofs.Common.{◌≡◌, ℕ, ◌⊎◌, List, [], ◌++◌, take, Option, Some, None, sym, ap, ◌∙◌, subst, inl, inr, append-nil}
 use Rattle.vg_io.specs.Piece.{AppendsAll, AppendsFront}
 use Rattle.vg_io.specs.declared.file.File.{File}
-use Rattle.vg_words.specs.Commands.{Command, Build, Sim}
+use Rattle.vg_words.specs.Commands.{Command, Build, Run, Sim}
 use Rattle.vg_hex.specs.HexText.{hex_text}
 use Rattle.vg_build.specs.Layout.{layout_text}
 use Rattle.vg_drive.specs.declared.status.Status.{Status}
@@ -12,7 +12,7 @@ use Rattle.vg_drive.specs.Commands.{OnBuild, second_text}
 use Rattle.vg_drive.specs.Mirrors.{AnswerBy, Change, GainsAll, GainsFront}
 use Rattle.vg_drive.specs.Statuses.{IsBeforePuts, IsShown}
 use Rattle.vg_drive.proofs.Builds.{headline_by, no_front, second_by, second_front_by}
-use Rattle.vg_drive.proofs.Commands.{before_of, of_image, on_build}
+use Rattle.vg_drive.proofs.Commands.{note_before_of, of_image, on_build}
 
 -- nothing is appended
 nothing : (old new : Option (List ℕ)) → new ≡ old → AppendsAll old new []
@@ -22,7 +22,8 @@ nothing (Some old) new e = e ∙ ap Some (sym (append-nil old))
 second_all : (c : Option Command) (s : Status) (told : Option (List File)) (out note : Change) → AnswerBy c s told out note → IsShown s
     → GainsAll note (second_text c)
 second_all None s told out note h shown = nothing note.before note.after h.2
-second_all (Some (Build file)) s told out note h shown = second_by s told file out note h shown
+second_all (Some (Build file clock)) s told out note h shown = second_by s told file clock out note h shown
+second_all (Some (Run file script steps)) s told out note h shown = nothing note.before note.after h.1
 second_all (Some (Sim hex script steps)) s told out note h shown = nothing note.before note.after h.1
 
 -- a second text that was put whole, where nothing came behind it
@@ -34,21 +35,22 @@ second_of c s told out note new h shown e = subst (λ x. AppendsAll note.before 
 -- the layout of the image, where nothing came behind the second text
 pub headline_of : (c : Option Command) (s : Status) (told : Option (List File)) (out note : Change) (new : Option (List ℕ)) → AnswerBy c s told out note
     → (IsShown s → new ≡ note.after) → s ≡ Done
-    → OnBuild c (λ file. ForImage told file (λ image layout. GainsAll out (hex_text image) × AppendsBegun note.before new (layout_text layout)))
+    → OnBuild c (λ file clock. ForImage told file clock (λ image layout. GainsAll out (hex_text image) × AppendsBegun note.before new (layout_text layout)))
 headline_of c s told out note new h same e =
     on_build c s told out note
-    (λ file. ForImage told file (λ image layout. GainsAll out (hex_text image) × AppendsBegun note.before new (layout_text layout))) h
-    (λ file b. of_image told file
+    (λ file clock. ForImage told file clock (λ image layout. GainsAll out (hex_text image) × AppendsBegun note.before new (layout_text layout))) h
+    (λ file clock b. of_image told file clock
     (λ image layout. GainsAll out (hex_text image) × AppendsBegun note.before note.after (layout_text layout))
     (λ image layout. GainsAll out (hex_text image) × AppendsBegun note.before new (layout_text layout))
     (λ image layout k. (k.0, subst (λ x. AppendsBegun note.before x (layout_text layout)) (sym (same (subst IsShown (sym e) tt))) k.1))
-    (headline_by s told file out note b e))
+    (headline_by s told file clock out note b e))
 
 -- a front of the second text where a put failed
 second_front : (c : Option Command) (s : Status) (told : Option (List File)) (out note : Change) → AnswerBy c s told out note → s ≡ WriteFault
     → GainsFront note (second_text c)
 second_front None s told out note h e = no_front note.before note.after [] h.2
-second_front (Some (Build file)) s told out note h e = second_front_by s told file out note h e
+second_front (Some (Build file clock)) s told out note h e = second_front_by s told file clock out note h e
+second_front (Some (Run file script steps)) s told out note h e = no_front note.before note.after [] h.1
 second_front (Some (Sim hex script steps)) s told out note h e = no_front note.before note.after [] h.1
 
 -- two fronts one behind the other
@@ -80,9 +82,9 @@ line_last_of c s told out note new line rose later h (inr k) up e =
 -- before the first put the second sink is as it was
 pub line_front_of : (c : Option Command) (s : Status) (told : Option (List File)) (out note : Change) (new : Option (List ℕ)) (line : List ℕ)
     → AnswerBy c s told out note → AppendsFront note.after new line → IsBeforePuts s → AppendsFront note.before new line
-line_front_of c s told out note new line h k before = subst (λ x. AppendsFront x new line) (before_of c s told out note h before).1 k
+line_front_of c s told out note new line h k before = subst (λ x. AppendsFront x new line) (note_before_of c s told out note h before) k
 
 pub line_of : (c : Option Command) (s : Status) (told : Option (List File)) (out note : Change) (new : Option (List ℕ)) (line : List ℕ) (rose later : Type 0)
     → AnswerBy c s told out note → rose ⊎ AppendsAll note.after new line → (rose → later) → IsBeforePuts s → later ⊎ AppendsAll note.before new line
 line_of c s told out note new line rose later h (inl r) up before = inl (up r)
-line_of c s told out note new line rose later h (inr k) up before = inr (subst (λ x. AppendsAll x new line) (before_of c s told out note h before).1 k)
+line_of c s told out note new line rose later h (inr k) up before = inr (subst (λ x. AppendsAll x new line) (note_before_of c s told out note h before) k)

@@ -2,7 +2,6 @@
 -- A file is missing, or the answer to the texts was given: what the status says of either is in Statuses and in the first lemmas here.
 use Rattle.std.proofs.Common.{◌≡◌, ℕ, ◌≤◌, ◌<◌, ◌⊎◌, ◌↔◌, List, length, Option, Some, None, refl, sym, ap, ◌∙◌, subst, arith, inl, inr}
 use Rattle.vg_base.specs.Limits.{image_text_limit}
-use Rattle.vg_io.specs.Files.{bytes_under}
 use Rattle.vg_io.specs.declared.file.File.{File}
 use Rattle.vg_fetch.specs.Told.{ForFiles}
 use Rattle.vg_fetch.specs.declared.fetch.NoFile.{NoFile}
@@ -26,6 +25,7 @@ use Rattle.vg_drive.specs.Answers.{ForTexts}
 use Rattle.vg_drive.specs.Commands.{IsAnswerOfSim}
 use Rattle.vg_drive.specs.Mirrors.{Change, Fails, GainsAll, GainsFront, IsBehindFiles, IsLong, IsSame, SimBy, Simulates}
 use Rattle.vg_drive.specs.Statuses.{IsBeforePuts, IsSettled, IsShown, status_of_ending, status_of_simulated, status_without_file}
+use Rattle.vg_drive.proofs.Files.{of_files, of_texts}
 use Rattle.vg_drive.proofs.Statuses.{missing_no_write, missing_not_shown, missing_of_sim, missing_unsettled}
 
 -- what the clauses of a simulation say together
@@ -98,18 +98,6 @@ failed_is PutFailed e = refl
 failed_is (HexFails fault) e = cc
 failed_is (ScriptFails line) e = cc
 failed_is Wanting e = cc
-
--- THE TEXTS OF THE FILES
-
-of_files : (told : Option (List File)) (hex script a b : List ℕ) (P : List ℕ → List ℕ → Type 0) → ForFiles told hex script (λ x y. (x ≡ a) × (y ≡ b))
-    → P a b → ForFiles told hex script P
-of_files None hex script a b P whole h = tt
-of_files (Some files) hex script a b P (x, y) h = subst (λ u. P u (bytes_under files script)) (sym x) (subst (λ v. P a v) (sym y) h)
-
-of_texts : (told : Option (List File)) (hex script a b : List ℕ) (P : List ℕ → List ℕ → Type 0) → ForFiles told hex script (λ x y. (x ≡ a) × (y ≡ b))
-    → P a b → ForTexts told hex script P
-of_texts None hex script a b P whole h = (a, b, h)
-of_texts (Some files) hex script a b P (x, y) h = subst (λ u. P u (bytes_under files script)) (sym x) (subst (λ v. P a v) (sym y) h)
 
 -- WHAT IS SHOWN
 
@@ -231,7 +219,7 @@ script_refused_by s told hex script steps out (inr h) settled =
 -- COMPLETENESS
 
 -- a script has one pair of lists
-one_lists : (script : List ℕ) (a b : Lists) → IsScript script a → IsScript script b → a ≡ b
+pub one_lists : (script : List ℕ) (a b : Lists) → IsScript script a → IsScript script b → a ≡ b
 one_lists script a b h k =
     let r : a.reads ≡ b.reads = h.reads ∙ sym k.reads in
     let i : a.interrupts ≡ b.interrupts = h.interrupts ∙ sym k.interrupts in
@@ -267,7 +255,7 @@ both_short : (a b : ℕ) → (image_text_limit < a) ⊎ (image_text_limit < b) �
 both_short a b (inl h) p q = omega (arith, h, p)
 both_short a b (inr h) p q = omega (arith, h, q)
 
-missing_completes : (reason : NoFile) (s : Status) (long shelf : Type 0) → s ≡ status_without_file reason → (reason ≡ missing.Long → long)
+pub missing_completes : (reason : NoFile) (s : Status) (long shelf : Type 0) → s ≡ status_without_file reason → (reason ≡ missing.Long → long)
     → (s ≡ ReadFault → shelf) → (s ≡ NoMemory) ⊎ (shelf ⊎ long)
 missing_completes missing.Failed s long shelf tells too_long read = inr (inl (read tells))
 missing_completes missing.Wanting s long shelf tells too_long read = inl tells

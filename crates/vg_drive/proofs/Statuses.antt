@@ -6,8 +6,8 @@ use Rattle.avr_isa.specs.declared.ending.MachineEnd.{MachineEnd}
 use Rattle.avr_isa.specs.declared.ending.MachineEnd.TheVariants as machine_end
 use Rattle.vg_fetch.specs.declared.fetch.NoFile.{NoFile}
 use Rattle.vg_fetch.specs.declared.fetch.NoFile.TheVariants as missing
-use Rattle.vg_build.specs.declared.fault.Fault.{Fault}
-use Rattle.vg_drive.specs.Commands.{IsAnswerOfBuild, IsAnswerOfSim}
+use Rattle.vg_front.specs.declared.fault.Fault.{Fault}
+use Rattle.vg_drive.specs.Commands.{IsAnswerOfBuild, IsAnswerOfRun, IsAnswerOfSim}
 use Rattle.vg_drive.specs.Mirrors.{IsBehindFiles}
 use Rattle.vg_drive.specs.Statuses.{IsSettled, IsShown, status_of_ending, status_of_refusal, status_without_file}
 use Rattle.vg_drive.specs.declared.status.Status.TheVariants.{Refused, ReadFault, WriteFault, TooLong}
@@ -28,6 +28,11 @@ pub missing_of_build : (reason : NoFile) → IsAnswerOfBuild (status_without_fil
 missing_of_build missing.Failed = tt
 missing_of_build missing.Wanting = tt
 missing_of_build missing.Long = tt
+
+pub missing_of_run : (reason : NoFile) → IsAnswerOfRun (status_without_file reason)
+missing_of_run missing.Failed = tt
+missing_of_run missing.Wanting = tt
+missing_of_run missing.Long = tt
 
 pub missing_of_sim : (reason : NoFile) → IsAnswerOfSim (status_without_file reason)
 missing_of_sim missing.Failed = tt

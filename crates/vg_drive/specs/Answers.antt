@@ -6,11 +6,11 @@ use Rattle.vg_io.specs.declared.file.File.{File}
 use Rattle.vg_build.specs.Image.{IsImageOf}
 use Rattle.vg_build.specs.declared.layout.Layout.{Layout}
 
--- P holds of some image and layout, which are those of the file where the shelf tells
-abbrev pub ForImage : Option (List File) → (file : List ℕ) → (P : List ℕ → Layout → Type 0) → Type 0
-ForImage None file P = (image : List ℕ) × (layout : Layout) × P image layout
-ForImage (Some files) file P =
-    (image : List ℕ) × (layout : Layout) × IsImageOf (bytes_under files file) None image layout × P image layout
+-- P holds of some image and layout, which are those of the file where the shelf tells, initialised with this clock
+abbrev pub ForImage : Option (List File) → (file : List ℕ) → (clock : ℕ) → (P : List ℕ → Layout → Type 0) → Type 0
+ForImage None file clock P = (image : List ℕ) × (layout : Layout) × P image layout
+ForImage (Some files) file clock P =
+    (image : List ℕ) × (layout : Layout) × IsImageOf (bytes_under files file) clock None image layout × P image layout
 
 -- P holds of two texts, which are those of the files where the shelf tells
 abbrev pub ForTexts : Option (List File) → (first second : List ℕ) → (P : List ℕ → List ℕ → Type 0) → Type 0

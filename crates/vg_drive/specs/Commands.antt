@@ -1,17 +1,22 @@
 -- What a command asks the shelf for, what it writes to its second sink, and what its answers may be.
 use Rattle.std.specs.Prelude.{ℕ, ◌≡◌, List, [], ◌∷◌, Option, Some, None}
 use Rattle.vg_base.specs.Limits.{image_text_limit, text_limit}
-use Rattle.vg_words.specs.Commands.{Command, Build, Sim}
+use Rattle.vg_words.specs.Commands.{Command, Build, Run, Sim}
 use Rattle.vg_fetch.specs.Asking.{Request}
+use Rattle.vg_front.specs.declared.fault.Fault.TheVariants.{NotBuilt}
 use Rattle.vg_build.specs.Layout.{layout_text}
 use Rattle.vg_build.specs.declared.layout.Layout.{Layout}
+use Rattle.vg_run.specs.Shown as of_run
 use Rattle.vg_drive.specs.declared.status.Status.{Status}
-use Rattle.vg_drive.specs.declared.status.Status.TheVariants.{Done, Refused, Usage, ReadFault, WriteFault, NoMemory, TooLong}
+use Rattle.vg_drive.specs.declared.status.Status.TheVariants.{Done, Refused, Usage, ReadFault, WriteFault, NoMemory, TooLong, Depth, HexRefused, BadInstruction}
+use Rattle.vg_drive.specs.Statuses.{IsBeforeLines, IsBeforePuts}
 
--- `build FILE` asks for FILE, and `sim HEX SCRIPT` for HEX and then SCRIPT, each with its limit
+-- `build FILE` asks for FILE, `run FILE SCRIPT` for FILE and then SCRIPT, and `sim HEX SCRIPT` for HEX and then SCRIPT, each with its limit
 abbrev pub requests_of : Option Command → List Request
 requests_of None = []
-requests_of (Some (Build file)) = record { name = file; limit = text_limit } ∷ []
+requests_of (Some (Build file init_steps)) = record { name = file; limit = text_limit } ∷ []
+requests_of (Some (Run file script steps)) =
+    record { name = file; limit = text_limit } ∷ record { name = script; limit = image_text_limit } ∷ []
 requests_of (Some (Sim hex script steps)) =
     record { name = hex; limit = image_text_limit } ∷ record { name = script; limit = image_text_limit } ∷ []
 
@@ -19,15 +24,26 @@ requests_of (Some (Sim hex script steps)) =
 abbrev pub constants_layout : Layout
 constants_layout = record { static_bytes = 0; floor = 0x0100; stack = 4096 }
 
--- `build` writes the layout to its second sink, which is `static 0100 0` and `stack 0100 4096`; `sim` writes nothing
+-- `build` writes the layout to its second sink, which is `static 0100 0` and `stack 0100 4096`; `run` and `sim` write nothing
 abbrev pub second_text : Option Command → List ℕ
-second_text (Some (Build file)) = layout_text constants_layout
+second_text (Some (Build file init_steps)) = layout_text constants_layout
 second_text _ = []
 
--- where the command is `build`: P holds of its file
-abbrev pub OnBuild : Option Command → (P : List ℕ → Type 0) → Type 0
-OnBuild (Some (Build file)) P = P file
+-- where the command is `build`: P holds of its file and of the clock of its initialisation
+abbrev pub OnBuild : Option Command → (P : (file : List ℕ) → (clock : ℕ) → Type 0) → Type 0
+OnBuild (Some (Build file init_steps)) P = P file init_steps
 OnBuild _ P = Unit {0}
+
+-- where the command is `run`: P holds of its two files and of its steps
+abbrev pub OnRun : Option Command → (P : (file script : List ℕ) → ℕ → Type 0) → Type 0
+OnRun (Some (Run file script steps)) P = P file script steps
+OnRun _ P = Unit {0}
+
+-- where the command reads a source text: P holds of its file and of the clock of its initialisation
+abbrev pub OnSource : Option Command → (P : (file : List ℕ) → (clock : ℕ) → Type 0) → Type 0
+OnSource (Some (Build file init_steps)) P = P file init_steps
+OnSource (Some (Run file script steps)) P = P file of_run.init_steps
+OnSource _ P = Unit {0}
 
 -- where the command is `sim`: P holds of its two files and of its steps
 abbrev pub OnSim : Option Command → (P : (hex script : List ℕ) → ℕ → Type 0) → Type 0
@@ -43,13 +59,27 @@ IsAnswerOfBuild NoMemory = Unit {0}
 IsAnswerOfBuild TooLong = Unit {0}
 IsAnswerOfBuild _ = ⊥
 
+abbrev pub IsAnswerOfRun : Status → Type 0
+IsAnswerOfRun (Refused (NotBuilt place)) = ⊥
+IsAnswerOfRun Usage = ⊥
+IsAnswerOfRun (HexRefused fault) = ⊥
+IsAnswerOfRun (BadInstruction pc word) = ⊥
+IsAnswerOfRun _ = Unit {0}
+
 abbrev pub IsAnswerOfSim : Status → Type 0
 IsAnswerOfSim (Refused fault) = ⊥
 IsAnswerOfSim Usage = ⊥
+IsAnswerOfSim Depth = ⊥
 IsAnswerOfSim _ = Unit {0}
 
 -- the answers that a command may have; words without a meaning have one
 abbrev pub IsAnswerOf : Option Command → Status → Type 0
 IsAnswerOf None s = s ≡ Usage
-IsAnswerOf (Some (Build file)) s = IsAnswerOfBuild s
+IsAnswerOf (Some (Build file init_steps)) s = IsAnswerOfBuild s
+IsAnswerOf (Some (Run file script steps)) s = IsAnswerOfRun s
 IsAnswerOf (Some (Sim hex script steps)) s = IsAnswerOfSim s
+
+-- nothing was put to the first sink
+abbrev pub PutsNothing : Option Command → Status → Type 0
+PutsNothing (Some (Run file script steps)) s = IsBeforeLines s
+PutsNothing _ s = IsBeforePuts s

@@ -5,8 +5,9 @@ use Rattle.vg_hex.specs.declared.fault.HexFault.{HexFault}
 use Rattle.vg_hex.specs.declared.fault.HexFault.TheVariants.{Form, Sum, Twice, Beyond, NoEnd}
 use Rattle.vg_rules.specs.declared.what.What.{What}
 use Rattle.vg_rules.specs.declared.what.What.TheVariants.{Classes, Methods, Locals, Height}
-use Rattle.vg_build.specs.declared.fault.Fault.{Fault}
-use Rattle.vg_build.specs.declared.fault.Fault.TheVariants.{NoTree, TooDeep, TooMany, Broken, NotBuilt}
+use Rattle.vg_front.specs.declared.fault.Fault.{Fault}
+use Rattle.vg_front.specs.declared.fault.Fault.TheVariants.{NoTree, TooDeep, TooMany, Broken, InitTrap, InitSteps, InitDepth, InitTouches, InitTooBig, NotBuilt}
+use Rattle.vg_script.specs.Traces.{byte_digits}
 use Rattle.vg_drive.specs.declared.status.Status.{Status}
 use Rattle.vg_drive.specs.declared.status.Status.TheVariants.{Refused, Usage, ReadFault, WriteFault, NoMemory, TooLong, HexRefused, ScriptRefused}
 
@@ -26,6 +27,11 @@ refusal_line (NoTree place) = codes "no tree at " ++ place_text place ++ codes "
 refusal_line (TooDeep place) = codes "too deep at " ++ place_text place ++ codes "\n"
 refusal_line (TooMany what limit place) = codes "too many " ++ what_text what ++ codes "\n"
 refusal_line (Broken rule place) = codes "rule " ++ decimal rule ++ codes " broken at " ++ place_text place ++ codes "\n"
+refusal_line (InitTrap code place) = codes "init stop " ++ decimal code ++ codes " at " ++ place_text place ++ codes "\n"
+refusal_line InitSteps = codes "init steps\n"
+refusal_line InitDepth = codes "init depth\n"
+refusal_line (InitTouches address) = codes "init touches " ++ byte_digits address ++ codes "\n"
+refusal_line InitTooBig = codes "init too big\n"
 refusal_line (NotBuilt place) = codes "not built at " ++ place_text place ++ codes "\n"
 
 -- the line of a fault of a HEX text: the number of its line, or a byte address, in decimal

@@ -1,23 +1,26 @@
 -- Mirrors: what the functions below the top call leave. No public clause cites one.
-use Rattle.std.specs.Prelude.{ℕ, ◌≡◌, ◌<◌, ◌⊎◌, List, length, Option, Some, None, Ok, Err}
+use Rattle.std.specs.Prelude.{ℕ, ◌≡◌, ◌<◌, ◌≤◌, ◌⊎◌, List, length, Option, Some, None, Ok, Err}
 use Rattle.vg_base.specs.Limits.{image_text_limit, text_limit}
 use Rattle.vg_io.specs.Count.{Rose}
 use Rattle.vg_io.specs.Piece.{AppendsAll, AppendsFront}
 use Rattle.vg_io.specs.declared.asked.Asked.{Asked}
 use Rattle.vg_io.specs.declared.file.File.{File}
-use Rattle.vg_words.specs.Commands.{Command, Build, Sim}
+use Rattle.vg_words.specs.Commands.{Command, Build, Run, Sim}
 use Rattle.vg_fetch.specs.Asking.{Fetched, Request}
 use Rattle.vg_fetch.specs.Told.{ForFile, ForFiles}
 use Rattle.vg_fetch.specs.declared.fetch.NoFile.{NoFile}
 use Rattle.vg_fetch.specs.declared.fetch.NoFile.TheVariants as missing
 use Rattle.vg_build.specs.Answer.{Answer, Answers}
 use Rattle.vg_build.specs.declared.building.Built.{Built}
+use Rattle.vg_run.specs.Answer.{Plays}
+use Rattle.vg_run.specs.declared.playing.Played.{Played}
+use Rattle.vg_run.specs.declared.playing.Played.TheVariants as played
 use Rattle.vg_hex.specs.HexImage.{fault_in}
 use Rattle.vg_script.specs.Script.{first_bad}
 use Rattle.vg_sim.specs.Shown.{ForRun, lines_of}
 use Rattle.vg_sim.specs.declared.simulate.Simulated.{Simulated}
 use Rattle.vg_sim.specs.declared.simulate.Simulated.TheVariants as simulated
-use Rattle.vg_drive.specs.Statuses.{status_of_refusal, status_of_simulated, status_without_file}
+use Rattle.vg_drive.specs.Statuses.{status_of_played, status_of_refusal, status_of_simulated, status_without_file}
 use Rattle.vg_drive.specs.declared.status.Status.{Status}
 use Rattle.vg_drive.specs.declared.status.Status.TheVariants.{Done, Usage, ReadFault, WriteFault, TooLong}
 
@@ -83,17 +86,37 @@ PutBy (Ok built) s out note =
 PutBy (Err why) s out note = (s ≡ status_of_refusal why) × IsSame out × IsSame note
 
 -- the bytes of the file were answered, and the answer put
-pub record BuildsFile (s : Status) (told : Option (List File)) (file : List ℕ) (out note : Change) : Type 0 where
+pub record BuildsFile (s : Status) (told : Option (List File)) (file : List ℕ) (clock : ℕ) (out note : Change) : Type 0 where
+  pub some : 1 ≤ clock
   pub bytes : List ℕ
   pub whole : ForFile told file (λ b. b ≡ bytes)
   pub answer : Answer
-  pub says : Answers bytes answer
+  pub says : Answers bytes clock answer
   pub puts : PutBy answer s out note
 
 -- what `build` leaves
-abbrev pub BuildBy : Status → (told : Option (List File)) → (file : List ℕ) → (out note : Change) → Type 0
-BuildBy s told file out note =
-    (FilesMissing s (ForFile told file (λ bytes. text_limit < length bytes)) out × IsSame note) ⊎ BuildsFile s told file out note
+abbrev pub BuildBy : Status → (told : Option (List File)) → (file : List ℕ) → (clock : ℕ) → (out note : Change) → Type 0
+BuildBy s told file clock out note =
+    (FilesMissing s (ForFile told file (λ bytes. text_limit < length bytes)) out × IsSame note) ⊎ BuildsFile s told file clock out note
+
+-- RUN
+
+-- the source text of the first file was run on the script of the second
+pub record PlaysFiles (s : Status) (told : Option (List File)) (file script : List ℕ) (steps : ℕ) (out : Change) : Type 0 where
+  pub text : List ℕ
+  pub script_text : List ℕ
+  pub whole : ForFiles told file script (λ a b. (a ≡ text) × (b ≡ script_text))
+  pub answer : Played
+  pub says : Plays answer text script_text steps out.before out.after
+  pub cause : answer ≡ played.WriteFault → Fails out
+  pub tells : s ≡ status_of_played answer
+
+abbrev pub IsLongRun : (told : Option (List File)) → (file script : List ℕ) → Type 0
+IsLongRun told file script = ForFiles told file script (λ a b. (text_limit < length a) ⊎ (image_text_limit < length b))
+
+-- what `run` leaves
+abbrev pub PlayBy : Status → (told : Option (List File)) → (file script : List ℕ) → (steps : ℕ) → (out : Change) → Type 0
+PlayBy s told file script steps out = FilesMissing s (IsLongRun told file script) out ⊎ PlaysFiles s told file script steps out
 
 -- SIM
 
@@ -127,5 +150,6 @@ SimBy s told hex script steps out =
 -- what a command, or words without a meaning, leaves
 abbrev pub AnswerBy : Option Command → Status → (told : Option (List File)) → (out note : Change) → Type 0
 AnswerBy None s told out note = (s ≡ Usage) × IsSame out × IsSame note
-AnswerBy (Some (Build file)) s told out note = BuildBy s told file out note
+AnswerBy (Some (Build file clock)) s told out note = BuildBy s told file clock out note
+AnswerBy (Some (Run file script steps)) s told out note = PlayBy s told file script steps out × IsSame note
 AnswerBy (Some (Sim hex script steps)) s told out note = SimBy s told hex script steps out × IsSame note

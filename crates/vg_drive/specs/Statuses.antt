@@ -6,14 +6,19 @@ use Rattle.avr_isa.specs.declared.ending.MachineEnd.{MachineEnd}
 use Rattle.avr_isa.specs.declared.ending.MachineEnd.TheVariants as machine_end
 use Rattle.vg_fetch.specs.declared.fetch.NoFile.{NoFile}
 use Rattle.vg_fetch.specs.declared.fetch.NoFile.TheVariants as missing
-use Rattle.vg_build.specs.declared.fault.Fault.{Fault}
+use Rattle.vg_meaning.specs.Ending.{Ending}
+use Rattle.vg_meaning.specs.Ending as session_end
+use Rattle.vg_front.specs.declared.fault.Fault.{Fault}
+use Rattle.vg_run.specs.Shown.{ending_in}
+use Rattle.vg_run.specs.declared.playing.Played.{Played}
+use Rattle.vg_run.specs.declared.playing.Played.TheVariants as played
 use Rattle.vg_sim.specs.declared.simulate.Simulated.{Simulated}
 use Rattle.vg_sim.specs.declared.simulate.Simulated.TheVariants as simulated
 use Rattle.vg_drive.specs.declared.status.Status.{Status}
 use Rattle.vg_drive.specs.declared.status.Status.TheVariants.{Done, Refused, Usage, ReadFault, WriteFault, NoMemory, TooLong}
-use Rattle.vg_drive.specs.declared.status.Status.TheVariants.{Stopped, Wants, Budget, HexRefused, ScriptRefused, BadInstruction}
+use Rattle.vg_drive.specs.declared.status.Status.TheVariants.{Stopped, Wants, Budget, Depth, HexRefused, ScriptRefused, BadInstruction}
 
--- the number of each answer; 10 is left for a command to come
+-- the number of each answer
 abbrev pub code_of : Status → ℕ
 code_of Done = 0
 code_of (Refused fault) = 1
@@ -25,6 +30,7 @@ code_of TooLong = 6
 code_of (Stopped code) = 7
 code_of (Wants address) = 8
 code_of Budget = 9
+code_of Depth = 10
 code_of (HexRefused fault) = 11
 code_of (ScriptRefused line) = 12
 code_of (BadInstruction pc word) = 13
@@ -39,6 +45,22 @@ status_without_file missing.Long = TooLong
 abbrev pub status_of_refusal : Refusal Fault → Status
 status_of_refusal (refusal.Fault why) = Refused why
 status_of_refusal refusal.NoMemory = NoMemory
+
+-- the answer that tells how a session has ended
+abbrev pub status_of_end : Ending → Status
+status_of_end session_end.Idle = Done
+status_of_end (session_end.Stop code) = Stopped code
+status_of_end (session_end.Wants address) = Wants address
+status_of_end session_end.Beyond = Budget
+status_of_end session_end.Deep = Depth
+
+-- the answer that tells how a session went
+abbrev pub status_of_played : Played → Status
+status_of_played (played.Ended end) = status_of_end (ending_in end)
+status_of_played played.WriteFault = WriteFault
+status_of_played (played.Refused why) = Refused why
+status_of_played (played.ScriptRefused line) = ScriptRefused line
+status_of_played played.NoMemory = NoMemory
 
 -- the answer that tells how a machine has ended, or that it has not
 abbrev pub status_of_ending : Option MachineEnd → Status
@@ -75,12 +97,18 @@ IsBeforePuts (HexRefused fault) = Unit {0}
 IsBeforePuts (ScriptRefused line) = Unit {0}
 IsBeforePuts _ = ⊥
 
+-- the same of `run`, which may have put lines before memory was wanting
+abbrev pub IsBeforeLines : Status → Type 0
+IsBeforeLines NoMemory = ⊥
+IsBeforeLines s = IsBeforePuts s
+
 -- all was put
 abbrev pub IsShown : Status → Type 0
 IsShown Done = Unit {0}
 IsShown (Stopped code) = Unit {0}
 IsShown (Wants address) = Unit {0}
 IsShown Budget = Unit {0}
+IsShown Depth = Unit {0}
 IsShown (BadInstruction pc word) = Unit {0}
 IsShown _ = ⊥
 

@@ -1,12 +1,14 @@
 // The status that tells of the answer of a command.
 ghost use Rattle.std.specs.Prelude.{◌≡◌};
-ghost use Rattle.vg_drive.specs.Statuses.{status_of_ending, status_of_refusal, status_of_simulated, status_without_file};
+ghost use Rattle.vg_drive.specs.Statuses.{status_of_end, status_of_ending, status_of_played, status_of_refusal, status_of_simulated, status_without_file};
+ghost use Rattle.vg_run.specs.Shown.{ending_in};
 
 use crate::status::Status;
 use avr_isa::MachineEnd;
 use vg_base::Refusal;
-use vg_build::Fault;
 use vg_fetch::NoFile;
+use vg_front::Fault;
+use vg_run::{Played, RunEnd};
 use vg_sim::Simulated;
 
 /// The status where a file is missing.
@@ -27,6 +29,32 @@ pub fn status_of_refusal(why: Refusal<Fault>) -> Status
     match why {
         Refusal::Fault(fault) => Status::Refused(fault),
         Refusal::NoMemory => Status::NoMemory,
+    }
+}
+
+/// The status of a session.
+pub fn status_of_played(played: Played) -> Status
+    ensures { result ≡ status_of_played played }
+{
+    match played {
+        Played::Ended(end) => status_of_end(end),
+        Played::WriteFault => Status::WriteFault,
+        Played::Refused(fault) => Status::Refused(fault),
+        Played::ScriptRefused(line) => Status::ScriptRefused(line),
+        Played::NoMemory => Status::NoMemory,
+    }
+}
+
+// The status of the ending of a session.
+fn status_of_end(end: RunEnd) -> Status
+    ensures { result ≡ status_of_end (ending_in end) }
+{
+    match end {
+        RunEnd::Idle => Status::Done,
+        RunEnd::Stop(code) => Status::Stopped(code),
+        RunEnd::Wants(address) => Status::Wants(address),
+        RunEnd::Budget => Status::Budget,
+        RunEnd::Depth => Status::Depth,
     }
 }
 

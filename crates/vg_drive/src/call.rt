@@ -1,35 +1,45 @@
 // The top call.
 ghost use Rattle.std.specs.Prelude.{◌≡◌, ◌↔◌, ◌≤◌, ◌⊎◌, ℕ, List, length, Some, None};
+ghost use Rattle.std.specs.Option.{option_map};
 ghost use Rattle.vg_base.specs.Limits.{image_text_limit, text_limit};
 ghost use Rattle.vg_base.specs.declared.place.Place.{Place};
 ghost use Rattle.vg_io.specs.Count.{Rose};
 ghost use Rattle.vg_io.specs.Piece.{AppendsAll, AppendsFront};
-ghost use Rattle.vg_words.specs.Commands.{command_of, words_in};
+ghost use Rattle.vg_words.specs.Commands.{HasSteps, command_of, words_in};
 ghost use Rattle.vg_words.specs.Views.{command_in};
 ghost use Rattle.vg_fetch.specs.Asking.{AsksAll, AsksFront, HasFailed, HasPassedLimit, gained, last_of};
 ghost use Rattle.vg_fetch.specs.Told.{ForFile, ForFiles};
 ghost use Rattle.vg_first_text.specs.declared.device_write.DeviceWrite.{DeviceWrite};
-ghost use Rattle.vg_syntax.specs.Faults.{NoTreeIn, TooDeepIn};
 ghost use Rattle.vg_first_text.specs.FirstText.{IsFirst};
+ghost use Rattle.vg_syntax.specs.Faults.{NoTreeIn, TooDeepIn};
+ghost use Rattle.vg_syntax.specs.Tree.{Node};
+ghost use Rattle.vg_source.specs.Program.{source_of};
+ghost use Rattle.vg_source.specs.Session.{Started, session, started};
+ghost use Rattle.vg_source.specs.Values.{Heap};
 ghost use Rattle.vg_rules.specs.declared.what.What.{What};
-ghost use Rattle.vg_build.specs.Judged.{RefusedIn};
+ghost use Rattle.vg_front.specs.Answer.{IsOfInit};
+ghost use Rattle.vg_front.specs.Judged.{IsLegal, RefusedIn};
+ghost use Rattle.vg_front.specs.Starting.{FailsIn, StartsIn};
+ghost use Rattle.vg_front.specs.declared.fault.Fault as fault;
 ghost use Rattle.vg_build.specs.Answer.{IsNotBuilt, first_place};
 ghost use Rattle.vg_build.specs.Layout.{layout_text};
-ghost use Rattle.vg_build.specs.declared.fault.Fault as fault;
 ghost use Rattle.vg_hex.specs.HexText.{hex_text};
 ghost use Rattle.vg_hex.specs.HexImage.{HexImage, fault_in};
 ghost use Rattle.vg_hex.specs.declared.fault.HexFault.{HexFault};
 ghost use Rattle.vg_script.specs.Script.{IsScript, Lists, first_bad};
-ghost use Rattle.avr_sim.specs.Run.{simulated};
+ghost use Rattle.avr_sim.specs.Run.{simulated, trace_lines};
 ghost use Rattle.vg_sim.specs.Shown.{ForRun, lines_of};
+ghost use Rattle.vg_run.specs.Shown as of_run;
+ghost use Rattle.vg_run.specs.Shown.{ForSession, init_steps};
 ghost use Rattle.vg_drive.specs.Answers.{AppendsBegun, AppendsFrontAndAll, AppendsFronts, ForImage, ForTexts};
-ghost use Rattle.vg_drive.specs.Commands.{IsAnswerOf, OnBuild, OnSim, requests_of, second_text};
+ghost use Rattle.vg_drive.specs.Commands.{IsAnswerOf, OnBuild, OnRun, OnSim, OnSource, PutsNothing, requests_of, second_text};
 ghost use Rattle.vg_drive.specs.Lines.{fault_line};
 ghost use Rattle.vg_drive.specs.Mirrors.{AnswerBy, FetchedBy, change};
-ghost use Rattle.vg_drive.specs.Statuses.{IsBeforePuts, IsDoneOrNoMemory, IsSettled, IsShown, status_of_ending};
+ghost use Rattle.vg_drive.specs.Statuses.{IsBeforePuts, IsDoneOrNoMemory, IsSettled, IsShown, status_of_end, status_of_ending};
 
 use crate::build::run_build;
 use crate::lines::fault_line;
+use crate::session::run_session;
 use crate::sim::run_sim;
 use crate::status::Status;
 use std::alloc::Global;
@@ -38,8 +48,9 @@ use vg_words::{Command, command_of};
 
 /// Does what the words behind the program's name say, and answers how it went.
 ///
-/// `build FILE` fetches FILE, which has at most 262,144 bytes, puts the HEX text of its image to `out` in one put, and
-/// then the layout to `note` in one put. `sim HEX SCRIPT` fetches two texts of at most 1,048,576 bytes each, runs the image of the first
+/// `build FILE` fetches FILE, which has at most 262,144 bytes, initialises its components in at most `--init-steps` ticks, puts the HEX text of its image
+/// to `out` in one put, and then the layout to `note` in one put. `run FILE SCRIPT` fetches such a text and one of at most 1,048,576 bytes, runs the first
+/// by the language's meaning on the second for at most `--steps` ticks, and puts the lines of its trace and of its ending to `out`. `sim HEX SCRIPT` fetches two texts of at most 1,048,576 bytes each, runs the image of the first
 /// on the second for at most `--steps` instructions, and puts the lines of its trace and of its ending to `out`. Behind an answer that
 /// is no success and no ending it tries one put of the fault line to `note`.
 pub fn run<S: Shelf, O: Sink, N: Sink>(
@@ -60,27 +71,31 @@ pub fn run<S: Shelf, O: Sink, N: Sink>(
     ensures read_failed { result ≡ Status.ReadFault → HasFailed (last_of (gained (S.asked shelf.old) (S.asked shelf.new))) }
     ensures too_long { result ≡ Status.TooLong ↔ HasPassedLimit (last_of (gained (S.asked shelf.old) (S.asked shelf.new))) }
 
-    // `build`: which source texts are refused, and which are built.
-    ensures no_tree { IsSettled result → OnBuild (command_of (words_in words.now)) (λ file. ForFile (S.told shelf.old) file (λ bytes.
+    // `build` and `run`: which source texts are refused.
+    ensures no_tree { IsSettled result → OnSource (command_of (words_in words.now)) (λ file clock. ForFile (S.told shelf.old) file (λ bytes.
         (place : Place) → (result ≡ Status.Refused (fault.Fault.NoTree place)) ↔ NoTreeIn bytes place)) }
-    ensures too_deep { IsSettled result → OnBuild (command_of (words_in words.now)) (λ file. ForFile (S.told shelf.old) file (λ bytes.
+    ensures too_deep { IsSettled result → OnSource (command_of (words_in words.now)) (λ file clock. ForFile (S.told shelf.old) file (λ bytes.
         (place : Place) → (result ≡ Status.Refused (fault.Fault.TooDeep place)) ↔ TooDeepIn bytes place)) }
-    ensures too_many { IsSettled result → OnBuild (command_of (words_in words.now)) (λ file. ForFile (S.told shelf.old) file (λ bytes.
+    ensures too_many { IsSettled result → OnSource (command_of (words_in words.now)) (λ file clock. ForFile (S.told shelf.old) file (λ bytes.
         (what : What) (limit : ℕ) (place : Place) → (result ≡ Status.Refused (fault.Fault.TooMany what limit place))
         ↔ RefusedIn bytes (fault.Fault.TooMany what limit place))) }
-    ensures broken { IsSettled result → OnBuild (command_of (words_in words.now)) (λ file. ForFile (S.told shelf.old) file (λ bytes.
+    ensures broken { IsSettled result → OnSource (command_of (words_in words.now)) (λ file clock. ForFile (S.told shelf.old) file (λ bytes.
         (rule : ℕ) (place : Place) → (result ≡ Status.Refused (fault.Fault.Broken rule place)) ↔ RefusedIn bytes (fault.Fault.Broken rule place))) }
-    ensures not_built { IsSettled result → OnBuild (command_of (words_in words.now)) (λ file. ForFile (S.told shelf.old) file (λ bytes.
-        (result ≡ Status.Refused (fault.Fault.NotBuilt first_place)) ↔ IsNotBuilt bytes)) }
+    ensures init { IsSettled result → OnSource (command_of (words_in words.now)) (λ file clock. ForFile (S.told shelf.old) file (λ bytes.
+        (why : fault.Fault.Fault) → IsOfInit why → (result ≡ Status.Refused why) ↔ FailsIn bytes clock why)) }
+
+    // `build`: which legal texts are not built, and which are.
+    ensures not_built { IsSettled result → OnBuild (command_of (words_in words.now)) (λ file clock. ForFile (S.told shelf.old) file (λ bytes.
+        (result ≡ Status.Refused (fault.Fault.NotBuilt first_place)) ↔ IsNotBuilt bytes clock)) }
     ensures not_built_first { (place : Place) → result ≡ Status.Refused (fault.Fault.NotBuilt place) → place ≡ first_place }
-    ensures complete { OnBuild (command_of (words_in words.now)) (λ file. ForFile (S.told shelf.old) file (λ bytes.
+    ensures complete { OnBuild (command_of (words_in words.now)) (λ file clock. ForFile (S.told shelf.old) file (λ bytes.
         (writes : List DeviceWrite) → IsFirst bytes writes → length bytes ≤ text_limit → IsDoneOrNoMemory result
         ⊎ (Rose (S.faults shelf.old) (S.faults shelf.new) ⊎ (Rose (O.faults out.old) (O.faults out.new) ⊎ Rose (N.faults note.old) (N.faults note.new))))) }
 
     // `build`: the image, whole on `out` with Done, and its layout on `note`.
-    ensures headline { result ≡ Status.Done → OnBuild (command_of (words_in words.now)) (λ file. ForImage (S.told shelf.old) file (λ image layout.
+    ensures headline { result ≡ Status.Done → OnBuild (command_of (words_in words.now)) (λ file clock. ForImage (S.told shelf.old) file clock (λ image layout.
         AppendsAll (O.told out.old) (O.told out.new) (hex_text image) × AppendsBegun (N.told note.old) (N.told note.new) (layout_text layout))) }
-    ensures out_front { result ≡ Status.WriteFault → OnBuild (command_of (words_in words.now)) (λ file. ForImage (S.told shelf.old) file (λ image layout.
+    ensures out_front { result ≡ Status.WriteFault → OnBuild (command_of (words_in words.now)) (λ file clock. ForImage (S.told shelf.old) file clock (λ image layout.
         AppendsFront (O.told out.old) (O.told out.new) (hex_text image)
         × (Rose (O.faults out.old) (O.faults out.new) ⊎ AppendsAll (O.told out.old) (O.told out.new) (hex_text image)))) }
 
@@ -100,9 +115,25 @@ pub fn run<S: Shelf, O: Sink, N: Sink>(
         → ((result ≡ status_of_ending (simulated image lists.reads lists.interrupts steps).ended) ⊎ (result ≡ Status.NoMemory))
         ⊎ (Rose (S.faults shelf.old) (S.faults shelf.new) ⊎ Rose (O.faults out.old) (O.faults out.new)))) }
 
+    // `run`: the lines of the trace of the session of the text, and of its ending, whole on `out` with the answer of that ending.
+    ensures played { IsShown result → OnRun (command_of (words_in words.now)) (λ file script steps. ForTexts (S.told shelf.old) file script (λ t s.
+        ForSession t s steps (λ x. (option_map status_of_end x.ending ≡ Some result) × AppendsAll (O.told out.old) (O.told out.new) (of_run.lines_of x)))) }
+    ensures played_front { result ≡ Status.WriteFault → OnRun (command_of (words_in words.now)) (λ file script steps.
+        ForTexts (S.told shelf.old) file script (λ t s. ForSession t s steps (λ x. AppendsFront (O.told out.old) (O.told out.new) (of_run.lines_of x)))) }
+    ensures played_trace { result ≡ Status.NoMemory → OnRun (command_of (words_in words.now)) (λ file script steps.
+        (O.told out.new ≡ O.told out.old) ⊎ ForTexts (S.told shelf.old) file script (λ t s.
+        ForSession t s steps (λ x. AppendsFront (O.told out.old) (O.told out.new) (trace_lines x.trace)))) }
+    ensures run_script_refused { IsSettled result → OnRun (command_of (words_in words.now)) (λ file script steps. ForFiles (S.told shelf.old) file script (λ t s.
+        (line : ℕ) → (result ≡ Status.ScriptRefused line) ↔ (StartsIn t init_steps × (first_bad s ≡ Some line)))) }
+    ensures run_complete { OnRun (command_of (words_in words.now)) (λ file script steps. ForFiles (S.told shelf.old) file script (λ t s.
+        (tree : Node) (heap : Heap) (lists : Lists) → IsLegal t tree → started (source_of tree) init_steps ≡ Started heap → IsScript s lists
+        → length t ≤ text_limit → length s ≤ image_text_limit
+        → ((option_map status_of_end (session (source_of tree) heap (Some 400) lists.reads lists.interrupts steps).ending ≡ Some result)
+        ⊎ (result ≡ Status.NoMemory)) ⊎ (Rose (S.faults shelf.old) (S.faults shelf.new) ⊎ Rose (O.faults out.old) (O.faults out.new)))) }
+
     // What may fail, and what nothing was put for.
     ensures write_fault { result ≡ Status.WriteFault → Rose (O.faults out.old) (O.faults out.new) ⊎ Rose (N.faults note.old) (N.faults note.new) }
-    ensures out_none { IsBeforePuts result → O.told out.new ≡ O.told out.old }
+    ensures out_none { PutsNothing (command_of (words_in words.now)) result → O.told out.new ≡ O.told out.old }
 
     // The second text of the command and the fault line, which are whole where the count of `note` did not rise.
     ensures note_second { IsShown result → AppendsAll (N.told note.old) (N.told note.new) (second_text (command_of (words_in words.now))) }
@@ -148,6 +179,7 @@ fn obey<S: Shelf, O: Sink, N: Sink>(
     out: &mut O,
     note: &mut N,
 ) -> Status
+    requires { HasSteps (command_in command.entry) }
     ensures fetched { FetchedBy result (S.asked shelf.old) (S.asked shelf.new) (requests_of (Some (command_in command.entry))) }
     ensures read { result ≡ Status.ReadFault → Rose (S.faults shelf.old) (S.faults shelf.new) }
     ensures holds { AnswerBy (Some (command_in command.entry)) result (S.told shelf.old)
@@ -156,7 +188,14 @@ fn obey<S: Shelf, O: Sink, N: Sink>(
     ensures later { N.faults note.old ≤ N.faults note.new }
 {
     match command {
-        Command::Build { file } => run_build(alloc, file, shelf, out, note),
+        Command::Build { file, init_steps } => {
+            run_build(alloc, file, init_steps, shelf, out, note)
+        }
+        Command::Run {
+            file,
+            script,
+            steps,
+        } => run_session(alloc, file, script, steps, shelf, out),
         Command::Sim { hex, script, steps } => run_sim(alloc, hex, script, steps, shelf, out),
     }
 }
@@ -173,6 +212,7 @@ fn put_fault_line<N: Sink>(status: &Status, note: &mut N)
         | Status::Stopped(_)
         | Status::Wants(_)
         | Status::Budget
+        | Status::Depth
         | Status::BadInstruction { .. } => {}
         _ => {
             let _ = note.put(fault_line(status).as_str().as_bytes());

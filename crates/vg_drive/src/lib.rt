@@ -5,6 +5,7 @@ mod answers;
 mod build;
 mod call;
 mod lines;
+mod session;
 mod sim;
 mod status;
 

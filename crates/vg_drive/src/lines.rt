@@ -1,12 +1,14 @@
 // The line that says why nothing was built or run.
 ghost use Rattle.std.specs.Prelude.{◌≡◌, ◌++◌, ℕ, decimal, codes, length, ◌≤◌};
+ghost use Rattle.vg_script.specs.Traces.{byte_digits};
 ghost use Rattle.vg_drive.specs.Lines.{fault_line, hex_line, refusal_line, place_text, what_text};
 
 use crate::status::Status;
 use arrayvec::ArrayString;
+use hex::encode_to_slice;
 use itoa::Buffer;
 use vg_base::Place;
-use vg_build::Fault;
+use vg_front::Fault;
 use vg_hex::HexFault;
 use vg_rules::what::What;
 
@@ -31,6 +33,7 @@ pub fn fault_line(status: &Status) -> ArrayString<LONGEST_LINE>
         | Status::Stopped(_)
         | Status::Wants(_)
         | Status::Budget
+        | Status::Depth
         | Status::BadInstruction { .. } => {}
     }
     line
@@ -44,6 +47,11 @@ fn refusal_line(fault: &Fault) -> ArrayString<LONGEST_LINE>
         Fault::TooDeep(place) => placed_line("too deep at ", *place),
         Fault::TooMany { what, .. } => too_many_line(*what),
         Fault::Broken { rule, place } => broken_line(*rule, *place),
+        Fault::InitTrap { code, place } => init_stop_line(*code, *place),
+        Fault::InitSteps => plain_line("init steps\n"),
+        Fault::InitDepth => plain_line("init depth\n"),
+        Fault::InitTouches(address) => touches_line(*address),
+        Fault::InitTooBig => plain_line("init too big\n"),
         Fault::NotBuilt(place) => placed_line("not built at ", *place),
     }
 }
@@ -74,6 +82,47 @@ fn broken_line(rule: u8, place: Place) -> ArrayString<LONGEST_LINE>
     line.push_str(":");
     line.push_str(Buffer::new().format(place.col));
     line.push_str("\n");
+    line
+}
+
+fn init_stop_line(code: u8, place: Place) -> ArrayString<LONGEST_LINE>
+    ensures { result.bytes ≡ codes "init stop " ++ decimal code ++ codes " at " ++ place_text place ++ codes "\n" }
+{
+    let mut line = ArrayString::new();
+    line.push_str("init stop ");
+    line.push_str(Buffer::new().format(code));
+    line.push_str(" at ");
+    line.push_str(Buffer::new().format(place.line));
+    line.push_str(":");
+    line.push_str(Buffer::new().format(place.col));
+    line.push_str("\n");
+    line
+}
+
+fn touches_line(address: u8) -> ArrayString<LONGEST_LINE>
+    ensures { result.bytes ≡ codes "init touches " ++ byte_digits address ++ codes "\n" }
+{
+    let mut line = ArrayString::new();
+    line.push_str("init touches ");
+    let mut digits = [0u8; 2];
+    match encode_to_slice([address], &mut digits) {
+        Ok(()) => {}
+        Err(_) => unreachable!(),
+    }
+    for digit in digits {
+        line.push(digit as char);
+    }
+    line.push_str("\n");
+    line
+}
+
+// A line that says the same in each case.
+fn plain_line(says: &str) -> ArrayString<LONGEST_LINE>
+    requires { length says.now ≤ 16 }
+    ensures { result.bytes ≡ says.now }
+{
+    let mut line = ArrayString::new();
+    line.push_str(says);
     line
 }
 

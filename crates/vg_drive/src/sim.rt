@@ -27,7 +27,7 @@ pub fn run_sim<S: Shelf, O: Sink>(
     ensures read { result ≡ Status.ReadFault → Rose (S.faults shelf.old) (S.faults shelf.new) }
     ensures holds { SimBy result (S.told shelf.old) hex.now script.now steps (change (O.told out.old) (O.told out.new) (O.faults out.old) (O.faults out.new)) }
 {
-    let (image, events) = match fetch_two(shelf, hex, script, IMAGE_TEXT_LIMIT) {
+    let (image, events) = match fetch_two(shelf, hex, IMAGE_TEXT_LIMIT, script, IMAGE_TEXT_LIMIT) {
         Ok(texts) => texts,
         Err(reason) => return status_without_file(reason),
     };

@@ -1,13 +1,13 @@
 // How a call ends.
 ghost use Rattle.std.specs.Prelude.{◌≡◌};
 
-use vg_build::Fault;
+use vg_front::Fault;
 use vg_hex::HexFault;
 
 /// How a call of the program ends.
 #[derive(Clone, Copy, Debug, PartialEq, Eq)]
 pub enum Status {
-    /// All was put. The machine of `sim` sleeps, and no interrupt is left.
+    /// All was put. The session of `run` idles and the machine of `sim` sleeps, and no interrupt is left.
     Done,
     /// The source text was refused.
     Refused(Fault),
@@ -21,12 +21,14 @@ pub enum Status {
     NoMemory,
     /// A file has more bytes than its limit.
     TooLong,
-    /// The machine has stopped, with this code.
+    /// The session or the machine has stopped, with this code.
     Stopped(u8),
-    /// The machine reads the device register at this data address, and no read is left.
+    /// It reads the device register at this data address, and no read is left.
     Wants(u8),
-    /// As many instructions ran as were allowed, and none of them ended the run.
+    /// `run`: a tick was due, and as many were spent as were allowed. `sim`: as many instructions ran, and none of them ended the run.
     Budget,
+    /// The session has opened a 401st active call.
+    Depth,
     /// The HEX text has this fault, its first.
     HexRefused(HexFault),
     /// The line of this number, from 1 on, is the script's first that is none.
@@ -53,6 +55,7 @@ impl Status {
             Status::Stopped(_) => 7,
             Status::Wants(_) => 8,
             Status::Budget => 9,
+            Status::Depth => 10,
             Status::HexRefused(_) => 11,
             Status::ScriptRefused(_) => 12,
             Status::BadInstruction { .. } => 13,

@@ -80,22 +80,22 @@ both : (old mid new a b : List Asked) → mid ≡ old ++ a → new ≡ mid ++ b 
 both old mid new a b e f = f ∙ ap (λ x. x ++ b) e ∙ append_assoc old a b
 
 -- a second file behind one that was given
-pub second_missing : (reason : NoFile) (old mid new : List Asked) (first second : List ℕ) (limit : ℕ) → OutcomeOf None old mid first limit
-    → OutcomeOf (Some reason) mid new second limit
-    → Fetched (Some reason) old new (record { name = first; limit = limit } ∷ record { name = second; limit = limit } ∷ [])
-second_missing Failed old mid new first second limit (m, within, e) f =
+pub second_missing : (reason : NoFile) (old mid new : List Asked) (first second : List ℕ) (limit bound : ℕ) → OutcomeOf None old mid first limit
+    → OutcomeOf (Some reason) mid new second bound
+    → Fetched (Some reason) old new (record { name = first; limit = limit } ∷ record { name = second; limit = bound } ∷ [])
+second_missing Failed old mid new first second limit bound (m, within, e) f =
     fetched_behind _ old new _ _ (both old mid new _ _ e f)
     (record { count = 2; front = refl; in_turn = (within, tt); all = λ n. cc; failed = λ f. refl; passed = λ l. cc; only = λ p. absurd p })
-second_missing Wanting old mid new first second limit (m, within, e) f =
+second_missing Wanting old mid new first second limit bound (m, within, e) f =
     fetched_behind _ old new _ _ (f ∙ e)
     (record { count = 1; front = refl; in_turn = tt; all = λ n. cc; failed = λ f. cc; passed = λ l. cc; only = λ p. absurd (not_above m limit within p) })
-second_missing Long old mid new first second limit (m, within, e) (n, long, f) =
+second_missing Long old mid new first second limit bound (m, within, e) (n, long, f) =
     fetched_behind _ old new _ _ (both old mid new _ _ e f)
     (record { count = 2; front = refl; in_turn = (within, tt); all = λ n. cc; failed = λ f. cc; passed = λ l. long; only = λ p. refl })
 
-pub two_given : (old mid new : List Asked) (first second : List ℕ) (limit : ℕ) → OutcomeOf None old mid first limit → OutcomeOf None mid new second limit
-    → Fetched None old new (record { name = first; limit = limit } ∷ record { name = second; limit = limit } ∷ [])
-two_given old mid new first second limit (m, within, e) (n, short, f) =
+pub two_given : (old mid new : List Asked) (first second : List ℕ) (limit bound : ℕ) → OutcomeOf None old mid first limit → OutcomeOf None mid new second bound
+    → Fetched None old new (record { name = first; limit = limit } ∷ record { name = second; limit = bound } ∷ [])
+two_given old mid new first second limit bound (m, within, e) (n, short, f) =
     fetched_behind _ old new _ _ (both old mid new _ _ e f)
     (record {
       count = 2;
@@ -104,5 +104,5 @@ two_given old mid new first second limit (m, within, e) (n, short, f) =
       all = λ n. refl;
       failed = λ f. cc;
       passed = λ l. cc;
-      only = λ p. absurd (not_above n limit short p);
+      only = λ p. absurd (not_above n bound short p);
     })

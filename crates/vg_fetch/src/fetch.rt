@@ -55,26 +55,29 @@ fn fetch_within<S: Shelf>(shelf: &mut S, name: &str, limit: usize) -> Result<Vec
     }
 }
 
-/// Two files, whole, where each has at most `limit` bytes. The second is fetched where the first was given so.
+/// Two files, whole, where each has at most as many bytes as its limit. The second is fetched where the first was given so.
 pub fn fetch_two<S: Shelf>(
     shelf: &mut S,
     first: &str,
+    first_limit: usize,
     second: &str,
-    limit: usize,
+    second_limit: usize,
 ) -> Result<(Vec<u8>, Vec<u8>), NoFile>
-    requires { limit < 2 ^ 64 - 1 }
-    ensures short { IfOk result (λ v. (length v.0.items ≤ limit) × (length v.1.items ≤ limit)) }
+    requires first { first_limit < 2 ^ 64 - 1 }
+    requires second { second_limit < 2 ^ 64 - 1 }
+    ensures short { IfOk result (λ v. (length v.0.items ≤ first_limit) × (length v.1.items ≤ second_limit)) }
     ensures whole { IfOk result (λ v. ForFiles (S.told shelf.old) first.now second.now (λ a b. (a ≡ v.0.items) × (b ≡ v.1.items))) }
-    ensures long { IsErrOf result NoFile.Long → ForFiles (S.told shelf.old) first.now second.now (λ a b. (limit < length a) ⊎ (limit < length b)) }
+    ensures long { IsErrOf result NoFile.Long
+        → ForFiles (S.told shelf.old) first.now second.now (λ a b. (first_limit < length a) ⊎ (second_limit < length b)) }
     ensures told { S.told shelf.new ≡ S.told shelf.old }
     ensures cause { IsErrOf result NoFile.Failed → Rose (S.faults shelf.old) (S.faults shelf.new) }
     ensures later { S.faults shelf.old ≤ S.faults shelf.new }
     ensures asked { Fetched (reason_of result) (S.asked shelf.old) (S.asked shelf.new)
-        (record { name = first.now; limit = limit } ∷ record { name = second.now; limit = limit } ∷ []) }
+        (record { name = first.now; limit = first_limit } ∷ record { name = second.now; limit = second_limit } ∷ []) }
 {
-    match fetch_within(shelf, first, limit) {
+    match fetch_within(shelf, first, first_limit) {
         Err(reason) => Err(reason),
-        Ok(front) => match fetch_within(shelf, second, limit) {
+        Ok(front) => match fetch_within(shelf, second, second_limit) {
             Err(reason) => Err(reason),
             Ok(behind) => Ok((front, behind)),
         },

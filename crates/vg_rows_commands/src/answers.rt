@@ -53,7 +53,7 @@ pub fn words_of(table: &Table, words: &str) -> Result<Option<Vec<String>>, NoMem
     Ok(Some(list))
 }
 
-// `words WORD ..`: `build FILE`, `sim HEX SCRIPT STEPS` or `none`.
+// `words WORD ..`: `build FILE STEPS`, `run FILE SCRIPT STEPS`, `sim HEX SCRIPT STEPS` or `none`.
 fn meaning(table: &Table, words: &str) -> Result<Option<Row<u8>>, NoMemory> {
     let Some(list) = words_of(table, words)? else {
         return Ok(None);
@@ -61,16 +61,33 @@ fn meaning(table: &Table, words: &str) -> Result<Option<Row<u8>>, NoMemory> {
     let mut answer = Row::new(table.alloc);
     match command_of(&list) {
         None => push_part(&mut answer, b"none")?,
-        Some(Command::Build { file }) => {
+        Some(Command::Build { file, init_steps }) => {
             push_part(&mut answer, b"build")?;
             push_part(&mut answer, file.as_bytes())?;
+            push_part(&mut answer, Buffer::new().format(init_steps).as_bytes())?;
         }
+        Some(Command::Run {
+            file,
+            script,
+            steps,
+        }) => push_pair(&mut answer, "run", file, script, steps)?,
         Some(Command::Sim { hex, script, steps }) => {
-            push_part(&mut answer, b"sim")?;
-            push_part(&mut answer, hex.as_bytes())?;
-            push_part(&mut answer, script.as_bytes())?;
-            push_part(&mut answer, Buffer::new().format(steps).as_bytes())?;
+            push_pair(&mut answer, "sim", hex, script, steps)?
         }
     }
     Ok(Some(answer))
+}
+
+// A command, its two files and its steps.
+fn push_pair(
+    answer: &mut Row<u8>,
+    command: &str,
+    first: &str,
+    second: &str,
+    steps: u32,
+) -> Result<(), NoMemory> {
+    push_part(answer, command.as_bytes())?;
+    push_part(answer, first.as_bytes())?;
+    push_part(answer, second.as_bytes())?;
+    push_part(answer, Buffer::new().format(steps).as_bytes())
 }

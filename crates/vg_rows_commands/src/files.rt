@@ -45,7 +45,7 @@ pub fn given_files(table: &mut Table, words: &str) -> Result<Option<Row<u8>>, No
     let Some((second, limit)) = name_and_limit(rest) else {
         return Ok(None);
     };
-    match fetch_two(&mut table.shelf, first, second, limit) {
+    match fetch_two(&mut table.shelf, first, limit, second, limit) {
         Ok((front, behind)) => given(table.alloc, front.as_slice(), Some(behind.as_slice())),
         Err(reason) => missing(table.alloc, reason),
     }

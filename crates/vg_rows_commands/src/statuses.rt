@@ -3,8 +3,8 @@ use crate::answers::push_part;
 use itoa::Buffer;
 use std::alloc::Global;
 use vg_base::{NoMemory, Place, Row};
-use vg_build::Fault;
 use vg_drive::{Status, fault_line};
+use vg_front::Fault;
 use vg_hex::HexFault;
 use vg_rules::what::What;
 use vg_types_counts::{CLASS_LIMIT, HEIGHT_LIMIT, LOCAL_LIMIT, METHOD_LIMIT};
@@ -39,6 +39,7 @@ fn status_of(words: &str) -> Option<Status> {
         "no-memory" => Some(Status::NoMemory),
         "too-long" => Some(Status::TooLong),
         "budget" => Some(Status::Budget),
+        "depth" => Some(Status::Depth),
         "stopped" => Some(Status::Stopped(u8::try_from(first).ok()?)),
         "wants" => Some(Status::Wants(u8::try_from(first).ok()?)),
         "script" => Some(Status::ScriptRefused(first)),
@@ -69,7 +70,26 @@ fn refused(name: &str, first: u32, second: u32) -> Option<Status> {
         "hex-twice" => Some(Status::HexRefused(HexFault::Twice(first))),
         "hex-beyond" => Some(Status::HexRefused(HexFault::Beyond(first))),
         "hex-no-end" => Some(Status::HexRefused(HexFault::NoEnd)),
-        _ => broken(name, place),
+        _ => init_fault(name, first, place),
+    }
+}
+
+// A fault of initialisation, of which a stop has the code in its name: `init-stop-3`.
+fn init_fault(name: &str, first: u32, place: Place) -> Option<Status> {
+    match name {
+        "init-steps" => Some(Status::Refused(Fault::InitSteps)),
+        "init-depth" => Some(Status::Refused(Fault::InitDepth)),
+        "init-touches" => Some(Status::Refused(Fault::InitTouches(
+            u8::try_from(first).ok()?,
+        ))),
+        "init-too-big" => Some(Status::Refused(Fault::InitTooBig)),
+        _ => match name.strip_prefix("init-stop-") {
+            Some(code) => {
+                let code = code.parse::<u8>().ok()?;
+                Some(Status::Refused(Fault::InitTrap { code, place }))
+            }
+            None => broken(name, place),
+        },
     }
 }
 

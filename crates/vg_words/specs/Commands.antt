@@ -15,7 +15,8 @@ words_in = map string_bytes
 
 -- what a command line asks for
 pub data Command : Type 0 where
-  Build : (file : List ℕ) → Command
+  Build : (file : List ℕ) (init_steps : ℕ) → Command
+  Run : (file script : List ℕ) (steps : ℕ) → Command
   Sim : (hex script : List ℕ) (steps : ℕ) → Command
 
 -- whether each option is one of these and has a value
@@ -35,27 +36,45 @@ at_most_once absent read (value ∷ again ∷ more) = None
 abbrev pub steps_in : List Item → Option ℕ
 steps_in given = at_most_once (Some 10000000) (number 10 1000000000) (values_of (codes "--steps") given)
 
--- `build FILE`
+-- `--init-steps N`: N from 1 to 100,000,000 in at most nine digits, and 1,000,000 where it is absent
+abbrev pub init_steps_in : List Item → Option ℕ
+init_steps_in given = at_most_once (Some 1000000) (number 9 100000000) (values_of (codes "--init-steps") given)
+
+-- `build FILE`, with `--init-steps N`
+abbrev pub build_with : Option (List ℕ) → Option ℕ → Option Command
+build_with (Some file) (Some init_steps) = Some (Build file init_steps)
+build_with _ _ = None
+
 abbrev pub build_of : List Item → Option Command
-build_of given = if knows [] given then option_map Build (one (plain_words given)) else None
+build_of given = if knows (codes "--init-steps" ∷ []) given then build_with (one (plain_words given)) (init_steps_in given) else None
+
+-- two plain words, of which the second is a script, with `--steps N`
+abbrev pub two_with : Option (List ℕ × List ℕ) → Option ℕ → Option (List ℕ × List ℕ × ℕ)
+two_with (Some files) (Some steps) = Some (files.0, files.1, steps)
+two_with _ _ = None
+
+abbrev pub on_script : List Item → Option (List ℕ × List ℕ × ℕ)
+on_script given = if knows (codes "--steps" ∷ []) given then two_with (two (plain_words given)) (steps_in given) else None
+
+-- `run FILE SCRIPT`, with `--steps N`
+abbrev pub run_of : List Item → Option Command
+run_of given = option_map (λ w. Run w.0 w.1 w.2) (on_script given)
 
 -- `sim HEX SCRIPT`, with `--steps N`
-abbrev pub sim_with : Option (List ℕ × List ℕ) → Option ℕ → Option Command
-sim_with (Some files) (Some steps) = Some (Sim files.0 files.1 steps)
-sim_with _ _ = None
-
 abbrev pub sim_of : List Item → Option Command
-sim_of given = if knows (codes "--steps" ∷ []) given then sim_with (two (plain_words given)) (steps_in given) else None
+sim_of given = option_map (λ w. Sim w.0 w.1 w.2) (on_script given)
 
 -- the command of all words
 abbrev pub command_of : List (List ℕ) → Option Command
 command_of [] = None
 command_of (name ∷ words) =
     if bytes_eq name (codes "build") then build_of (items words)
+    else if bytes_eq name (codes "run") then run_of (items words)
     else if bytes_eq name (codes "sim") then sim_of (items words)
     else None
 
--- the steps of a command, where it has any, are from 1 to 1,000,000,000
+-- the steps of a command are within their range
 abbrev pub HasSteps : Command → Type 0
-HasSteps (Build file) = Unit {0}
+HasSteps (Build file init_steps) = (1 ≤ init_steps) × (init_steps ≤ 100000000)
+HasSteps (Run file script steps) = (1 ≤ steps) × (steps ≤ 1000000000)
 HasSteps (Sim hex script steps) = (1 ≤ steps) × (steps ≤ 1000000000)

@@ -1,6 +1,6 @@
 // The command that words mean.
 ghost use Rattle.std.specs.Prelude.{◌≡◌, ◌≤◌, IfSome, option_map};
-ghost use Rattle.vg_words.specs.Commands.{HasSteps, build_of, command_of, sim_of, steps_in, words_in};
+ghost use Rattle.vg_words.specs.Commands.{HasSteps, build_of, command_of, init_steps_in, on_script, run_of, sim_of, steps_in, words_in};
 ghost use Rattle.vg_words.specs.Views.{command_in};
 ghost use Rattle.vg_words.specs.Items.{items};
 
@@ -11,9 +11,18 @@ use crate::plain::{one_word, two_words};
 /// What a command line asks for.
 #[derive(Clone, Copy, Debug, PartialEq, Eq)]
 pub enum Command<'a> {
-    /// `build FILE`: the source text in this file is to be built.
+    /// `build FILE`: the source text in this file is to be built, in whose initialisation at most `init_steps` ticks are to be
+    /// spent, from 1 to 100,000,000.
     Build {
         file: &'a str,
+        init_steps: u32,
+    },
+    /// `run FILE SCRIPT`: the source text in this file is to be run on the script in the file `script`, for at most `steps`
+    /// ticks, from 1 to 1,000,000,000.
+    Run {
+        file: &'a str,
+        script: &'a str,
+        steps: u32,
     },
     /// `sim HEX SCRIPT`: the image in the file `hex` is to run on the script in the file `script`, for at most `steps`
     /// instructions, from 1 to 1,000,000,000.
@@ -28,8 +37,9 @@ pub enum Command<'a> {
 ///
 /// The first word is the command, and behind it stand options and plain words in any order. `--name VALUE` and
 /// `--name=VALUE` are options, each of which may stand once; behind `--` each word is plain. `build FILE` has one plain
-/// word and no option. `sim HEX SCRIPT` has two and the option `--steps N`, with N from 1 to 1,000,000,000 in at most
-/// ten digits, and 10,000,000 where it is absent.
+/// word and the option `--init-steps N`, with N from 1 to 100,000,000 in at most nine digits, and 1,000,000 where it is
+/// absent. `run FILE SCRIPT` and `sim HEX SCRIPT` have two and the option `--steps N`, with N from 1 to 1,000,000,000 in at
+/// most ten digits, and 10,000,000 where it is absent.
 pub fn command_of(words: &[String]) -> Option<Command<'_>>
     ensures meaning { option_map command_in result ≡ command_of (words_in words.entry.now) }
     ensures steps { IfSome result (λ command. HasSteps (command_in command)) }
@@ -39,6 +49,8 @@ pub fn command_of(words: &[String]) -> Option<Command<'_>>
         [name, behind @ ..] => {
             if name.as_str() == "build" {
                 build_of(behind)
+            } else if name.as_str() == "run" {
+                run_of(behind)
             } else if name.as_str() == "sim" {
                 sim_of(behind)
             } else {
@@ -48,16 +60,31 @@ pub fn command_of(words: &[String]) -> Option<Command<'_>>
     }
 }
 
-// `build FILE`
+// `build FILE`, with `--init-steps N`
 fn build_of(words: &[String]) -> Option<Command<'_>>
     ensures meaning { option_map command_in result ≡ build_of (items (words_in words.entry.now)) }
     ensures steps { IfSome result (λ command. HasSteps (command_in command)) }
 {
-    if !knows(&[], words) {
+    if !knows(&[b"--init-steps"], words) {
         return None;
     }
-    match one_word(words) {
-        Some(file) => Some(Command::Build { file }),
+    match (one_word(words), init_steps_in(words)) {
+        (Some(file), Some(init_steps)) => Some(Command::Build { file, init_steps }),
+        _ => None,
+    }
+}
+
+// `run FILE SCRIPT`, with `--steps N`
+fn run_of(words: &[String]) -> Option<Command<'_>>
+    ensures meaning { option_map command_in result ≡ run_of (items (words_in words.entry.now)) }
+    ensures steps { IfSome result (λ command. HasSteps (command_in command)) }
+{
+    match on_script(words) {
+        Some((file, script, steps)) => Some(Command::Run {
+            file,
+            script,
+            steps,
+        }),
         None => None,
     }
 }
@@ -67,16 +94,41 @@ fn sim_of(words: &[String]) -> Option<Command<'_>>
     ensures meaning { option_map command_in result ≡ sim_of (items (words_in words.entry.now)) }
     ensures steps { IfSome result (λ command. HasSteps (command_in command)) }
 {
+    match on_script(words) {
+        Some((hex, script, steps)) => Some(Command::Sim { hex, script, steps }),
+        None => None,
+    }
+}
+
+// Two plain words, of which the second is a script, with `--steps N`.
+fn on_script(words: &[String]) -> Option<(&str, &str, u32)>
+    ensures meaning { option_map (λ given. (given.0.now, given.1.now, given.2)) result ≡ on_script (items (words_in words.entry.now)) }
+    ensures within { IfSome result (λ given. (1 ≤ given.2) × (given.2 ≤ 1000000000)) }
+{
     if !knows(&[b"--steps"], words) {
         return None;
     }
     match (two_words(words), steps_in(words)) {
-        (Some((hex, script)), Some(steps)) => Some(Command::Sim { hex, script, steps }),
+        (Some((first, script)), Some(steps)) => Some((first, script, steps)),
         _ => None,
     }
 }
 
-// The instructions that `--steps N` allows.
+// The ticks that `--init-steps N` allows.
+fn init_steps_in(words: &[String]) -> Option<u32>
+    ensures meaning { result ≡ init_steps_in (items (words_in words.now)) }
+    ensures within { IfSome result (λ steps. (1 ≤ steps) × (steps ≤ 100000000)) }
+{
+    match value_of(words, b"--init-steps", 0) {
+        None => Some(1_000_000),
+        Some(value) => match value_of(words, b"--init-steps", 1) {
+            None => number(9, 100_000_000, value),
+            Some(_) => None,
+        },
+    }
+}
+
+// The ticks or instructions that `--steps N` allows.
 fn steps_in(words: &[String]) -> Option<u32>
     ensures meaning { result ≡ steps_in (items (words_in words.now)) }
     ensures within { IfSome result (λ steps. (1 ≤ steps) × (steps ≤ 1000000000)) }

@@ -3,9 +3,8 @@ use Rattle.vg_build.proofs.Images.{built_of}
 use Rattle.vg_build.proofs.building.answer_to.Goals as goal
 
 pub returns-in-Err-Fault : goal.returns-in-Err-Fault
-returns-in-Err-Fault c =
-    (((c.in-Ok.ensures.text, c.in-Ok.ensures.tree, c.in-Ok.ensures.reads, c.in-Ok.ensures.kept), c.in-Err-Fault.ensures.not c.in-Err-Fault.field-0-0 (ap Err c.in-Err-Fault.field-0-is)), refl)
+returns-in-Err-Fault c = ((c.in-Ok.ensures, c.in-Err-Fault.ensures.not c.in-Err-Fault.field-0-0 (ap Err c.in-Err-Fault.field-0-is)), refl)
 
 pub returns-in-Ok-made_of : goal.returns-in-Ok-made_of
 returns-in-Ok-made_of c =
-    built_of _ _ _ _ c.as_slice.ensures c.in-Ok.ensures c.in-Ok-read_first.ensures.ok c.in-Ok-made_of.ensures
+    built_of _ _ _ _ _ c.as_slice.ensures c.in-Ok.ensures c.in-Ok-read_first.ensures.ok c.in-Ok-made_of.ensures

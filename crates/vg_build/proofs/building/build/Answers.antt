@@ -1,23 +1,27 @@
-use Rattle.vg_build.proofs.Faults.{broken_of, complete_of, first_of, no_tree_of, not_built_of, too_deep_of, too_many_of}
+use Rattle.vg_front.specs.declared.fault.Fault.TheVariants.{NoTree, TooDeep, TooMany, Broken}
+use Rattle.vg_build.proofs.Faults.{complete_of, exactly, first_of, init_of, not_built_of}
 use Rattle.vg_build.proofs.building.build.Goals as goal
 
 pub returns-clause-no_tree : goal.returns-clause-no_tree
-returns-clause-no_tree c = no_tree_of _ _ c.answer_to.ensures
+returns-clause-no_tree c = λ settled place. exactly _ _ _ c.answer_to.ensures settled (NoTree place)
 
 pub returns-clause-too_deep : goal.returns-clause-too_deep
-returns-clause-too_deep c = too_deep_of _ _ c.answer_to.ensures
-
-pub returns-clause-not_built : goal.returns-clause-not_built
-returns-clause-not_built c = not_built_of _ _ c.answer_to.ensures
-
-pub returns-clause-not_built_first : goal.returns-clause-not_built_first
-returns-clause-not_built_first c = first_of _ _ c.answer_to.ensures
-
-pub returns-clause-complete : goal.returns-clause-complete
-returns-clause-complete c = complete_of _ _ c.answer_to.ensures
+returns-clause-too_deep c = λ settled place. exactly _ _ _ c.answer_to.ensures settled (TooDeep place)
 
 pub returns-clause-too_many : goal.returns-clause-too_many
-returns-clause-too_many c = too_many_of _ _ c.answer_to.ensures
+returns-clause-too_many c = λ settled what limit place. exactly _ _ _ c.answer_to.ensures settled (TooMany what limit place)
 
 pub returns-clause-broken : goal.returns-clause-broken
-returns-clause-broken c = broken_of _ _ c.answer_to.ensures
+returns-clause-broken c = λ settled rule place. exactly _ _ _ c.answer_to.ensures settled (Broken rule place)
+
+pub returns-clause-init : goal.returns-clause-init
+returns-clause-init c = init_of _ _ _ c.answer_to.ensures
+
+pub returns-clause-not_built : goal.returns-clause-not_built
+returns-clause-not_built c = not_built_of _ _ _ c.answer_to.ensures
+
+pub returns-clause-not_built_first : goal.returns-clause-not_built_first
+returns-clause-not_built_first c = first_of _ _ _ c.answer_to.ensures
+
+pub returns-clause-complete : goal.returns-clause-complete
+returns-clause-complete c = complete_of _ _ _ c.answer_to.ensures

@@ -1,5 +1,9 @@
-use Rattle.vg_build.proofs.Faults.{read_by}
+use Rattle.vg_front.proofs.Starts.{start_is_start}
+use Rattle.vg_build.proofs.Faults.{started_by}
 use Rattle.vg_build.proofs.building.check_text.Goals as goal
 
 pub returns-in-Ok : goal.returns-in-Ok
-returns-in-Ok c = read_by _ _ c.in-Ok.ensures.answer.0 c.in-Ok.ensures.answer.1 _ c.judged.ensures
+returns-in-Ok c = start_is_start _ _ _ c.in-Ok.ensures
+
+pub returns-in-Err : goal.returns-in-Err
+returns-in-Err c = started_by _ _ _ c.in-Err.ensures

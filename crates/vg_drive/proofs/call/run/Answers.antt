@@ -1,10 +1,14 @@
 -- Each clause of the top call: what the answer says of its command, and then what the fault line adds to the second sink.
--- A clause on `build` or `sim` is one lemma on its files (Builds, Sims), lifted to all words by on_build or on_sim.
+-- A clause on `build`, `run` or `sim` is one lemma on its files (Builds, Plays, Sims), lifted to all words by on_build, on_run or on_sim; one on a source
+-- text is lifted from both by on_source (Sources).
+use Rattle.vg_front.specs.declared.fault.Fault.TheVariants.{NoTree, TooDeep, TooMany, Broken}
 use Rattle.vg_drive.proofs.Builds as builds
+use Rattle.vg_drive.proofs.Plays as plays
 use Rattle.vg_drive.proofs.Sims as sims
-use Rattle.vg_drive.proofs.Commands.{answers_of, before_of, either_later, first_of, on_build, on_sim, rose_later, usage_of, write_fault_of}
+use Rattle.vg_drive.proofs.Commands.{answers_of, either_later, first_of, on_build, on_run, on_sim, out_before_of, rose_later, usage_of, write_fault_of}
 use Rattle.vg_drive.proofs.Fetches.{asks_all_by, asks_front_by, failed_by, too_long_by}
 use Rattle.vg_drive.proofs.Notes.{fronts_of, headline_of, line_front_of, line_last_of, line_of, second_of}
+use Rattle.vg_drive.proofs.Sources.{exactly_of, init_is, source_is}
 use Rattle.vg_drive.proofs.call.run.Goals as goal
 
 pub returns-clause-usage : goal.returns-clause-usage
@@ -27,23 +31,28 @@ returns-clause-too_long g c = too_long_by _ _ _ _ c.answer-status.ensures.fetche
 
 pub returns-clause-no_tree : goal.returns-clause-no_tree
 returns-clause-no_tree g c =
-    λ settled. on_build _ _ _ _ _ _ c.answer-status.ensures.holds (λ file h. builds.no_tree_by _ _ file _ _ h settled)
+    λ settled. source_is _ _ _ _ (λ bytes clock f place. f (NoTree place) tt) (exactly_of _ _ _ _ _ c.answer-status.ensures.holds settled)
 
 pub returns-clause-too_deep : goal.returns-clause-too_deep
 returns-clause-too_deep g c =
-    λ settled. on_build _ _ _ _ _ _ c.answer-status.ensures.holds (λ file h. builds.too_deep_by _ _ file _ _ h settled)
+    λ settled. source_is _ _ _ _ (λ bytes clock f place. f (TooDeep place) tt) (exactly_of _ _ _ _ _ c.answer-status.ensures.holds settled)
 
 pub returns-clause-too_many : goal.returns-clause-too_many
 returns-clause-too_many g c =
-    λ settled. on_build _ _ _ _ _ _ c.answer-status.ensures.holds (λ file h. builds.too_many_by _ _ file _ _ h settled)
+    λ settled. source_is _ _ _ _ (λ bytes clock f what limit place. f (TooMany what limit place) tt)
+    (exactly_of _ _ _ _ _ c.answer-status.ensures.holds settled)
 
 pub returns-clause-broken : goal.returns-clause-broken
 returns-clause-broken g c =
-    λ settled. on_build _ _ _ _ _ _ c.answer-status.ensures.holds (λ file h. builds.broken_by _ _ file _ _ h settled)
+    λ settled. source_is _ _ _ _ (λ bytes clock f rule place. f (Broken rule place) tt) (exactly_of _ _ _ _ _ c.answer-status.ensures.holds settled)
+
+pub returns-clause-init : goal.returns-clause-init
+returns-clause-init g c =
+    λ settled. source_is _ _ _ _ (λ bytes clock f. init_is _ bytes clock f) (exactly_of _ _ _ _ _ c.answer-status.ensures.holds settled)
 
 pub returns-clause-not_built : goal.returns-clause-not_built
 returns-clause-not_built g c =
-    λ settled. on_build _ _ _ _ _ _ c.answer-status.ensures.holds (λ file h. builds.not_built_by _ _ file _ _ h settled)
+    λ settled. on_build _ _ _ _ _ _ c.answer-status.ensures.holds (λ file clock h. builds.not_built_by _ _ file clock _ _ h settled)
 
 pub returns-clause-not_built_first : goal.returns-clause-not_built_first
 returns-clause-not_built_first g c = first_of _ _ _ _ _ c.answer-status.ensures.holds
@@ -51,14 +60,14 @@ returns-clause-not_built_first g c = first_of _ _ _ _ _ c.answer-status.ensures.
 pub returns-clause-complete : goal.returns-clause-complete
 returns-clause-complete g c =
     on_build _ _ _ _ _ _ c.answer-status.ensures.holds
-    (λ file h. builds.complete_by _ _ file _ _ _ _ h c.answer-status.ensures.read (either_later _ _ _ _ c.put_fault_line.ensures.later))
+    (λ file clock h. builds.complete_by _ _ file clock _ _ _ _ h c.answer-status.ensures.read (either_later _ _ _ _ c.put_fault_line.ensures.later))
 
 pub returns-clause-headline : goal.returns-clause-headline
 returns-clause-headline g c = headline_of _ _ _ _ _ _ c.answer-status.ensures.holds c.put_fault_line.ensures.none
 
 pub returns-clause-out_front : goal.returns-clause-out_front
 returns-clause-out_front g c =
-    λ e. on_build _ _ _ _ _ _ c.answer-status.ensures.holds (λ file h. builds.out_front_by _ _ file _ _ h e)
+    λ e. on_build _ _ _ _ _ _ c.answer-status.ensures.holds (λ file clock h. builds.out_front_by _ _ file clock _ _ h e)
 
 pub returns-clause-hex_refused : goal.returns-clause-hex_refused
 returns-clause-hex_refused g c =
@@ -81,12 +90,33 @@ returns-clause-sim_complete g c =
     on_sim _ _ _ _ _ _ c.answer-status.ensures.holds
     (λ hex script steps h. sims.complete_by _ _ hex script steps _ _ h c.answer-status.ensures.read)
 
+pub returns-clause-played : goal.returns-clause-played
+returns-clause-played g c =
+    λ shown. on_run _ _ _ _ _ _ c.answer-status.ensures.holds (λ file script steps h. plays.played_by _ _ file script steps _ h shown)
+
+pub returns-clause-played_front : goal.returns-clause-played_front
+returns-clause-played_front g c =
+    λ e. on_run _ _ _ _ _ _ c.answer-status.ensures.holds (λ file script steps h. plays.front_by _ _ file script steps _ h e)
+
+pub returns-clause-played_trace : goal.returns-clause-played_trace
+returns-clause-played_trace g c =
+    λ e. on_run _ _ _ _ _ _ c.answer-status.ensures.holds (λ file script steps h. plays.trace_by _ _ file script steps _ h e)
+
+pub returns-clause-run_script_refused : goal.returns-clause-run_script_refused
+returns-clause-run_script_refused g c =
+    λ settled. on_run _ _ _ _ _ _ c.answer-status.ensures.holds (λ file script steps h. plays.script_by _ _ file script steps _ h settled)
+
+pub returns-clause-run_complete : goal.returns-clause-run_complete
+returns-clause-run_complete g c =
+    on_run _ _ _ _ _ _ c.answer-status.ensures.holds
+    (λ file script steps h. plays.complete_by _ _ file script steps _ _ h c.answer-status.ensures.read)
+
 pub returns-clause-write_fault : goal.returns-clause-write_fault
 returns-clause-write_fault g c =
     λ e. either_later _ _ _ _ c.put_fault_line.ensures.later (write_fault_of _ _ _ _ _ c.answer-status.ensures.holds e)
 
 pub returns-clause-out_none : goal.returns-clause-out_none
-returns-clause-out_none g c = λ before. (before_of _ _ _ _ _ c.answer-status.ensures.holds before).0
+returns-clause-out_none g c = λ before. out_before_of _ _ _ _ _ c.answer-status.ensures.holds before
 
 pub returns-clause-note_second : goal.returns-clause-note_second
 returns-clause-note_second g c =

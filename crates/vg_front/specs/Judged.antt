@@ -1,16 +1,14 @@
 -- What the tree of a text is refused for: too many of something, or the first rule that it breaks, and where.
-use Rattle.std.specs.Prelude.{ℕ, ◌≡◌, List, Option, Some, None, Result, Ok, Err, unwrap_or}
+use Rattle.std.specs.Prelude.{ℕ, ◌≡◌, List, Option, Some, None, unwrap_or}
 use Rattle.std.specs.Option.{option_map}
 use Rattle.vg_base.specs.declared.place.Place.{Place}
-use Rattle.vg_base.specs.declared.refusal.Refusal.{Refusal}
-use Rattle.vg_base.specs.declared.refusal.Refusal.TheVariants as refusal
 use Rattle.vg_syntax.specs.Faults.{IsText}
 use Rattle.vg_syntax.specs.Reads.{Reads}
 use Rattle.vg_syntax.specs.Tree.{Node}
 use Rattle.vg_rules.specs.Refusal.{Refused, TooMany, Broken, refusal_of}
 use Rattle.vg_places.specs.Places.{place_at}
-use Rattle.vg_build.specs.declared.fault.Fault.{Fault}
-use Rattle.vg_build.specs.declared.fault.Fault.TheVariants as fault
+use Rattle.vg_front.specs.declared.fault.Fault.{Fault}
+use Rattle.vg_front.specs.declared.fault.Fault.TheVariants as fault
 
 -- the place of the node of this number
 abbrev pub place_in : (id : ℕ) → Node → Place
@@ -29,12 +27,8 @@ tree_fault tree = option_map (fault_of tree) (refusal_of tree)
 abbrev pub RefusedIn : List ℕ → Fault → Type 0
 RefusedIn bytes why = IsText bytes × (tree : Node) × Reads bytes tree × (tree_fault tree ≡ Some why)
 
--- the bytes are a text whose tree is refused for nothing: it keeps all rules and has too many of nothing
-abbrev pub KeptIn : List ℕ → Type 0
-KeptIn bytes = IsText bytes × (tree : Node) × Reads bytes tree × (tree_fault tree ≡ None)
-
--- Mirror: what the code answers for a tree.
-abbrev pub JudgedBy : Node → Result (Unit {0}) (Refusal Fault) → Type 0
-JudgedBy tree (Ok u) = tree_fault tree ≡ None
-JudgedBy tree (Err (refusal.Fault why)) = tree_fault tree ≡ Some why
-JudgedBy tree (Err refusal.NoMemory) = Unit {0}
+-- the bytes are a text of the language with this tree, which is refused for nothing: it keeps all rules and has too many of nothing
+pub record IsLegal (bytes : List ℕ) (tree : Node) : Type 0 where
+  pub text : IsText bytes
+  pub reads : Reads bytes tree
+  pub legal : refusal_of tree ≡ None

@@ -2,7 +2,7 @@
 use vg_base::Place;
 use vg_rules::what::What;
 
-/// Why a source text was refused.
+/// Why a source text was refused. Where it has several faults, the first of these is named.
 #[derive(Clone, Copy, Debug, PartialEq, Eq)]
 pub enum Fault {
     /// The token at this place, or the end, is the first that no text of the language has there.
@@ -16,10 +16,17 @@ pub enum Fault {
         place: Place,
     },
     /// The node at this place breaks the rule of this number, from 1 to 25, and is the first that breaks one.
-    Broken {
-        rule: u8,
-        place: Place,
-    },
-    /// The text is one of the language, and a form that is not built yet stands at this place.
+    Broken { rule: u8, place: Place },
+    /// Initialisation stops by the exception of this code, at the node at this place.
+    InitTrap { code: u8, place: Place },
+    /// Initialisation needs a tick when its clock is spent.
+    InitSteps,
+    /// Initialisation opens a 401st active call.
+    InitDepth,
+    /// Initialisation reads or writes the device register at this data address.
+    InitTouches(u8),
+    /// Initialisation stores a 60,001st value.
+    InitTooBig,
+    /// The text is a legal one that starts, and a form that is not built yet stands at this place.
     NotBuilt(Place),
 }

@@ -1,0 +1,74 @@
+-- Exactly which source texts are refused, by each command that reads one.
+use Rattle.std.proofs.Common.{◌≡◌, ℕ, ◌↔◌, List, Option, Some, None}
+use Rattle.vg_base.specs.declared.place.Place.{Place}
+use Rattle.vg_io.specs.declared.file.File.{File}
+use Rattle.vg_words.specs.Commands.{Command}
+use Rattle.vg_fetch.specs.Told.{ForFile}
+use Rattle.vg_front.specs.declared.fault.Fault.{Fault}
+use Rattle.vg_front.specs.declared.fault.Fault.TheVariants.{NoTree, TooDeep, TooMany, Broken, InitTrap, InitSteps, InitDepth, InitTouches, InitTooBig, NotBuilt}
+use Rattle.vg_front.specs.Answer.{HasFault, IsOfInit}
+use Rattle.vg_front.specs.Starting.{FailsIn}
+use Rattle.vg_build.specs.Answer as of_build
+use Rattle.vg_run.specs.Shown.{init_steps}
+use Rattle.vg_drive.specs.declared.status.Status.{Status}
+use Rattle.vg_drive.specs.declared.status.Status.TheVariants.{Refused}
+use Rattle.vg_drive.specs.Commands.{OnSource}
+use Rattle.vg_drive.specs.Mirrors.{AnswerBy, Change}
+use Rattle.vg_drive.specs.Statuses.{IsSettled}
+use Rattle.vg_drive.proofs.Builds as builds
+use Rattle.vg_drive.proofs.Plays as plays
+use Rattle.vg_drive.proofs.Commands.{on_source, with_source}
+use Rattle.vg_drive.proofs.Files.{with_file}
+
+-- a fault that every command answers
+abbrev pub IsOfText : Fault → Type 0
+IsOfText (NotBuilt p) = ⊥
+IsOfText _ = Unit {0}
+
+-- `build` has it where the text has it
+of_text : (why : Fault) (s : Status) (bytes : List ℕ) (clock : ℕ) → IsOfText why → (s ≡ Refused why) ↔ of_build.HasFault why bytes clock
+    → (s ≡ Refused why) ↔ HasFault why bytes clock
+of_text (NoTree p) s bytes clock asked f = f
+of_text (TooDeep p) s bytes clock asked f = f
+of_text (TooMany what limit p) s bytes clock asked f = f
+of_text (Broken rule p) s bytes clock asked f = f
+of_text (InitTrap code p) s bytes clock asked f = f
+of_text InitSteps s bytes clock asked f = f
+of_text InitDepth s bytes clock asked f = f
+of_text (InitTouches address) s bytes clock asked f = f
+of_text InitTooBig s bytes clock asked f = f
+of_text (NotBuilt p) s bytes clock asked f = absurd asked
+
+-- exactly the faults of a text are named
+abbrev pub Exactly : Status → List ℕ → ℕ → Type 0
+Exactly s bytes clock = (why : Fault) → IsOfText why → (s ≡ Refused why) ↔ HasFault why bytes clock
+
+pub exactly_of : (c : Option Command) (s : Status) (told : Option (List File)) (out note : Change) → AnswerBy c s told out note → IsSettled s
+    → OnSource c (λ file clock. ForFile told file (λ bytes. Exactly s bytes clock))
+exactly_of c s told out note h settled =
+    on_source c s told out note (λ file clock. ForFile told file (λ bytes. Exactly s bytes clock)) h
+    (λ file clock b. with_file told file _ (λ bytes. Exactly s bytes clock) (λ bytes f why asked. of_text why s bytes clock asked (f why))
+    (builds.exactly_by s told file clock out note b settled))
+    (λ file script steps p. with_file told file _ (λ bytes. Exactly s bytes init_steps) (λ bytes f why asked. f why)
+    (plays.exactly_by s told file script steps out p settled))
+
+-- what follows of each text
+pub source_is : (c : Option Command) (s : Status) (told : Option (List File)) (Q : List ℕ → ℕ → Type 0)
+    → ((bytes : List ℕ) (clock : ℕ) → Exactly s bytes clock → Q bytes clock)
+    → OnSource c (λ file clock. ForFile told file (λ bytes. Exactly s bytes clock)) → OnSource c (λ file clock. ForFile told file (λ bytes. Q bytes clock))
+source_is c s told Q f h =
+    with_source c (λ file clock. ForFile told file (λ bytes. Exactly s bytes clock)) (λ file clock. ForFile told file (λ bytes. Q bytes clock))
+    (λ file clock k. with_file told file (λ bytes. Exactly s bytes clock) (λ bytes. Q bytes clock) (λ bytes e. f bytes clock e) k) h
+
+pub init_is : (s : Status) (bytes : List ℕ) (clock : ℕ) → Exactly s bytes clock → (why : Fault) → IsOfInit why
+    → (s ≡ Refused why) ↔ FailsIn bytes clock why
+init_is s bytes clock f (NoTree p) asked = absurd asked
+init_is s bytes clock f (TooDeep p) asked = absurd asked
+init_is s bytes clock f (TooMany what limit p) asked = absurd asked
+init_is s bytes clock f (Broken rule p) asked = absurd asked
+init_is s bytes clock f (InitTrap code p) asked = f (InitTrap code p) tt
+init_is s bytes clock f InitSteps asked = f InitSteps tt
+init_is s bytes clock f InitDepth asked = f InitDepth tt
+init_is s bytes clock f (InitTouches address) asked = f (InitTouches address) tt
+init_is s bytes clock f InitTooBig asked = f InitTooBig tt
+init_is s bytes clock f (NotBuilt p) asked = absurd asked

@@ -1,0 +1,4 @@
+pub mod Judged
+pub mod Starting
+pub mod Answer
+pub mod Mirrors
