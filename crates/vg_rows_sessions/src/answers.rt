@@ -63,6 +63,7 @@ fn played(
     if let Some(number) = asked.number {
         if asked.what == "fail" {
             sink.fail_on(number, 3);
+            budget = 100_000;
         } else if asked.what == "run" {
             budget = number;
         }
