@@ -70,7 +70,8 @@ module _ {S H K : Type 0} (x : Setting) (f : H → K) where
   follows_tick_at note note' e zero p q k s w h = ends h tt
   follows_tick_at note note' e (suc n) p q k s w h =
       let w1 : World H = record w { clock = n; history = note w.history } in
-      subst (λ y. F (p s w1) (q s (record (told f w) { clock = n; history = y }))) (sym (e w.history)) (k s w1 (still_in x w w1 refl refl refl refl (extends_itself w.outside.trace) h))
+      subst (λ y. F (p s w1) (q s (record (told f w) { clock = n; history = y }))) (sym (e w.history))
+      (k s w1 (still_in x w w1 refl refl refl refl (extends_itself w.outside.trace) h))
 
   follows_turned : (a : Answer S H) (b : Answer S K) (p : Piece S H) (q : Piece S K) → F a b → FP p q → F (turned a p) (turned b q)
   follows_turned _ _ p q (gives h) k = k _ _ h
@@ -95,7 +96,8 @@ module _ {S H K : Type 0} (x : Setting) (f : H → K) where
       → ((v : ℕ) → FP (p v) (q v)) → phase ≡ x.phase → FP (read_from phase values address p) (read_from phase values address q)
   follows_read_from Starting values address p q k e s w h = ends h (sym e)
   follows_read_from Running [] address p q k e s w h = ends h (sym e)
-  follows_read_from Running (v ∷ vs) address p q k e s w h = k v s _ (still_in x w (record w { outside = _ }) refl refl refl refl (extends_by w.outside.trace _) h)
+  follows_read_from Running (v ∷ vs) address p q k e s w h =
+      k v s _ (still_in x w (record w { outside = _ }) refl refl refl refl (extends_by w.outside.trace _) h)
 
   pub follows_read : (address : ℕ) (p : ℕ → Piece S H) (q : ℕ → Piece S K) → ((v : ℕ) → FP (p v) (q v))
       → FP (read_device address p) (read_device address q)

@@ -1,19 +1,18 @@
 -- Calls follow, by induction on the clock; so initialisation and runs do. What follows is told, and ends as a call does; the idle loop takes each
 -- interrupt that is to come, and ends.
-use Rattle.std.specs.Prelude.{ℕ, zero, suc, List, [], ◌∷◌, length, Option, Some, None, nat_lt, ◌==◌}
+use Rattle.std.specs.Prelude.{ℕ, zero, suc, List, [], ◌∷◌, length, Option, Some, None, ◌==◌}
 use Rattle.std.proofs.Common.{◌≡◌, refl, sym, subst}
 use Rattle.vg_meaning.specs.declared.event.Event.TheVariants.{Enter}
 use Rattle.vg_meaning.specs.History.{Recorder}
 use Rattle.vg_meaning.specs.World.{World, Starting, Running}
 use Rattle.vg_meaning.specs.Outside.{with_event}
 use Rattle.vg_meaning.specs.Answer.{Stops, Wants, Touches, Done, OutOfClock, OutOfDepth, OutOfRoom, Wrong, Signal, Breaks, Continues, Returns, Over}
-use Rattle.vg_meaning.specs.Answer.{Answer, Gives, Ends, Piece, and_then, unless, passes}
-use Rattle.vg_meaning.specs.Interrupts.{interrupt_from, take_interrupt, idles}
+use Rattle.vg_meaning.specs.Answer.{Answer, Ends, Piece, and_then}
+use Rattle.vg_meaning.specs.Interrupts.{interrupt_from, idles}
 use Rattle.vg_meaning.specs.Grows.{trace_of, Extends, Grows}
 use Rattle.vg_meaning.proofs.Grows.{extends_itself, grows_idles}
 use Rattle.vg_meaning.specs.Told as of
 use Rattle.vg_meaning.specs.Told.{told, Told, ToldPiece, Tells}
-use Rattle.vg_meaning.proofs.Told.{told_then, told_idles}
 use Rattle.vg_source.specs.Session.{starting_world, running_world}
 use Rattle.vg_core.specs.declared.types.CoreType.{CoreType}
 use Rattle.vg_core.specs.declared.value.CoreValue.{CoreValue}
@@ -24,13 +23,13 @@ use Rattle.vg_core.specs.declared.program.Target.{Target}
 use Rattle.vg_core.specs.declared.program.Target.TheVariants.{Run, Start}
 use Rattle.vg_core.specs.Heap.{default, stored_values}
 use Rattle.vg_core.specs.Program.{Body, Program, Signature, signature_of, body_of}
-use Rattle.vg_core.specs.State.{State, are_of, onto, entered, left}
-use Rattle.vg_core.specs.Meaning.{Caller, put, taking, with_found, checked, step, truth, activity, back_in, run_body, with_arguments, called}
+use Rattle.vg_core.specs.State.{State, are_of, onto, entered}
+use Rattle.vg_core.specs.Meaning.{Caller, step, truth, activity, back_in, run_body, with_arguments, called}
 use Rattle.vg_core.specs.Session.{call_alone, first_heap, start_all, with_heap, starting, handler_of, handled, handle, running}
 use Rattle.std.specs.Prelude.{take}
 use Rattle.vg_recorded.specs.Setting.{Setting, start_setting, run_setting, setting_of, IsIn, IsSignal, EndsStart, EndsRun}
 use Rattle.vg_recorded.specs.Follows.{Follows, gives, ends, FollowsPiece}
-use Rattle.vg_recorded.proofs.Pieces.{follows_then, follows_room, follows_returned, follows_opened, follows_performed, still_in}
+use Rattle.vg_recorded.proofs.Pieces.{follows_then, follows_room, follows_returned, follows_opened, follows_performed}
 use Rattle.vg_recorded.proofs.Steps.{Callers, on_put, on_found, on_taking, on_checked, on_type, on_forgetting, on_step}
 
 module _ {H K : Type 0} (x : Setting) (f : H → K) (r : Recorder H) (q : Recorder K) (tells : Tells f r q) where
@@ -134,7 +133,13 @@ module _ {S H K : Type 0} (d : Option ℕ) (f : H → K) where
         subst (λ vs. Whole (interrupt_from vs p s w) (interrupt_from vs p' s (told f w))) (sym h.interrupts_are) (of.ends, tt)
     whole_idles (v ∷ vs) s w h =
         let w1 : World H = record w { outside = with_event (record w.outside { interrupts = vs }) (Enter v) } in
-        let h1 : IsIn (run_setting d vs) w1 = record { phase_is = h.phase_is; deepest_is = h.deepest_is; largest_is = h.largest_is; interrupts_are = refl; seen_stays = (w1.outside.trace, refl) } in
+        let h1 : IsIn (run_setting d vs) w1 = record {
+          phase_is = h.phase_is;
+          deepest_is = h.deepest_is;
+          largest_is = h.largest_is;
+          interrupts_are = refl;
+          seen_stays = (w1.outside.trace, refl);
+        } in
         subst (λ ks. Whole (and_then (interrupt_from ks p s w) (idles (length vs) p)) (and_then (interrupt_from ks p' s (told f w)) (idles (length vs) p')))
         (sym h.interrupts_are) (whole_then vs _ _ (idles (length vs) p) (idles (length vs) p') (k v vs s w1 h1) (whole_idles vs))
 

@@ -2,8 +2,8 @@
 -- definition is.
 use Rattle.std.specs.Prelude.{ℕ, ◌+◌, Bool, true, false, List, [], ◌∷◌, length, replicate, Option, Some, None, slice_get, slice_set, ℤ, pos, negsuc, nat_lt}
 use Rattle.std.specs.Prelude.{◌==◌}
-use Rattle.vg_meaning.specs.World.{World, Phase, Starting, Running}
-use Rattle.vg_meaning.specs.Answer.{Wrong, Gives, Piece, go_on, over, stops, kept, Stops}
+use Rattle.vg_meaning.specs.World.{Phase, Starting, Running}
+use Rattle.vg_meaning.specs.Answer.{Wrong, Gives, Piece, over, stops, kept, Stops}
 use Rattle.vg_source.specs.Operators.{Computed, Is, Fails, Unfit, binary, prefixed, Format, ToInt, ToChar, ToBits, recast}
 use Rattle.vg_core.specs.declared.types.CoreType.{CoreType}
 use Rattle.vg_core.specs.declared.types.CoreType.TheVariants.{IntType, CharType, RawType, ClassType}
@@ -25,11 +25,13 @@ use Rattle.vg_core.specs.Operators.{scalar_value, operand_of, scalar_of, byte_of
 use Rattle.vg_core.specs.Heap.{default, stored_values, Place, OfComponent, OfObject, OfArray, class_in, value_at, set_at}
 use Rattle.vg_core.specs.State.{State, is_of}
 use Rattle.vg_core.specs.Meaning.{Caller, put, take_from, taking, with_found, from_below, computed, checked, of_type, stop_unless, with_int, with_class}
-use Rattle.vg_core.specs.Meaning.{with_object, with_object_of, in_array, with_array, with_index, with_item, operated, applied, recasted, cast_to_class, as_it_is}
-use Rattle.vg_core.specs.Meaning.{put_found, cast_to, class_test, get_place, set_place, put_local, get_length, bind_method, call_method, receiver_of, call_bound}
+use Rattle.vg_core.specs.Meaning.{with_object, with_object_of, in_array, with_array, with_index, with_item, operated, applied, recasted}
+use Rattle.vg_core.specs.Meaning.{cast_to_class, as_it_is}
+use Rattle.vg_core.specs.Meaning.{put_found, cast_to, class_test, get_place, set_place, put_local, get_length, bind_method}
+use Rattle.vg_core.specs.Meaning.{call_method, receiver_of, call_bound}
 use Rattle.vg_core.specs.Meaning.{forgetting, at_start, adding, constructing, defaults, make_object, make_array, step}
 use Rattle.vg_recorded.specs.Setting.{Setting}
-use Rattle.vg_recorded.specs.Follows.{Follows, gives, FollowsPiece}
+use Rattle.vg_recorded.specs.Follows.{gives, FollowsPiece}
 use Rattle.vg_recorded.proofs.Pieces.{follows_then, follows_over, follows_room, follows_read, follows_write}
 
 module _ {H K : Type 0} (x : Setting) (f : H → K) where
@@ -87,7 +89,8 @@ module _ {H K : Type 0} (x : Setting) (f : H → K) where
   on_class : (c : ℕ) (p : ℕ → Piece State H) (q : ℕ → Piece State K) → ((n : ℕ) → R (p n) (q n)) → R (with_class c p) (with_class c q)
   on_class c p q k s w h = on_found (class_in (slice_get s.heap.cells c)) p q k s w h
 
-  on_object : (at : ℕ) (p : ℕ → Piece State H) (q : ℕ → Piece State K) → ((n : ℕ) → R (p n) (q n)) → (v : CoreValue) → R (with_object at p v) (with_object at q v)
+  on_object : (at : ℕ) (p : ℕ → Piece State H) (q : ℕ → Piece State K) → ((n : ℕ) → R (p n) (q n)) → (v : CoreValue)
+      → R (with_object at p v) (with_object at q v)
   on_object at p q k (Obj c) s w h = k c s w h
   on_object at p q k Null s w h = on_stops 1 at s w h
   on_object at p q k _ s w h = on_wrong s w h
@@ -233,7 +236,8 @@ module _ {H K : Type 0} (x : Setting) (f : H → K) where
     on_step (SetRegister a) = on_taking _ _ (λ v. on_found (byte_of v) _ _ (follows_write x f a))
     on_step (SetField at g) = on_taking _ _ (λ v. on_taking _ _ (on_object at _ _ (λ o. on_set p (field_type p g) (OfObject o g) v)))
     on_step (SetItem at t) =
-        on_taking _ _ (λ v. on_taking _ _ (λ i. on_taking _ _ (λ a. on_item at t (λ y. set_place p (slice_get p.types t) y v) (λ y. set_place p (slice_get p.types t) y v)
+        on_taking _ _ (λ v. on_taking _ _ (λ i. on_taking _ _ (λ a. on_item at t (λ y. set_place p (slice_get p.types t) y v)
+        (λ y. set_place p (slice_get p.types t) y v)
         (λ y. on_set p (slice_get p.types t) y v) a i)))
     on_step Forget = on_taking _ _ (λ v s w h. gives h)
     on_step (Super c count) = λ s. on_forgetting (call (Construct c) count s.self) (call' (Construct c) count s.self) (k (Construct c) count s.self) s

@@ -53,7 +53,11 @@ use Rattle.vg_script.specs.Script.{Lists}
 no_leave : {H : Type 0} (G : State → H → Type 0) (why : Why) (s : State) (w : World H) → Safe G NoWay IsRight (Ends why s w)
     → (why ≡ Breaks → ⊥) × (why ≡ Continues → ⊥) × (why ≡ Returns → ⊥)
 no_leave G why s w (leaves l) = absurd l
-no_leave G why s w (overs r) = (λ e. let clash : Over _ ≡ Breaks = e in cc, λ e. let clash : Over _ ≡ Continues = e in cc, λ e. let clash : Over _ ≡ Returns = e in cc)
+no_leave G why s w (overs r) = (
+  λ e. let clash : Over _ ≡ Breaks = e in cc,
+  λ e. let clash : Over _ ≡ Continues = e in cc,
+  λ e. let clash : Over _ ≡ Returns = e in cc,
+)
 
 never_wrong : (G : State → ℕ → Type 0) (a : Answer State ℕ) → Safe G NoWay IsRight a → IsWrong a → ⊥
 never_wrong G _ (gives g) h = h

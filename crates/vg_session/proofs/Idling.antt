@@ -29,7 +29,8 @@ pub turn_extends : (p : Program) (s t : State) (w v : World ℕ) → take_interr
     → Extends w.outside.trace v.outside.trace
 turn_extends p s t w v e = subst (λ a. Extends w.outside.trace (trace_of a)) e (grows_idling depth_alone p 0 s w)
 
-module _ (p : Program) (whole : Answer State ℕ) (n m : ℕ) (s : State) (w : World ℕ) (start : whole ≡ idles n (handle depth_alone p) s w) (fewer : n ≡ m + 1) where
+module _ (p : Program) (whole : Answer State ℕ) (n m : ℕ) (s : State) (w : World ℕ) (start : whole ≡ idles n (handle depth_alone p) s w)
+    (fewer : n ≡ m + 1) where
   -- one turn more
   pub idle_on : (t : State) (v : World ℕ) → take_interrupt (handle depth_alone p) s w ≡ Gives t v → whole ≡ idles m (handle depth_alone p) t v
   idle_on t v e = start ∙ idles_on n m (handle depth_alone p) s w fewer ∙ ap (λ a. and_then a (idles m (handle depth_alone p))) e
