@@ -1,5 +1,5 @@
 -- What an answer says of the bytes: which texts are refused, and which are built.
-use Rattle.std.proofs.Common.{◌≡◌, ℕ, suc, ◌≤◌, ◌⊎◌, ◌↔◌, List, Option, Some, None, Ok, Err, refl, sym, ap, ◌∙◌, subst, inl, inr, arith}
+use Rattle.std.proofs.Common.{◌≡◌, ℕ, zero, suc, ◌≤◌, ◌⊎◌, ◌↔◌, List, Option, Some, None, Ok, Err, refl, sym, ap, ◌∙◌, subst, inl, inr, arith}
 use Rattle.std.specs.Prelude.{IsOk}
 use Rattle.vg_base.specs.declared.place.Place.{Place}
 use Rattle.vg_base.specs.declared.refusal.Refusal.{Refusal}
@@ -71,7 +71,7 @@ one_fault a b bytes clock h k = one_sorted a b bytes clock (sorted a bytes clock
 
 -- a program of constants starts, with each clock from 1 on
 first_starts : (bytes : List ℕ) (clock : ℕ) (writes : List DeviceWrite) → 1 ≤ clock → IsFirst bytes writes → StartsIn bytes clock
-first_starts bytes 0 writes some first = absurd (omega (arith, some))
+first_starts bytes zero writes some first = absurd (omega (arith, some))
 first_starts bytes (suc clock) writes some first =
     let text : IsText bytes = first_is_text bytes writes first in
     let (tree, reads) = some_tree bytes text in

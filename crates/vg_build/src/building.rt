@@ -55,7 +55,7 @@ pub fn build(alloc: Global, text: &[u8], init_steps: u32) -> Result<Built, Refus
         → (fault_in result ≡ Some (fault.Fault.TooMany what limit place)) ↔ RefusedIn text.now (fault.Fault.TooMany what limit place) }
     ensures broken { IsSettled result → (rule : ℕ) (place : Place)
         → (fault_in result ≡ Some (fault.Fault.Broken rule place)) ↔ RefusedIn text.now (fault.Fault.Broken rule place) }
-    ensures init { IsSettled result → (why : fault.Fault.Fault) → IsOfInit why → (fault_in result ≡ Some why) ↔ FailsIn text.now init_steps why }
+    ensures init { IsSettled result → (why : fault.Fault) → IsOfInit why → (fault_in result ≡ Some why) ↔ FailsIn text.now init_steps why }
     ensures not_built { IsSettled result → (fault_in result ≡ Some (fault.Fault.NotBuilt first_place)) ↔ IsNotBuilt text.now init_steps }
     ensures not_built_first { (place : Place) → fault_in result ≡ Some (fault.Fault.NotBuilt place) → place ≡ first_place }
     ensures complete { 1 ≤ init_steps → (writes : List Write) → IsFirst text.now writes → IsOk result ⊎ (result ≡ Err Refusal.NoMemory) }
@@ -86,12 +86,13 @@ fn answer_to(alloc: Global, text: &[u8], init_steps: u32) -> Result<Built, Refus
 }
 
 // Whether the bytes are a legal text that starts.
+#[tactic(auto, using(crate::proofs::Faults::started_by))]
 fn check_text(alloc: Global, text: &[u8], init_steps: u32) -> Result<(), Refusal<Fault>>
     requires { length text.now ≤ text_limit }
     ensures { StartedBy text.now init_steps result }
 {
     match started(alloc, text, init_steps) {
-        Ok(_) => Ok(()),
+        Ok(_start) => Ok(()),
         Err(refusal) => Err(refusal),
     }
 }

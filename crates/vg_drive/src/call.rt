@@ -82,7 +82,7 @@ pub fn run<S: Shelf, O: Sink, N: Sink>(
     ensures broken { IsSettled result → OnSource (command_of (words_in words.now)) (λ file clock. ForFile (S.told shelf.old) file (λ bytes.
         (rule : ℕ) (place : Place) → (result ≡ Status.Refused (fault.Fault.Broken rule place)) ↔ RefusedIn bytes (fault.Fault.Broken rule place))) }
     ensures init { IsSettled result → OnSource (command_of (words_in words.now)) (λ file clock. ForFile (S.told shelf.old) file (λ bytes.
-        (why : fault.Fault.Fault) → IsOfInit why → (result ≡ Status.Refused why) ↔ FailsIn bytes clock why)) }
+        (why : fault.Fault) → IsOfInit why → (result ≡ Status.Refused why) ↔ FailsIn bytes clock why)) }
 
     // `build`: which legal texts are not built, and which are.
     ensures not_built { IsSettled result → OnBuild (command_of (words_in words.now)) (λ file clock. ForFile (S.told shelf.old) file (λ bytes.
