@@ -1,5 +1,0 @@
-use Rattle.std.proofs.Common.{sym}
-use Rattle.vg_types_written.proofs.owners.class_owner.Goals as goal
-
-pub returns-in-Some-clause-owner : goal.returns-in-Some-clause-owner
-returns-in-Some-clause-owner c = (c.requires.class_names c.args.class.now c.in-Some.number (sym c.in-Some.ensures)).0
