@@ -2,11 +2,13 @@
 use Rattle.std.proofs.Common.{◌≡◌, ℕ, true, List, map, Option, None, sym, ap, ◌∙◌, subst}
 use Rattle.vg_syntax.specs.Tree.{Node}
 use Rattle.vg_tree.specs.declared.node.Node as held_node
-use Rattle.vg_source.specs.Program.{program_of, entries_in, main_of, handlers_in}
+use Rattle.vg_source.specs.Program.{declarations_of, program_of, entries_in, main_of, handlers_in}
 use Rattle.vg_rules.specs.Breach.{Breach, ◌or◌}
 use Rattle.vg_rules.specs.Signatures.{signatures_breach}
 use Rattle.vg_rules.specs.Inherited.{inherited_breach}
+use Rattle.vg_method_sizes.specs.Sizes.{Size, sizes, sizes_in}
 use Rattle.vg_core.specs.declared.program.Program.{Program as HeldProgram}
+use Rattle.vg_core.specs.declared.program.Method.{Method}
 use Rattle.vg_core.specs.declared.program.Target.TheVariants.{Run}
 use Rattle.vg_core.specs.HeldProgram.{body_at, program_at}
 use Rattle.vg_core.specs.Naming.{naming_of, named, named_target, named_handler}
@@ -21,6 +23,7 @@ use Rattle.vg_types_inherited.proofs.Dispatching.{well_formed, all_override}
 use Rattle.vg_types_declared.specs.Named.{Keeps}
 use Rattle.vg_types_declared.specs.Apart.{have_members}
 use Rattle.vg_types_named.specs.Left.{Left}
+use Rattle.vg_types_named.proofs.Sizes.{nodes_sized}
 use Rattle.vg_types_entries.specs.declared.program.ProgramEntries.{ProgramEntries}
 use Rattle.vg_types_entries.specs.Entries.{AreEntriesOf}
 use Rattle.vg_types_routines.specs.declared.pass.Bodies.{Bodies}
@@ -77,8 +80,14 @@ module _ (texts : List (List ℕ)) (root : held_node.Node) (d : Declared) (e : P
       subst (λ z. NamesTell (naming_of texts z) p) (sym moved.tables)
       (names_told texts root d b.methods.items b.makings.items b.starts.items p kept h left bodies is_of signed members)
 
+  nodes_kept : (tree : Node) → declarations_of tree ≡ ds
+      → map (λ (m : Method). m.nodes) p.tables.methods ≡ map (λ (s : Size). s.nodes) (sizes tree)
+  nodes_kept tree same =
+      ap (λ t. map (λ (m : Method). m.nodes) t.methods) moved.tables ∙ nodes_sized texts ds d left
+      ∙ ap (λ z. map (λ (s : Size). s.nodes) (sizes_in z)) (sym same)
+
   pub is_program : IsProgramFor texts ds p
-  is_program tree same = record { named = ap program_of same ∙ source_named; typed = typed; told = names_tell }
+  is_program tree same = record { named = ap program_of same ∙ source_named; typed = typed; told = names_tell; nodes = nodes_kept tree same }
 
 -- where three parts have no breach there is none
 pub none_of_three : (a b c : Option Breach) → a ≡ None → b ≡ None → c ≡ None → a or b or c ≡ None

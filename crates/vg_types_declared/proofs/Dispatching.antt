@@ -4,6 +4,7 @@
 use Rattle.std.proofs.Common.{◌≡◌, ℕ, zero, suc, ◌+◌, ◌<◌, Bool, true, false, List, [], ◌∷◌, ◌++◌, length, Option, Some, None, is_some, slice_get, bytes_eq}
 use Rattle.std.proofs.Common.{if◌then◌else◌, refl, sym, ap, ◌∙◌, subst, arith}
 use Rattle.vg_syntax.specs.Tree.{Node, Then, FieldDecl, MethodDecl, ClassDecl, ComponentDecl}
+use Rattle.vg_syntax.specs.Numbering.{count_nodes}
 use Rattle.vg_source.specs.Names.{Name}
 use Rattle.vg_source.specs.Types.{StaticType}
 use Rattle.vg_source.specs.Declared.{or_else, written_type}
@@ -101,28 +102,29 @@ field_leads h n t v l = record {
     by y None false g = g
 
 -- the first method of a name, behind one more method
-pub first_with : (h : Home) (n : Name) (ps : List StaticType) (t : StaticType) (v : HomeView) → HomeLeads v → (y : Name)
-    → named_first (v.methods ++ record { owner = h.owner; name = n; params = ps; result = t } ∷ []) (v.own.methods ++ length v.methods ∷ []) y
+pub first_with : (h : Home) (n : Name) (ps : List StaticType) (t : StaticType) (k : ℕ) (v : HomeView) → HomeLeads v → (y : Name)
+    → named_first (v.methods ++ record { owner = h.owner; name = n; params = ps; result = t; nodes = k } ∷ []) (v.own.methods ++ length v.methods ∷ []) y
     ≡ or_else (named_first v.methods v.own.methods y) (if bytes_eq n y then Some (length v.methods) else None)
-first_with h n ps t v l y =
-    first_push (v.methods ++ record { owner = h.owner; name = n; params = ps; result = t } ∷ []) v.own.methods (length v.methods) y
+first_with h n ps t k v l y =
+    first_push (v.methods ++ record { owner = h.owner; name = n; params = ps; result = t; nodes = k } ∷ []) v.own.methods (length v.methods) y
     ∙ ap (λ o. or_else o
-    (if has_name (slice_get (v.methods ++ record { owner = h.owner; name = n; params = ps; result = t } ∷ []) (length v.methods)) y
+    (if has_name (slice_get (v.methods ++ record { owner = h.owner; name = n; params = ps; result = t; nodes = k } ∷ []) (length v.methods)) y
     then Some (length v.methods) else None)) (first_more v.methods _ v.own.methods y l.within)
     ∙ ap (λ o. or_else (named_first v.methods v.own.methods y) (if has_name o y then Some (length v.methods) else None)) (last_is v.methods _)
 
-pub method_leads : (h : Home) (n : Name) (ps : List StaticType) (t : StaticType) (v : HomeView) → HomeLeads v → HomeLeads (with_method h n ps t v)
-method_leads h n ps t v l = record {
+pub method_leads : (h : Home) (n : Name) (ps : List StaticType) (t : StaticType) (k : ℕ) (v : HomeView) → HomeLeads v
+    → HomeLeads (with_method h n ps t k v)
+method_leads h n ps t k v l = record {
   leads = λ y.
-      subst (λ o. Leads o (named_first (v.methods ++ record { owner = h.owner; name = n; params = ps; result = t } ∷ [])
+      subst (λ o. Leads o (named_first (v.methods ++ record { owner = h.owner; name = n; params = ps; result = t; nodes = k } ∷ [])
       (v.own.methods ++ length v.methods ∷ []) y))
       (sym (found_added v.own.members n (Method (length v.methods)) y))
       (subst (Leads (if is_some (found y v.own.members) then found y v.own.members else if bytes_eq n y then Some (Method (length v.methods)) else None))
-      (sym (first_with h n ps t v l y)) (by y (found y v.own.members) (bytes_eq n y) (l.leads y)));
+      (sym (first_with h n ps t k v l y)) (by y (found y v.own.members) (bytes_eq n y) (l.leads y)));
   within =
-      inside_push (v.methods ++ record { owner = h.owner; name = n; params = ps; result = t } ∷ []) v.own.methods (length v.methods)
+      inside_push (v.methods ++ record { owner = h.owner; name = n; params = ps; result = t; nodes = k } ∷ []) v.own.methods (length v.methods)
       (inside_more v.methods _ v.own.methods l.within)
-      (let c = count_push v.methods (record { owner = h.owner; name = n; params = ps; result = t }) in omega (arith, c));
+      (let c = count_push v.methods (record { owner = h.owner; name = n; params = ps; result = t; nodes = k }) in omega (arith, c));
 }
   where
     by : (y : Name) (o : Option MemberNumber) (b : Bool) → Leads o (named_first v.methods v.own.methods y)
@@ -135,7 +137,7 @@ method_leads h n ps t v l = record {
 
 member_leads : (h : Home) (m : Node) (v : HomeView) → HomeLeads v → HomeLeads (with_member h m v)
 member_leads h (FieldDecl at n t e) v l = field_leads h n (written_type t) v l
-member_leads h (MethodDecl at n ps t body) v l = method_leads h n (written_params ps) (written_type t) v l
+member_leads h (MethodDecl at n ps t body) v l = method_leads h n (written_params ps) (written_type t) (count_nodes body) v l
 member_leads h _ v l = l
 
 members_lead : (h : Home) (ms : Node) (v : HomeView) → HomeLeads v → HomeLeads (with_members h ms v)

@@ -6,6 +6,7 @@ use Rattle.std.proofs.Common.{[], ◌∷◌, ◌++◌, length, map, Option, Some
 use Rattle.std.proofs.Common.{if◌then◌else◌, Decides, refl, sym, ap, ◌∙◌, subst, arith}
 use Rattle.std.proofs.lemmas.Slice.Eq.{bytes_eq-Decides}
 use Rattle.vg_syntax.specs.Tree.{Param, Node, Then, FieldDecl, MethodDecl}
+use Rattle.vg_syntax.specs.Numbering.{count_nodes}
 use Rattle.vg_source.specs.Names.{Name}
 use Rattle.vg_source.specs.Types.{StaticType, MoreTypes}
 use Rattle.vg_source.specs.Declared.{Member, AField, AMethod, or_else, as_member, member_in, row_of, written_type}
@@ -91,23 +92,23 @@ field_shows h x n t v r s y =
     )
     by None false d g = ap (λ z. or_else z None) g
 
-method_shows : (h : Home) (x n : Name) (ps : List StaticType) (t : StaticType) (v : HomeView) (r : Name → Option Member) → HomeShows h x v r
-    → HomeShows h x (with_method h n ps t v) (λ y. or_else (r y) (if bytes_eq n y then Some (AMethod (row_from ps) t) else None))
-method_shows h x n ps t v r s y =
-    subst (λ o. Shows v.fields (v.methods ++ record { owner = h.owner; name = n; params = ps; result = t } ∷ []) h.owner x y o
+method_shows : (h : Home) (x n : Name) (ps : List StaticType) (t : StaticType) (k : ℕ) (v : HomeView) (r : Name → Option Member) → HomeShows h x v r
+    → HomeShows h x (with_method h n ps t k v) (λ y. or_else (r y) (if bytes_eq n y then Some (AMethod (row_from ps) t) else None))
+method_shows h x n ps t k v r s y =
+    subst (λ o. Shows v.fields (v.methods ++ record { owner = h.owner; name = n; params = ps; result = t; nodes = k } ∷ []) h.owner x y o
     (or_else (r y) (if bytes_eq n y then Some (AMethod (row_from ps) t) else None)))
     (sym (found_added v.own.members n (Method (length v.methods)) y)) (by (found y v.own.members) (bytes_eq n y) (bytes_eq-Decides n y) (s y))
   where
     by : (o : Option MemberNumber) (b : Bool) → Decides b (n ≡ y) → Shows v.fields v.methods h.owner x y o (r y)
-        → Shows v.fields (v.methods ++ record { owner = h.owner; name = n; params = ps; result = t } ∷ []) h.owner x y
+        → Shows v.fields (v.methods ++ record { owner = h.owner; name = n; params = ps; result = t; nodes = k } ∷ []) h.owner x y
         (if is_some o then o else if b then Some (Method (length v.methods)) else None)
         (or_else (r y) (if b then Some (AMethod (row_from ps) t) else None))
-    by (Some k) b d g =
-        subst (Shows v.fields (v.methods ++ record { owner = h.owner; name = n; params = ps; result = t } ∷ []) h.owner x y (Some k))
-        (there v.fields v.methods h.owner x y k (r y) (if b then Some (AMethod (row_from ps) t) else None) g)
-        (shows_stay v.fields v.fields v.methods _ h.owner x y (Some k) (r y) (λ i a e. e) (λ i a e. before_end v.methods _ i a e) g)
+    by (Some f) b d g =
+        subst (Shows v.fields (v.methods ++ record { owner = h.owner; name = n; params = ps; result = t; nodes = k } ∷ []) h.owner x y (Some f))
+        (there v.fields v.methods h.owner x y f (r y) (if b then Some (AMethod (row_from ps) t) else None) g)
+        (shows_stay v.fields v.fields v.methods _ h.owner x y (Some f) (r y) (λ i a e. e) (λ i a e. before_end v.methods _ i a e) g)
     by None true d g = (
-      record { owner = h.owner; name = n; params = ps; result = t },
+      record { owner = h.owner; name = n; params = ps; result = t; nodes = k },
       at_end v.methods _,
       refl,
       d.0 refl,
@@ -119,9 +120,15 @@ member_shows : (h : Home) (x : Name) (m : Node) (v : HomeView) (r : Name → Opt
     → HomeShows h x (with_member h m v) (λ y. or_else (r y) (as_member x m y))
 member_shows h x (FieldDecl at n t e) v r s y = field_shows h x n (written_type t) v r s y
 member_shows h x (MethodDecl at n ps t body) v r s y =
-    subst (λ z. Shows v.fields (v.methods ++ record { owner = h.owner; name = n; params = written_params ps; result = written_type t } ∷ []) h.owner x y
-    (found y (added n (Method (length v.methods)) v.own.members)) (or_else (r y) (if bytes_eq n y then Some (AMethod z (written_type t)) else None)))
-    (sym (row_written ps)) (method_shows h x n (written_params ps) (written_type t) v r s y)
+    subst (λ z. Shows v.fields (v.methods ++ record {
+      owner = h.owner;
+      name = n;
+      params = written_params ps;
+      result = written_type t;
+      nodes = count_nodes body;
+    } ∷ []) h.owner x y (found y (added n (Method (length v.methods)) v.own.members))
+    (or_else (r y) (if bytes_eq n y then Some (AMethod z (written_type t)) else None)))
+    (sym (row_written ps)) (method_shows h x n (written_params ps) (written_type t) (count_nodes body) v r s y)
 member_shows h x _ v r s y = subst (Shows v.fields v.methods h.owner x y (found y v.own.members)) (or_none (r y)) (s y)
 
 pub members_show : (h : Home) (x : Name) (ms : Node) (v : HomeView) (r : Name → Option Member) → HomeShows h x v r

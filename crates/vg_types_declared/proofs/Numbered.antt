@@ -1,12 +1,14 @@
--- The numbers of nodes say nothing of names and members: no pass over declarations reads them.
+-- The numbers of nodes say nothing of names and members: no pass over declarations reads them, and they change no count of nodes.
 use Rattle.std.proofs.Common.{◌≡◌, ℕ, ◌+◌, List, length, refl, sym, ap, ◌∙◌}
 use Rattle.vg_syntax.specs.Tree.{Param, Node, Then, ClassDecl, ComponentDecl, DeviceDecl, RegisterDecl, FieldDecl, MethodDecl, ConstructorDecl}
 use Rattle.vg_syntax.specs.Numbering.{count_nodes, numbered}
+use Rattle.vg_syntax.proofs.Numbering.{count_numbered}
 use Rattle.vg_source.specs.Names.{Name}
+use Rattle.vg_source.specs.Declared.{written_type}
 use Rattle.vg_source.specs.Program.{constructor_in}
 use Rattle.vg_core.specs.declared.program.Owner.TheVariants.{InClass, InComponent}
 use Rattle.vg_types_members.specs.declared.member.Home.{Home}
-use Rattle.vg_types_members.specs.Members.{HomeView, with_member, with_members, written_params}
+use Rattle.vg_types_members.specs.Members.{HomeView, with_method, with_member, with_members, written_params}
 use Rattle.vg_types_heads.specs.Heads.{HeadsView, with_device, with_register, with_registers, with_head, with_heads}
 use Rattle.vg_types_homes.specs.Homes.{HomesView, home_starts, class_behind, component_behind, with_class, with_component, with_declaration, with_declarations}
 use Rattle.vg_types_declared.specs.Numbers.{Unnumbered}
@@ -30,7 +32,8 @@ heads_same _ i v = refl
 
 member_same : (h : Home) (i : ℕ) (m : Node) (v : HomeView) → with_member h (numbered i m) v ≡ with_member h m v
 member_same h i (FieldDecl at n t e) v = refl
-member_same h i (MethodDecl at n ps t body) v = refl
+member_same h i (MethodDecl at n ps t body) v =
+    ap (λ k. with_method h n (written_params ps) (written_type t) k v) (count_numbered (i + 1) body)
 member_same h i _ v = refl
 
 members_same : (h : Home) (i : ℕ) (ms : Node) (v : HomeView) → with_members h (numbered i ms) v ≡ with_members h ms v

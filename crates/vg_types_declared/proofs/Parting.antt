@@ -74,15 +74,15 @@ field_apart h n t seen v fresh l a = record {
     by y None true d g = ap (named_first v.methods v.own.methods) (sym (d.0 refl)) ∙ free
     by y None false d g = tt
 
-method_apart : (h : Home) (n : Name) (ps : List StaticType) (t : StaticType) (seen : List Name) (v : HomeView) → is_among seen n ≡ false → HomeLeads v
-    → HomeApart seen v → HomeApart (n ∷ seen) (with_method h n ps t v)
-method_apart h n ps t seen v fresh l a = record {
+method_apart : (h : Home) (n : Name) (ps : List StaticType) (t : StaticType) (k : ℕ) (seen : List Name) (v : HomeView) → is_among seen n ≡ false
+    → HomeLeads v → HomeApart seen v → HomeApart (n ∷ seen) (with_method h n ps t k v)
+method_apart h n ps t k seen v fresh l a = record {
   apart = λ y.
-      subst (λ o. IsApart o (named_first (v.methods ++ record { owner = h.owner; name = n; params = ps; result = t } ∷ [])
+      subst (λ o. IsApart o (named_first (v.methods ++ record { owner = h.owner; name = n; params = ps; result = t; nodes = k } ∷ [])
       (v.own.methods ++ length v.methods ∷ []) y))
       (sym (found_added v.own.members n (Method (length v.methods)) y))
       (subst (IsApart (if is_some (found y v.own.members) then found y v.own.members else if bytes_eq n y then Some (Method (length v.methods)) else None))
-      (sym (first_with h n ps t v l y)) (by y (found y v.own.members) refl (bytes_eq n y) (bytes_eq-Decides n y) (a.apart y)));
+      (sym (first_with h n ps t k v l y)) (by y (found y v.own.members) refl (bytes_eq n y) (bytes_eq-Decides n y) (a.apart y)));
   new = λ y e.
       let q = either (bytes_eq n y) (is_among seen y) e in
       found_new v.own.members n (Method (length v.methods)) y (a.new y q.1) q.0;
@@ -113,9 +113,9 @@ members_apart ds k made h (Then (MethodDecl at n ps t body) rest) seen v b m l a
     let q = or_none (asks (not (is_among seen n)) 6 at) (asks (param_types_keep ds ps && type_keeps ds t) 8 at or asks (params_differ ps) 11 at or behind) b in
     let r = or_none (asks (param_types_keep ds ps && type_keeps ds t) 8 at) (asks (params_differ ps) 11 at or behind) q.1 in
     let s = or_none (asks (params_differ ps) 11 at) behind r.1 in
-    members_apart ds k made h rest (n ∷ seen) (with_method h n (written_params ps) (written_type t) v) s.1 m
-    (method_leads h n (written_params ps) (written_type t) v l)
-    (method_apart h n (written_params ps) (written_type t) seen v (unseen (is_among seen n) 6 at q.0) l a)
+    members_apart ds k made h rest (n ∷ seen) (with_method h n (written_params ps) (written_type t) (count_nodes body) v) s.1 m
+    (method_leads h n (written_params ps) (written_type t) (count_nodes body) v l)
+    (method_apart h n (written_params ps) (written_type t) (count_nodes body) seen v (unseen (is_among seen n) 6 at q.0) l a)
 members_apart ds k made h (Then (ConstructorDecl at ps calls arguments body) rest) seen v b m l a =
     let behind = members_breach ds k seen true rest in
     let q = or_none (asks (not made) 6 at)

@@ -2,6 +2,7 @@
 use Rattle.std.specs.Prelude.{◌≡◌, ℕ, ◌+◌, Bool, true, false, List, [], ◌∷◌, ◌++◌, length, map, Some}
 use Rattle.std.specs.List.{AllByRecursion}
 use Rattle.vg_syntax.specs.Tree.{Param, Node, Then, FieldDecl, MethodDecl}
+use Rattle.vg_syntax.specs.Numbering.{count_nodes}
 use Rattle.vg_tree.specs.declared.node.Node as held
 use Rattle.vg_tree.specs.Held.{text_at}
 use Rattle.vg_source.specs.Names.{Name}
@@ -30,12 +31,13 @@ pub record FieldView : Type 0 where
   pub type : StaticType
   pub slot : ℕ
 
--- A method: who declares it, its name, the types of its parameters and that of its result.
+-- A method: who declares it, its name, the types of its parameters and that of its result, and how many nodes its body has.
 pub record MethodView : Type 0 where
   pub owner : Owner
   pub name : Name
   pub params : List StaticType
   pub result : StaticType
+  pub nodes : ℕ
 
 module _ (texts : List (List ℕ)) (types : Types) where
   abbrev pub view_of : CoreType → StaticType
@@ -45,7 +47,7 @@ module _ (texts : List (List ℕ)) (types : Types) where
   field_view y = record { owner = y.owner; name = text_at texts y.name; type = view_of y.type_; slot = y.slot }
 
   abbrev pub method_view : HeldMethod → MethodView
-  method_view y = record { owner = y.owner; name = text_at texts y.name; params = map view_of y.params; result = view_of y.result }
+  method_view y = record { owner = y.owner; name = text_at texts y.name; params = map view_of y.params; result = view_of y.result; nodes = y.nodes }
 
 -- ---- what is asked of them
 
@@ -99,11 +101,11 @@ with_field h x t v = record {
   };
 }
 
--- With one method more, of this name, these parameters and this result.
-abbrev pub with_method : Home → Name → List StaticType → StaticType → HomeView → HomeView
-with_method h x ps t v = record {
+-- With one method more, of this name, these parameters, this result and so many nodes in its body.
+abbrev pub with_method : Home → Name → List StaticType → StaticType → (nodes : ℕ) → HomeView → HomeView
+with_method h x ps t n v = record {
   fields = v.fields;
-  methods = v.methods ++ record { owner = h.owner; name = x; params = ps; result = t } ∷ [];
+  methods = v.methods ++ record { owner = h.owner; name = x; params = ps; result = t; nodes = n } ∷ [];
   own = record {
     members = added x (number.Method (length v.methods)) v.own.members;
     fields = v.own.fields;
@@ -118,7 +120,7 @@ written_params ps = map (λ p. written_type p.type) ps
 -- With one member more.
 abbrev pub with_member : Home → Node → HomeView → HomeView
 with_member h (FieldDecl at x t e) v = with_field h x (written_type t) v
-with_member h (MethodDecl at x ps t body) v = with_method h x (written_params ps) (written_type t) v
+with_member h (MethodDecl at x ps t body) v = with_method h x (written_params ps) (written_type t) (count_nodes body) v
 with_member h _ v = v
 
 -- With all members of a row.

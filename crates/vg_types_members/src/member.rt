@@ -184,7 +184,7 @@ fn add_method(
     requires sound { IsMaking names.now types.now making.old }
     ensures view { OnOk result (home_view names.now types.now making.new own.new
         ≡ with_method home (text_at names.now name) (map (type_view types.now.classes types.now.numbers.keys) signature.params)
-        (type_view types.now.classes types.now.numbers.keys signature.value) (home_view names.now types.now making.old own.old)) }
+        (type_view types.now.classes types.now.numbers.keys signature.value) nodes (home_view names.now types.now making.old own.old)) }
     ensures sound { OnOk result (IsMaking names.now types.now making.new) }
 {
     // Cannot come: there are no more methods than were counted.

@@ -3,6 +3,7 @@
 use Rattle.std.proofs.Common.{◌≡◌, ℕ, suc, List, [], ◌∷◌, ◌++◌, length, Some, slice_get, refl, sym, ap, ◌∙◌, subst}
 use Rattle.std.proofs.lemmas.List.{append_assoc}
 use Rattle.vg_syntax.specs.Tree.{Node, Then, ClassDecl, ComponentDecl, FieldDecl, MethodDecl}
+use Rattle.vg_syntax.specs.Numbering.{count_nodes}
 use Rattle.vg_source.specs.Names.{Name}
 use Rattle.vg_source.specs.Types.{StaticType}
 use Rattle.vg_source.specs.Values.{FieldValue, default}
@@ -69,7 +70,7 @@ home_fields P h x (Then (FieldDecl at n t e) rest) v vs o a =
     (home_fields P h x rest (with_field h n (written_type t) v) (vs ++ record { owner = x; name = n; value = default (written_type t) } ∷ []) o
     (one_field P h x n (written_type t) v vs o a))
 home_fields P h x (Then (MethodDecl at n ps t body) rest) v vs o a =
-    home_fields P h x rest (with_method h n (written_params ps) (written_type t) v) vs o a
+    home_fields P h x rest (with_method h n (written_params ps) (written_type t) (count_nodes body) v) vs o a
 home_fields P h x (Then _ rest) v vs o a = home_fields P h x rest v vs o a
 home_fields P h x _ v vs o a = subst (AreFields P v.fields v.own.fields) (append-none vs) a
 

@@ -2,6 +2,7 @@
 use Rattle.std.proofs.Common.{◌≡◌, ℕ, suc, ◌<◌, true, false, List, [], ◌∷◌, ◌++◌, length, map, Some, slice_get, bytes_eq}
 use Rattle.std.proofs.Common.{refl, sym, ap, ◌∙◌, subst, arith}
 use Rattle.vg_syntax.specs.Tree.{Node, Then, FieldDecl, MethodDecl, ClassDecl, ComponentDecl}
+use Rattle.vg_syntax.specs.Numbering.{count_nodes}
 use Rattle.vg_source.specs.Names.{Name, is_among}
 use Rattle.vg_source.specs.Declared.{written_type}
 use Rattle.vg_core.specs.declared.program.Owner.{Owner}
@@ -70,7 +71,7 @@ home_ones h (Then (FieldDecl at n t e) rest) v seen d f m =
     (subst (Tells h.owner (n ∷ seen)) (sym (map_push field_key v.fields _)) (tells_more h.owner seen n (map field_key v.fields) f d.0))
     (tells_see h.owner seen n (map method_key v.methods) m)
 home_ones h (Then (MethodDecl at n ps t body) rest) v seen d f m =
-    home_ones h rest (with_method h n (written_params ps) (written_type t) v) (n ∷ seen) d.1
+    home_ones h rest (with_method h n (written_params ps) (written_type t) (count_nodes body) v) (n ∷ seen) d.1
     (tells_see h.owner seen n (map field_key v.fields) f)
     (subst (Tells h.owner (n ∷ seen)) (sym (map_push method_key v.methods _)) (tells_more h.owner seen n (map method_key v.methods) m d.0))
 home_ones h (Then _ rest) v seen d f m = home_ones h rest v seen d f m
@@ -104,7 +105,7 @@ home_of P h (Then (FieldDecl at n t e) rest) v p a =
       methods = a.methods;
     })
 home_of P h (Then (MethodDecl at n ps t body) rest) v p a =
-    home_of P h rest (with_method h n (written_params ps) (written_type t) v) p (record {
+    home_of P h rest (with_method h n (written_params ps) (written_type t) (count_nodes body) v) p (record {
       fields = a.fields;
       methods = subst (AllOf P) (sym (map_push method_key v.methods _)) (all_of_more P (map method_key v.methods) (h.owner, n) a.methods p);
     })

@@ -2,6 +2,7 @@ pub mod Lists
 pub mod Fields
 pub mod Tables
 pub mod Targets
+pub mod Sizes
 pub mod Signed
 pub mod Routines
 pub mod Methods

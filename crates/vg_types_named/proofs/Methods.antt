@@ -4,6 +4,7 @@ use Rattle.std.proofs.Common.{◌≡◌, ℕ, zero, suc, ◌+◌, ◌<◌, List,
 use Rattle.std.proofs.lemmas.Option.{slice_get-map}
 use Rattle.std.specs.Option.{option_map}
 use Rattle.vg_syntax.specs.Tree.{Node, Then, FieldDecl, MethodDecl, ClassDecl, ComponentDecl}
+use Rattle.vg_syntax.specs.Numbering.{count_nodes}
 use Rattle.vg_source.specs.Names.{Name}
 use Rattle.vg_source.specs.Types.{StaticType}
 use Rattle.vg_source.specs.Declared.{written_type}
@@ -30,28 +31,28 @@ record HomeOwns (h : Home) (ms : List MethodView) (v : HomeView) : Type 0 where
   pub each : (m : ℕ) (t : MethodView) → slice_get v.methods m ≡ Some t → Whose h ms v m t
   pub back : (j m : ℕ) → slice_get v.own.methods j ≡ Some m → (t : MethodView) × (slice_get v.methods m ≡ Some t) × (t.owner ≡ h.owner)
 
-method_owns : (h : Home) (ms : List MethodView) (n : Name) (ps : List StaticType) (t : StaticType) (v : HomeView) → HomeOwns h ms v
-    → HomeOwns h ms (with_method h n ps t v)
-method_owns h ms n ps t v s = record {
-  each = λ m u e. by_each m u (at_last v.methods (record { owner = h.owner; name = n; params = ps; result = t }) m u e);
+method_owns : (h : Home) (ms : List MethodView) (n : Name) (ps : List StaticType) (t : StaticType) (k : ℕ) (v : HomeView) → HomeOwns h ms v
+    → HomeOwns h ms (with_method h n ps t k v)
+method_owns h ms n ps t k v s = record {
+  each = λ m u e. by_each m u (at_last v.methods (record { owner = h.owner; name = n; params = ps; result = t; nodes = k }) m u e);
   back = λ j m e. by_back j m (at_last v.own.methods (length v.methods) j m e);
 }
   where
-    more : (m : ℕ) (u : MethodView) → Whose h ms v m u → Whose h ms (with_method h n ps t v) m u
+    more : (m : ℕ) (u : MethodView) → Whose h ms v m u → Whose h ms (with_method h n ps t k v) m u
     more m u (before e) = before e
     more m u (own j o g) = own j o (before_end v.own.methods (length v.methods) j m g)
 
-    by_each : (m : ℕ) (u : MethodView) → At v.methods (record { owner = h.owner; name = n; params = ps; result = t }) m u
-        → Whose h ms (with_method h n ps t v) m u
+    by_each : (m : ℕ) (u : MethodView) → At v.methods (record { owner = h.owner; name = n; params = ps; result = t; nodes = k }) m u
+        → Whose h ms (with_method h n ps t k v) m u
     by_each m u (earlier e) = more m u (s.each m u e)
     by_each m u (last e g) =
         own (length v.own.methods) (sym (ap (λ z. z.owner) g))
         (at_end v.own.methods (length v.methods) (length v.own.methods) refl ∙ ap Some (sym e))
 
     by_back : (j m : ℕ) → At v.own.methods (length v.methods) j m
-        → (u : MethodView) × (slice_get (with_method h n ps t v).methods m ≡ Some u) × (u.owner ≡ h.owner)
+        → (u : MethodView) × (slice_get (with_method h n ps t k v).methods m ≡ Some u) × (u.owner ≡ h.owner)
     by_back j m (earlier e) = let b = s.back j m e in (b.0, before_end v.methods _ m b.0 b.1, b.2)
-    by_back j m (last e g) = (record { owner = h.owner; name = n; params = ps; result = t }, at_end v.methods _ m (sym g), refl)
+    by_back j m (last e g) = (record { owner = h.owner; name = n; params = ps; result = t; nodes = k }, at_end v.methods _ m (sym g), refl)
 
 field_owns : (h : Home) (ms : List MethodView) (n : Name) (t : StaticType) (v : HomeView) → HomeOwns h ms v → HomeOwns h ms (with_field h n t v)
 field_owns h ms n t v s = record { each = λ m u e. again m u (s.each m u e); back = s.back }
@@ -64,7 +65,8 @@ members_own : (h : Home) (ms : List MethodView) (row : Node) (v : HomeView) → 
 members_own h ms (Then (FieldDecl at n t e) rest) v s =
     members_own h ms rest (with_field h n (written_type t) v) (field_owns h ms n (written_type t) v s)
 members_own h ms (Then (MethodDecl at n ps t body) rest) v s =
-    members_own h ms rest (with_method h n (written_params ps) (written_type t) v) (method_owns h ms n (written_params ps) (written_type t) v s)
+    members_own h ms rest (with_method h n (written_params ps) (written_type t) (count_nodes body) v)
+    (method_owns h ms n (written_params ps) (written_type t) (count_nodes body) v s)
 members_own h ms (Then _ rest) v s = members_own h ms rest v s
 members_own h ms _ v s = s
 

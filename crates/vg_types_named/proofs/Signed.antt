@@ -41,11 +41,11 @@ module _ (texts : List (List ℕ)) (ds : Node) (types : Types) (heads : Heads) (
     (left : IsLeft texts ds types heads homes d) where
   -- ---- methods
 
-  method_written : (o : Owner) (x n : Name) (ps : List Param) (t : TypeTree) (m : ℕ) → owner_name texts d.tables o ≡ x
-      → slice_get (homes_view texts types homes).methods m ≡ Some (written o n ps t) → IsWritten texts d o x n ps t m
-  method_written o x n ps t m q e = by (view_at (method_view texts types) homes.making.methods m (written o n ps t) e)
+  method_written : (o : Owner) (x n : Name) (ps : List Param) (t : TypeTree) (body : Node) (m : ℕ) → owner_name texts d.tables o ≡ x
+      → slice_get (homes_view texts types homes).methods m ≡ Some (written o n ps t body) → IsWritten texts d o x n ps t m
+  method_written o x n ps t body m q e = by (view_at (method_view texts types) homes.making.methods m (written o n ps t body) e)
     where
-      by : Viewed (method_view texts types) homes.making.methods m (written o n ps t) → IsWritten texts d o x n ps t m
+      by : Viewed (method_view texts types) homes.making.methods m (written o n ps t body) → IsWritten texts d o x n ps t m
       by (viewed y g v) =
           let h : slice_get d.tables.methods m ≡ Some y = ap (λ z. slice_get z m) left.built.method_table ∙ g in
           record {
@@ -60,7 +60,7 @@ module _ (texts : List (List ℕ)) (ds : Node) (types : Types) (heads : Heads) (
 
   all_of : (o : Owner) (x : Name) (m : ℕ) (ms : Node) → owner_name texts d.tables o ≡ x → WrittenIn (homes_view texts types homes).methods o m ms
       → AreWritten texts d o x m ms
-  all_of o x m (Then (MethodDecl at n ps t body) rest) q w = (method_written o x n ps t m q w.0, all_of o x (suc m) rest q w.1)
+  all_of o x m (Then (MethodDecl at n ps t body) rest) q w = (method_written o x n ps t body m q w.0, all_of o x (suc m) rest q w.1)
   all_of o x m (Then _ rest) q w = all_of o x m rest q w
   all_of o x m _ q w = tt
 

@@ -2,6 +2,7 @@
 use Rattle.std.proofs.Common.{◌≡◌, ℕ, suc, ◌+◌, List, [], ◌∷◌, ◌++◌, length, map, Some, slice_get, refl, sym, ap, ◌∙◌, subst, arith}
 use Rattle.std.proofs.lemmas.List.{append_assoc}
 use Rattle.vg_syntax.specs.Tree.{TypeTree, Param, Node, Then, ClassDecl, ComponentDecl, FieldDecl, MethodDecl}
+use Rattle.vg_syntax.specs.Numbering.{count_nodes}
 use Rattle.vg_source.specs.Names.{Name}
 use Rattle.vg_source.specs.Declared.{written_type}
 use Rattle.vg_core.specs.declared.program.Owner.{Owner}
@@ -14,7 +15,7 @@ use Rattle.vg_types_declared.proofs.Members.{Stays, members_stay}
 use Rattle.vg_types_named.specs.Targets.{count_methods, method_targets, targets_from}
 use Rattle.vg_types_named.proofs.Lists.{append-none, count_push, at_end}
 
-map_push : {A B : Type 0} (f : A → B) (xs : List A) (x : A) → map f (xs ++ x ∷ []) ≡ map f xs ++ f x ∷ []
+pub map_push : {A B : Type 0} (f : A → B) (xs : List A) (x : A) → map f (xs ++ x ∷ []) ≡ map f xs ++ f x ∷ []
 map_push f [] x = refl
 map_push f (y ∷ xs) x = ap (λ z. f y ∷ z) (map_push f xs x)
 
@@ -22,7 +23,7 @@ map_push f (y ∷ xs) x = ap (λ z. f y ∷ z) (map_push f xs x)
 
 pub home_count : (h : Home) (ms : Node) (v : HomeView) (m : ℕ) → length v.methods ≡ m → length (with_members h ms v).methods ≡ m + count_methods ms
 home_count h (Then (MethodDecl at n ps t body) rest) v m e =
-    let q = home_count h rest (with_method h n (written_params ps) (written_type t) v) (suc m) (count_push v.methods _ ∙ ap suc e) in
+    let q = home_count h rest (with_method h n (written_params ps) (written_type t) (count_nodes body) v) (suc m) (count_push v.methods _ ∙ ap suc e) in
     let r : suc m + count_methods rest ≡ m + suc (count_methods rest) = omega arith in
     q ∙ r
 home_count h (Then (FieldDecl at n t e) rest) v m q = home_count h rest (with_field h n (written_type t) v) m q
@@ -32,7 +33,7 @@ home_count h _ v m e = let q : m ≡ m + 0 = omega arith in e ∙ q
 home_targets : (h : Home) (ms : Node) (v : HomeView) (m : ℕ) → length v.methods ≡ m
     → map Run (with_members h ms v).own.methods ≡ map Run v.own.methods ++ method_targets m ms
 home_targets h (Then (MethodDecl at n ps t body) rest) v m e =
-    home_targets h rest (with_method h n (written_params ps) (written_type t) v) (suc m) (count_push v.methods _ ∙ ap suc e)
+    home_targets h rest (with_method h n (written_params ps) (written_type t) (count_nodes body) v) (suc m) (count_push v.methods _ ∙ ap suc e)
     ∙ ap (λ z. z ++ method_targets (suc m) rest) (map_push Run v.own.methods (length v.methods))
     ∙ append_assoc (map Run v.own.methods) (Run (length v.methods) ∷ []) (method_targets (suc m) rest)
     ∙ ap (λ z. map Run v.own.methods ++ Run z ∷ method_targets (suc m) rest) e
@@ -92,12 +93,12 @@ targets_made ds = all_targets ds no_view 0 0 0 no_counted
 -- ---- the methods that are written
 
 -- a method of this owner, as it is written
-abbrev pub written : Owner → (name : Name) → List Param → TypeTree → MethodView
-written o n ps t = record { owner = o; name = n; params = written_params ps; result = written_type t }
+abbrev pub written : Owner → (name : Name) → List Param → TypeTree → (body : Node) → MethodView
+written o n ps t body = record { owner = o; name = n; params = written_params ps; result = written_type t; nodes = count_nodes body }
 
 -- the methods among members, the first of which has this number
 abbrev pub WrittenIn : List MethodView → Owner → ℕ → Node → Type 0
-WrittenIn methods o m (Then (MethodDecl at n ps t body) rest) = (slice_get methods m ≡ Some (written o n ps t)) × WrittenIn methods o (suc m) rest
+WrittenIn methods o m (Then (MethodDecl at n ps t body) rest) = (slice_get methods m ≡ Some (written o n ps t body)) × WrittenIn methods o (suc m) rest
 WrittenIn methods o m (Then _ rest) = WrittenIn methods o m rest
 WrittenIn methods o m _ = Unit {0}
 
@@ -117,8 +118,9 @@ written_stays old new o m _ s w = tt
 
 home_written : (h : Home) (ms : Node) (v : HomeView) (m : ℕ) → length v.methods ≡ m → WrittenIn (with_members h ms v).methods h.owner m ms
 home_written h (Then (MethodDecl at n ps t body) rest) v m e = (
-  (members_stay h rest (with_method h n (written_params ps) (written_type t) v)).1 m (written h.owner n ps t) (at_end v.methods _ m (sym e)),
-  home_written h rest (with_method h n (written_params ps) (written_type t) v) (suc m) (count_push v.methods _ ∙ ap suc e),
+  (members_stay h rest (with_method h n (written_params ps) (written_type t) (count_nodes body) v)).1 m (written h.owner n ps t body)
+      (at_end v.methods _ m (sym e)),
+  home_written h rest (with_method h n (written_params ps) (written_type t) (count_nodes body) v) (suc m) (count_push v.methods _ ∙ ap suc e),
 )
 home_written h (Then (FieldDecl at n t e) rest) v m q = home_written h rest (with_field h n (written_type t) v) m q
 home_written h (Then _ rest) v m e = home_written h rest v m e

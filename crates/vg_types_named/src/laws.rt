@@ -1,5 +1,5 @@
 // Tables with names in place of numbers.
-ghost use Rattle.std.specs.Prelude.{◌≡◌, ℕ, ◌==◌, List, true, None, Some, slice_get, bytes_eq};
+ghost use Rattle.std.specs.Prelude.{◌≡◌, ℕ, ◌==◌, List, true, None, Some, map, slice_get, bytes_eq};
 ghost use Rattle.vg_syntax.specs.Tree.{Node};
 ghost use Rattle.vg_source.specs.Program.{classes_in, components_in, globals_in, routines_in, with_numbers, program_of};
 ghost use Rattle.vg_core.specs.Program.{Body, Program, Signature, signature_of, body_of};
@@ -15,6 +15,7 @@ ghost use Rattle.vg_types_declared.specs.Apart.{have_members};
 ghost use Rattle.vg_types_tables.specs.Declares.{IsClass};
 ghost use Rattle.vg_core.specs.Naming.{Naming, keyed, named, named_classes, named_components, routines_at};
 ghost use Rattle.vg_core.specs.Meaning.{defaults};
+ghost use Rattle.vg_method_sizes.specs.Sizes.{sizes_in};
 ghost use Rattle.vg_types_tables.specs.declared.declared.Declared.{Declared};
 ghost use Rattle.vg_types_tables.specs.Views.{naming};
 ghost use Rattle.vg_types_declared.specs.Named.{Keeps};
@@ -37,6 +38,12 @@ pub fn tables_named()
 pub fn targets_agree()
     ensures targets { (texts : List (List ℕ)) (ds : Node) (d : Declared) → Keeps ds → Left texts ds d → d.tables.targets ≡ targets_from 0 0 0 ds }
     ensures signatures { (texts : List (List ℕ)) (ds : Node) (d : Declared) → Keeps ds → Left texts ds d → AreSigned texts d 0 0 0 ds }
+{}
+
+/// The node count of each method in the tables is that of the body that is written, by its number in order of the text.
+pub fn nodes_counted()
+    ensures { (texts : List (List ℕ)) (ds : Node) (d : Declared) → Left texts ds d
+        → map (λ y. y.nodes) d.tables.methods ≡ map (λ s. s.nodes) (sizes_in ds) }
 {}
 
 /// Where each target runs what is written for it, all that runs is what the text says. And so the program is that of the text, where it adds to the

@@ -3,4 +3,6 @@
 
 mod laws;
 
-pub use laws::{names_tell, program_named, tables_named, tables_tell, targets_agree};
+pub use laws::{
+    names_tell, nodes_counted, program_named, tables_named, tables_tell, targets_agree,
+};

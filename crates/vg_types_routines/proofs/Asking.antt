@@ -16,7 +16,7 @@ use Rattle.vg_rules.specs.Bodies.{breach, initialiser_keeps}
 use Rattle.vg_rules.specs.Legal.{body_of, outside, super_keeps, bodies_breach, written_breach}
 use Rattle.vg_types_simple.specs.Asked.{asked}
 use Rattle.vg_types_bodies.specs.Initial.{super_fits}
-use Rattle.vg_types_written.specs.Asked.{is_member, member_breach, one_breach}
+use Rattle.vg_types_routines.specs.Asked.{is_member, member_breach, one_breach}
 
 -- ---- members
 
@@ -55,12 +55,6 @@ breaks_one ds o above (MethodDecl at x ps t body) b h = refl
 breaks_one ds o above (ConstructorDecl at ps calls args body) b h = refl
 breaks_one ds o above _ b h = cc
 
-numbered_member : (i : ℕ) (m : Node) → is_member (numbered i m) ≡ is_member m
-numbered_member i (FieldDecl at x t e) = refl
-numbered_member i (MethodDecl at x ps t body) = refl
-numbered_member i (ConstructorDecl at ps calls args body) = refl
-numbered_member i _ = refl
-
 abbrev pub behind : List (List ℕ) → ℕ → held.Node → List held.Node → Node
 behind texts next d rest = numbered (next + count_nodes (node_at texts d)) (row_at texts rest)
 
@@ -81,11 +75,10 @@ module _ (ds : Node) (o : Owner) (above : Option Name) (texts : List (List ℕ))
       ∙ member_one ds o above (numbered next (node_at texts m)) (behind texts next m rest) (breaks_one ds o above (numbered next (node_at texts m)) b e)
       ∙ ap (λ z. z or bodies_breach ds o above (behind texts next m rest)) e
 
-  -- the same for what is a member with its number
-  pub member_kept_as : (next after : ℕ) (m : held.Node) (rest : List held.Node) → Members ds o above texts all first next (m ∷ rest)
+  pub member_kept : (next after : ℕ) (m : held.Node) (rest : List held.Node) → Members ds o above texts all first next (m ∷ rest)
       → is_member (numbered next (node_at texts m)) ≡ true → member_breach ds o above (numbered next (node_at texts m)) ≡ None
       → after ≡ next + count_nodes (node_at texts m) → Members ds o above texts all first after rest
-  member_kept_as next after m rest p i e n =
+  member_kept next after m rest p i e n =
       let c = p.count in
       record {
         breach = p.breach ∙ member_one ds o above (numbered next (node_at texts m)) (behind texts next m rest) i
@@ -93,11 +86,6 @@ module _ (ds : Node) (o : Owner) (above : Option Name) (texts : List (List ℕ))
             ∙ ap (λ k. bodies_breach ds o above (numbered k (row_at texts rest))) (sym n);
         count = omega (arith, c, n);
       }
-
-  pub member_kept : (next after : ℕ) (m : held.Node) (rest : List held.Node) → Members ds o above texts all first next (m ∷ rest)
-      → is_member (node_at texts m) ≡ true → member_breach ds o above (numbered next (node_at texts m)) ≡ None
-      → after ≡ next + count_nodes (node_at texts m) → Members ds o above texts all first after rest
-  member_kept next after m rest p i = member_kept_as next after m rest p (numbered_member next (node_at texts m) ∙ i)
 
 -- ---- declarations
 

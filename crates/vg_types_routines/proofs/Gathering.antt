@@ -9,11 +9,11 @@ use Rattle.vg_rules.specs.Legal.{written_breach}
 use Rattle.vg_core.specs.declared.program.Body.{Body}
 use Rattle.vg_types_tables.specs.declared.declared.Declared.{Declared}
 use Rattle.vg_types_tables.specs.Views.{declarations_at}
-use Rattle.vg_types_written.specs.Asked.{one_breach}
-use Rattle.vg_types_written.proofs.Walking.{Writing, writing_starts, declaration_kept, behind}
 use Rattle.vg_types_routines.specs.declared.pass.Bodies.{Bodies}
+use Rattle.vg_types_routines.specs.Asked.{one_breach}
 use Rattle.vg_types_routines.specs.Bodies.{AllBodies}
 use Rattle.vg_types_routines.specs.Homes.{Gains}
+use Rattle.vg_types_routines.proofs.Asking.{Writing, writing_starts, declaration_kept, behind}
 
 module _ (texts : List (List ℕ)) (root : held.Node) (d : Declared) where
   -- the bodies of the rest go behind those so far

@@ -1,3 +1,4 @@
+mod Asking
 mod Finding
 mod Making
 mod Walking

@@ -23,11 +23,11 @@ use Rattle.vg_types_statements.proofs.Rows.{AllRun, one_more, row_runs, in_front
 use Rattle.vg_types_bodies.specs.declared.making.Constructed.{Constructed}
 use Rattle.vg_types_bodies.specs.Initial.{above_name}
 use Rattle.vg_types_bodies.specs.Fields.{making_kind}
-use Rattle.vg_types_written.specs.Asked.{is_member, member_breach}
-use Rattle.vg_types_written.proofs.Walking.{Members, members_start, member_kept_as, behind}
 use Rattle.vg_types_routines.specs.declared.walked.Walked.{Walked}
+use Rattle.vg_types_routines.specs.Asked.{is_member, member_breach}
 use Rattle.vg_types_routines.specs.Bodies.{MethodBodies}
 use Rattle.vg_types_routines.specs.Walked.{initialiser_of, IsMadeOf, Adds, MadeOf, IsWalked}
+use Rattle.vg_types_routines.proofs.Asking.{Members, members_start, member_kept, behind}
 
 pub drop_end : {A : Type 0} (xs : List A) (i : ℕ) → length xs ≤ i → drop i xs ≡ []
 drop_end [] zero h = refl
@@ -148,7 +148,7 @@ module _ (texts : List (List ℕ)) (root : held_node.Node) (d : Declared) (o : O
       → Adds texts root d o above (numbered next (node_at texts m)) old new → after ≡ next + count_nodes (node_at texts m)
       → Going before all first after rest new
   going_on before all first next after m rest old new g k a n = record {
-    asked = member_kept_as (declarations_at texts root) (owner_view texts d (Some o)) (above_name texts d above) texts all first next after m rest g.asked
+    asked = member_kept (declarations_at texts root) (owner_view texts d (Some o)) (above_name texts d above) texts all first next after m rest g.asked
         (member_of_adds (numbered next (node_at texts m)) old new a) k n;
     built = subst (λ z. Built before (numbered first (row_at texts all)) (numbered z (row_at texts rest)) new) (sym n)
         (built_on before (numbered first (row_at texts all)) (numbered next (node_at texts m)) (behind texts next m rest) old new g.built a);

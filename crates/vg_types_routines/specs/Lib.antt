@@ -1,3 +1,4 @@
+pub mod Asked
 pub mod Bodies
 pub mod Walked
 pub mod Fields

@@ -7,6 +7,7 @@ mod fields;
 mod homes;
 mod members;
 mod methods;
+mod owners;
 mod pass;
 mod walked;
 

@@ -15,7 +15,7 @@ ghost use Rattle.vg_types_tables.specs.Promises.{IsOwner};
 ghost use Rattle.vg_types_bodies.specs.Initial.{above_name, initial_breach};
 ghost use Rattle.vg_types_bodies.specs.Makings.{constructor_breach};
 ghost use Rattle.vg_types_bodies.specs.Parameters.{params_at};
-ghost use Rattle.vg_types_written.specs.Asked.{member_breach};
+ghost use Rattle.vg_types_routines.specs.Asked.{member_breach};
 ghost use Rattle.vg_types_routines.specs.Fields.{field_node};
 ghost use Rattle.vg_types_routines.specs.Walked.{constructor_of, Adds, AddsField, AddsMethod, AddsMade, IsWalked};
 
@@ -28,10 +28,10 @@ use vg_base::{Name, Names, Place, Refusal};
 use vg_core::{Body, Owner};
 use vg_tree::{Node, Param, TypeTree};
 use vg_types_classes::row_of;
+use vg_types_counts::count_nodes;
 use vg_types_simple::nothing;
 use vg_types_tables::Declared;
 use vg_types_views::Broken;
-use vg_types_written::extent;
 
 /// What is built of the members of this owner, behind these methods, or the first breach in them. `first` is the number of the first member.
 pub(crate) fn walk(
@@ -98,6 +98,14 @@ fn walk_row(
         next = next + extent(names, member);
     }
     Ok(walked)
+}
+
+/// How many nodes there are at and below a node.
+pub(crate) fn extent(names: &Names, node: &Node) -> u32
+    requires { count_nodes (node_at names.now node.now) < 2 ^ 32 }
+    ensures { result ≡ count_nodes (node_at names.now node.now) }
+{
+    count_nodes(node)
 }
 
 // What is built with one member more, which has this number.

@@ -8,11 +8,13 @@ ghost use Rattle.vg_rules.specs.Legal.{bodies_breach, written_breach};
 ghost use Rattle.vg_types_views.specs.Judges.{Judges};
 ghost use Rattle.vg_types_tables.specs.Views.{declarations_at};
 ghost use Rattle.vg_types_tables.specs.Declares.{Declares};
-ghost use Rattle.vg_types_written.specs.Asked.{one_breach};
+ghost use Rattle.vg_types_routines.specs.Asked.{one_breach};
 ghost use Rattle.vg_types_routines.specs.Bodies.{AllBodies};
 ghost use Rattle.vg_types_routines.specs.Homes.{AddsClass, AddsComponent, Gains};
 
 use crate::homes::{Home, class_home, component_home};
+use crate::members::extent;
+use crate::owners::class_above;
 use std::alloc::Global;
 use vg_base::{Name, Names, Refusal};
 use vg_core::Body;
@@ -20,7 +22,6 @@ use vg_tree::Node;
 use vg_types_classes::row_of;
 use vg_types_tables::{Declared, class_of, component_of};
 use vg_types_views::{Broken, text_of};
-use vg_types_written::{class_above, extent};
 
 /// The bodies of a text, each row in order of the text.
 #[derive(Drop)]
