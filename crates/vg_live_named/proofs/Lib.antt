@@ -1,0 +1,6 @@
+pub mod Steps
+pub mod Cells
+pub mod There
+pub mod Names
+pub mod Held
+pub mod Forth
