@@ -1,21 +1,18 @@
 -- What stands in a typed heap.
 use Rattle.std.proofs.Common.{◌≡◌, ℕ, zero, suc, List, [], ◌∷◌, length, Option, Some, None, slice_get}
-use Rattle.std.proofs.Common.{refl, sym, ap, ◌∙◌, subst}
+use Rattle.std.proofs.Common.{refl, subst}
 use Rattle.std.specs.Prelude.{◌<◌}
 use Rattle.std.proofs.lemmas.Option.{slice_get_within}
 use Rattle.vg_core.specs.declared.types.CoreType.{CoreType}
-use Rattle.vg_core.specs.declared.types.CoreType.TheVariants.{ClassType, ArrayType, FunctionType}
 use Rattle.vg_core.specs.declared.value.CoreValue.{CoreValue}
-use Rattle.vg_core.specs.declared.value.CoreValue.TheVariants.{Obj, Arr, Bound}
 use Rattle.vg_core.specs.declared.heap.Cell.{Cell}
 use Rattle.vg_core.specs.declared.heap.Cell.TheVariants.{Object, Array}
 use Rattle.vg_core.specs.declared.heap.Heap.{Heap}
 use Rattle.vg_core.specs.declared.program.Class.{Class}
-use Rattle.vg_core.specs.declared.program.Field.{Field}
 use Rattle.vg_core.specs.declared.program.Tables.{Tables}
 use Rattle.vg_core.specs.Tables.{slot_of, global_slot}
 use Rattle.vg_core.specs.Heap.{Kind, ObjectOf, ArrayOf, Place, OfComponent, OfObject, OfArray, value_in, field_in, item_in, value_at}
-use Rattle.vg_core.specs.Types.{IsObject, HasType, HasFieldType, HasFields, AllHave, IsKind, AreKinds}
+use Rattle.vg_core.specs.Types.{IsObject, HasType, HasFields, AllHave, IsKind, AreKinds}
 use Rattle.vg_sound.specs.Good.{TypedHeap}
 use Rattle.vg_sound.proofs.Values.{the_same, none_some, item_get}
 use Rattle.vg_sound.proofs.Cells.{object, array}
@@ -75,7 +72,8 @@ module _ (p : Tables) where
   value_typed κ h typed (OfComponent f) v e = in_place κ p.globals h.globals (global_slot p f) v typed.globals e
   value_typed κ h typed (OfObject k f) v e = by (slice_get h.cells k) refl e
     where
-      of_class : (c : ℕ) (vs : List CoreValue) → value_in (slot_of p c f) vs ≡ Some v → ((x : Class) × (slice_get p.classes c ≡ Some x) × HasFields p κ x.fields vs)
+      of_class : (c : ℕ) (vs : List CoreValue) → value_in (slot_of p c f) vs ≡ Some v
+          → ((x : Class) × (slice_get p.classes c ≡ Some x) × HasFields p κ x.fields vs)
           → (t : CoreType) × HasType p κ v t
       of_class c vs q (x, ex, a) = in_place κ x.fields vs (slot_of p c f) v a q
 

@@ -1,28 +1,23 @@
 -- What is live under numbers is live under names, by the same rules.
-use Rattle.std.proofs.Common.{◌≡◌, ℕ, true, List, length, Option, Some, None, slice_get}
-use Rattle.std.proofs.Common.{refl, sym, ap, ◌∙◌, subst, option_map, map}
+use Rattle.std.proofs.Common.{◌≡◌, ℕ, true, List, Option, Some, None, slice_get}
+use Rattle.std.proofs.Common.{refl, ap, ◌∙◌, subst, option_map}
 use Rattle.std.proofs.lemmas.Option.{slice_get-map}
-use Rattle.vg_source.specs.Steps as source_step
 use Rattle.vg_source.specs.State as source_state
 use Rattle.vg_core.specs.declared.member.Member.{Member}
-use Rattle.vg_core.specs.declared.member.Member.TheVariants.{Method, Field, Cell}
+use Rattle.vg_core.specs.declared.member.Member.TheVariants.{Method}
 use Rattle.vg_core.specs.declared.value.CoreValue.{CoreValue}
 use Rattle.vg_core.specs.declared.step.Step.{Step}
-use Rattle.vg_core.specs.declared.step.Step.TheVariants.{Literal, ComponentField, Field as FieldOf}
 use Rattle.vg_core.specs.declared.heap.Heap.{Heap}
 use Rattle.vg_core.specs.declared.program.Class.{Class}
-use Rattle.vg_core.specs.declared.program.Handler.{Handler}
-use Rattle.vg_core.specs.Tables.{above_in, is_in, is_below, dispatch}
+use Rattle.vg_core.specs.Tables.{above_in, is_in, is_below}
 use Rattle.vg_core.specs.Program.{Program}
 use Rattle.vg_core.specs.Heap.{Kind, Place, OfComponent, OfObject, OfArray, value_at}
 use Rattle.vg_core.specs.Naming.{Naming, named_value, named_step, named_heap, named_handler, named}
 use Rattle.vg_core.specs.Typing.{WellTyped}
 use Rattle.vg_sound.specs.Good.{TypedHeap}
-use Rattle.vg_sound.proofs.Values.{the_same, none_some}
 use Rattle.vg_renamed.specs.NamesTell.{NamesTell}
-use Rattle.vg_renamed.specs.IsNamed.{IsNamed}
 use Rattle.vg_renamed.proofs.Named.{is_named}
-use Rattle.vg_live.specs.Uses.{steps_of, component_method, Asked, asked}
+use Rattle.vg_live.specs.Uses.{steps_of}
 use Rattle.vg_live.specs.Rules.{cell_in, Keeps, holder, owner, Rule, Live}
 use Rattle.vg_live.specs.Rules as rules
 use Rattle.vg_live_source.specs.Members as source

@@ -1,14 +1,13 @@
 -- The values in the heap under numbers and under names.
-use Rattle.std.proofs.Common.{◌≡◌, ℕ, zero, suc, ◌==◌, ◌&&◌, Bool, true, false, List, [], ◌∷◌, map, length, Option, Some, None, option_map, slice_get}
-use Rattle.std.proofs.Common.{if◌then◌else◌, refl, sym, ap, ◌∙◌, subst}
-use Rattle.std.specs.Prelude.{bytes_eq}
+use Rattle.std.proofs.Common.{◌≡◌, ℕ, suc, ◌==◌, Bool, true, false, List, [], ◌∷◌, Option, Some, None, option_map, slice_get}
+use Rattle.std.proofs.Common.{if◌then◌else◌, refl, sym, ap, ◌∙◌}
 use Rattle.std.proofs.lemmas.Bool.{eqb-true}
 use Rattle.std.proofs.lemmas.Option.{slice_get-map}
 use Rattle.vg_source.specs.Values as source_value
 use Rattle.vg_source.specs.State as source_state
 use Rattle.vg_source.specs.State.{find_value}
 use Rattle.vg_core.specs.declared.value.CoreValue.{CoreValue}
-use Rattle.vg_core.specs.declared.value.CoreValue.TheVariants.{Int, Bool as Truth, Char, Raw, Null, Obj, Arr, Bound}
+use Rattle.vg_core.specs.declared.value.CoreValue.TheVariants.{Obj, Arr}
 use Rattle.vg_core.specs.declared.heap.Cell.{Cell}
 use Rattle.vg_core.specs.declared.heap.Cell.TheVariants.{Object, Array}
 use Rattle.vg_core.specs.declared.heap.Heap.{Heap}
@@ -16,7 +15,7 @@ use Rattle.vg_core.specs.declared.member.Member as core
 use Rattle.vg_core.specs.declared.program.Class.{Class}
 use Rattle.vg_core.specs.declared.program.Field.{Field}
 use Rattle.vg_core.specs.declared.program.Tables.{Tables}
-use Rattle.vg_core.specs.Tables.{slot_of, global_slot, fields_in}
+use Rattle.vg_core.specs.Tables.{fields_in}
 use Rattle.vg_core.specs.Heap.{Kind, Place, OfComponent, OfObject, OfArray, class_in, value_in, field_in, item_in, value_at}
 use Rattle.vg_core.specs.Types.{HasFields}
 use Rattle.vg_core.specs.Typing.{WellFormed}
@@ -101,7 +100,8 @@ module _ (n : Naming) (p : Tables) where
         later : FoundAt fs vs f v → FoundAt (g ∷ fs) (u ∷ vs) f v
         later (i, w, ef, ev, q) = (suc i, w, ef, ev, q)
 
-        by : (b : Bool) → (b ≡ true → g ≡ f) → (if b then Some (named_value n p u) else find_value (keyed n p fs vs) (n.field f).owner (n.field f).name) ≡ Some v
+        by : (b : Bool) → (b ≡ true → g ≡ f)
+            → (if b then Some (named_value n p u) else find_value (keyed n p fs vs) (n.field f).owner (n.field f).name) ≡ Some v
             → (find_value (keyed n p fs vs) (n.field f).owner (n.field f).name ≡ Some v → FoundAt fs vs f v) → FoundAt (g ∷ fs) (u ∷ vs) f v
         by true same q go = (0, u, ap Some (same refl), refl, sym (the_same _ _ q))
         by false same q go = later (go q)

@@ -4,3 +4,5 @@ pub mod There
 pub mod Names
 pub mod Held
 pub mod Forth
+pub mod Back
+pub mod Whole

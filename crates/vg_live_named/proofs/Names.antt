@@ -1,6 +1,6 @@
 -- The steps of a method under numbers and under names.
-use Rattle.std.proofs.Common.{◌≡◌, ℕ, Bool, true, false, List, [], ◌∷◌, ◌++◌, map, length, Option, Some, None, option_map, slice_get}
-use Rattle.std.proofs.Common.{refl, sym, ap, ◌∙◌, subst}
+use Rattle.std.proofs.Common.{◌≡◌, ℕ, ◌++◌, map, Option, Some, None, option_map, slice_get}
+use Rattle.std.proofs.Common.{refl, sym, ap, ◌∙◌}
 use Rattle.std.proofs.lemmas.List.{map-append}
 use Rattle.std.proofs.lemmas.Option.{slice_get-map}
 use Rattle.vg_meaning.specs.Code.{Code, Nothing, Then, Do, If, Loop, Break, Continue, Return}
@@ -13,16 +13,14 @@ use Rattle.vg_core.specs.declared.program.Method.{Method}
 use Rattle.vg_core.specs.declared.program.Target.TheVariants.{Run}
 use Rattle.vg_core.specs.declared.program.Tables.{Tables}
 use Rattle.vg_core.specs.Program.{Body, Program, Signature, signature_of}
-use Rattle.vg_core.specs.Naming.{Naming, named_step, named_code, named_target, named_routine, named}
+use Rattle.vg_core.specs.Naming.{Naming, named_step, named_code, named_routine, named}
 use Rattle.vg_core.specs.Typing.{TypedBody, WellTyped}
 use Rattle.vg_sound.proofs.Values.{the_same, none_some}
 use Rattle.vg_renamed.specs.NamesTell.{NamesTell}
-use Rattle.vg_renamed.specs.IsNamed.{IsNamed}
 use Rattle.vg_renamed.proofs.Named.{is_named}
 use Rattle.vg_live.specs.Uses.{uses, steps_in, steps_of, component_method, Asked, asked, made_at}
 use Rattle.vg_live_source.specs.Members as source
 use Rattle.vg_live_source.specs.Uses as source_uses
-use Rattle.vg_live_named.specs.Members.{named_member}
 use Rattle.vg_live_named.proofs.Steps.{method_body}
 
 -- what was mapped
@@ -142,7 +140,8 @@ module _ (n : Naming) (p : Tables) where
       → (g : ℕ) × (s ≡ step.ComponentField g) × (source.Field c f ≡ field_named g)
   global_back s c f e = by (mapped field_named (global_read s) (source.Field c f) (sym (global_same s) ∙ ap source_global_read (sym e)))
     where
-      by : ((g : ℕ) × (global_read s ≡ Some g) × (source.Field c f ≡ field_named g)) → (g : ℕ) × (s ≡ step.ComponentField g) × (source.Field c f ≡ field_named g)
+      by : ((g : ℕ) × (global_read s ≡ Some g) × (source.Field c f ≡ field_named g))
+          → (g : ℕ) × (s ≡ step.ComponentField g) × (source.Field c f ≡ field_named g)
       by (g, eg, q) = (g, is_global s g eg, q)
 
   abbrev source_read : ℕ → Name → Name → SourceRead

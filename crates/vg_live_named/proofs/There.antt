@@ -1,10 +1,10 @@
 -- Each rule with live premises concludes a member that is there.
-use Rattle.std.proofs.Common.{◌≡◌, ℕ, zero, suc, true, List, [], ◌∷◌, length, Option, Some, None, slice_get}
-use Rattle.std.proofs.Common.{refl, sym, ap, ◌∙◌, subst}
+use Rattle.std.proofs.Common.{◌≡◌, ℕ, zero, suc, true, List, [], ◌∷◌, length, Option, Some, slice_get}
+use Rattle.std.proofs.Common.{sym, ap, ◌∙◌, subst}
 use Rattle.std.specs.Prelude.{◌<◌}
 use Rattle.std.proofs.lemmas.Option.{slice_get_within}
 use Rattle.vg_core.specs.declared.member.Member.{Member}
-use Rattle.vg_core.specs.declared.member.Member.TheVariants.{Method, Field, Cell}
+use Rattle.vg_core.specs.declared.member.Member.TheVariants.{Method, Field}
 use Rattle.vg_core.specs.declared.types.CoreType.{CoreType}
 use Rattle.vg_core.specs.declared.types.CoreType.TheVariants.{ClassType, ArrayType, FunctionType}
 use Rattle.vg_core.specs.declared.value.CoreValue.{CoreValue}
