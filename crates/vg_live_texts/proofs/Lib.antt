@@ -1,0 +1,2 @@
+mod Why
+mod Order
