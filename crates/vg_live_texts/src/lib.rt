@@ -2,4 +2,5 @@
 #![tactic(auto)]
 
 pub mod delegate;
+pub mod dispatch;
 pub mod numbers;
