@@ -1,0 +1,2 @@
+pub mod Delegated
+pub mod Dispatched
