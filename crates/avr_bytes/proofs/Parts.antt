@@ -1,5 +1,6 @@
 -- A change of one part of a processor leaves bytes in it.
-use Rattle.std.proofs.Common.{◌≡◌, ℕ, zero, suc, ◌+◌, ◌-◌, ◌/◌, ◌%◌, ◌<◌, Bool, true, false, ◌==◌, List, [], ◌∷◌, refl, arith}
+use Rattle.std.proofs.Common.{◌≡◌, ℕ, zero, suc, ◌+◌, ◌-◌, ◌/◌, ◌%◌, ◌<◌, Bool, true, false}
+use Rattle.std.proofs.Common.{◌==◌, List, [], ◌∷◌, refl, arith}
 use Rattle.std.proofs.Common.{nat_lt, if◌then◌else◌, slice_set}
 use Rattle.avr_isa.specs.declared.flags.Flags.{Flags}
 use Rattle.avr_isa.specs.declared.effect.Effect.{Effect}

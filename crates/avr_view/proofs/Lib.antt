@@ -1,0 +1,10 @@
+pub mod Going
+pub mod Dividing
+pub mod Rows
+pub mod Steps
+pub mod MemorySteps
+pub mod DeviceSteps
+pub mod StackSteps
+pub mod CallSteps
+pub mod JumpSteps
+pub mod WakingSteps

@@ -1,0 +1,4 @@
+pub mod Registers
+pub mod Memory
+pub mod Run
+pub mod View
