@@ -1,7 +1,6 @@
 -- Calls and returns.
-use Rattle.std.proofs.Common.{◌≡◌, ℕ, suc, ◌+◌, ◌-◌, ◌*◌, ◌/◌, ◌%◌, ◌<◌, ◌≤◌, Bool, true, false, ◌&&◌, if◌then◌else◌, List, [], ◌∷◌, ◌++◌, length}
-use Rattle.std.proofs.Common.{Some, refl, sym, ap, ◌∙◌, subst, arith, inl, inr, nat_le, nat_lt}
-use Rattle.vg_meaning.specs.Outside.{Outside}
+use Rattle.std.proofs.Common.{◌≡◌, ℕ, suc, ◌+◌, ◌-◌, ◌/◌, ◌%◌, ◌<◌, ◌≤◌, Bool, true, false, if◌then◌else◌, List, [], ◌∷◌, length}
+use Rattle.std.proofs.Common.{refl, sym, ap, ◌∙◌, subst, arith, inl, inr}
 use Rattle.avr_instr.specs.declared.instr.Instr.{Instr}
 use Rattle.avr_instr.specs.declared.instr.Instr.TheVariants.{Call, Icall, Rcall, Ret}
 use Rattle.avr_isa.specs.declared.effect.Effect.TheVariants.{Outside as Forbidden}
@@ -12,8 +11,8 @@ use Rattle.avr_isa.specs.Change.{Change, going, staying, pair_of}
 use Rattle.avr_isa.specs.Access.{can_push_two, can_pop_two, with_pushed, with_popped}
 use Rattle.avr_isa.specs.Flow.{far_from, subroutine_called}
 use Rattle.avr_isa.specs.Effect.{change}
-use Rattle.avr_isa.specs.Machine.{State, done, performed, word_here}
-use Rattle.avr_isa.specs.Stack.{stack_use, lowest_by, lowest_by_push_two, lowest_behind}
+use Rattle.avr_isa.specs.Machine.{State, done, word_here}
+use Rattle.avr_isa.specs.Stack.{stack_use, lowest_by, lowest_by_push_two}
 use Rattle.avr_isa.specs.Standing.{StandsAt}
 use Rattle.avr_isa.proofs.Runs.{going_on}
 use Rattle.avr_view.specs.Registers.{pair}

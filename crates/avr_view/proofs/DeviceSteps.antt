@@ -1,14 +1,14 @@
 -- Reads and writes of device registers.
-use Rattle.std.proofs.Common.{◌≡◌, ◌≢◌, ℕ, ◌+◌, ◌%◌, ◌<◌, ◌≤◌, Bool, true, false, List, [], ◌∷◌, Some, refl, sym, ap, ◌∙◌, subst, arith, slice_set}
+use Rattle.std.proofs.Common.{◌≡◌, ◌≢◌, ℕ, ◌+◌, ◌<◌, ◌≤◌, true, false, List, [], ◌∷◌, Some, refl, sym, ap, ◌∙◌, subst, arith, slice_set}
 use Rattle.vg_meaning.specs.declared.event.Event.TheVariants.{Read, Write}
 use Rattle.vg_meaning.specs.Device.{IsDeviceAddress}
-use Rattle.vg_meaning.specs.Outside.{Outside, with_event}
+use Rattle.vg_meaning.specs.Outside.{with_event}
 use Rattle.avr_instr.specs.declared.instr.Instr.{Instr}
 use Rattle.avr_instr.specs.declared.instr.Instr.TheVariants.{In, Lds, Out, Sts}
 use Rattle.avr_isa.specs.declared.effect.Effect.TheVariants.{ReadDevice, WriteDevice}
 use Rattle.avr_isa.specs.declared.ending.MachineEnd.TheVariants.{Wants}
 use Rattle.avr_isa.specs.declared.stack.StackUse.TheVariants.{Nothing, Stores}
-use Rattle.avr_isa.specs.Cpu.{CpuState, forward, is_enabled}
+use Rattle.avr_isa.specs.Cpu.{CpuState}
 use Rattle.avr_isa.specs.Change.{Change, moved, register_of}
 use Rattle.avr_isa.specs.Access.{stored, loaded}
 use Rattle.avr_isa.specs.Effect.{change}
@@ -17,7 +17,7 @@ use Rattle.avr_isa.specs.Stack.{stack_use, lowest_by, lowest_by_store, lowest_be
 use Rattle.avr_isa.specs.Standing.{StandsAt}
 use Rattle.avr_isa.proofs.Runs.{going_on}
 use Rattle.avr_bytes.proofs.Runs.{stands-in_range}
-use Rattle.avr_view.specs.Registers.{Shows, put}
+use Rattle.avr_view.specs.Registers.{put}
 use Rattle.avr_view.specs.Run.{Run, StoresWithin, Goes, Front, Ended}
 use Rattle.avr_view.specs.View.{View, At}
 use Rattle.avr_view.proofs.Going.{goes_one}

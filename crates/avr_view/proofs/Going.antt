@@ -1,18 +1,17 @@
 -- Runs that go on: one behind another, and one instruction at a time.
-use Rattle.std.proofs.Common.{◌≡◌, ℕ, zero, suc, ◌+◌, ◌-◌, ◌<◌, ◌≤◌, ◌⊎◌, inl, inr, Bool, true, false, List, ◌++◌}
-use Rattle.std.proofs.Common.{Some, None, refl, sym, ap, ◌∙◌, subst, arith, nat_lt}
+use Rattle.std.proofs.Common.{◌≡◌, ℕ, zero, suc, ◌+◌, ◌-◌, ◌<◌, ◌≤◌, ◌⊎◌, inl, inr, Bool, true, false, ◌++◌}
+use Rattle.std.proofs.Common.{Some, refl, sym, ap, ◌∙◌, subst, arith, nat_lt}
 use Rattle.vg_meaning.specs.Outside.{Outside}
 use Rattle.avr_instr.specs.declared.instr.Instr.{Instr}
 use Rattle.avr_instr.specs.Spelled.{InRange}
-use Rattle.avr_isa.specs.Cpu.{CpuState, forward}
+use Rattle.avr_isa.specs.Cpu.{CpuState}
 use Rattle.avr_isa.specs.Machine.{State, performed, word_here, run_from}
 use Rattle.avr_isa.specs.Stack.{stack_use}
 use Rattle.avr_isa.specs.Standing.{StandsAt}
-use Rattle.avr_isa.specs.Agrees.{ReachesFloor}
 use Rattle.avr_isa.proofs.Runs.{going_on, run-longer}
 use Rattle.avr_bytes.specs.Bytes.{HoldsBytes}
 use Rattle.avr_bytes.proofs.Runs.{stands-in_range, performed-bytes}
-use Rattle.avr_view.specs.Run.{Run, StoresWithin, IsQuiet, Tidy, Comes, Sinks, Goes, Front}
+use Rattle.avr_view.specs.Run.{Run, StoresWithin, IsQuiet, Tidy, Sinks, Goes, Front}
 
 same_instr : (i j : Instr) → Some i ≡ Some j → i ≡ j
 same_instr i j e = cc

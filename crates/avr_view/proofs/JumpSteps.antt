@@ -1,5 +1,5 @@
 -- Jumps, branches and stops.
-use Rattle.std.proofs.Common.{◌≡◌, ◌≢◌, ℕ, ◌+◌, ◌*◌, ◌/◌, ◌%◌, ◌<◌, ◌≤◌, Bool, true, false, not, ◌&&◌, ◌==◌, if◌then◌else◌, List, Some, refl, sym, ap}
+use Rattle.std.proofs.Common.{◌≡◌, ◌≢◌, ℕ, ◌+◌, ◌<◌, Bool, true, false, not, ◌&&◌, ◌==◌, if◌then◌else◌, Some, refl, sym, ap}
 use Rattle.std.proofs.Common.{◌∙◌, subst, arith}
 use Rattle.avr_instr.specs.declared.instr.Instr.{Instr}
 use Rattle.avr_instr.specs.declared.instr.Instr.TheVariants.{Brbc, Brbs, Ijmp, Jmp, Rjmp}
@@ -7,7 +7,7 @@ use Rattle.avr_isa.specs.declared.effect.Effect.TheVariants.{Halt}
 use Rattle.avr_isa.specs.declared.ending.MachineEnd.TheVariants.{Stop}
 use Rattle.avr_isa.specs.declared.stack.StackUse.{StackUse}
 use Rattle.avr_isa.specs.declared.stack.StackUse.TheVariants.{Nothing}
-use Rattle.avr_isa.specs.Cpu.{CpuState, forward, is_enabled}
+use Rattle.avr_isa.specs.Cpu.{forward, is_enabled}
 use Rattle.avr_isa.specs.Change.{Change, going, staying, register_of, pair_of}
 use Rattle.avr_isa.specs.Flags.{is_set, differ, with_flags}
 use Rattle.avr_isa.specs.Flow.{jumped, branched, near_from, far_from}

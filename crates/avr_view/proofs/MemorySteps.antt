@@ -1,13 +1,12 @@
 -- Loads and stores of bytes that the code sees in SRAM.
-use Rattle.std.proofs.Common.{◌≡◌, ℕ, ◌+◌, ◌-◌, ◌*◌, ◌/◌, ◌%◌, ◌<◌, ◌≤◌, List, length, refl, sym, ap, ◌∙◌, subst, arith, slice_index, slice_set}
+use Rattle.std.proofs.Common.{◌≡◌, ℕ, ◌+◌, ◌-◌, ◌%◌, ◌<◌, ◌≤◌, refl, sym, ap, ◌∙◌, subst, arith, slice_index, slice_set}
 use Rattle.avr_instr.specs.declared.instr.Instr.{Instr}
 use Rattle.avr_instr.specs.declared.instr.Instr.TheVariants.{LdX, LdXPlus, LdMinusX, Ldd, Lds, StX, StXPlus, StMinusX, Std, Sts}
 use Rattle.avr_instr.specs.declared.operand.Base.{Base}
 use Rattle.avr_instr.specs.declared.operand.Base.TheVariants.{Y, Z}
-use Rattle.avr_isa.specs.declared.stack.StackUse.{StackUse}
 use Rattle.avr_isa.specs.declared.stack.StackUse.TheVariants.{Nothing, Stores}
-use Rattle.avr_isa.specs.Cpu.{CpuState, forward}
-use Rattle.avr_isa.specs.Change.{Change, going, moved, register_of, with_register, pair_of, with_pair, with_next, previous}
+use Rattle.avr_isa.specs.Cpu.{CpuState}
+use Rattle.avr_isa.specs.Change.{going, moved, register_of, with_register, pair_of, with_pair, with_next, previous}
 use Rattle.avr_isa.specs.Access.{low_of, displaced, stored, loaded, then_next}
 use Rattle.avr_isa.specs.Effect.{change}
 use Rattle.avr_isa.specs.Machine.{State}
@@ -15,11 +14,11 @@ use Rattle.avr_isa.specs.Stack.{stack_use, lowest_by, lowest_by_store}
 use Rattle.avr_isa.specs.Standing.{StandsAt}
 use Rattle.avr_bytes.proofs.Runs.{stands-in_range}
 use Rattle.avr_view.specs.Registers.{Regs, Shows, put, pair, put_pair, put_next}
-use Rattle.avr_view.specs.Memory.{Divided, Cell, LiesAt, byte_at, static_with, stack_with}
+use Rattle.avr_view.specs.Memory.{Divided, Cell, static_with, stack_with}
 use Rattle.avr_view.specs.Run.{Run, StoresWithin, Goes}
 use Rattle.avr_view.specs.View.{View, At, IsCell, byte_in, with_byte}
 use Rattle.avr_view.proofs.Dividing.{cell_in_sram, cell_read, cell_written, cell_within, static_with-length, stack_with-length}
-use Rattle.avr_view.proofs.Rows.{shows_put, shows_same, shows_pair, pair_shown}
+use Rattle.avr_view.proofs.Rows.{shows_same, shows_pair, pair_shown}
 use Rattle.avr_view.proofs.Steps.{one_level, pair_is}
 
 loaded_sram : (old made : CpuState) (d a : ℕ) → 0x100 ≤ a → a < 0x1100 → loaded old made d a ≡ going (with_register made d (slice_index made.sram (a - 0x100)))

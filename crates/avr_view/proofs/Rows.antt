@@ -1,5 +1,5 @@
 -- Instructions that touch registers and flags alone do on the processor what they do on what the code sees of it.
-use Rattle.std.proofs.Common.{◌≡◌, ◌≢◌, ℕ, ◌+◌, ◌-◌, ◌*◌, ◌/◌, ◌%◌, ◌^◌, ◌<◌, Bool, true, false, ◌&&◌, ◌==◌, if◌then◌else◌, List, length}
+use Rattle.std.proofs.Common.{◌≡◌, ◌≢◌, ℕ, ◌+◌, ◌-◌, ◌*◌, ◌/◌, ◌%◌, ◌^◌, ◌<◌, Bool, true, false, ◌&&◌, ◌==◌, if◌then◌else◌, List}
 use Rattle.std.proofs.Common.{refl, sym, ap, ◌∙◌, subst, arith, slice_index, slice_set, nat_le}
 use Rattle.std.specs.Prelude.{bit_and, bit_or, bit_xor}
 use Rattle.std.proofs.lemmas.List.{get_or-set_same, get_or-set_other, length-set}
@@ -12,7 +12,7 @@ use Rattle.avr_isa.specs.declared.stack.StackUse.TheVariants.{Nothing}
 use Rattle.avr_isa.specs.Cpu.{CpuState, flash_byte, forward}
 use Rattle.avr_isa.specs.Change.{going, register_of, pair_of}
 use Rattle.avr_isa.specs.Flags.{number, is_set, carry_of, with_flags, sum_of, flags_of_sum, difference_of, flags_of_difference, sticky, flags_of_logic}
-use Rattle.avr_isa.specs.Flags.{flags_of_complement, flags_of_count, flags_of_shift, flags_of_wide_sum, flags_of_wide_difference, sreg_of_product}
+use Rattle.avr_isa.specs.Flags.{flags_of_count, flags_of_shift, flags_of_wide_sum, flags_of_wide_difference, sreg_of_product}
 use Rattle.avr_isa.specs.Effect.{change}
 use Rattle.avr_isa.specs.Stack.{stack_use}
 use Rattle.avr_isa.specs.Standing.{width}

@@ -2,24 +2,22 @@
 use Rattle.std.proofs.Common.{◌≡◌, ℕ, suc, ◌+◌, ◌-◌, ◌*◌, ◌/◌, ◌%◌, ◌<◌, ◌≤◌, Bool, true, false, ◌&&◌, if◌then◌else◌, List, [], ◌∷◌, ◌++◌, length}
 use Rattle.std.proofs.Common.{Some, refl, sym, ap, ◌∙◌, subst, arith, inl, inr, min, nat_le, nat_lt, length-append, slice_index, slice_set}
 use Rattle.vg_meaning.specs.Outside.{Outside}
-use Rattle.avr_instr.specs.declared.instr.Instr.{Instr}
 use Rattle.avr_instr.specs.declared.instr.Instr.TheVariants.{In, Out, Pop, Push}
 use Rattle.avr_isa.specs.declared.effect.Effect.TheVariants.{Outside as Forbidden}
-use Rattle.avr_isa.specs.declared.stack.StackUse.TheVariants.{Stores}
-use Rattle.avr_isa.specs.Cpu.{CpuState, forward, is_enabled}
+use Rattle.avr_isa.specs.Cpu.{CpuState, forward}
 use Rattle.avr_isa.specs.Change.{going, staying, register_of}
 use Rattle.avr_isa.specs.Machine.{State, done, performed, word_here}
 use Rattle.avr_isa.specs.Standing.{StandsAt}
 use Rattle.avr_isa.proofs.Runs.{going_on}
 use Rattle.avr_bytes.specs.Bytes.{HoldsBytes}
 use Rattle.avr_bytes.proofs.Runs.{stands-in_range}
-use Rattle.avr_view.specs.Registers.{Shows, put}
+use Rattle.avr_view.specs.Registers.{put}
 use Rattle.avr_view.specs.Memory.{Divided}
-use Rattle.avr_view.specs.Run.{Run, StoresWithin, IsQuiet, Goes}
+use Rattle.avr_view.specs.Run.{Run, IsQuiet, Goes}
 use Rattle.avr_view.specs.View.{View, At}
-use Rattle.avr_view.proofs.Going.{below_or_not, goes_then, goes_fewer, goes_one, sinks_one, one_keeps_bytes}
+use Rattle.avr_view.proofs.Going.{below_or_not, goes_then, goes_one, sinks_one, one_keeps_bytes}
 use Rattle.avr_view.proofs.Dividing.{stack_read, stack_pushed, stack_lowered, stack_raised}
-use Rattle.avr_view.proofs.Rows.{shows_put, shows_same}
+use Rattle.avr_view.proofs.Rows.{shows_same}
 use Rattle.avr_view.proofs.Steps.{register_below, opened, here, off, is_quiet, going_bytes, sp_is, one_change, one_level, one_sinks}
 
 can_push : (sp : ℕ) → 0x100 ≤ sp → sp < 0x1100 → (nat_le 0x100 sp && nat_lt sp 0x1100) ≡ true

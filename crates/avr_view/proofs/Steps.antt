@@ -1,11 +1,7 @@
 -- One instruction from where the code sees the machine.
-use Rattle.std.proofs.Common.{◌≡◌, ℕ, ◌+◌, ◌-◌, ◌*◌, ◌/◌, ◌%◌, ◌<◌, ◌≤◌, Bool, true, false, List, ◌∷◌, [], length, Some, None, refl, sym, ap, ◌∙◌, subst, arith}
-use Rattle.std.specs.List.{AllByRecursion}
-use Rattle.vg_meaning.specs.Outside.{Outside}
+use Rattle.std.proofs.Common.{◌≡◌, ℕ, ◌+◌, ◌<◌, ◌≤◌, true, false, List, ◌∷◌, [], length, Some, refl, sym, ap, ◌∙◌, subst, arith}
 use Rattle.avr_instr.specs.declared.instr.Instr.{Instr}
 use Rattle.avr_isa.specs.declared.flags.Flags.{Flags}
-use Rattle.avr_isa.specs.declared.stack.StackUse.{StackUse}
-use Rattle.avr_isa.specs.declared.stack.StackUse.TheVariants.{Nothing}
 use Rattle.avr_isa.specs.Cpu.{CpuState, forward, is_enabled}
 use Rattle.avr_isa.specs.Change.{going, pair_of}
 use Rattle.avr_isa.specs.Flags.{with_flags}
@@ -16,7 +12,7 @@ use Rattle.avr_isa.specs.Standing.{width, widths, StandsAt, AllStandAt}
 use Rattle.avr_isa.proofs.Runs.{going_on}
 use Rattle.avr_bytes.specs.Bytes.{HoldsBytes}
 use Rattle.avr_bytes.proofs.Runs.{stands-in_range}
-use Rattle.avr_view.specs.Registers.{Regs, Shows, pair, does, does_all, IsPlain, ArePlain}
+use Rattle.avr_view.specs.Registers.{Shows, pair, does, does_all, IsPlain, ArePlain}
 use Rattle.avr_view.specs.Memory.{Divided}
 use Rattle.avr_view.specs.Run.{Run, StoresWithin, IsQuiet, Goes, Front}
 use Rattle.avr_view.specs.View.{View, At}

@@ -1,5 +1,5 @@
 -- The idle place, where alone interrupts come in: SEI, SLEEP and the CLI behind it, and the RETI that leads back.
-use Rattle.std.proofs.Common.{◌≡◌, ℕ, suc, ◌+◌, ◌-◌, ◌*◌, ◌/◌, ◌%◌, ◌<◌, ◌≤◌, Bool, true, false, ◌&&◌, if◌then◌else◌, List, [], ◌∷◌, length, Some, refl}
+use Rattle.std.proofs.Common.{◌≡◌, ℕ, suc, ◌+◌, ◌-◌, ◌*◌, ◌/◌, ◌%◌, ◌<◌, ◌≤◌, Bool, true, false, if◌then◌else◌, List, [], ◌∷◌, length, Some, refl}
 use Rattle.std.proofs.Common.{sym, ap, ◌∙◌, subst, arith, inl, inr}
 use Rattle.vg_meaning.specs.declared.event.Event.TheVariants.{Enter}
 use Rattle.vg_meaning.specs.Outside.{Outside, with_event}
@@ -20,7 +20,7 @@ use Rattle.avr_bytes.specs.Bytes.{HoldsBytes}
 use Rattle.avr_view.specs.Memory.{Divided}
 use Rattle.avr_view.specs.Run.{Run, IsQuiet, Goes, Front, Ended}
 use Rattle.avr_view.specs.View.{View, At}
-use Rattle.avr_view.proofs.Going.{below_or_not, goes_then, goes_fewer, goes_one, sinks_one, one_keeps_bytes}
+use Rattle.avr_view.proofs.Going.{below_or_not, goes_then, goes_one, sinks_one, one_keeps_bytes}
 use Rattle.avr_view.proofs.Dividing.{stack_read, stack_raised}
 use Rattle.avr_view.proofs.CallSteps.{can_push_both, can_pop_both, word_pushed}
 use Rattle.avr_view.proofs.Steps.{opened, here, is_quiet, going_bytes, sp_is}

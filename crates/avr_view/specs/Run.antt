@@ -1,5 +1,5 @@
 -- How a run of the machine goes from a state: it comes to a state of some kind, or an instruction reaches below the floor of its stack first.
-use Rattle.std.specs.Prelude.{ℕ, suc, ◌≡◌, ◌+◌, ◌<◌, ◌≤◌, ◌⊎◌, Bool, true, List, ◌++◌, Some}
+use Rattle.std.specs.Prelude.{ℕ, ◌≡◌, ◌+◌, ◌<◌, ◌≤◌, ◌⊎◌, Bool, true, List, ◌++◌, Some}
 use Rattle.vg_meaning.specs.declared.event.Event.{Event}
 use Rattle.vg_meaning.specs.Outside.{Outside}
 use Rattle.avr_instr.specs.declared.instr.Instr.{Instr}
