@@ -118,7 +118,8 @@ module _ (e : Run) (deep : Type 0) (pc : ℕ) (v : View) (s : State) (a : At e p
       (subst (StoresWithin e s.cpu.sp) (sym stores) within) refl is
       (ap (λ u. lowest_by u made.sp s.lowest) stores ∙ lowest_kept address made.sp s.lowest k.0) place shows
       (subst (λ n. Divided (static_with c (v.regs.of d) v.static) (stack_with c (v.regs.of d) v.stack) (slice_set s.cpu.sram (address - 0x100) x) n) (sym level)
-      (subst (λ y. Divided (static_with c y v.static) (stack_with c y v.stack) (slice_set s.cpu.sram (address - 0x100) x) s.cpu.sp) (a.shows.each d reg) memory))
+      (subst (λ y. Divided (static_with c y v.static) (stack_with c y v.stack) (slice_set s.cpu.sram (address - 0x100) x) s.cpu.sp)
+      (a.shows.each d reg) memory))
       (static_with-length c (v.regs.of d) v.static) (let same = stack_with-length c (v.regs.of d) v.stack in omega (arith, same))
 
   -- STD

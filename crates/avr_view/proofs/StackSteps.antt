@@ -130,7 +130,8 @@ module _ (e : Run) (deep : Type 0) (pc : ℕ) (v : View) (s : State) (a : At e p
   -- OUT to SPH and then to SPL: SP is as the two registers say
   set_sp : (h l sp : ℕ) (P : State → Type 0) → StandsAt e.flash pc (Out 0x3E h) → StandsAt e.flash (pc + 1) (Out 0x3D l) → pc + 2 < 65536
       → v.regs.of h * 256 + v.regs.of l ≡ sp
-      → ((t : State) → t ≡ going_on (record s.cpu { sp = sp; pc = pc + 2 }) v.out (lowest_at sp s.lowest) → e.floor ≤ lowest_at sp s.lowest → HoldsBytes t → P t)
+      → ((t : State) → t ≡ going_on (record s.cpu { sp = sp; pc = pc + 2 }) v.out (lowest_at sp s.lowest) → e.floor ≤ lowest_at sp s.lowest → HoldsBytes t
+      → P t)
       → (lowest_at sp s.lowest < e.floor → deep) → Goes e deep 2 s P
   set_sp h l sp P at1 at2 room is go sunk =
       let high : slice_index cpu.registers h ≡ v.regs.of h = a.shows.each h reg_high in
@@ -138,12 +139,13 @@ module _ (e : Run) (deep : Type 0) (pc : ℕ) (v : View) (s : State) (a : At e p
       let byte = register_below e pc v s a l reg_low in
       let to : (slice_index cpu.registers h * 256 + cpu.sp % 256) / 256 * 256 + slice_index cpu.registers l ≡ sp = omega (arith, high, low) in
       let pc_to : forward 1 (forward 1 cpu.pc) ≡ pc + 2 = omega (arith, behind) in
-      let made : performed e.flash (Some (Out 0x3D l)) (word_here e.flash middle) mid ≡ going_on (record cpu { sp = sp; pc = pc + 2 }) v.out (lowest_at sp s.lowest) =
+      let last = going_on (record cpu { sp = sp; pc = pc + 2 }) v.out (lowest_at sp s.lowest) in
+      let made : performed e.flash (Some (Out 0x3D l)) (word_here e.flash middle) mid ≡ last =
       ap (λ n. going_on (record cpu { sp = n; pc = forward 1 (forward 1 cpu.pc) }) v.out (lowest_at n s.lowest)) to
       ∙ ap (λ n. going_on (record cpu { sp = sp; pc = n }) v.out (lowest_at sp s.lowest)) pc_to in
       opened e deep pc v s a 2 P
       (goes_then e deep 1 1 (going_on cpu v.out s.lowest) (λ t. t ≡ mid) P first
-      (λ t same. subst (λ u. Goes e deep 1 u P) (sym same) (second (going_on (record cpu { sp = sp; pc = pc + 2 }) v.out (lowest_at sp s.lowest)) made go sunk)))
+      (λ t same. subst (λ u. Goes e deep 1 u P) (sym same) (second last made go sunk)))
     where
       cpu : CpuState
       cpu = s.cpu
