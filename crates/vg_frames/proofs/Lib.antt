@@ -1,0 +1,3 @@
+pub mod Saving
+pub mod Openings
+pub mod Linking
