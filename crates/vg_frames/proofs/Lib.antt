@@ -1,3 +1,4 @@
 pub mod Saving
 pub mod Openings
 pub mod Linking
+pub mod Calling

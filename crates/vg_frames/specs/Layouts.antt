@@ -42,6 +42,7 @@ pub record IsLayout (l : Layout) : Type 0 where
   pub apart : (place j k : ℕ) → l.live place j ≡ true → l.live place k ≡ true → j ≢ k → Apart (l.spots j) (width_of l j) (l.spots k) (width_of l k)
   pub pointer : l.pointed ≡ true → IsIn 28 l.saved × IsIn 29 l.saved
   pub no_pointer : l.pointed ≡ false → l.slots ≡ 0
+  pub reliable : (d : ℕ) → IsIn d l.saved → IsReliable d
   pub small : l.slots < 0x1000
 
 -- the registers are the same for each procedure that waits
