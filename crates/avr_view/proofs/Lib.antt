@@ -8,3 +8,4 @@ pub mod StackSteps
 pub mod CallSteps
 pub mod JumpSteps
 pub mod WakingSteps
+pub mod StartSteps

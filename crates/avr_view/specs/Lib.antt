@@ -2,3 +2,4 @@ pub mod Registers
 pub mod Memory
 pub mod Run
 pub mod View
+pub mod Start

@@ -8,4 +8,5 @@ pub mod flow;
 pub mod memory;
 pub mod plain;
 pub mod stack;
+pub mod starting;
 pub mod waking;
