@@ -1,6 +1,6 @@
 -- The first instructions behind reset: a jump, and SP set to the end of SRAM.
-use Rattle.std.proofs.Common.{◌≡◌, ◌≢◌, ℕ, zero, suc, ◌+◌, ◌-◌, ◌*◌, ◌/◌, ◌%◌, ◌<◌, ◌≤◌, Bool, true, false, not, ◌&&◌, ◌==◌, if◌then◌else◌}
-use Rattle.std.proofs.Common.{List, [], ◌∷◌, ◌++◌, length, Some, None, refl, sym, ap, ◌∙◌, subst, arith, length-take, length-drop, slice_index, slice_set}
+use Rattle.std.proofs.Common.{◌≡◌, ◌≢◌, ℕ, ◌+◌, ◌*◌, ◌/◌, ◌%◌, ◌<◌, ◌≤◌, true, false, not, ◌&&◌, ◌==◌, if◌then◌else◌}
+use Rattle.std.proofs.Common.{List, [], ◌++◌, length, Some, refl, sym, ap, ◌∙◌, subst, arith, length-take, length-drop, slice_index, slice_set}
 use Rattle.std.proofs.Common.{take, drop}
 use Rattle.std.proofs.lemmas.List.{append-nil, get_or-set_same, length-set, take-append-drop}
 use Rattle.vg_meaning.specs.Outside.{Outside, before, AreReads, AreVectors}
@@ -15,10 +15,8 @@ use Rattle.avr_isa.specs.Standing.{StandsAt, AllStandAt}
 use Rattle.avr_isa.proofs.Runs.{going_on}
 use Rattle.avr_bytes.specs.Bytes.{HoldsBytes}
 use Rattle.avr_bytes.proofs.Runs.{reset-bytes, stands-in_range}
-use Rattle.avr_view.specs.Registers.{Regs, Shows}
-use Rattle.avr_view.specs.Memory.{Divided}
-use Rattle.avr_view.specs.Run.{Run, StoresWithin, IsQuiet, Goes, Front}
-use Rattle.avr_view.specs.View.{View, At}
+use Rattle.avr_view.specs.Run.{Run, StoresWithin, IsQuiet, Goes}
+use Rattle.avr_view.specs.View.{At}
 use Rattle.avr_view.specs.Start.{start_code, Started}
 use Rattle.avr_view.proofs.Going.{goes_here, goes_then, goes_one, one_keeps_bytes}
 
@@ -83,7 +81,8 @@ module _ (e : Run) (deep : Type 0) where
         let same = length-set memory.registers d 0x10 in
         get_or-set_same (slice_set memory.registers d 0x10) d 0xFF 0 (omega (arith, size, same, register))
 
-    sp_is : (slice_index (slice_set memory.registers d 0x10) d * 256 + 0 % 256) / 256 * 256 + slice_index (slice_set (slice_set memory.registers d 0x10) d 0xFF) d ≡ 0x10FF
+    sp_is : (slice_index (slice_set memory.registers d 0x10) d * 256 + 0 % 256) / 256 * 256
+        + slice_index (slice_set (slice_set memory.registers d 0x10) d 0xFF) d ≡ 0x10FF
     sp_is = let high = high_is in let least = low_is in omega (arith, high, least)
 
     at2 : StandsAt e.flash (forward 1 start) (Out 0x3E d)
@@ -114,7 +113,8 @@ module _ (e : Run) (deep : Type 0) where
         (one_keeps_bytes e cpu3 out 0x1100 (Ldi d 0xFF) (going_on cpu4 out 0x1100) at3
         (one_keeps_bytes e cpu2 out 0x1100 (Out 0x3E d) (going_on cpu3 out 0x1100) at2
         (one_keeps_bytes e cpu1 out 0x1100 (Ldi d 0x10) (going_on cpu2 out 0x1100) code.0
-        (one_keeps_bytes e cpu0 out 0x1100 (Jmp start) (going_on cpu1 out 0x1100) jump (reset-bytes memory reads interrupts powered r is) jumps) refl) refl) refl)
+        (one_keeps_bytes e cpu0 out 0x1100 (Jmp start) (going_on cpu1 out 0x1100) jump (reset-bytes memory reads interrupts powered r is) jumps)
+        refl) refl) refl)
         sets
 
     seen : At e (start + 4) (record {

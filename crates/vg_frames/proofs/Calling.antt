@@ -45,7 +45,12 @@ reliable_still l old new ok others all d (inr r) = by_pointer l.pointed refl
         test false e = let ne : d ≢ 28 = grind arith in let low = r.0 in let high = r.1 in inr (omega arith)
 
     by_pointer : (b : Bool) → l.pointed ≡ b → IsIn d l.saved ⊎ (new.of d ≡ old.of d)
-    by_pointer true e = inl (elim either [ inl same ↦ subst (λ n. IsIn n l.saved) (sym same) (ok.pointer e).0 | inr same ↦ subst (λ n. IsIn n l.saved) (sym same) (ok.pointer e).1 ])
+    by_pointer true e =
+        inl
+        (elim either [
+          | inl same ↦ subst (λ n. IsIn n l.saved) (sym same) (ok.pointer e).0
+          | inr same ↦ subst (λ n. IsIn n l.saved) (sym same) (ok.pointer e).1
+        ])
     by_pointer false e = inr (all e d)
 
 module _ (e : Run) (deep : Type 0) (i : Places) (ok : (m : ℕ) → IsLayout (i.layouts m)) where
@@ -104,7 +109,8 @@ module _ (e : Run) (deep : Type 0) (i : Places) (ok : (m : ℕ) → IsLayout (i.
       let middle = between i f.awaits f.proc f.pc in
       let nothing : k.wait ≡ [] = subst (λ ws. Waits ws k.wait) empty k.waits in
       let link : x ≡ word_bytes to ++ args = sym (take-append-drop 2 x) ∙ ap (λ y. y ++ args) c.link in
-      let inner : drop l.slots own ≡ bytes ++ (word_bytes to ++ args) = sym (take-append-drop (length l.saved) (drop l.slots own)) ∙ ap (λ y. bytes ++ y) link in
+      let inner : drop l.slots own ≡ bytes ++ (word_bytes to ++ args) =
+      sym (take-append-drop (length l.saved) (drop l.slots own)) ∙ ap (λ y. bytes ++ y) link in
       let frame : own ≡ slots ++ (bytes ++ (word_bytes to ++ args)) = sym (take-append-drop l.slots own) ∙ ap (λ y. slots ++ y) inner in
       let stack_is : v.stack ≡ slots ++ (bytes ++ (word_bytes to ++ (args ++ (middle ++ rest)))) =
       k.cut
@@ -152,4 +158,8 @@ module _ (e : Run) (deep : Type 0) (i : Places) (ok : (m : ℕ) → IsLayout (i.
       scratch_other l old new others d r = others d (beside d r)
         where
           beside : (d : ℕ) → (IsReliable d → ⊥) → (d < 28) ⊎ (30 ≤ d)
-          beside d r = elim (below_or_not d 28) [ inl low ↦ inl low | inr high ↦ elim (below_or_not d 30) [ inl less ↦ absurd (r (inr (high, less))) | inr far ↦ inr far ] ]
+          beside d r =
+              elim (below_or_not d 28) [
+                | inl low ↦ inl low
+                | inr high ↦ elim (below_or_not d 30) [ inl less ↦ absurd (r (inr (high, less))) | inr far ↦ inr far ]
+              ]

@@ -22,7 +22,10 @@ use Rattle.vg_frames.specs.Frames.{restored, word_bytes}
 
 pub widths-pushes : (ds : List ℕ) → widths (pushes ds) ≡ length ds
 widths-pushes [] = refl
-widths-pushes (d ∷ ds) = widths-append (pushes ds) (Push d ∷ []) ∙ (let rest = widths-pushes ds in let e : widths (pushes ds) + 1 ≡ suc (length ds) = omega (arith, rest) in e)
+widths-pushes (d ∷ ds) =
+    let rest = widths-pushes ds in
+    let e : widths (pushes ds) + 1 ≡ suc (length ds) = omega (arith, rest) in
+    widths-append (pushes ds) (Push d ∷ []) ∙ e
 
 pub widths-pops : (ds : List ℕ) → widths (pops ds) ≡ length ds
 widths-pops [] = refl
@@ -63,7 +66,8 @@ module _ (e : Run) (deep : Type 0) where
       let last : StandsAt e.flash (pc + n) (Push d) =
       subst (λ m. StandsAt e.flash (pc + m) (Push d)) (widths-pushes ds) (back_stands e.flash pc (pushes ds) (Push d ∷ []) stand).0 in
       let first = goes_pushes ds pc v s (front_stands e.flash pc (pushes ds) (Push d ∷ []) stand) (omega arith) (λ h. full (omega arith)) a in
-      let size : length (map v.regs.of ds ++ v.stack) ≡ n + length v.stack = length-append (map v.regs.of ds) v.stack ∙ ap (λ m. m + length v.stack) (map_long v.regs.of ds) in
+      let size : length (map v.regs.of ds ++ v.stack) ≡ n + length v.stack =
+      length-append (map v.regs.of ds) v.stack ∙ ap (λ m. m + length v.stack) (map_long v.regs.of ds) in
       let same : pc + n + 1 ≡ pc + suc n = omega arith in
       goes_fewer e deep (n + 1) (suc n) s goal (omega arith)
       (goes_then e deep n 1 s (At e (pc + n) v1) goal first
@@ -107,7 +111,8 @@ module _ (e : Run) (deep : Type 0) where
       (h.of 29 * 256 + h.of 28 ≡ (pair g 28 + n) % 65536) × AreOthers g h)
   y_higher n g low high small = by_size (nat_lt n 64) refl
     where
-      by_size : (b : Bool) → nat_lt n 64 ≡ b → (let h = does_all e.flash (if b then Adiw 28 n ∷ [] else Subi 28 ((65536 - n) % 256) ∷ Sbci 29 ((65536 - n) / 256) ∷ []) g in
+      by_size : (b : Bool) → nat_lt n 64 ≡ b
+          → (let h = does_all e.flash (if b then Adiw 28 n ∷ [] else Subi 28 ((65536 - n) % 256) ∷ Sbci 29 ((65536 - n) / 256) ∷ []) g in
           (h.of 29 * 256 + h.of 28 ≡ (pair g 28 + n) % 65536) × AreOthers g h)
       by_size true e1 = (omega arith, λ d h. both_other g _ _ d h)
       by_size false e1 =
@@ -235,13 +240,15 @@ module _ (e : Run) (deep : Type 0) where
       let one = widths-pushes l.saved in
       let whole = widths-append (pushes l.saved) (frame_pointer l.pointed l.slots) in
       let behind = back_stands e.flash pc (pushes l.saved) (frame_pointer l.pointed l.slots) stand in
-      let there : AllStandAt e.flash (pc + n) (frame_pointer l.pointed l.slots) = subst (λ m. AllStandAt e.flash (pc + m) (frame_pointer l.pointed l.slots)) one behind in
+      let there : AllStandAt e.flash (pc + n) (frame_pointer l.pointed l.slots) =
+      subst (λ m. AllStandAt e.flash (pc + m) (frame_pointer l.pointed l.slots)) one behind in
       let to : pc + n + widths (frame_pointer l.pointed l.slots) ≡ pc + widths (prologue l) = omega (arith, one, whole) in
       let size = length-append (map v.regs.of l.saved) v.stack in
       let long = map_long v.regs.of l.saved in
       goes_fewer e deep (n + 0) 0 s goal (omega arith)
       (goes_then e deep n 0 s (At e (pc + n) v1) goal
-      (goes_pushes l.saved pc v s (front_stands e.flash pc (pushes l.saved) (frame_pointer l.pointed l.slots) stand) (omega (arith, to)) (λ h. full (omega arith)) a)
+      (goes_pushes l.saved pc v s (front_stands e.flash pc (pushes l.saved) (frame_pointer l.pointed l.slots) stand) (omega (arith, to))
+      (λ h. full (omega arith)) a)
       (λ t b. goes_wider e deep 0 t _ goal
       (λ u p. record {
         slots = p.slots;

@@ -26,8 +26,8 @@ pub record Begun (e : Run) (i : Places) (q : ℕ) (f : Frame LinState) (frames :
     stack = (slots ++ (map old.regs.of (i.layouts q).saved ++ (word_bytes (back_to i f.awaits q f.proc f.pc) ++ args))) ++ under;
   }) s
 
--- Behind the epilogue of a procedure: its arguments are still there, and behind them lies what its caller finds again; scratch registers have what the procedure left in
--- them.
+-- Behind the epilogue of a procedure: its arguments are still there, and behind them lies what its caller finds again; scratch registers have
+-- what the procedure left in them.
 pub record Resumed (e : Run) (i : Places) (q : ℕ) (f : Frame LinState) (frames : List (Frame LinState)) (old : View) (s : State) : Type 0 where
   pub args : List ℕ
   pub rest : List ℕ

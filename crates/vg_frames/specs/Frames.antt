@@ -17,7 +17,8 @@ pub record Fits (l : Layout) (live : ℕ → Bool) (locals : List LocalState) (o
 -- the values that wait, the newest first, each with its lowest byte first
 abbrev pub Waits : List Waiting → List ℕ → Type 0
 Waits [] bytes = bytes ≡ []
-Waits (w ∷ ws) bytes = (front : List ℕ) × (back : List ℕ) × (bytes ≡ front ++ back) × (length front ≡ w.width) × (read front 0 w.width ≡ w.value) × Waits ws back
+Waits (w ∷ ws) bytes = (front : List ℕ) × (back : List ℕ) × (bytes ≡ front ++ back) × (length front ≡ w.width) × (read front 0 w.width ≡ w.value)
+    × Waits ws back
 
 -- the registers once saved ones have got their bytes, one behind the other
 abbrev pub restored : (saved bytes : List ℕ) → Regs → Regs
