@@ -24,6 +24,11 @@ each-byte [] h k = omega arith
 each-byte (x ∷ xs) h zero = h.0
 each-byte (x ∷ xs) h (suc k) = each-byte xs h.1 k
 
+pub image-bytes : (l : List ℕ) → AllByRecursion (λ b. b < 256) l → IsFlash l
+image-bytes [] h k = omega arith
+image-bytes (x ∷ xs) h zero = h.0
+image-bytes (x ∷ xs) h (suc k) = image-bytes xs h.1 k
+
 pub reset-bytes : (memory : PowerOn) (reads interrupts : List ℕ) → IsPowerOn memory → AreReads reads → AreVectors interrupts
     → HoldsBytes (started memory reads interrupts)
 reset-bytes memory reads interrupts m r i =

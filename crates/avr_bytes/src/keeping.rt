@@ -1,5 +1,6 @@
 // The laws of machines that hold bytes.
-ghost use Rattle.std.specs.Prelude.{ℕ, List};
+ghost use Rattle.std.specs.Prelude.{ℕ, ◌<◌, List};
+ghost use Rattle.std.specs.List.{AllByRecursion};
 ghost use Rattle.vg_meaning.specs.Outside.{AreReads, AreVectors};
 ghost use Rattle.avr_instr.specs.declared.instr.Instr.{Instr};
 ghost use Rattle.avr_instr.specs.Spelled.{InRange};
@@ -21,6 +22,11 @@ pub fn runs_keep_bytes()
     ensures reset { (memory : PowerOn) (reads interrupts : List ℕ) → IsPowerOn memory → AreReads reads → AreVectors interrupts
         → HoldsBytes (started memory reads interrupts) }
     ensures runs { (flash : List ℕ) (n : ℕ) (s : State) → IsFlash flash → HoldsBytes s → HoldsBytes (run_from flash n s) }
+{}
+
+/// A law: an image of bytes is a flash of bytes, with the erased flash behind its end.
+pub fn images_are_flash()
+    ensures { (image : List ℕ) → AllByRecursion (λ b. b < 256) image → IsFlash image }
 {}
 
 /// A law: what a flash of bytes spells at a word address has its operands in range.

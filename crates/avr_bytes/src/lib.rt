@@ -3,4 +3,4 @@
 
 pub mod keeping;
 
-pub use keeping::{code_in_range, instructions_keep_bytes, runs_keep_bytes};
+pub use keeping::{code_in_range, images_are_flash, instructions_keep_bytes, runs_keep_bytes};

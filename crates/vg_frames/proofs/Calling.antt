@@ -1,10 +1,10 @@
 -- A call of a procedure with its entry, and its exit with the return.
-use Rattle.std.proofs.Common.{◌≡◌, ◌≢◌, ℕ, zero, suc, ◌+◌, ◌-◌, ◌*◌, ◌/◌, ◌%◌, ◌<◌, ◌≤◌, ◌⊎◌, inl, inr, Bool, true, false, List, [], ◌∷◌, ◌++◌, length}
-use Rattle.std.proofs.Common.{refl, sym, ap, ◌∙◌, subst, arith, append_assoc, length-append, length-take, length-drop, ◌==◌, if◌then◌else◌}
+use Rattle.std.proofs.Common.{◌≡◌, ◌≢◌, ℕ, ◌+◌, ◌<◌, ◌≤◌, ◌⊎◌, inl, inr, Bool, true, false, List, [], ◌∷◌, ◌++◌, length}
+use Rattle.std.proofs.Common.{refl, sym, ap, ◌∙◌, subst, arith, append_assoc, length-take, length-drop, ◌==◌, if◌then◌else◌}
 use Rattle.std.proofs.lemmas.List.{take-append-drop}
 use Rattle.std.specs.Prelude.{map, take, drop}
-use Rattle.vg_lin.specs.Steps.{Awaits, Frame}
-use Rattle.vg_lin.specs.State.{Waiting, State as LinState}
+use Rattle.vg_lin.specs.Steps.{Frame}
+use Rattle.vg_lin.specs.State.{State as LinState}
 use Rattle.avr_instr.specs.declared.instr.Instr.TheVariants.{Call}
 use Rattle.avr_isa.specs.Machine.{State}
 use Rattle.avr_isa.specs.Standing.{widths, StandsAt, AllStandAt}
@@ -13,11 +13,11 @@ use Rattle.avr_view.specs.Run.{Run, Goes}
 use Rattle.avr_view.specs.View.{View, At}
 use Rattle.avr_view.proofs.Going.{below_or_not, goes_then, goes_fewer, goes_wider}
 use Rattle.avr_view.proofs.CallSteps.{goes_call}
-use Rattle.vg_frames.specs.Layouts.{Layout, frame_size, IsLayout, IsReliable, IsIn, Agree}
+use Rattle.vg_frames.specs.Layouts.{Layout, IsLayout, IsReliable, IsIn, Agree}
 use Rattle.vg_frames.specs.Linkage.{prologue, epilogue, AreOthers, Entered, Left}
 use Rattle.vg_frames.specs.Frames.{Fits, Waits, restored, saved_bytes, found, Places, word_bytes, between, back_to, needed, Points, Callers, Stacked}
 use Rattle.vg_frames.specs.Calls.{Begun, Resumed}
-use Rattle.vg_frames.proofs.Saving.{restored_still, fits_fewer, saved_long}
+use Rattle.vg_frames.proofs.Saving.{restored_still, saved_long}
 use Rattle.vg_frames.proofs.Openings.{opened, callers_begin, callers_resume}
 use Rattle.vg_frames.proofs.Linking.{goes_prologue, goes_epilogue}
 
@@ -54,15 +54,16 @@ reliable_still l old new ok others all d (inr r) = by_pointer l.pointed refl
     by_pointer false e = inr (all e d)
 
 module _ (e : Run) (deep : Type 0) (i : Places) (ok : (m : ℕ) → IsLayout (i.layouts m)) where
-  -- a call of q from m, with these of the bytes that wait as its arguments
+  -- a call of q, for which f waits, or at an interrupt the call in the stub of its handler; with these of the bytes that wait as its arguments
   pub goes_begin : (q pc entry : ℕ) (f : Frame LinState) (frames : List (Frame LinState)) (args wait own under : List ℕ) (v : View) (s : State)
-      → StandsAt e.flash pc (Call entry) → pc + 2 < 65536 → back_to i f.awaits q f.proc f.pc ≡ pc + 2 → between i f.awaits f.proc f.pc ≡ []
+      → StandsAt e.flash pc (Call entry) → pc + 2 < 65536 → back_to i f.awaits q f.proc f.pc ≡ pc + 2
       → AllStandAt e.flash entry (prologue (i.layouts q)) → entry + widths (prologue (i.layouts q)) < 65536
-      → v.stack ≡ args ++ (wait ++ (own ++ under)) → Points (i.layouts f.proc) own under v.regs → Waits f.kept.waiting wait
+      → v.stack ≡ args ++ (between i f.awaits f.proc f.pc ++ (wait ++ (own ++ under))) → Points (i.layouts f.proc) own under v.regs
+      → Waits f.kept.waiting wait
       → Fits (i.layouts f.proc) (needed (i.layouts f.proc) f.awaits f.pc) f.kept.locals own v.regs → Callers i frames f.proc own under v.regs
       → (0x1100 < e.floor + length v.stack + 2 + length (i.layouts q).saved + (i.layouts q).slots → deep) → At e pc v s
       → Goes e deep 1 s (Begun e i q f frames args (entry + widths (prologue (i.layouts q))) v)
-  goes_begin q pc entry f frames args wait own under v s call room back none code low cut points waits fits more full a =
+  goes_begin q pc entry f frames args wait own under v s call room back code low cut points waits fits more full a =
       let l = i.layouts q in
       let to = back_to i f.awaits q f.proc f.pc in
       let v1 : View = record v { stack = word_bytes (pc + 2) ++ v.stack } in
@@ -71,7 +72,7 @@ module _ (e : Run) (deep : Type 0) (i : Places) (ok : (m : ℕ) → IsLayout (i.
       (goes_then e deep 1 0 s (At e entry v1) goal (goes_call e deep pc v s a entry call room (λ h. full (omega arith)))
       (λ t b. goes_wider e deep 0 t (Entered e l (entry + widths (prologue l)) v1) goal
       (λ u n.
-      let behind = wait ++ (own ++ under) in
+      let behind = between i f.awaits f.proc f.pc ++ (wait ++ (own ++ under)) in
       let frame = opened n.slots v.regs l.saved to args in
       let stack_is : n.slots ++ (map v.regs.of l.saved ++ (word_bytes (pc + 2) ++ v.stack)) ≡ frame ++ behind =
       ap (λ k. n.slots ++ (map v.regs.of l.saved ++ (word_bytes (pc + 2) ++ k))) cut
@@ -87,7 +88,7 @@ module _ (e : Run) (deep : Type 0) (i : Places) (ok : (m : ℕ) → IsLayout (i.
         enough = n.enough;
         others = n.others;
         points = λ h. ap (λ k. pair n.regs 28 + 1 + length k) (sym stack_is) ∙ n.points h;
-        callers = subst (λ k. Callers i (f ∷ frames) q frame (k ++ behind) n.regs) none callers;
+        callers = callers;
         at = subst (λ k. At e (entry + widths (prologue l)) (record v { regs = n.regs; stack = k }) u) stack_is n.at;
       })
       (goes_prologue e deep l entry v1 t (ok q).no_pointer (ok q).small code low (λ h. full (omega arith)) b)))

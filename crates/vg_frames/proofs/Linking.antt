@@ -1,18 +1,17 @@
 -- What the entry of a procedure and its exit do to the stack and to the registers.
-use Rattle.std.proofs.Common.{◌≡◌, ◌≢◌, ℕ, zero, suc, ◌+◌, ◌-◌, ◌*◌, ◌/◌, ◌%◌, ◌<◌, ◌≤◌, ◌⊎◌, inl, inr, Bool, true, false, not, ◌&&◌, ◌==◌, if◌then◌else◌}
-use Rattle.std.proofs.Common.{List, [], ◌∷◌, ◌++◌, length, refl, sym, ap, ◌∙◌, subst, arith, nat_lt, append_assoc, length-append}
+use Rattle.std.proofs.Common.{◌≡◌, ◌≢◌, ℕ, zero, suc, ◌+◌, ◌-◌, ◌*◌, ◌/◌, ◌%◌, ◌<◌, ◌≤◌, ◌⊎◌, inl, inr, Bool, true, false, if◌then◌else◌}
+use Rattle.std.proofs.Common.{List, [], ◌∷◌, ◌++◌, length, refl, sym, ap, ◌∙◌, subst, arith, nat_lt, length-append}
 use Rattle.std.specs.Prelude.{map}
-use Rattle.avr_instr.specs.declared.instr.Instr.{Instr}
-use Rattle.avr_instr.specs.declared.instr.Instr.TheVariants.{Adiw, In, Out, Pop, Push, Ret, Sbci, Sbiw, Subi}
+use Rattle.avr_instr.specs.declared.instr.Instr.TheVariants.{Adiw, Push, Ret, Sbci, Sbiw, Subi}
 use Rattle.avr_isa.specs.Flags.{difference_of, number as number_of}
 use Rattle.avr_isa.specs.Machine.{State}
-use Rattle.avr_isa.specs.Standing.{width, widths, StandsAt, AllStandAt}
+use Rattle.avr_isa.specs.Standing.{widths, StandsAt, AllStandAt}
 use Rattle.avr_isa.proofs.Standing.{front_stands, back_stands, widths-append}
-use Rattle.avr_view.specs.Registers.{Regs, pair, put, does, does_all, ArePlain}
+use Rattle.avr_view.specs.Registers.{Regs, pair, put, does_all, ArePlain}
 use Rattle.avr_view.specs.Run.{Run, Goes}
 use Rattle.avr_view.specs.View.{View, At}
 use Rattle.avr_view.proofs.Going.{goes_here, goes_then, goes_fewer, goes_wider}
-use Rattle.avr_view.proofs.Steps.{goes_plain, pair_below, register_below}
+use Rattle.avr_view.proofs.Steps.{goes_plain, register_below}
 use Rattle.avr_view.proofs.StackSteps.{goes_push, goes_pop, goes_in_spl, goes_in_sph, goes_lower, goes_raise}
 use Rattle.avr_view.proofs.CallSteps.{goes_ret}
 use Rattle.vg_frames.specs.Layouts.{Layout}

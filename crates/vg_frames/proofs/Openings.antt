@@ -1,13 +1,13 @@
 -- A procedure begins above its caller, and goes back to it.
-use Rattle.std.proofs.Common.{◌≡◌, ◌≢◌, ℕ, zero, suc, ◌+◌, ◌-◌, ◌*◌, ◌/◌, ◌%◌, ◌<◌, ◌≤◌, ◌⊎◌, inl, inr, Bool, true, false, List, [], ◌∷◌, ◌++◌, length}
-use Rattle.std.proofs.Common.{refl, sym, ap, ◌∙◌, subst, arith, append_assoc}
+use Rattle.std.proofs.Common.{◌≡◌, ℕ, zero, suc, ◌⊎◌, inr, List, [], ◌∷◌, ◌++◌, length}
+use Rattle.std.proofs.Common.{refl, ap, ◌∙◌, arith}
 use Rattle.std.specs.Prelude.{map, take, drop}
 use Rattle.vg_lin.specs.Steps.{Awaits, Frame}
-use Rattle.vg_lin.specs.State.{Waiting, State}
+use Rattle.vg_lin.specs.State.{State}
 use Rattle.avr_view.specs.Registers.{Regs}
-use Rattle.vg_frames.specs.Layouts.{Layout, frame_size, IsLayout, IsReliable, IsIn, Agree}
+use Rattle.vg_frames.specs.Layouts.{Layout, IsLayout, IsReliable, IsIn, Agree}
 use Rattle.vg_frames.specs.Frames.{Fits, Waits, restored, saved_bytes, found, Places, word_bytes, between, back_to, needed, Points, Caller, Callers, Stacked}
-use Rattle.vg_frames.proofs.Saving.{restored_back, restored_still, fits_agree, fits_fewer, points_agree, callers_still, saved_long}
+use Rattle.vg_frames.proofs.Saving.{restored_back, fits_agree, points_agree, callers_still, saved_long}
 
 -- cuts of a list by the length of its front
 drop_front : {A : Type 0} (xs ys : List A) (n : ℕ) → length xs ≡ n → drop n (xs ++ ys) ≡ ys

@@ -1,14 +1,14 @@
 -- Saved registers, and what a procedure that waits sees of the registers.
-use Rattle.std.proofs.Common.{◌≡◌, ◌≢◌, ℕ, zero, suc, ◌+◌, ◌*◌, ◌<◌, ◌≤◌, ◌⊎◌, inl, inr, Bool, true, false, ◌==◌, if◌then◌else◌, List, [], ◌∷◌, ◌++◌, length}
-use Rattle.std.proofs.Common.{refl, sym, ap, ◌∙◌, subst, arith}
+use Rattle.std.proofs.Common.{◌≡◌, ◌≢◌, ℕ, zero, suc, ◌+◌, ◌≤◌, ◌⊎◌, inl, inr, Bool, true, false, ◌==◌, if◌then◌else◌, List, [], ◌∷◌, length}
+use Rattle.std.proofs.Common.{refl, ap, ◌∙◌, arith}
 use Rattle.std.proofs.Common.{length-take, length-drop}
-use Rattle.std.specs.Prelude.{map, take, drop}
+use Rattle.std.specs.Prelude.{map, drop}
 use Rattle.vg_lin.specs.Steps.{Frame}
 use Rattle.vg_lin.specs.State.{LocalState, State}
-use Rattle.avr_view.specs.Registers.{Regs, pair, put}
+use Rattle.avr_view.specs.Registers.{Regs, put}
 use Rattle.vg_frames.specs.Spots.{Spot, InFrame, InRegisters, number, value_at}
 use Rattle.vg_frames.specs.Layouts.{Layout, frame_size, IsLayout, IsReliable, IsIn, IsSpot, Agree}
-use Rattle.vg_frames.specs.Frames.{Fits, restored, saved_bytes, found, Places, needed, Points, Caller, Callers}
+use Rattle.vg_frames.specs.Frames.{Fits, restored, saved_bytes, found, Places, needed, Points, Callers}
 
 -- a register that is saved, or the same, is the same once the saved ones have their bytes again
 pub restored_still : (ds bs : List ℕ) (old new : Regs) (d : ℕ) → length bs ≡ length ds → IsIn d ds ⊎ (new.of d ≡ old.of d)

@@ -1,12 +1,12 @@
 -- A local gets a value at its spot.
-use Rattle.std.proofs.Common.{◌≡◌, ◌≢◌, ℕ, zero, suc, ◌+◌, ◌-◌, ◌*◌, ◌/◌, ◌%◌, ◌^◌, ◌<◌, ◌≤◌, ◌⊎◌, inl, inr, Bool, true, false, ◌==◌, List, [], ◌∷◌, ◌++◌}
-use Rattle.std.proofs.Common.{length, Option, Some, None, refl, sym, ap, ◌∙◌, subst, arith, slice_index, slice_set, slice_get, take, drop, length-append}
+use Rattle.std.proofs.Common.{◌≡◌, ◌≢◌, ℕ, zero, suc, ◌+◌, ◌%◌, ◌^◌, ◌<◌, ◌≤◌, ◌⊎◌, inl, inr, Bool, true, false, ◌==◌, List, [], ◌∷◌}
+use Rattle.std.proofs.Common.{length, Some, None, refl, sym, ap, ◌∙◌, subst, arith, slice_index, slice_get, take, drop, length-append}
 use Rattle.std.specs.Prelude.{map}
 use Rattle.vg_lin.specs.Steps.{Frame}
 use Rattle.vg_lin.specs.State.{LocalState, State, value_in, with_local}
 use Rattle.avr_view.specs.Registers.{Regs, pair}
 use Rattle.vg_frames.specs.Spots.{Spot, InFrame, InRegisters, Apart, value_at, frame_with, registers_with}
-use Rattle.vg_frames.specs.Layouts.{Layout, IsLayout, IsSpot, IsReliable, IsIn, link_size, frame_size, width_of}
+use Rattle.vg_frames.specs.Layouts.{Layout, IsLayout, IsSpot, IsReliable, IsIn, frame_size, width_of}
 use Rattle.vg_frames.specs.Frames.{Fits, saved_bytes, found, restored, Places, Points, Caller, Callers}
 use Rattle.vg_frames.proofs.Numbers.{written-length, piece-written, put_number-beside, InBytes, value-put, value-beside}
 use Rattle.avr_view.proofs.Going.{below_or_not}

@@ -7,7 +7,7 @@ use Rattle.avr_view.specs.Registers.{Regs}
 use Rattle.avr_view.specs.Run.{Run}
 use Rattle.avr_view.specs.View.{View, At}
 use Rattle.vg_frames.specs.Frames.{Places, word_bytes, back_to, between, needed, Points, Callers, Stacked}
-use Rattle.vg_frames.specs.Layouts.{Layout, IsReliable}
+use Rattle.vg_frames.specs.Layouts.{IsReliable}
 use Rattle.vg_frames.specs.Linkage.{AreOthers}
 
 -- Behind the prologue of a procedure for which another one waits: its frame has its slots, which hold what they held, what it has saved, the

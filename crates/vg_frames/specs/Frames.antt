@@ -1,7 +1,6 @@
 -- How the procedures that wait lie on the stack: each by the registers as it will find them.
-use Rattle.std.specs.Prelude.{ℕ, suc, ◌≡◌, ◌+◌, ◌*◌, ◌/◌, ◌%◌, ◌<◌, Bool, true, false, not, ◌&&◌, ◌==◌, List, [], ◌∷◌, ◌++◌, length, map, take, drop}
+use Rattle.std.specs.Prelude.{ℕ, suc, ◌≡◌, ◌+◌, ◌/◌, ◌%◌, ◌<◌, Bool, true, false, not, ◌&&◌, ◌==◌, List, [], ◌∷◌, ◌++◌, length, map, take, drop}
 use Rattle.std.specs.Prelude.{Option, Some, None, slice_get}
-use Rattle.vg_lin.specs.declared.instr.Call.{Call}
 use Rattle.vg_lin.specs.Steps.{Awaits, Result, Interrupt, Frame}
 use Rattle.vg_lin.specs.State.{LocalState, Waiting, State, value_in}
 use Rattle.avr_view.specs.Registers.{Regs, pair, put}

@@ -30,15 +30,17 @@ pub fn epilogues_leave()
         → Goes e ⊥ 1 s (Left e l bytes back below v) }
 {}
 
-/// A law of calls: where CALL stands, and the prologue of the procedure where it leads, the run comes behind the prologue. The bytes in front of what
-/// waits become its arguments where they lie, and the procedure that calls is its newest caller; or it reaches below the floor, which it does only
-/// where the return address, the saved registers and the slots are too many.
+/// A law of calls, and of the call in the stub of an interrupt's handler: where CALL stands, and the prologue of the procedure where it leads, the run
+/// comes behind the prologue. The bytes in front of what waits become its arguments where they lie, and the procedure that calls, or that the
+/// interrupt has interrupted, is its newest caller; or it reaches below the floor, which it does only where the return address, the saved registers
+/// and the slots are too many.
 pub fn calls_begin()
     ensures { (e : Run) (i : Places) → ((m : ℕ) → IsLayout (i.layouts m)) → (q pc entry : ℕ) (f : Frame LinState) (frames : List (Frame LinState))
         (args wait own under : List ℕ) (v : View) (s : State) → StandsAt e.flash pc (Call entry) → pc + 2 < 65536
-        → back_to i f.awaits q f.proc f.pc ≡ pc + 2 → between i f.awaits f.proc f.pc ≡ []
+        → back_to i f.awaits q f.proc f.pc ≡ pc + 2
         → AllStandAt e.flash entry (prologue (i.layouts q)) → entry + widths (prologue (i.layouts q)) < 65536
-        → v.stack ≡ args ++ (wait ++ (own ++ under)) → Points (i.layouts f.proc) own under v.regs → Waits f.kept.waiting wait
+        → v.stack ≡ args ++ (between i f.awaits f.proc f.pc ++ (wait ++ (own ++ under))) → Points (i.layouts f.proc) own under v.regs
+        → Waits f.kept.waiting wait
         → Fits (i.layouts f.proc) (needed (i.layouts f.proc) f.awaits f.pc) f.kept.locals own v.regs → Callers i frames f.proc own under v.regs → At e pc v s
         → Goes e (0x1100 < e.floor + length v.stack + 2 + length (i.layouts q).saved + (i.layouts q).slots) 1 s
         (Begun e i q f frames args (entry + widths (prologue (i.layouts q))) v) }
