@@ -9,3 +9,4 @@ pub mod CallSteps
 pub mod JumpSteps
 pub mod WakingSteps
 pub mod StartSteps
+pub mod SeenRuns

@@ -1,5 +1,6 @@
 -- What the code sees of the machine.
 use Rattle.std.specs.Prelude.{ℕ, ◌≡◌, ◌+◌, ◌≤◌, List, length, None}
+use Rattle.vg_meaning.specs.declared.event.Event.{Event}
 use Rattle.vg_meaning.specs.Outside.{Outside}
 use Rattle.avr_isa.specs.Machine.{State}
 use Rattle.avr_bytes.specs.Bytes.{HoldsBytes}
@@ -36,3 +37,10 @@ byte_in v cell = byte_at v.static v.stack cell
 
 abbrev pub with_byte : View → Cell → ℕ → View
 with_byte v cell value = record v { static = static_with cell value v.static; stack = stack_with cell value v.stack }
+
+-- the machine is going, and has shown this trace
+pub record Shown (e : Run) (trace : List Event) (s : State) : Type 0 where
+  pub pc : ℕ
+  pub view : View
+  pub at : At e pc view s
+  pub same : view.out.trace ≡ trace

@@ -2,6 +2,7 @@
 //! and what each instruction that the compiler uses does to what is seen.
 #![tactic(auto)]
 
+pub mod agreement;
 pub mod composing;
 pub mod devices;
 pub mod flow;
