@@ -10,3 +10,4 @@ pub mod JumpSteps
 pub mod WakingSteps
 pub mod StartSteps
 pub mod SeenRuns
+pub mod WorkedRun

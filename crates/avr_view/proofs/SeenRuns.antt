@@ -1,5 +1,5 @@
 -- Runs of the machine from reset do what a session shows.
-use Rattle.std.proofs.Common.{◌≡◌, ℕ, ◌+◌, ◌<◌, ◌≤◌, ◌⊎◌, inl, inr, List, Option, Some, None, refl, sym, ap, ◌∙◌, subst, arith}
+use Rattle.std.proofs.Common.{◌≡◌, ℕ, ◌<◌, ◌≤◌, inl, inr, List, Option, Some, sym, ap, ◌∙◌, subst, arith}
 use Rattle.vg_meaning.specs.Ending.{Ending, Idle, Stop, Wants, Beyond}
 use Rattle.vg_meaning.specs.Outside.{Outside}
 use Rattle.vg_meaning.specs.Seen.{Seen}
@@ -9,7 +9,7 @@ use Rattle.avr_isa.specs.Agrees.{IsAt, ReachesFloor, Follows, FollowsSeen}
 use Rattle.avr_isa.specs.Cpu.{PowerOn}
 use Rattle.avr_isa.specs.Machine.{State, started, machine}
 use Rattle.avr_view.specs.Run.{Run, Goes, Ended}
-use Rattle.avr_view.specs.View.{View, At, Shown}
+use Rattle.avr_view.specs.View.{Shown}
 
 module _ (e : Run) (memory : PowerOn) (reads interrupts : List ℕ) (clock n stack : ℕ) (s : Seen) (whole : e.whole ≡ s.trace) where
   -- the run that comes to a state follows the session, and the one that sinks reaches the floor

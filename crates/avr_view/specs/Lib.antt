@@ -3,3 +3,4 @@ pub mod Memory
 pub mod Run
 pub mod View
 pub mod Start
+pub mod Worked

@@ -11,3 +11,4 @@ pub mod plain;
 pub mod stack;
 pub mod starting;
 pub mod waking;
+pub mod worked;
