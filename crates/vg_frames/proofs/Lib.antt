@@ -4,3 +4,4 @@ pub mod Linking
 pub mod Calling
 pub mod Numbers
 pub mod Settings
+pub mod Arguments

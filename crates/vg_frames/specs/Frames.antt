@@ -1,5 +1,5 @@
 -- How the procedures that wait lie on the stack: each by the registers as it will find them.
-use Rattle.std.specs.Prelude.{ℕ, suc, ◌≡◌, ◌+◌, ◌/◌, ◌%◌, ◌<◌, Bool, true, false, not, ◌&&◌, ◌==◌, List, [], ◌∷◌, ◌++◌, length, map, take, drop}
+use Rattle.std.specs.Prelude.{ℕ, zero, suc, ◌≡◌, ◌+◌, ◌/◌, ◌%◌, ◌<◌, Bool, true, false, not, ◌&&◌, ◌==◌, List, [], ◌∷◌, ◌++◌, length, map, take, drop}
 use Rattle.std.specs.Prelude.{Option, Some, None, slice_get}
 use Rattle.vg_lin.specs.Steps.{Awaits, Result, Interrupt, Frame}
 use Rattle.vg_lin.specs.State.{LocalState, Waiting, State, value_in}
@@ -18,6 +18,33 @@ abbrev pub Waits : List Waiting → List ℕ → Type 0
 Waits [] bytes = bytes ≡ []
 Waits (w ∷ ws) bytes = (front : List ℕ) × (back : List ℕ) × (bytes ≡ front ++ back) × (length front ≡ w.width) × (read front 0 w.width ≡ w.value)
     × Waits ws back
+
+-- the bytes that values take which wait one behind the other, and those that were pushed behind one of them
+abbrev pub bytes_of : List Waiting → ℕ
+bytes_of [] = 0
+bytes_of (p ∷ ps) = p.width + bytes_of ps
+
+abbrev pub bytes_behind : List Waiting → ℕ → ℕ
+bytes_behind [] k = 0
+bytes_behind (p ∷ ps) zero = bytes_of ps
+bytes_behind (p ∷ ps) (suc k) = bytes_behind ps k
+
+-- the width and the value of one of them
+abbrev pub width_at : List Waiting → ℕ → ℕ
+width_at [] k = 0
+width_at (p ∷ ps) zero = p.width
+width_at (p ∷ ps) (suc k) = width_at ps k
+
+abbrev pub number_at : List Waiting → ℕ → ℕ
+number_at [] k = 0
+number_at (p ∷ ps) zero = p.value
+number_at (p ∷ ps) (suc k) = number_at ps k
+
+-- the same values in the order in which they were pushed: the first of them lies deepest
+abbrev pub Pushed : List Waiting → List ℕ → Type 0
+Pushed [] bytes = bytes ≡ []
+Pushed (p ∷ ps) bytes = (front : List ℕ) × (back : List ℕ) × (bytes ≡ front ++ back) × (length front ≡ bytes_of ps) × (length back ≡ p.width)
+    × (read back 0 p.width ≡ p.value) × Pushed ps front
 
 -- the registers once saved ones have got their bytes, one behind the other
 abbrev pub restored : (saved bytes : List ℕ) → Regs → Regs

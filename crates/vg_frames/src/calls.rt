@@ -1,10 +1,13 @@
 // The laws of procedures that wait for others.
-ghost use Rattle.std.specs.Prelude.{ℕ, ◌≡◌, ◌⊎◌, List, ◌∷◌, ◌++◌, length, map};
+ghost use Rattle.std.specs.Prelude.{ℕ, ◌≡◌, ◌+◌, ◌%◌, ◌^◌, ◌<◌, ◌⊎◌, Bool, true, List, ◌∷◌, ◌++◌, length, map, reverse};
+ghost use Rattle.vg_lin.specs.Meaning.{begun, same_widths, values_of};
 ghost use Rattle.vg_lin.specs.Steps.{Awaits, Frame};
-ghost use Rattle.vg_lin.specs.State.{State};
+ghost use Rattle.vg_lin.specs.State.{Waiting, State};
 ghost use Rattle.avr_view.specs.Registers.{Regs};
-ghost use Rattle.vg_frames.specs.Layouts.{IsLayout, IsReliable, IsIn, Agree};
+ghost use Rattle.vg_frames.specs.Layouts.{Layout, IsLayout, IsReliable, IsIn, Agree, frame_size};
+ghost use Rattle.vg_frames.specs.Spots.{InFrame};
 ghost use Rattle.vg_frames.specs.Frames.{Fits, Waits, saved_bytes, found, Places, word_bytes, between, back_to, needed, Points, Callers, Stacked};
+ghost use Rattle.vg_frames.specs.Frames.{Pushed, bytes_behind, width_at, number_at};
 
 /// A law of callers: what a procedure does with scratch registers, and with registers that it has saved, those that wait for it do not see.
 pub fn callers_keep()
@@ -27,4 +30,15 @@ pub fn callers_wait()
     ensures resume { (i : Places) → ((m : ℕ) → IsLayout (i.layouts m)) → (q : ℕ) (f : Frame State) (frames : List (Frame State)) (own under : List ℕ)
         (old new : Regs) → Agree (found (i.layouts q) own old) new → (k : Callers i (f ∷ frames) q own under old)
         → Stacked i f.proc (needed (i.layouts f.proc) f.awaits f.pc) f.kept frames (k.0.wait ++ (k.0.own ++ k.0.under)) new }
+{}
+
+/// Laws of arguments: what waits, read in the order in which it was pushed, has its first value deepest and the others before it; and where the
+/// parameters of a procedure that begins have these places behind what lies in front, with values that were cut to their widths, they lie at their spots.
+pub fn arguments_lie()
+    ensures order { (waiting : List Waiting) (bytes : List ℕ) → Waits waiting bytes → Pushed (reverse waiting) bytes }
+    ensures fit { (l : Layout) (live : ℕ → Bool) (pushed : List Waiting) (others front args : List ℕ) (g : Regs) → same_widths l.widths pushed ≡ true
+        → ((k : ℕ) → k < length pushed → l.spots k ≡ InFrame (length front + bytes_behind pushed k))
+        → ((k : ℕ) → k < length pushed → number_at pushed k % 256 ^ width_at pushed k ≡ number_at pushed k)
+        → ((k : ℕ) → live k ≡ true → k < length pushed) → Pushed pushed args → length (front ++ args) ≡ frame_size l
+        → Fits l live (begun l.widths (values_of pushed ++ others)) (front ++ args) g }
 {}
