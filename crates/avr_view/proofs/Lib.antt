@@ -1,0 +1,13 @@
+pub mod Going
+pub mod Dividing
+pub mod Rows
+pub mod Steps
+pub mod MemorySteps
+pub mod DeviceSteps
+pub mod StackSteps
+pub mod CallSteps
+pub mod JumpSteps
+pub mod WakingSteps
+pub mod StartSteps
+pub mod SeenRuns
+pub mod WorkedRun
