@@ -1,4 +1,6 @@
 pub mod Sound
+pub mod Typed
+pub mod Sizes
 pub mod Jumps
 pub mod Whole
 pub mod Starting

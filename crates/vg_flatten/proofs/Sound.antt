@@ -1,9 +1,8 @@
 -- That the instructions of what was made keep what every procedure of linear code keeps: operands in range, and jumps that lead to no
 -- place behind the code nor to themselves.
-use Rattle.std.specs.Prelude.{ℕ, zero, suc, ◌+◌, ◌-◌, ◌<◌, ◌≤◌, ◌*◌, ◌^◌, Bool, true, false, ◌==◌, ◌&&◌, ◌||◌, nat_lt, nat_le, List, [], ◌∷◌, ◌++◌, length, map, reverse, take, drop, Option, Some, None, if◌then◌else◌, slice_get}
-use Rattle.std.specs.List.{AllByRecursion}
-use Rattle.std.proofs.Common.{◌≡◌, ◌≢◌, refl, sym, ap, ◌∙◌, subst, arith}
-use Rattle.std.proofs.lemmas.List.{length-append, length-map, reverse-append, length-take-le}
+use Rattle.std.specs.Prelude.{ℕ, zero, suc, ◌+◌, ◌-◌, ◌<◌, ◌≤◌, ◌*◌, ◌^◌, Bool, true, false, ◌==◌, ◌&&◌, ◌||◌, nat_lt, nat_le, List, [], ◌∷◌, ◌++◌, length, reverse, take, drop, Option, Some, None, if◌then◌else◌, slice_get}
+use Rattle.std.proofs.Common.{◌≡◌, refl, sym, subst, arith}
+use Rattle.std.proofs.lemmas.List.{reverse-append, length-take-le}
 use Rattle.vg_meaning.specs.Code.{Code, Nothing, Then, Do, If, Loop, Break, Continue, Return}
 use Rattle.vg_firm.specs.declared.step.Operator.{Operator}
 use Rattle.vg_firm.specs.declared.step.Operator.TheVariants.{Plus, Minus, Times, Divide, Remainder, Less, AtMost, Greater, AtLeast, Equal, Unequal}
@@ -24,24 +23,22 @@ use Rattle.vg_lin.specs.declared.instr.Plain.{Plain as PlainInstr}
 use Rattle.vg_lin.specs.declared.instr.Plain.TheVariants.{Copy, Compute, Load as LoadsBytes, Store as StoresBytes, ReadDevice as ReadsDevice, WriteDevice as WritesDevice, Find, CodeOf, Stop}
 use Rattle.vg_lin.specs.declared.instr.Callee.{Callee}
 use Rattle.vg_lin.specs.declared.instr.Callee.TheVariants.{Procedure as ByNumber, Code as ByCode}
-use Rattle.vg_lin.specs.declared.instr.Registers.{Registers}
-use Rattle.vg_lin.specs.declared.instr.Registers.TheVariants.{Empty, One as One', Two, Three, Four}
 use Rattle.vg_lin.specs.Meaning.{operands}
 use Rattle.vg_flatten_shapes.specs.declared.fault.Fault.TheVariants.{NotTaken}
 use Rattle.vg_flatten_shapes.specs.declared.open.Truth.{Truth}
 use Rattle.vg_flatten_shapes.specs.declared.open.Truth.TheVariants.{Holds, Fails}
 use Rattle.vg_flatten_shapes.specs.declared.layout.Layout.{Layout}
 use Rattle.vg_flatten_shapes.specs.declared.room.Room.{Room}
-use Rattle.vg_flatten_shapes.specs.Shapes.{Shape, Taken, only, empty, is_empty, is_free, same_operand, same_homes, taken, temp}
-use Rattle.vg_flatten_shapes.specs.Blocks.{stop_where, Block, Skip, One, CallTo, TakeInterrupt, GiveBack, BreakOut, GoOn, Both, Choice, Repeat}
+use Rattle.vg_flatten_shapes.specs.Shapes.{Shape, only, empty, is_empty, is_free, same_operand, same_homes, taken, temp}
+use Rattle.vg_flatten_shapes.specs.Blocks.{stop_where, Block, Skip, One, CallTo, GiveBack, BreakOut, GoOn, Both, Choice, Repeat}
 use Rattle.vg_flatten_shapes.specs.Made.{Made, Gives, Refused, behind, after, by_temp, settled, settled_as, Tested, tested, tested_as, is_zero}
 use Rattle.vg_flatten_values.specs.Values.{computing, comparing, by_order, test_of}
 use Rattle.vg_flatten_values.specs.Values.{computed, operated, operated_as, bytes_of, bytes_for, cut_bits, cut, applied, concatenated}
-use Rattle.vg_flatten_steps.specs.Locals.{put_number, at_local, get_local, get_receiver, put_in_local, set_local, forgotten, read}
+use Rattle.vg_flatten_steps.specs.Locals.{put_number, at_local, get_receiver, put_in_local, set_local, forgotten}
 use Rattle.vg_flatten_steps.specs.Locals.{written}
-use Rattle.vg_flatten_steps.specs.Calls.{registers_of, passing, with_taken, is_received, with_receiver, called, called_on, called_for, called_by, called_value, bound, bound_for}
+use Rattle.vg_flatten_steps.specs.Calls.{registers_of, passing, with_taken, is_received, with_receiver, called, called_on, called_for, called_by, called_value, bound_for}
 use Rattle.vg_flatten_steps.specs.Steps.{stepped}
-use Rattle.vg_flatten_control.specs.Flat.{landed_as, landed, joined, chosen, where_empty, repeated, repeated_test}
+use Rattle.vg_flatten_control.specs.Flat.{landed_as, landed, joined, chosen, repeated, repeated_test}
 use Rattle.vg_flatten.specs.Loops.{has_loop}
 use Rattle.vg_flatten_control.specs.Flat.{repeated_body, repeated_next, given_back, flat}
 use Rattle.vg_flatten_values.specs.Values.{bytes_around, may_be_zero, divisor_checked, divided, masked, shifted_left, shifted_right, combined}

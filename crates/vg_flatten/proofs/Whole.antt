@@ -1,7 +1,7 @@
 -- That a flattened procedure keeps what every procedure of linear code keeps.
 use Rattle.std.specs.Prelude.{ℕ, zero, suc, ◌+◌, ◌-◌, ◌<◌, ◌≤◌, Bool, true, false, List, [], ◌∷◌, ◌++◌, length, drop, map, replicate, Option, Some, None, slice_get}
 use Rattle.std.specs.List.{AllByRecursion}
-use Rattle.std.proofs.Common.{◌≡◌, ◌≢◌, ◌⊎◌, inl, inr, refl, sym, ap, ◌∙◌, subst, arith}
+use Rattle.std.proofs.Common.{◌≡◌, ◌⊎◌, inl, inr, refl, sym, ap, ◌∙◌, subst, arith}
 use Rattle.std.proofs.lemmas.List.{length-append, length-map, length-replicate}
 use Rattle.std.proofs.lemmas.List.{append_assoc}
 use Rattle.std.proofs.Math.Seq.{drop-length}
@@ -25,11 +25,11 @@ use Rattle.vg_flatten_shapes.specs.declared.open.Open.{Open}
 use Rattle.vg_flatten_shapes.specs.declared.open.Open.TheVariants.{Set, Break, Continue}
 use Rattle.vg_flatten_shapes.proofs.Choices.{choice_cases}
 use Rattle.vg_flatten_shapes.specs.Blocks.{Block, Skip, One, CallTo, TakeInterrupt, GiveBack, BreakOut, GoOn, Both, Choice, Repeat, branch, closed, call_code, open_code}
-use Rattle.vg_flatten.specs.Closing.{IsSet, AllSet}
+use Rattle.vg_flatten.specs.Closing.{AllSet}
 use Rattle.vg_flatten_shapes.specs.Blocks.{set_in}
 use Rattle.vg_flatten.specs.Flattened.{zeroes, receivers, with_receiver_width, own_widths, own_params, widened, all_widths, whole}
 use Rattle.vg_flatten.proofs.Sound.{IsIn, AreIn, IsTestIn, IsTruthIn, IsPlainIn, IsToIn, IsCalleeIn, BlockIn}
-use Rattle.vg_flatten.proofs.Jumps.{behind_plain, behind, Marks, GoesWithin, PlainWithin, JumpsWithin, AllWithin, marks_front, ends, within, within_both}
+use Rattle.vg_flatten.proofs.Jumps.{behind_plain, behind, Marks, PlainWithin, JumpsWithin, AllWithin, marks_front, ends, within, within_both}
 use Rattle.vg_flatten_shapes.proofs.Temps.{some_is, none_is_not}
 
 -- ---- operands of a list of instructions

@@ -1,7 +1,7 @@
 -- Instructions of which no jump out of a loop is left open.
 use Rattle.std.specs.Prelude.{List, [], ◌∷◌}
 use Rattle.vg_flatten_shapes.specs.declared.open.Open.{Open}
-use Rattle.vg_flatten_shapes.specs.declared.open.Open.TheVariants.{Set, Break, Continue}
+use Rattle.vg_flatten_shapes.specs.declared.open.Open.TheVariants.{Set}
 
 abbrev pub IsSet : Open → Type 0
 IsSet (Set i) = Unit {0}

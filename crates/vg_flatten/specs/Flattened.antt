@@ -1,5 +1,5 @@
 -- What it means that a procedure of linear code is a packed one, flattened.
-use Rattle.std.specs.Prelude.{◌≡◌, ℕ, zero, suc, ◌+◌, ◌-◌, ◌<◌, ◌≤◌, Bool, true, false, List, [], ◌∷◌, ◌++◌, length, map, replicate, Option, Some, None, slice_get}
+use Rattle.std.specs.Prelude.{◌≡◌, ℕ, zero, suc, ◌+◌, ◌-◌, ◌≤◌, Bool, true, false, List, [], ◌∷◌, ◌++◌, length, map, replicate, Some, None, slice_get}
 use Rattle.vg_firm.specs.Program.{Procedure as FirmProcedure, Program as FirmProgram}
 use Rattle.vg_codes.specs.Codes.{Codes, AreCodes}
 use Rattle.vg_lin.specs.declared.instr.Operand.TheVariants.{Known}

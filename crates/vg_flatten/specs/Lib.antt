@@ -4,3 +4,5 @@ pub mod Flattened
 pub mod Refusals
 pub mod Loops
 pub mod Sealing
+pub mod Taking
+pub mod Sizes

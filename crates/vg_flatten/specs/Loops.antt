@@ -1,6 +1,6 @@
 -- Whether code has a loop.
 use Rattle.std.specs.Prelude.{Bool, true, false, ◌||◌}
-use Rattle.vg_meaning.specs.Code.{Code, Nothing, Then, Do, If, Loop, Break, Continue, Return}
+use Rattle.vg_meaning.specs.Code.{Code, Then, If, Loop}
 
 abbrev pub has_loop : {P : Type 0} → Code P → Bool
 has_loop (Then a b) = has_loop a || has_loop b

@@ -4,12 +4,16 @@ ghost use Rattle.std.specs.List.{AllByRecursion};
 ghost use Rattle.vg_firm.specs.Held.{procedure_of, code_of};
 ghost use Rattle.vg_lin.specs.Sound.{IsWidth};
 ghost use Rattle.vg_flatten_shapes.specs.Blocks.{Block, open_code};
-ghost use Rattle.vg_flatten.specs.Flattened.{IsFlat, zero_list, receivers, own_widths, own_params, with_receiver_width, widened, all_widths, main_args, whole, start_of};
+ghost use Rattle.vg_flatten.specs.Flattened.{IsFlat, zero_list, receivers, own_widths, own_params, with_receiver_width, widened, all_widths};
+ghost use Rattle.vg_flatten.specs.Flattened.{main_args, whole, start_of};
 ghost use Rattle.vg_flatten_shapes.specs.Blocks.{set_in};
 ghost use Rattle.vg_flatten.specs.Sealing.{Seals, Wholes};
 ghost use Rattle.vg_lin.specs.Onward.{all_lead_on};
 ghost use Rattle.vg_flatten.specs.Loops.{has_loop};
 ghost use Rattle.vg_flatten.specs.Refusals.{temps_for, IsRefusedFor};
+ghost use Rattle.vg_flatten.specs.Taking.{IsTaken};
+ghost use Rattle.vg_flatten.specs.Sizes.{procedure_size};
+ghost use Rattle.vg_firm_typed.specs.Typed.{IsTyped};
 ghost use Rattle.vg_flatten_control.specs.Flat.{flat};
 ghost use Rattle.vg_flatten_shapes.specs.Shapes.{empty};
 
@@ -149,8 +153,25 @@ fn temps_beside(locals: u8) -> u8
 
 /// A procedure as linear code, in a program whose columns stand so and of whose procedures these get a receiver.
 ///
-/// It refuses what it does not take yet.
+/// It refuses what it does not take. Of a typed procedure it takes each step, and each value finds a temporary: then the only cause but
+/// want of memory is that an instruction would have a place above 65,535.
 pub fn flatten(
+    alloc: Global,
+    layout: &Layout,
+    procedure: &Procedure,
+) -> Result<LinProc, Refusal<Fault>>
+    requires params { procedure.now.params ≤ length procedure.now.widths }
+    requires widths { AllByRecursion IsWidth procedure.now.widths }
+    ensures flat { IfOk result (λ p. IsFlat layout.now (procedure_of procedure.now) p) }
+    ensures onward { IfOk result (λ p. has_loop (code_of procedure.now.body) ≡ false → all_lead_on 0 p.code ≡ true) }
+    ensures refusal { IsRefusedFor result layout.now (procedure_of procedure.now) }
+    ensures short { IfOk result (λ p. length p.code ≤ procedure_size (procedure_of procedure.now)) }
+    ensures typed { IsTyped layout.now (procedure_of procedure.now) → IsTaken result }
+{
+    flattened(alloc, layout, procedure)
+}
+
+fn flattened(
     alloc: Global,
     layout: &Layout,
     procedure: &Procedure,

@@ -1,5 +1,5 @@
 -- Small bodies and their flattened code, instruction by instruction. The code was worked by hand.
-use Rattle.std.specs.Prelude.{◌≡◌, refl, ℕ, zero, suc, ◌++◌, Bool, true, false, List, [], ◌∷◌, length, map, replicate, Option, Some, None}
+use Rattle.std.specs.Prelude.{◌≡◌, refl, ℕ, zero, suc, ◌++◌, true, false, List, [], ◌∷◌, length, map, replicate, Option, Some, None}
 use Rattle.std.specs.Option.{option_map}
 use Rattle.vg_meaning.specs.Code.{Code, Nothing, Then, Do, If, Loop, Break, Continue, Return as Returning}
 use Rattle.vg_firm.specs.declared.step.Home.TheVariants.{Ram, Flash}

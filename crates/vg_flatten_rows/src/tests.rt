@@ -4,9 +4,10 @@ ghost use Rattle.vg_lin.specs.Sound.{IsWidth};
 
 use std::alloc::Global;
 use vg_base::{NoMemory, Refusal, Row};
-use vg_firm::{Code, Operator, Procedure, Step};
+use vg_expand::expand;
+use vg_firm::{Code, Operator, Prefix, Procedure, Step};
 use vg_flatten::{Fault, Layout, flatten};
-use vg_lin::LinProc;
+use vg_lin::{Callee, Instr, LinProc};
 
 // Sixty locals of four bytes.
 fn sixty(alloc: Global) -> Result<Row<u8>, NoMemory>
@@ -62,4 +63,100 @@ fn many_values_wait(rt: HostRuntime) {
     assert!(rt;
         high == Ok(264) && flattened(alloc, 49).err() == Some(Refusal::Fault(Fault::TooHigh))
     );
+}
+
+// A main with two divisions: PORTB = ((-2147483648 / -1) :: raw.32 >> 24) :: raw.8; and z = 5 % z;
+fn dividing(alloc: Global) -> Result<Procedure, NoMemory>
+    ensures params { IfOk result (λ p. p.params ≤ length p.widths) }
+    ensures widths { IfOk result (λ p. AllByRecursion IsWidth p.widths) }
+{
+    let mut widths = Row::new(alloc);
+    widths.push(4)?;
+    let steps = [
+        Step::Number(2_147_483_648),
+        Step::Apply(Prefix::Negative),
+        Step::Number(1),
+        Step::Apply(Prefix::Negative),
+        Step::Operate(Operator::Divide),
+        Step::Number(24),
+        Step::Operate(Operator::ShiftRight(32)),
+        Step::Apply(Prefix::Cut(8)),
+        Step::WriteDevice(0x38),
+        Step::Number(0),
+        Step::SetLocal(0),
+        Step::Number(5),
+        Step::Local(0),
+        Step::Operate(Operator::Remainder),
+        Step::SetLocal(0),
+    ];
+    let mut codes = Vec::new(alloc);
+    for step in steps.as_slice() {
+        codes.push(Code::Do(*step))?;
+    }
+    Ok(Procedure {
+        method: 0,
+        params: 0,
+        receives: false,
+        widths,
+        result: 0,
+        calls: Row::new(alloc),
+        body: Code::Row(codes),
+    })
+}
+
+// How many calls of a procedure there are.
+fn calls_of(code: &[Instr], procedure: u16) -> usize {
+    let mut count = 0usize;
+    for instr in code {
+        if is_call(*instr, procedure) {
+            count = count.saturating_add(1);
+        }
+    }
+    count
+}
+
+fn is_call(instr: Instr, procedure: u16) -> bool {
+    match instr {
+        Instr::Call(call) => match call.callee {
+            Callee::Procedure(number) => number == procedure,
+            Callee::Code(_) => false,
+        },
+        _ => false,
+    }
+}
+
+// The routines are the procedures 7 to 10.
+#[test]
+fn divisions_are_calls(rt: HostRuntime) {
+    let alloc = rt.alloc();
+    let layout = Layout {
+        ram: Row::new(alloc),
+        flash: Row::new(alloc),
+        tables: Row::new(alloc),
+        receives: Row::new(alloc),
+    };
+    let divisions = match dividing(alloc) {
+        Ok(procedure) => divisions_in(alloc, &layout, &procedure),
+        Err(_) => 0,
+    };
+    assert!(rt; divisions == 2);
+}
+
+// How often division is called, where there is memory: it is the procedure 8.
+fn divisions_in(alloc: Global, layout: &Layout, procedure: &Procedure) -> usize
+    requires params { procedure.now.params ≤ length procedure.now.widths }
+    requires widths { AllByRecursion IsWidth procedure.now.widths }
+{
+    match flatten(alloc, layout, procedure) {
+        Ok(linear) => {
+            if linear.code().len() > 32767 {
+                return 0;
+            }
+            match expand(alloc, &linear, 7) {
+                Ok(expanded) => calls_of(expanded.code(), 8),
+                Err(_) => 0,
+            }
+        }
+        Err(_) => 0,
+    }
 }

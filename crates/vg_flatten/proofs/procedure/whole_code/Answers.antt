@@ -1,4 +1,4 @@
-use Rattle.std.proofs.Common.{◌++◌, ◌+◌, ◌-◌, ◌≡◌, length, arith, subst, sym, ap, ◌∙◌}
+use Rattle.std.proofs.Common.{◌++◌, ◌+◌, ◌-◌, arith, subst, sym, ap, ◌∙◌}
 use Rattle.vg_firm.specs.Held.{code_of, procedure_of}
 use Rattle.vg_flatten_shapes.specs.Shapes.{empty}
 use Rattle.vg_flatten_control.specs.Flat.{flat}

@@ -1,4 +1,4 @@
-use Rattle.std.proofs.Common.{◌++◌, ◌-◌, ◌≡◌, length, take, drop, replicate, subst, sym, ap, ◌∙◌}
+use Rattle.std.proofs.Common.{◌++◌, take, drop, replicate, sym, ap, ◌∙◌}
 use Rattle.std.proofs.Math.Seq.{take-length}
 use Rattle.std.proofs.lemmas.List.{length-drop}
 use Rattle.vg_flatten.proofs.Finished.{widened_is}

@@ -1,4 +1,4 @@
-use Rattle.std.proofs.Common.{◌+◌, ◌-◌, ◌++◌, [], ◌∷◌, replicate, ◌≡◌, subst, sym}
+use Rattle.std.proofs.Common.{◌+◌, ◌-◌, ◌++◌, replicate, ◌≡◌, subst, sym}
 use Rattle.vg_flatten.proofs.Finished.{wide_on}
 use Rattle.vg_flatten.proofs.procedure.with_temps.Goals as goal
 

@@ -1,0 +1,27 @@
+-- How many instructions stand at most for code.
+use Rattle.std.specs.Prelude.{ℕ, ◌+◌, ◌-◌, length}
+use Rattle.vg_meaning.specs.Code.{Code, Nothing, Then, Do, If, Loop, Break, Continue, Return}
+use Rattle.vg_firm.specs.declared.step.Step.{Step}
+use Rattle.vg_firm.specs.declared.step.Step.TheVariants.{Call, CallFor, CallValue}
+use Rattle.vg_firm.specs.Program.{Procedure}
+
+-- 16 for a step, and one for each argument of a call.
+abbrev pub step_size : Step → ℕ
+step_size (Call q count) = 16 + count
+step_size (CallFor d count) = 16 + count
+step_size (CallValue count) = 16 + count
+step_size p = 16
+
+abbrev pub code_size : Code Step → ℕ
+code_size Nothing = 0
+code_size (Then a b) = code_size a + code_size b
+code_size (Do p) = step_size p
+code_size (If a b) = 12 + code_size a + code_size b
+code_size (Loop c body next) = 2 + code_size c + code_size body + code_size next
+code_size Break = 1
+code_size Continue = 1
+code_size Return = 5
+
+-- Of a whole procedure: one for each local that is no parameter, and one for the end of the body.
+abbrev pub procedure_size : Procedure → ℕ
+procedure_size m = length m.widths - m.params + code_size m.body + 1
