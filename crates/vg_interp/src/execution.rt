@@ -12,7 +12,7 @@ ghost use Rattle.vg_core.specs.HeldProgram.{body_at, code_of, code_chain, code_r
 ghost use Rattle.vg_core.specs.Meaning as meaning;
 ghost use Rattle.vg_core.specs.Meaning.{put, truth};
 ghost use Rattle.vg_core.specs.State.{State};
-ghost use Rattle.vg_interp_run.specs.Run.{state, world, Answers};
+ghost use Rattle.vg_interp_run.specs.Run.{state, world, Answers, IsCall};
 ghost use Rattle.vg_interp.specs.Running.{calling, does, looks_up, opens, runs, Chooses, GoesOn};
 ghost use Rattle.vg_interp.specs.Weights.{arms_list, weight, whole};
 
@@ -21,7 +21,7 @@ use vg_core::{Body, Code, CoreType, CoreValue, Program, Step, Target};
 use vg_interp_run::calling::{
     Call, enter, has_arguments, leave, method_call, new_object, value_call,
 };
-use vg_interp_run::{Run, Signal, devices, methods, operators, places, values};
+use vg_interp_run::{Run, Signal, alone, operators, values};
 use vg_interp_values::default_of;
 
 /// Runs code of a program; its calls are at most so deep.
@@ -34,7 +34,7 @@ pub fn exec(run: &mut Run, program: &Program, most: u32, code: &Code) -> Result<
     match code {
         Code::Row(codes) => row(run, program, most, codes.as_slice()),
         Code::Chain(codes) => chain(run, program, most, codes.as_slice()),
-        Code::Do(step) => perform(run, program, most, *step),
+        Code::Do(step) => perform(run, program, most, step),
         Code::If(first, rest) => {
             if run.test()? {
                 exec(run, program, most, first)
@@ -79,13 +79,14 @@ fn chain(run: &mut Run, program: &Program, most: u32, codes: &[Code]) -> Result<
 
 // Runs a part of a row or a chain. Most are steps, which are performed at once.
 #[cycle(exec)]
+#[inline(always)]
 fn part(run: &mut Run, program: &Program, most: u32, code: &Code) -> Result<(), Signal>
     ensures answers { Answers result (state run.new) (world run.new)
         (does (program_at program.now) most (code_of code.now) (state run.old) (world run.old)) }
     ensures kept { GoesOn result run.old run.new }
 {
     match code {
-        Code::Do(step) => perform(run, program, most, *step),
+        Code::Do(step) => perform(run, program, most, step),
         Code::Row(_)
         | Code::Chain(_)
         | Code::If(_, _)
@@ -241,80 +242,72 @@ fn turn(
     }
 }
 
-// Performs one step. The frequent ones copy no signal where they went well.
+// Performs one step. The frequent ones come first, and copy no signal where they went well.
 #[cycle(exec)]
-fn perform(run: &mut Run, program: &Program, most: u32, step: Step) -> Result<(), Signal>
+#[inline(always)]
+fn perform(run: &mut Run, program: &Program, most: u32, step: &Step) -> Result<(), Signal>
     ensures answers { Answers result (state run.new) (world run.new)
-        (meaning.step program.now.tables (calling (program_at program.now) most) step (state run.old) (world run.old)) }
+        (meaning.step program.now.tables (calling (program_at program.now) most) step.now (state run.old) (world run.old)) }
+    ensures kept { GoesOn result run.old run.new }
+{
+    match step {
+        Step::Local(number) => {
+            values::local(run, &program.tables, *number)?;
+            Ok(())
+        }
+        Step::Put(value) => {
+            values::put(run, &program.tables, *value)?;
+            Ok(())
+        }
+        Step::Operate(at, op, left, right) => {
+            operators::operate(run, &program.tables, *at, *op, *left, *right)?;
+            Ok(())
+        }
+        Step::SetLocal(number, type_) => {
+            values::set_local(run, &program.tables, *number, *type_)?;
+            Ok(())
+        }
+        Step::CallMethod(_, _, _, _)
+        | Step::CallValue(_, _, _)
+        | Step::CallComponent(_, _)
+        | Step::NewObject(_, _, _)
+        | Step::Super(_, _) => perform_call(run, program, most, step),
+        _ => alone::perform(run, &program.tables, step),
+    }
+}
+
+// Performs a step that calls.
+#[cycle(exec)]
+#[inline(never)]
+fn perform_call(run: &mut Run, program: &Program, most: u32, step: &Step) -> Result<(), Signal>
+    requires { IsCall step.now }
+    ensures answers { Answers result (state run.new) (world run.new)
+        (meaning.step program.now.tables (calling (program_at program.now) most) step.now (state run.old) (world run.old)) }
     ensures kept { GoesOn result run.old run.new }
 {
     let tables = &program.tables;
     match step {
         Step::CallMethod(at, class, selector, count) => {
-            match method_call(run, tables, at, class, selector, count) {
+            match method_call(run, tables, *at, *class, *selector, *count) {
                 Ok(found) => call(run, program, most, found),
                 Err(why) => Err(why),
             }
         }
-        Step::CallValue(at, count, type_) => {
-            match value_call(run, tables, at, count, type_) {
-                Ok(found) => call(run, program, most, found),
-                Err(why) => Err(why),
-            }
-        }
+        Step::CallValue(at, count, type_) => match value_call(run, tables, *at, *count, *type_) {
+            Ok(found) => call(run, program, most, found),
+            Err(why) => Err(why),
+        },
         Step::CallComponent(method, count) => {
             let found = Call {
-                target: Target::Run(method),
-                count,
+                target: Target::Run(*method),
+                count: *count,
                 receiver: CoreValue::Null,
             };
             call(run, program, most, found)
         }
-        Step::NewObject(at, class, count) => construct(run, program, most, at, class, count),
-        Step::Super(class, count) => construct_above(run, program, most, class, count),
-        Step::Put(value) => {
-            values::put(run, tables, value)?;
-            Ok(())
-        }
-        Step::Literal(number) => values::literal(run, tables, number),
-        Step::This => values::receiver(run, tables),
-        Step::Local(number) => {
-            values::local(run, tables, number)?;
-            Ok(())
-        }
-        Step::ComponentField(field) => {
-            places::component_field(run, tables, field)?;
-            Ok(())
-        }
-        Step::Register(address) => devices::register(run, tables, address),
-        Step::ComponentMethod(method) => values::component_method(run, tables, method),
-        Step::Apply(op, type_) => operators::apply(run, tables, op, type_),
-        Step::Operate(at, op, left, right) => {
-            operators::operate(run, tables, at, op, left, right)?;
-            Ok(())
-        }
-        Step::CastTo(at, from, to) => operators::cast_to(run, tables, at, from, to),
-        Step::IsBelow(class) => operators::test_class(run, tables, class),
-        Step::Field(at, field) => {
-            places::field(run, tables, at, field)?;
-            Ok(())
-        }
-        Step::Item(at, t) => {
-            places::item(run, tables, at, t)?;
-            Ok(())
-        }
-        Step::Length(at, t) => places::length(run, tables, at, t),
-        Step::MethodOf(at, class, selector) => methods::method_of(run, tables, at, class, selector),
-        Step::NewArray(at, t) => methods::new_array(run, tables, at, t),
-        Step::SetLocal(number, type_) => {
-            values::set_local(run, tables, number, type_)?;
-            Ok(())
-        }
-        Step::SetComponentField(field) => places::set_component_field(run, tables, field),
-        Step::SetRegister(address) => devices::set_register(run, tables, address),
-        Step::SetField(at, field) => places::set_field(run, tables, at, field),
-        Step::SetItem(at, t) => places::set_item(run, tables, at, t),
-        Step::Forget => values::forget(run, tables),
+        Step::NewObject(at, class, count) => construct(run, program, most, *at, *class, *count),
+        Step::Super(class, count) => construct_above(run, program, most, *class, *count),
+        _ => unreachable!(),
     }
 }
 

@@ -4,6 +4,8 @@ use Rattle.vg_meaning.specs.Loops.{Test, Tested, Untested}
 use Rattle.vg_meaning.specs.World.{World}
 use Rattle.vg_meaning.specs.Answer as answer
 use Rattle.vg_meaning.specs.Answer.{End, Over, Breaks, Continues, Returns, Answer, Gives, Ends, Piece, kept, over}
+use Rattle.vg_core.specs.declared.step.Step.{Step}
+use Rattle.vg_core.specs.declared.step.Step.TheVariants.{CallMethod, CallValue, CallComponent, NewObject, Super}
 use Rattle.vg_core.specs.declared.value.CoreValue.{CoreValue}
 use Rattle.vg_core.specs.Heap.{Place, OfArray}
 use Rattle.vg_core.specs.State.{State}
@@ -82,3 +84,21 @@ Tests (Err _) s t = ⊥
 abbrev pub TakesBelow : Result CoreValue Signal → (CoreValue → Piece State ℕ) → State → World ℕ → Answer State ℕ → Type 0
 TakesBelow (Ok v) go s w a = a ≡ go v s w
 TakesBelow (Err why) go s w a = Signals why s w a
+
+-- A step that may call.
+abbrev pub IsCall : Step → Type 0
+IsCall (CallMethod at class selector count) = Unit {0}
+IsCall (CallValue at count t) = Unit {0}
+IsCall (CallComponent method count) = Unit {0}
+IsCall (NewObject at class count) = Unit {0}
+IsCall (Super class count) = Unit {0}
+IsCall _ = ⊥
+
+-- A step that calls nothing.
+abbrev pub IsAlone : Step → Type 0
+IsAlone (CallMethod at class selector count) = ⊥
+IsAlone (CallValue at count t) = ⊥
+IsAlone (CallComponent method count) = ⊥
+IsAlone (NewObject at class count) = ⊥
+IsAlone (Super class count) = ⊥
+IsAlone _ = Unit {0}

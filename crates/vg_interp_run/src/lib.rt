@@ -1,6 +1,7 @@
 //! A run over the typed program: what it has in hand and around it, and what each step does but those that call.
 #![tactic(auto)]
 
+pub mod alone;
 pub mod around;
 pub mod calling;
 pub mod devices;

@@ -23,6 +23,7 @@ pub fn apply(run: &mut Run, tables: &Tables, op: Prefix, type_: CoreType) -> Res
 }
 
 /// An operator on two values of types.
+#[inline(never)]
 pub fn operate(
     run: &mut Run,
     tables: &Tables,
@@ -60,6 +61,7 @@ struct Operand {
 }
 
 // An operator on these two values.
+#[inline(always)]
 #[tactic(auto, using(crate::proofs::Steps::looked_up))]
 fn operate_on(
     run: &mut Run,

@@ -54,6 +54,7 @@ impl Run {
     }
 
     /// Puts a value in front of those that wait.
+    #[inline(always)]
     pub fn push(&mut self, value: CoreValue) -> Result<(), Signal>
         ensures answers { Answers result (state self.new) (world self.new) (put value (state self.old) (world self.old)) }
         ensures kept { Kept self.old self.new }
@@ -63,6 +64,7 @@ impl Run {
     }
 
     /// Puts a value that was looked up in front of those that wait.
+    #[inline(always)]
     pub fn push_found(&mut self, found: Option<CoreValue>) -> Result<(), Signal>
         ensures answers { Answers result (state self.new) (world self.new) (put_found found (state self.old) (world self.old)) }
         ensures kept { Kept self.old self.new }
@@ -74,6 +76,7 @@ impl Run {
     }
 
     /// Puts what was computed in front of those that wait.
+    #[inline(always)]
     pub fn push_computed(&mut self, at: u32, made: Result<CoreValue, Failure>) -> Result<(), Signal>
         ensures answers { (c : Computed) → Makes made c
             → Answers result (state self.new) (world self.new) (computed at c (state self.old) (world self.old)) }
@@ -88,6 +91,7 @@ impl Run {
     }
 
     /// Takes the newest of the values that wait.
+    #[inline(always)]
     pub fn pop(&mut self) -> Result<CoreValue, Signal>
         ensures { Pops result self.old self.new }
     {
@@ -109,11 +113,21 @@ impl Run {
         }
     }
 
-    /// Whether a value is of a type.
+    /// Whether a value is of a type. An int, which comes most, is looked at here.
+    #[inline(always)]
     pub fn has_type(&self, tables: &Tables, type_: CoreType, value: CoreValue) -> bool
         ensures { result ≡ state_of.is_of tables.now self.now.store.cells type_ value }
     {
-        is_of(tables, self.store.cells(), type_, value)
+        match value {
+            CoreValue::Int(_) => matches!(type_, CoreType::IntType),
+            CoreValue::Bool(_)
+            | CoreValue::Char(_)
+            | CoreValue::Raw(_, _)
+            | CoreValue::Null
+            | CoreValue::Obj(_)
+            | CoreValue::Arr(_)
+            | CoreValue::Bound(_, _) => is_of(tables, self.store.cells(), type_, value),
+        }
     }
 
     /// Whether there is room for a cell of so many values.
@@ -159,6 +173,7 @@ impl Run {
 
 impl Run {
     /// Takes the truth value that waits in front.
+    #[inline(always)]
     pub fn test(&mut self) -> Result<bool, Signal>
         ensures tests { Tests result (state self.new) (truth (state self.old)) }
         ensures world { world self.new ≡ world self.old }

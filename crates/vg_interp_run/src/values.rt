@@ -8,6 +8,7 @@ use crate::signal::Signal;
 use vg_core::{CoreType, CoreValue, Tables};
 
 /// A value that is no reference to a cell.
+#[inline(never)]
 pub fn put(run: &mut Run, tables: &Tables, value: CoreValue) -> Result<(), Signal>
     ensures answers { Answers result (state run.new) (world run.new) (meaning.step tables.now uncalled (steps.Put value) (state run.old) (world run.old)) }
     ensures kept { Kept run.old run.new }
@@ -35,6 +36,7 @@ pub fn receiver(run: &mut Run, tables: &Tables) -> Result<(), Signal>
 }
 
 /// A parameter or local.
+#[inline(never)]
 pub fn local(run: &mut Run, tables: &Tables, number: u8) -> Result<(), Signal>
     ensures answers { Answers result (state run.new) (world run.new) (meaning.step tables.now uncalled (steps.Local number) (state run.old) (world run.old)) }
     ensures kept { Kept run.old run.new }
@@ -44,6 +46,7 @@ pub fn local(run: &mut Run, tables: &Tables, number: u8) -> Result<(), Signal>
 }
 
 /// A parameter or local is set.
+#[inline(never)]
 pub fn set_local(run: &mut Run, tables: &Tables, number: u8, type_: CoreType) -> Result<(), Signal>
     ensures answers { Answers result (state run.new) (world run.new) (meaning.step tables.now uncalled (steps.SetLocal number type_) (state run.old) (world run.old)) }
     ensures kept { Kept run.old run.new }

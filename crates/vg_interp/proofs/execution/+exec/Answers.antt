@@ -85,29 +85,29 @@ call-returns-clause-answers t c =
     (sym (call_is (program_at c.args.program.now) c.args.most c.args.call.target c.args.call.count c.args.call.receiver (state c.args.run.now) (world c.args.run.now) c.if-most-eq0.false))
     c.find.ensures.answers
 
-pub perform-returns-in-Ok-clause-answers : goal.perform-returns-in-Ok-clause-answers
-perform-returns-in-Ok-clause-answers t c =
+pub perform_call-returns-in-Ok-clause-answers : goal.perform_call-returns-in-Ok-clause-answers
+perform_call-returns-in-Ok-clause-answers t c =
     let caller = calling (program_at c.args.program.now) c.args.most in
     subst (λ x. Answers c.call.result (state c.call.new.run) (world c.call.new.run)
     (meaning.step c.args.program.now.tables caller x (state c.args.run.now) (world c.args.run.now))) (sym c.in-CallMethod.is)
     (subst (Answers c.call.result (state c.call.new.run) (world c.call.new.run)) (sym (c.in-Ok.ensures.calls caller)) c.call.ensures.answers)
 
-pub perform-returns-in-Err-clause-answers : goal.perform-returns-in-Err-clause-answers
-perform-returns-in-Err-clause-answers t c =
+pub perform_call-returns-in-Err-clause-answers : goal.perform_call-returns-in-Err-clause-answers
+perform_call-returns-in-Err-clause-answers t c =
     let caller = calling (program_at c.args.program.now) c.args.most in
     subst (λ x. Answers {A = Unit {0}} (Err c.in-Err.why) (state c.method_call.new.run) (world c.method_call.new.run)
     (meaning.step c.args.program.now.tables caller x (state c.args.run.now) (world c.args.run.now))) (sym c.in-CallMethod.is)
     (c.in-Err.ensures.calls caller)
 
-pub perform-returns-in-Ok-value_call-clause-answers : goal.perform-returns-in-Ok-value_call-clause-answers
-perform-returns-in-Ok-value_call-clause-answers t c =
+pub perform_call-returns-in-Ok-value_call-clause-answers : goal.perform_call-returns-in-Ok-value_call-clause-answers
+perform_call-returns-in-Ok-value_call-clause-answers t c =
     let caller = calling (program_at c.args.program.now) c.args.most in
     subst (λ x. Answers c.call-in-Ok-value_call.result (state c.call-in-Ok-value_call.new.run) (world c.call-in-Ok-value_call.new.run)
     (meaning.step c.args.program.now.tables caller x (state c.args.run.now) (world c.args.run.now))) (sym c.in-CallValue.is)
     (subst (Answers c.call-in-Ok-value_call.result (state c.call-in-Ok-value_call.new.run) (world c.call-in-Ok-value_call.new.run)) (sym (c.in-Ok-value_call.ensures.calls caller)) c.call-in-Ok-value_call.ensures.answers)
 
-pub perform-returns-in-Err-value_call-clause-answers : goal.perform-returns-in-Err-value_call-clause-answers
-perform-returns-in-Err-value_call-clause-answers t c =
+pub perform_call-returns-in-Err-value_call-clause-answers : goal.perform_call-returns-in-Err-value_call-clause-answers
+perform_call-returns-in-Err-value_call-clause-answers t c =
     let caller = calling (program_at c.args.program.now) c.args.most in
     subst (λ x. Answers {A = Unit {0}} (Err c.in-Err-value_call.why) (state c.value_call.new.run) (world c.value_call.new.run)
     (meaning.step c.args.program.now.tables caller x (state c.args.run.now) (world c.args.run.now))) (sym c.in-CallValue.is)

@@ -9,7 +9,7 @@ use Rattle.vg_interp.specs.Weights.{arms_list, weight, weights, whole}
 use Rattle.vg_interp.proofs.execution.+exec.Given as goal
 
 abbrev pub decreases-exec : goal.decreases-exec
-decreases-exec l = l.most * whole l.program.now + 8 * weight l.code.now + 1
+decreases-exec l = l.most * whole l.program.now + 8 * weight l.code.now + 2
 
 abbrev pub decreases-row : goal.decreases-row
 decreases-row l = l.most * whole l.program.now + 8 * weights l.codes.now
@@ -18,25 +18,28 @@ abbrev pub decreases-chain : goal.decreases-chain
 decreases-chain l = l.most * whole l.program.now + 8 * weights l.codes.now
 
 abbrev pub decreases-part : goal.decreases-part
-decreases-part l = l.most * whole l.program.now + 8 * weight l.code.now + 2
+decreases-part l = l.most * whole l.program.now + 8 * weight l.code.now + 3
 
 abbrev pub decreases-arms : goal.decreases-arms
 decreases-arms l = l.most * whole l.program.now + 8 * (weights l.all.now + weight l.last.now) + 2
 
 abbrev pub decreases-arm : goal.decreases-arm
-decreases-arm l = l.most * whole l.program.now + 8 * (weight l.condition.now + weight l.block.now) + 2
+decreases-arm l = l.most * whole l.program.now + 8 * (weight l.condition.now + weight l.block.now) + 3
 
 abbrev pub decreases-repeat : goal.decreases-repeat
-decreases-repeat l = l.most * whole l.program.now + 8 * (weight l.condition.now + weight l.body.now + weight l.next.now) + 3
+decreases-repeat l = l.most * whole l.program.now + 8 * (weight l.condition.now + weight l.body.now + weight l.next.now) + 4
 
 abbrev pub decreases-holds : goal.decreases-holds
-decreases-holds l = l.most * whole l.program.now + 8 * weight l.condition.now + 2
+decreases-holds l = l.most * whole l.program.now + 8 * weight l.condition.now + 3
 
 abbrev pub decreases-turn : goal.decreases-turn
-decreases-turn l = l.most * whole l.program.now + 8 * (weight l.body.now + weight l.next.now) + 2
+decreases-turn l = l.most * whole l.program.now + 8 * (weight l.body.now + weight l.next.now) + 3
 
 abbrev pub decreases-perform : goal.decreases-perform
-decreases-perform l = l.most * whole l.program.now + 8
+decreases-perform l = l.most * whole l.program.now + 9
+
+abbrev pub decreases-perform_call : goal.decreases-perform_call
+decreases-perform_call l = l.most * whole l.program.now + 8
 
 abbrev pub decreases-construct : goal.decreases-construct
 decreases-construct l = l.most * whole l.program.now + 7
