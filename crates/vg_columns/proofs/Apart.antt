@@ -21,7 +21,10 @@ use Rattle.vg_packing.specs.Layout as layout
 use Rattle.vg_packing.specs.Allowed.{IsObject, IsArray}
 use Rattle.vg_packing.specs.Packs.{IsKeptPlace}
 use Rattle.vg_packing.proofs.Places.{hierarchy_of, same_hierarchy}
-use Rattle.vg_columns.specs.Columns.{Held, TheField, TheItems, Column, elements, start_of}
+use Rattle.vg_placement.specs.declared.column.Held.{Held}
+use Rattle.vg_placement.specs.declared.column.Held.TheVariants.{Initial, Field as TheField, Elements as TheItems, Table as TheTable}
+use Rattle.vg_placement.specs.declared.column.Column.{Column}
+use Rattle.vg_placement.specs.Columns.{elements, start_of}
 use Rattle.vg_columns.specs.Apart.{held_in, HasColumns, HasNumbers}
 
 -- arrays of one type stand one behind another
@@ -47,10 +50,14 @@ behind kept t size at (a ∷ κ) (suc j) (suc k) lt within e ks =
 abbrev sort_of : Held → ℕ
 sort_of (TheField f) = 1
 sort_of (TheItems t) = 2
+sort_of Initial = 3
+sort_of (TheTable t) = 4
 
 abbrev number_in : Held → ℕ
 number_in (TheField f) = f
 number_in (TheItems t) = t
+number_in Initial = 0
+number_in (TheTable t) = t
 
 -- ---- what has a value is there
 

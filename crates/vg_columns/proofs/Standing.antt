@@ -3,7 +3,8 @@ use Rattle.std.proofs.Common.{◌≡◌, refl, sym, ap, subst, ◌∙◌, arith,
 use Rattle.std.proofs.lemmas.Option.{same_Some, none-some}
 use Rattle.vg_firm.specs.declared.step.Home.{Home}
 use Rattle.vg_firm.specs.declared.step.Home.TheVariants.{Ram, Flash}
-use Rattle.vg_columns.specs.Columns.{Column, bytes_of, address_for, ram_behind, flash_behind, placed, bytes_where, home_bytes}
+use Rattle.vg_placement.specs.declared.column.Column.{Column}
+use Rattle.vg_placement.specs.Columns.{bytes_of, address_for, ram_behind, flash_behind, placed, bytes_where, home_bytes}
 
 -- behind a column the next of its home has moved by its bytes, and one of the other home has not
 moved : (h c : Home) (ram flash bytes : ℕ)

@@ -8,7 +8,10 @@ use Rattle.vg_firm.specs.declared.step.Home.TheVariants.{Ram, Flash}
 use Rattle.vg_packing.specs.Layout.{Layout}
 use Rattle.vg_packing.specs.Layout as layout
 use Rattle.vg_packing.specs.Allowed.{IsObject, IsArray}
-use Rattle.vg_columns.specs.Columns.{Held, TheField, TheItems, Column, start_of}
+use Rattle.vg_placement.specs.declared.column.Held.{Held}
+use Rattle.vg_placement.specs.declared.column.Held.TheVariants.{Field as TheField, Elements as TheItems}
+use Rattle.vg_placement.specs.declared.column.Column.{Column}
+use Rattle.vg_placement.specs.Columns.{start_of}
 
 -- What the columns of a home hold, in their order.
 abbrev pub held_where : Home → Home → Held → List Held → List Held

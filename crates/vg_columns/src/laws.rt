@@ -10,7 +10,8 @@ ghost use Rattle.vg_packing.specs.Layout.{Layout, Spot, spot};
 ghost use Rattle.vg_numbers.specs.Numbers.{AreChains};
 ghost use Rattle.vg_packing.specs.Allowed.{IsArray};
 ghost use Rattle.vg_packing.specs.Packs.{IsKeptPlace};
-ghost use Rattle.vg_columns.specs.Columns.{Column, bytes_of, address_for, placed, home_bytes};
+ghost use Rattle.vg_placement.specs.declared.column.Column.{Column};
+ghost use Rattle.vg_placement.specs.Columns.{bytes_of, address_for, placed, home_bytes};
 ghost use Rattle.vg_columns.specs.Apart.{HasColumns, HasNumbers};
 ghost use Rattle.vg_columns.specs.Counted.{IsCounted};
 

@@ -1,6 +1,6 @@
 -- The columns of a program. A column holds one field, for all kept objects that have it, or the elements of all kept arrays of one type, one
--- array behind another.
-use Rattle.std.specs.Prelude.{ℕ, zero, suc, ◌+◌, ◌*◌, ◌==◌, Bool, true, false, not, ◌&&◌, List, [], ◌∷◌, ◌++◌, length, nat_lt}
+-- array behind another. Tables in flash say with which bytes the columns in RAM begin, and where each array stands.
+use Rattle.std.specs.Prelude.{ℕ, zero, suc, ◌+◌, ◌*◌, ◌==◌, Bool, true, false, not, ◌&&◌, List, [], ◌∷◌, ◌++◌, length, map, nat_lt}
 use Rattle.std.specs.Prelude.{Option, Some, None, slice_get, if◌then◌else◌}
 use Rattle.vg_core.specs.declared.types.CoreType.{CoreType}
 use Rattle.vg_core.specs.declared.program.Field.{Field}
@@ -12,19 +12,9 @@ use Rattle.vg_core.specs.Tables.{is_in}
 use Rattle.vg_firm.specs.declared.step.Home.{Home}
 use Rattle.vg_firm.specs.declared.step.Home.TheVariants.{Ram, Flash}
 use Rattle.vg_coded.specs.Widths.{width_of}
-
--- What a column holds: a field, by its number, or the elements of the arrays of the type of this number.
-pub data Held : Type 0 where
-  TheField : (f : ℕ) → Held
-  TheItems : (t : ℕ) → Held
-
--- A column: what it holds, where it stands, the bytes of each of its values, and how many there are.
-pub record Column : Type 0 where
-  pub what : Held
-  pub home : Home
-  pub at : ℕ  -- its address among those of its home
-  pub width : ℕ
-  pub count : ℕ
+use Rattle.vg_numbers.specs.Numbers.{arrays_before}
+use Rattle.vg_placement.specs.declared.column.Held.TheVariants.{Initial, Field as TheField, Elements as TheItems, Table as TheTable}
+use Rattle.vg_placement.specs.declared.column.Column.{Column}
 
 abbrev pub bytes_of : Column → ℕ
 bytes_of c = c.width * c.count
@@ -112,6 +102,19 @@ item_columns p n κ (t ∷ ts) =
 abbrev pub columns : Tables → Needs → List Kind → List Column
 columns p n κ = field_columns n 0 p.fields ++ item_columns p n κ (array_types n.kept [] 0 κ)
 
+-- ---- tables
+
+-- The bytes with which the columns in RAM begin. It is there also where they have none.
+abbrev pub initial_copy : (bytes : ℕ) → Column
+initial_copy bytes = record { what = Initial; home = Flash; at = 0; width = 1; count = bytes }
+
+-- Each kept array has four bytes in the table of its type: its place and its length. The table is there also where the elements were dropped.
+abbrev pub table_of : (kept : ℕ → Bool) → List Kind → (t : ℕ) → Column
+table_of kept κ t = record { what = TheTable t; home = Flash; at = 0; width = 4; count = arrays_before t kept 0 κ (length κ) }
+
+abbrev pub table_columns : Needs → List Kind → List Column
+table_columns n κ = map (table_of n.kept κ) (array_types n.kept [] 0 κ)
+
 -- ---- addresses
 
 -- The address for a column of this home, of one in RAM and one in flash.
@@ -147,16 +150,21 @@ abbrev pub home_bytes : Home → List Column → ℕ
 home_bytes h [] = 0
 home_bytes h (c ∷ cs) = bytes_where h c.home (bytes_of c) + home_bytes h cs
 
--- The kept arrays: each has four bytes in the table of its type, its place and its length.
-abbrev pub array_count : (kept : ℕ → Bool) → (at : ℕ) → List Kind → ℕ
-array_count kept at [] = 0
-array_count kept at (ObjectOf c ∷ κ) = array_count kept (suc at) κ
-array_count kept at (ArrayOf t size ∷ κ) = (if kept at then 1 else 0) + array_count kept (suc at) κ
+-- All columns: the initial copy, then those that hold values, and the tables behind them.
+abbrev pub with_tables : (columns tables : List Column) → List Column
+with_tables cs ts = initial_copy (home_bytes Ram cs) ∷ cs ++ ts
 
--- The static bytes: the columns in RAM.
+abbrev pub all_columns : Tables → Needs → List Kind → List Column
+all_columns p n κ = with_tables (columns p n κ) (table_columns n κ)
+
+-- The static bytes: the sum of the columns in RAM.
 abbrev pub static_bytes : Tables → Needs → List Kind → ℕ
-static_bytes p n κ = home_bytes Ram (columns p n κ)
+static_bytes p n κ = home_bytes Ram (all_columns p n κ)
 
--- The table bytes: the initial copy of the columns in RAM, the columns in flash, and the tables of the array types.
+-- The table bytes: the sum of all columns in flash.
 abbrev pub table_bytes : Tables → Needs → List Kind → ℕ
-table_bytes p n κ = static_bytes p n κ + home_bytes Flash (columns p n κ) + 4 * array_count n.kept 0 κ
+table_bytes p n κ = home_bytes Flash (all_columns p n κ)
+
+-- RAM begins at the data address 0x0100, and the tables at the byte 0x008C, behind the vectors.
+abbrev pub placed_columns : Tables → Needs → List Kind → List Column
+placed_columns p n κ = placed 0x0100 0x008C (all_columns p n κ)
