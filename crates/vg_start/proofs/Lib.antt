@@ -1,0 +1,4 @@
+pub mod There
+pub mod Bodies
+pub mod Starting
+pub mod Whole

@@ -1,0 +1,4 @@
+pub mod Plain
+pub mod Uses
+pub mod IsOf
+pub mod IsPlaced
