@@ -11,7 +11,8 @@ use Rattle.vg_packing.specs.Pass.{packed}
 use Rattle.vg_packing.specs.Allowed.{IsArray}
 use Rattle.vg_packing.specs.Laid.{SameEntry, IsTabled}
 use Rattle.vg_numbers.specs.Numbers.{AreChains}
-use Rattle.vg_columns.specs.Columns.{Column, column_width}
+use Rattle.vg_placement.specs.declared.column.Column.{Column}
+use Rattle.vg_placement.specs.Columns.{column_width}
 use Rattle.vg_columns.specs.Apart.{HasColumns}
 use Rattle.vg_columns.specs.Counted.{IsCounted}
 

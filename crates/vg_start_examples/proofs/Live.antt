@@ -22,7 +22,9 @@ use Rattle.vg_packing.specs.Packs.{IsKeptPlace, entry_at}
 use Rattle.vg_live.specs.Uses.{steps_of, Asked, asked, made_at}
 use Rattle.vg_live.specs.Rules.{Live, none, by, main, component_field, class_field, in_component}
 use Rattle.vg_numbers.specs.Numbers.{IsChain, AreChains}
-use Rattle.vg_columns.specs.Columns.{TheField as OfField, Column, item_width, columns}
+use Rattle.vg_placement.specs.declared.column.Held.TheVariants.{Field as OfField}
+use Rattle.vg_placement.specs.declared.column.Column.{Column}
+use Rattle.vg_placement.specs.Columns.{item_width, columns}
 use Rattle.vg_columns.specs.Apart.{held_in, HasColumns}
 use Rattle.vg_start.specs.Uses.{Has, HasDelegates, Calls, held}
 use Rattle.vg_start.specs.Uses as used

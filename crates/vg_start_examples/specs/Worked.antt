@@ -17,7 +17,7 @@ use Rattle.vg_firm.specs.Program.{Program as FirmProgram}
 use Rattle.vg_packing.specs.Layout.{Column, Layout}
 use Rattle.vg_packing.specs.Pass.{packed}
 use Rattle.vg_numbers.specs.Numbers.{number, first, count}
-use Rattle.vg_columns.specs.Columns.{column_width, item_width}
+use Rattle.vg_placement.specs.Columns.{column_width, item_width}
 
 abbrev pub main_body : Body
 main_body = record { others = []; code = Then (Do (ComponentField 1)) (Then (Do (FieldOf 8 0)) (Do Forget)) }
