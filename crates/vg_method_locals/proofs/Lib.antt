@@ -2,3 +2,7 @@ mod Counting
 mod Kept
 mod Grown
 mod Methods
+mod Free
+mod Parts
+mod Renumbered
+mod Texts

@@ -3,4 +3,4 @@
 
 mod laws;
 
-pub use laws::locals_are_counted;
+pub use laws::{locals_among_statements, locals_are_counted};
