@@ -1,0 +1,9 @@
+pub mod Lists
+pub mod Totals
+pub mod Paths
+pub mod Stacks
+pub mod Steps
+pub mod Cycles
+pub mod Roots
+pub mod Edges
+pub mod Begun

@@ -1,0 +1,4 @@
+pub mod Graph
+pub mod Searched
+pub mod Searching
+pub mod Kept
