@@ -18,7 +18,11 @@ use Rattle.vg_core.specs.State.{State, are_of, onto}
 use Rattle.vg_core.specs.Meaning.{activity, checked}
 use Rattle.vg_interp_run.specs.declared.signal.Signal.{Signal}
 use Rattle.vg_interp_run.specs.declared.signal.Signal.TheVariants.{Break, Continue, Return, Stops, Wants, Touches, Done, OutOfClock as Spent, OutOfDepth, OutOfRoom, Wrong, NoMemory}
-use Rattle.vg_interp_run.specs.Run.{Signals}
+use Rattle.vg_interp_run.specs.declared.run.Run.{Run}
+use Rattle.vg_interp_run.specs.declared.signal.Exit.{Exit}
+use Rattle.vg_interp_run.specs.declared.signal.Exit.TheVariants as exit
+use Rattle.vg_interp_run.specs.Exits.{Exits, told}
+use Rattle.vg_interp_run.specs.Run.{state, world, Signals}
 use Rattle.vg_interp.specs.Running.{calling, does, looks_up, opens, runs, Chooses}
 
 -- What is done for a turn behind the condition.
@@ -61,13 +65,13 @@ chain_on p n c [] s w = sym (given (does p n (code_of c) s w))
 chain_on p n c (d ∷ cs) s w = refl
 
 -- the meaning goes on where the answer is yes, and ends well where it is no
-pub chosen : (b : Bool) (go : Piece State ℕ) (s : State) (w : World ℕ) (a : Answer State ℕ) → b ≡ true → Chooses (Ok b) go s w a → a ≡ go s w
-chosen true go s w a e h = h
-chosen false go s w a e h = cc
+pub chosen : (b : Bool) (go : Piece State ℕ) (r : Run) (a : Answer State ℕ) → b ≡ true → Chooses (Ok b) go r a → a ≡ go (state r) (world r)
+chosen true go r a e h = h
+chosen false go r a e h = cc
 
-pub not_chosen : (b : Bool) (go : Piece State ℕ) (s : State) (w : World ℕ) (a : Answer State ℕ) → b ≡ false → Chooses (Ok b) go s w a → a ≡ Gives s w
-not_chosen true go s w a e h = cc
-not_chosen false go s w a e h = h
+pub not_chosen : (b : Bool) (go : Piece State ℕ) (r : Run) (a : Answer State ℕ) → b ≡ false → Chooses (Ok b) go r a → a ≡ Gives (state r) (world r)
+not_chosen true go r a e h = cc
+not_chosen false go r a e h = h
 
 -- what has ended has ended before what would come behind it
 pub signals_on : (why : Signal) (s : State) (w : World ℕ) (a : Answer State ℕ) (go : Piece State ℕ) → Signals why s w a → Signals why s w (and_then a go)
@@ -84,6 +88,36 @@ signals_on OutOfRoom s w a go h = ap (λ x. and_then x go) h
 signals_on Wrong s w (Gives t v) go h = absurd h
 signals_on Wrong s w (Ends why t v) go h = h
 signals_on NoMemory s w a go h = h
+
+pub exits_on : (why : Exit) (r : Run) (a : Answer State ℕ) (go : Piece State ℕ) → Exits why r a → Exits why r (and_then a go)
+exits_on exit.Break r a go h = ap (λ x. and_then x go) h
+exits_on exit.Continue r a go h = ap (λ x. and_then x go) h
+exits_on exit.Return r a go h = ap (λ x. and_then x go) h
+exits_on exit.Stops r a go h = ap (λ x. and_then x go) h
+exits_on exit.Wants r a go h = ap (λ x. and_then x go) h
+exits_on exit.Touches r a go h = ap (λ x. and_then x go) h
+exits_on exit.Done r a go h = ap (λ x. and_then x go) h
+exits_on exit.OutOfClock r a go h = ap (λ x. and_then x go) h
+exits_on exit.OutOfDepth r a go h = ap (λ x. and_then x go) h
+exits_on exit.OutOfRoom r a go h = ap (λ x. and_then x go) h
+exits_on exit.Wrong r (Gives t v) go h = absurd h
+exits_on exit.Wrong r (Ends why t v) go h = h
+exits_on exit.NoMemory r a go h = h
+
+-- the signal of an exit
+pub exits_told : (why : Exit) (r : Run) (a : Answer State ℕ) → Exits why r a → Signals (told why r.cause) (state r) (world r) a
+exits_told exit.Break r a h = h
+exits_told exit.Continue r a h = h
+exits_told exit.Return r a h = h
+exits_told exit.Stops r a h = h
+exits_told exit.Wants r a h = h
+exits_told exit.Touches r a h = h
+exits_told exit.Done r a h = h
+exits_told exit.OutOfClock r a h = h
+exits_told exit.OutOfDepth r a h = h
+exits_told exit.OutOfRoom r a h = h
+exits_told exit.Wrong r a h = h
+exits_told exit.NoMemory r a h = h
 
 both_true : (a b : Bool) → (a && b) ≡ true → (a ≡ true) × (b ≡ true)
 both_true true b e = (refl, e)

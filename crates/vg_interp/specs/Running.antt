@@ -14,9 +14,10 @@ use Rattle.vg_core.specs.State.{State, are_of, entered, onto}
 use Rattle.vg_core.specs.Meaning.{Caller, activity, back_in, called, checked, put, step, truth, with_found}
 use Rattle.vg_core.specs.Heap.{default}
 use Rattle.vg_interp_run.specs.declared.run.Run.{Run}
-use Rattle.vg_interp_run.specs.declared.signal.Signal.{Signal}
-use Rattle.vg_interp_run.specs.declared.signal.Signal.TheVariants.{Break, Continue, Return}
-use Rattle.vg_interp_run.specs.Run.{Kept, Signals}
+use Rattle.vg_interp_run.specs.declared.signal.Exit.{Exit}
+use Rattle.vg_interp_run.specs.declared.signal.Exit.TheVariants.{Break, Continue, Return}
+use Rattle.vg_interp_run.specs.Exits.{Exits}
+use Rattle.vg_interp_run.specs.Run.{state, world, Kept}
 
 -- Calls of a program, at most so deep.
 abbrev pub calling : Program → (most : ℕ) → Caller ℕ
@@ -43,15 +44,15 @@ looks_up p most t count self s w =
     with_found (signature_of p.tables t) (λ g. with_found (body_of p t) (λ b. opens p most t g.params g.result b count self)) s w
 
 -- Where the run is not over, what lies below the body is kept.
-abbrev pub GoesOn : {A : Type 0} → Result A Signal → (before now : Run) → Type 0
+abbrev pub GoesOn : {A : Type 0} → Result A Exit → (before now : Run) → Type 0
 GoesOn (Ok u) before now = Kept before now
 GoesOn (Err Break) before now = Kept before now
 GoesOn (Err Continue) before now = Kept before now
 GoesOn (Err Return) before now = Kept before now
 GoesOn (Err _) before now = Unit {0}
 
--- The meaning goes on as this piece, or ends well here, or a signal comes.
-abbrev pub Chooses : Result Bool Signal → Piece State ℕ → State → World ℕ → Answer State ℕ → Type 0
-Chooses (Ok true) go s w a = a ≡ go s w
-Chooses (Ok false) go s w a = a ≡ Gives s w
-Chooses (Err why) go s w a = Signals why s w a
+-- The meaning goes on as this piece, or ends well here, or code does not go on.
+abbrev pub Chooses : Result Bool Exit → Piece State ℕ → Run → Answer State ℕ → Type 0
+Chooses (Ok true) go r a = a ≡ go (state r) (world r)
+Chooses (Ok false) go r a = a ≡ Gives (state r) (world r)
+Chooses (Err why) go r a = Exits why r a

@@ -12,6 +12,8 @@ ghost use Rattle.vg_core.specs.HeldProgram.{body_at, code_of, code_chain, code_r
 ghost use Rattle.vg_core.specs.Meaning as meaning;
 ghost use Rattle.vg_core.specs.Meaning.{put, truth};
 ghost use Rattle.vg_core.specs.State.{State};
+ghost use Rattle.vg_interp_run.specs.Calling.{StaysUnder};
+ghost use Rattle.vg_interp_run.specs.Exits.{Comes};
 ghost use Rattle.vg_interp_run.specs.Run.{state, world, Answers, IsCall};
 ghost use Rattle.vg_interp.specs.Running.{calling, does, looks_up, opens, runs, Chooses, GoesOn};
 ghost use Rattle.vg_interp.specs.Weights.{arms_list, weight, whole};
@@ -21,13 +23,13 @@ use vg_core::{Body, Code, CoreType, CoreValue, Program, Step, Target};
 use vg_interp_run::calling::{
     Call, enter, has_arguments, leave, method_call, new_object, value_call,
 };
-use vg_interp_run::{Run, Signal, alone, operators, values};
+use vg_interp_run::{Exit, Run, Signal, alone, frequent};
 use vg_interp_values::default_of;
 
 /// Runs code of a program; its calls are at most so deep.
 #[cycle(exec)]
-pub fn exec(run: &mut Run, program: &Program, most: u32, code: &Code) -> Result<(), Signal>
-    ensures answers { Answers result (state run.new) (world run.new)
+pub fn exec(run: &mut Run, program: &Program, most: u32, code: &Code) -> Result<(), Exit>
+    ensures answers { Comes result run.new
         (does (program_at program.now) most (code_of code.now) (state run.old) (world run.old)) }
     ensures kept { GoesOn result run.old run.new }
 {
@@ -36,7 +38,7 @@ pub fn exec(run: &mut Run, program: &Program, most: u32, code: &Code) -> Result<
         Code::Chain(codes) => chain(run, program, most, codes.as_slice()),
         Code::Do(step) => perform(run, program, most, step),
         Code::If(first, rest) => {
-            if run.test()? {
+            if frequent::test(run)? {
                 exec(run, program, most, first)
             } else {
                 exec(run, program, most, rest)
@@ -45,16 +47,16 @@ pub fn exec(run: &mut Run, program: &Program, most: u32, code: &Code) -> Result<
         Code::Arms(all, last) => arms(run, program, most, all.as_slice(), last),
         Code::Arm(condition, block) => arm(run, program, most, condition, block),
         Code::Loop(condition, body, next) => repeat(run, program, most, condition, body, next),
-        Code::Break => Err(Signal::Break),
-        Code::Continue => Err(Signal::Continue),
-        Code::Return => Err(Signal::Return),
+        Code::Break => Err(Exit::Break),
+        Code::Continue => Err(Exit::Continue),
+        Code::Return => Err(Exit::Return),
     }
 }
 
 // Runs one code behind another.
 #[cycle(exec)]
-fn row(run: &mut Run, program: &Program, most: u32, codes: &[Code]) -> Result<(), Signal>
-    ensures answers { Answers result (state run.new) (world run.new)
+fn row(run: &mut Run, program: &Program, most: u32, codes: &[Code]) -> Result<(), Exit>
+    ensures answers { Comes result run.new
         (does (program_at program.now) most (code_row codes.now) (state run.old) (world run.old)) }
     ensures kept { GoesOn result run.old run.new }
 {
@@ -66,8 +68,8 @@ fn row(run: &mut Run, program: &Program, most: u32, codes: &[Code]) -> Result<()
 
 // Runs one code behind another, of which the last ends it.
 #[cycle(exec)]
-fn chain(run: &mut Run, program: &Program, most: u32, codes: &[Code]) -> Result<(), Signal>
-    ensures answers { Answers result (state run.new) (world run.new)
+fn chain(run: &mut Run, program: &Program, most: u32, codes: &[Code]) -> Result<(), Exit>
+    ensures answers { Comes result run.new
         (does (program_at program.now) most (code_chain codes.now) (state run.old) (world run.old)) }
     ensures kept { GoesOn result run.old run.new }
 {
@@ -80,8 +82,8 @@ fn chain(run: &mut Run, program: &Program, most: u32, codes: &[Code]) -> Result<
 // Runs a part of a row or a chain. Most are steps, which are performed at once.
 #[cycle(exec)]
 #[inline(always)]
-fn part(run: &mut Run, program: &Program, most: u32, code: &Code) -> Result<(), Signal>
-    ensures answers { Answers result (state run.new) (world run.new)
+fn part(run: &mut Run, program: &Program, most: u32, code: &Code) -> Result<(), Exit>
+    ensures answers { Comes result run.new
         (does (program_at program.now) most (code_of code.now) (state run.old) (world run.old)) }
     ensures kept { GoesOn result run.old run.new }
 {
@@ -101,14 +103,8 @@ fn part(run: &mut Run, program: &Program, most: u32, code: &Code) -> Result<(), 
 
 // Runs the block of the first arm whose condition holds, or what is done where none does.
 #[cycle(exec)]
-fn arms(
-    run: &mut Run,
-    program: &Program,
-    most: u32,
-    all: &[Code],
-    last: &Code,
-) -> Result<(), Signal>
-    ensures answers { Answers result (state run.new) (world run.new)
+fn arms(run: &mut Run, program: &Program, most: u32, all: &[Code], last: &Code) -> Result<(), Exit>
+    ensures answers { Comes result run.new
         (does (program_at program.now) most (arms_list all.now (code_of last.now)) (state run.old) (world run.old)) }
     ensures kept { GoesOn result run.old run.new }
 {
@@ -116,7 +112,7 @@ fn arms(
         match code {
             Code::Arm(condition, block) => {
                 exec(run, program, most, condition)?;
-                if run.test()? {
+                if frequent::test(run)? {
                     return exec(run, program, most, block);
                 }
             }
@@ -142,13 +138,13 @@ fn arm(
     most: u32,
     condition: &Code,
     block: &Code,
-) -> Result<(), Signal>
-    ensures answers { Answers result (state run.new) (world run.new)
+) -> Result<(), Exit>
+    ensures answers { Comes result run.new
         (does (program_at program.now) most (Then (code_of condition.now) (If (code_of block.now) Nothing)) (state run.old) (world run.old)) }
     ensures kept { GoesOn result run.old run.new }
 {
     exec(run, program, most, condition)?;
-    if run.test()? {
+    if frequent::test(run)? {
         exec(run, program, most, block)
     } else {
         Ok(())
@@ -164,8 +160,8 @@ fn repeat(
     condition: &Code,
     body: &Code,
     next: &Code,
-) -> Result<(), Signal>
-    ensures answers { Answers result (state run.new) (world run.new)
+) -> Result<(), Exit>
+    ensures answers { Comes result run.new
         (does (program_at program.now) most (Loop (code_of condition.now) (code_of body.now) (code_of next.now)) (state run.old) (world run.old)) }
     ensures kept { GoesOn result run.old run.new }
 {
@@ -190,83 +186,57 @@ fn repeat(
         Ok(goes) => goes,
         Err(why) => return Err(why),
     };
-    if goes {
-        Err(Signal::OutOfClock)
-    } else {
-        Ok(())
-    }
+    if goes { Err(Exit::OutOfClock) } else { Ok(()) }
 }
 
 // Whether the condition of a loop holds.
 #[cycle(exec)]
-fn holds(run: &mut Run, program: &Program, most: u32, condition: &Code) -> Result<bool, Signal>
-    ensures answers { (go : Piece State ℕ) → Chooses result go (state run.new) (world run.new)
+fn holds(run: &mut Run, program: &Program, most: u32, condition: &Code) -> Result<bool, Exit>
+    ensures answers { (go : Piece State ℕ) → Chooses result go run.new
         (where_holds (does (program_at program.now) most (code_of condition.now)) truth go (state run.old) (world run.old)) }
     ensures kept { GoesOn result run.old run.new }
 {
     exec(run, program, most, condition)?;
-    run.test()
+    frequent::test(run)
 }
 
 // One turn of a loop behind its condition: whether the loop goes on.
 #[cycle(exec)]
-fn turn(
-    run: &mut Run,
-    program: &Program,
-    most: u32,
-    body: &Code,
-    next: &Code,
-) -> Result<bool, Signal>
-    ensures answers { (rest : Piece State ℕ) → Chooses result rest (state run.new) (world run.new)
+fn turn(run: &mut Run, program: &Program, most: u32, body: &Code, next: &Code) -> Result<bool, Exit>
+    ensures answers { (rest : Piece State ℕ) → Chooses result rest run.new
         (ticked depth_alone (λ s w. turned (does (program_at program.now) most (code_of body.now) s w)
         (λ t v. and_then (does (program_at program.now) most (code_of next.now) t v) rest)) (state run.old) (world run.old)) }
     ensures kept { GoesOn result run.old run.new }
 {
     run.around.tick()?;
     match exec(run, program, most, body) {
-        Ok(()) | Err(Signal::Continue) => {
+        Ok(()) | Err(Exit::Continue) => {
             exec(run, program, most, next)?;
             Ok(true)
         }
-        Err(Signal::Break) => Ok(false),
-        Err(Signal::Return) => Err(Signal::Return),
-        Err(Signal::Stops(code, at)) => Err(Signal::Stops(code, at)),
-        Err(Signal::Wants(address)) => Err(Signal::Wants(address)),
-        Err(Signal::Touches(address)) => Err(Signal::Touches(address)),
-        Err(Signal::Done) => Err(Signal::Done),
-        Err(Signal::OutOfClock) => Err(Signal::OutOfClock),
-        Err(Signal::OutOfDepth) => Err(Signal::OutOfDepth),
-        Err(Signal::OutOfRoom) => Err(Signal::OutOfRoom),
-        Err(Signal::Wrong) => Err(Signal::Wrong),
-        Err(Signal::NoMemory) => Err(Signal::NoMemory),
+        Err(Exit::Break) => Ok(false),
+        Err(Exit::Return) => Err(Exit::Return),
+        Err(Exit::Stops) => Err(Exit::Stops),
+        Err(Exit::Wants) => Err(Exit::Wants),
+        Err(Exit::Touches) => Err(Exit::Touches),
+        Err(Exit::Done) => Err(Exit::Done),
+        Err(Exit::OutOfClock) => Err(Exit::OutOfClock),
+        Err(Exit::OutOfDepth) => Err(Exit::OutOfDepth),
+        Err(Exit::OutOfRoom) => Err(Exit::OutOfRoom),
+        Err(Exit::Wrong) => Err(Exit::Wrong),
+        Err(Exit::NoMemory) => Err(Exit::NoMemory),
     }
 }
 
-// Performs one step. The frequent ones come first, and copy no signal where they went well.
+// Performs one step.
 #[cycle(exec)]
 #[inline(always)]
-fn perform(run: &mut Run, program: &Program, most: u32, step: &Step) -> Result<(), Signal>
-    ensures answers { Answers result (state run.new) (world run.new)
+fn perform(run: &mut Run, program: &Program, most: u32, step: &Step) -> Result<(), Exit>
+    ensures answers { Comes result run.new
         (meaning.step program.now.tables (calling (program_at program.now) most) step.now (state run.old) (world run.old)) }
     ensures kept { GoesOn result run.old run.new }
 {
     match step {
-        Step::Local(number) => {
-            values::local(run, &program.tables, *number)?;
-            Ok(())
-        }
-        Step::Put(value) => {
-            values::put(run, &program.tables, *value)?;
-            Ok(())
-        }
-        Step::Operate(at, op, left, right) => {
-            operators::operate(run, &program.tables, *at, *op, *left, *right)?;
-            Ok(())
-        }
-        Step::SetLocal(number, type_) => {
-            values::set_local(run, &program.tables, *number, *type_)?;
-            Ok(())
-        }
         Step::CallMethod(_, _, _, _)
         | Step::CallValue(_, _, _)
         | Step::CallComponent(_, _)
@@ -279,9 +249,9 @@ fn perform(run: &mut Run, program: &Program, most: u32, step: &Step) -> Result<(
 // Performs a step that calls.
 #[cycle(exec)]
 #[inline(never)]
-fn perform_call(run: &mut Run, program: &Program, most: u32, step: &Step) -> Result<(), Signal>
+fn perform_call(run: &mut Run, program: &Program, most: u32, step: &Step) -> Result<(), Exit>
     requires { IsCall step.now }
-    ensures answers { Answers result (state run.new) (world run.new)
+    ensures answers { Comes result run.new
         (meaning.step program.now.tables (calling (program_at program.now) most) step.now (state run.old) (world run.old)) }
     ensures kept { GoesOn result run.old run.new }
 {
@@ -289,12 +259,12 @@ fn perform_call(run: &mut Run, program: &Program, most: u32, step: &Step) -> Res
     match step {
         Step::CallMethod(at, class, selector, count) => {
             match method_call(run, tables, *at, *class, *selector, *count) {
-                Ok(found) => call(run, program, most, found),
+                Ok(found) => call_target(run, program, most, found),
                 Err(why) => Err(why),
             }
         }
         Step::CallValue(at, count, type_) => match value_call(run, tables, *at, *count, *type_) {
-            Ok(found) => call(run, program, most, found),
+            Ok(found) => call_target(run, program, most, found),
             Err(why) => Err(why),
         },
         Step::CallComponent(method, count) => {
@@ -303,7 +273,7 @@ fn perform_call(run: &mut Run, program: &Program, most: u32, step: &Step) -> Res
                 count: *count,
                 receiver: CoreValue::Null,
             };
-            call(run, program, most, found)
+            call_target(run, program, most, found)
         }
         Step::NewObject(at, class, count) => construct(run, program, most, *at, *class, *count),
         Step::Super(class, count) => construct_above(run, program, most, *class, *count),
@@ -320,8 +290,8 @@ fn construct(
     at: u32,
     class: u16,
     count: u16,
-) -> Result<(), Signal>
-    ensures answers { Answers result (state run.new) (world run.new)
+) -> Result<(), Exit>
+    ensures answers { Comes result run.new
         (meaning.make_object program.now.tables (calling (program_at program.now) most) at class count (state run.old) (world run.old)) }
     ensures kept { GoesOn result run.old run.new }
 {
@@ -340,13 +310,13 @@ fn build(
     class: u16,
     count: u16,
     cell: u32,
-) -> Result<(), Signal>
-    ensures answers { Answers result (state run.new) (world run.new)
+) -> Result<(), Exit>
+    ensures answers { Comes result run.new
         (meaning.constructing (calling (program_at program.now) most) class count cell (state run.old) (world run.old)) }
     ensures kept { GoesOn result run.old run.new }
 {
     let receiver = CoreValue::Obj(cell);
-    call(
+    call_target(
         run,
         program,
         most,
@@ -356,8 +326,11 @@ fn build(
             receiver,
         },
     )?;
-    run.pop()?;
-    run.push(receiver)
+    if run.frames.pop().is_none() {
+        return Err(Exit::Wrong);
+    }
+    run.frames.push(receiver)?;
+    Ok(())
 }
 
 // The construction of the class above, in that of a class.
@@ -368,12 +341,12 @@ fn construct_above(
     most: u32,
     class: u16,
     count: u16,
-) -> Result<(), Signal>
-    ensures answers { Answers result (state run.new) (world run.new)
+) -> Result<(), Exit>
+    ensures answers { Comes result run.new
         (meaning.forgetting (calling (program_at program.now) most (targets.Construct class) count (state run.old).self) (state run.old) (world run.old)) }
     ensures kept { GoesOn result run.old run.new }
 {
-    call(
+    call_target(
         run,
         program,
         most,
@@ -383,28 +356,42 @@ fn construct_above(
             receiver: run.receiver,
         },
     )?;
-    run.pop()?;
+    if run.frames.pop().is_none() {
+        return Err(Exit::Wrong);
+    }
     Ok(())
 }
 
 /// Calls a target with so many of the newest values; the call's value comes in their place. Calls are at most so deep.
-#[cycle(exec)]
 pub fn call(run: &mut Run, program: &Program, most: u32, call: Call) -> Result<(), Signal>
     ensures answers { Answers result (state run.new) (world run.new)
+        (calling (program_at program.now) most call.target call.count call.receiver (state run.old) (world run.old)) }
+    ensures kept { StaysUnder result run.old run.new }
+{
+    match call_target(run, program, most, call) {
+        Ok(()) => Ok(()),
+        Err(why) => Err(run.cause.signal(why)),
+    }
+}
+
+// Calls a target.
+#[cycle(exec)]
+fn call_target(run: &mut Run, program: &Program, most: u32, call: Call) -> Result<(), Exit>
+    ensures answers { Comes result run.new
         (calling (program_at program.now) most call.target call.count call.receiver (state run.old) (world run.old)) }
     ensures kept { GoesOn result run.old run.new }
 {
     if most == 0 {
-        return Err(Signal::OutOfClock);
+        return Err(Exit::OutOfClock);
     }
     find(run, program, most, call)
 }
 
 // Calls a target, where it is there.
 #[cycle(exec)]
-fn find(run: &mut Run, program: &Program, most: u32, call: Call) -> Result<(), Signal>
+fn find(run: &mut Run, program: &Program, most: u32, call: Call) -> Result<(), Exit>
     requires { 0 < most }
-    ensures answers { Answers result (state run.new) (world run.new)
+    ensures answers { Comes result run.new
         (looks_up (program_at program.now) (most - 1) call.target call.count call.receiver (state run.old) (world run.old)) }
     ensures kept { GoesOn result run.old run.new }
 {
@@ -423,17 +410,17 @@ fn find_method(
     most: u32,
     method: u16,
     call: Call,
-) -> Result<(), Signal>
+) -> Result<(), Exit>
     requires { 0 < most }
-    ensures answers { Answers result (state run.new) (world run.new)
+    ensures answers { Comes result run.new
         (looks_up (program_at program.now) (most - 1) (targets.Run method) call.count call.receiver (state run.old) (world run.old)) }
     ensures kept { GoesOn result run.old run.new }
 {
     let Some(found) = method_at(&program.tables, method) else {
-        return Err(Signal::Wrong);
+        return Err(Exit::Wrong);
     };
     let Some(body) = method_body(program, method) else {
-        return Err(Signal::Wrong);
+        return Err(Exit::Wrong);
     };
     let opened = Call {
         target: Target::Run(method),
@@ -459,17 +446,17 @@ fn find_making(
     most: u32,
     class: u16,
     call: Call,
-) -> Result<(), Signal>
+) -> Result<(), Exit>
     requires { 0 < most }
-    ensures answers { Answers result (state run.new) (world run.new)
+    ensures answers { Comes result run.new
         (looks_up (program_at program.now) (most - 1) (targets.Construct class) call.count call.receiver (state run.old) (world run.old)) }
     ensures kept { GoesOn result run.old run.new }
 {
     let Some(found) = class_at(&program.tables, class) else {
-        return Err(Signal::Wrong);
+        return Err(Exit::Wrong);
     };
     let Some(body) = making_body(program, class) else {
-        return Err(Signal::Wrong);
+        return Err(Exit::Wrong);
     };
     let opened = Call {
         target: Target::Construct(class),
@@ -495,17 +482,17 @@ fn find_start(
     most: u32,
     component: u16,
     call: Call,
-) -> Result<(), Signal>
+) -> Result<(), Exit>
     requires { 0 < most }
-    ensures answers { Answers result (state run.new) (world run.new)
+    ensures answers { Comes result run.new
         (looks_up (program_at program.now) (most - 1) (targets.Start component) call.count call.receiver (state run.old) (world run.old)) }
     ensures kept { GoesOn result run.old run.new }
 {
     if !is_component(&program.tables, component) {
-        return Err(Signal::Wrong);
+        return Err(Exit::Wrong);
     }
     let Some(body) = start_body(program, component) else {
-        return Err(Signal::Wrong);
+        return Err(Exit::Wrong);
     };
     let opened = Call {
         target: Target::Start(component),
@@ -525,16 +512,16 @@ fn open(
     result_type: CoreType,
     body: &Body,
     call: Call,
-) -> Result<(), Signal>
+) -> Result<(), Exit>
     requires deep { 0 < most }
     requires light { 8 * weight body.now.code + 8 ≤ whole program.now }
-    ensures answers { Answers result (state run.new) (world run.new)
+    ensures answers { Comes result run.new
         (opens (program_at program.now) (most - 1) call.target params.now result_type (body_at body.now) call.count call.receiver
         (state run.old) (world run.old)) }
     ensures kept { GoesOn result run.old run.new }
 {
     if !has_arguments(run, &program.tables, params, call.count) {
-        return Err(Signal::Wrong);
+        return Err(Exit::Wrong);
     }
     run.around.open()?;
     match run_body(run, program, most, result_type, body, call) {
@@ -555,11 +542,11 @@ fn run_body(
     result_type: CoreType,
     body: &Body,
     call: Call,
-) -> Result<(), Signal>
+) -> Result<(), Exit>
     requires deep { 0 < most }
     requires light { 8 * weight body.now.code + 8 ≤ whole program.now }
     requires enough { call.count ≤ length (state run.old).values }
-    ensures answers { Answers result (state run.new) (world run.new)
+    ensures answers { Comes result run.new
         (runs (program_at program.now) (most - 1) result_type (body_at body.now) call.count call.receiver (state run.old) (world run.old)) }
     ensures kept { GoesOn result run.old run.new }
 {
@@ -576,25 +563,28 @@ fn value_of(
     most: u32,
     result_type: CoreType,
     code: &Code,
-) -> Result<(), Signal>
+) -> Result<(), Exit>
     requires deep { 0 < most }
     requires light { 8 * weight code.now + 8 ≤ whole program.now }
-    ensures answers { Answers result (state run.new) (world run.new)
+    ensures answers { Comes result run.new
         (returned (does (program_at program.now) (most - 1) (code_of code.now) (state run.old) (world run.old)) (put (heap.default result_type))) }
     ensures kept { GoesOn result run.old run.new }
 {
     match exec(run, program, most - 1, code) {
-        Ok(()) => run.push(default_of(result_type)),
-        Err(Signal::Return) => Ok(()),
-        Err(Signal::Break) | Err(Signal::Continue) => Err(Signal::Wrong),
-        Err(Signal::Stops(code, at)) => Err(Signal::Stops(code, at)),
-        Err(Signal::Wants(address)) => Err(Signal::Wants(address)),
-        Err(Signal::Touches(address)) => Err(Signal::Touches(address)),
-        Err(Signal::Done) => Err(Signal::Done),
-        Err(Signal::OutOfClock) => Err(Signal::OutOfClock),
-        Err(Signal::OutOfDepth) => Err(Signal::OutOfDepth),
-        Err(Signal::OutOfRoom) => Err(Signal::OutOfRoom),
-        Err(Signal::Wrong) => Err(Signal::Wrong),
-        Err(Signal::NoMemory) => Err(Signal::NoMemory),
+        Ok(()) => {
+            run.frames.push(default_of(result_type))?;
+            Ok(())
+        }
+        Err(Exit::Return) => Ok(()),
+        Err(Exit::Break) | Err(Exit::Continue) => Err(Exit::Wrong),
+        Err(Exit::Stops) => Err(Exit::Stops),
+        Err(Exit::Wants) => Err(Exit::Wants),
+        Err(Exit::Touches) => Err(Exit::Touches),
+        Err(Exit::Done) => Err(Exit::Done),
+        Err(Exit::OutOfClock) => Err(Exit::OutOfClock),
+        Err(Exit::OutOfDepth) => Err(Exit::OutOfDepth),
+        Err(Exit::OutOfRoom) => Err(Exit::OutOfRoom),
+        Err(Exit::Wrong) => Err(Exit::Wrong),
+        Err(Exit::NoMemory) => Err(Exit::NoMemory),
     }
 }

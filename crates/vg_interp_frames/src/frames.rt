@@ -48,7 +48,22 @@ impl Frames {
     }
 
     /// Puts a value in front of those that wait.
+    #[inline(always)]
     pub fn push(&mut self, value: CoreValue) -> Result<(), NoMemory>
+        ensures ok { OnOk result (self.new ≡ with_value value self.old) }
+        ensures err { OnErr result (self.new ≡ self.old) }
+    {
+        if self.items.len() < self.items.capacity() {
+            self.items.push_reserved(value);
+            Ok(())
+        } else {
+            self.push_and_grow(value)
+        }
+    }
+
+    // Puts a value in front where there may be no room for it yet.
+    #[inline(never)]
+    fn push_and_grow(&mut self, value: CoreValue) -> Result<(), NoMemory>
         ensures ok { OnOk result (self.new ≡ with_value value self.old) }
         ensures err { OnErr result (self.new ≡ self.old) }
     {
@@ -57,6 +72,7 @@ impl Frames {
     }
 
     /// Takes the newest of the values that wait.
+    #[inline(always)]
     pub fn pop(&mut self) -> Option<CoreValue>
         ensures { MatchOption result ((self.old.values ≡ []) × (self.new ≡ self.old)) (λ v. self.old ≡ with_value v self.new) }
     {
@@ -67,6 +83,7 @@ impl Frames {
     }
 
     /// The local of this number.
+    #[inline(always)]
     pub fn local(&self, number: u8) -> Option<CoreValue>
         ensures { result ≡ slice_get self.now.locals number }
     {
@@ -79,6 +96,7 @@ impl Frames {
     }
 
     /// Sets the local of this number, where there is one.
+    #[inline(always)]
     pub fn set_local(&mut self, number: u8, value: CoreValue)
         ensures { self.new ≡ record self.old { locals = slice_set self.old.locals number value } }
     {

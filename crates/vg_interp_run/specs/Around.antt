@@ -8,7 +8,9 @@ use Rattle.vg_meaning.specs.Answer.{passes}
 use Rattle.vg_interp_run.specs.declared.around.Phase.{Phase as HeldPhase}
 use Rattle.vg_interp_run.specs.declared.around.Phase.TheVariants.{Starting as IsStarting, Running as IsRunning}
 use Rattle.vg_interp_run.specs.declared.signal.Signal.{Signal}
-use Rattle.vg_interp_run.specs.declared.signal.Signal.TheVariants.{Wants, Touches, Done, OutOfClock, OutOfDepth, NoMemory}
+use Rattle.vg_interp_run.specs.declared.signal.Signal.TheVariants.{Wants, Touches, Done, NoMemory}
+use Rattle.vg_interp_run.specs.declared.signal.Exit.{Exit}
+use Rattle.vg_interp_run.specs.declared.signal.Exit.TheVariants as exit
 
 -- The phase.
 abbrev pub phase_of : HeldPhase → Phase
@@ -27,9 +29,9 @@ world_of phase deepest largest clock reads interrupts trace depth = record {
 }
 
 -- A tick was taken, or was due with the clock spent.
-abbrev pub Ticks : {A : Type 0} → Result A Signal → (before now : World ℕ) → Type 0
+abbrev pub Ticks : {A : Type 0} → Result A Exit → (before now : World ℕ) → Type 0
 Ticks (Ok u) w v = (w.clock ≡ suc v.clock) × (v ≡ record w { clock = v.clock })
-Ticks (Err OutOfClock) w v = (w.clock ≡ 0) × (v ≡ w)
+Ticks (Err exit.OutOfClock) w v = (w.clock ≡ 0) × (v ≡ w)
 Ticks (Err _) w v = ⊥
 
 -- One call more is open, behind its tick.
@@ -37,11 +39,11 @@ abbrev pub IsOpened : (before now : World ℕ) → Type 0
 IsOpened w v = (w.clock ≡ suc v.clock) × (v ≡ record w { clock = v.clock; history = suc w.history })
 
 -- A call was opened, or could not be.
-abbrev pub Opens : {A : Type 0} → Result A Signal → (before now : World ℕ) → Type 0
+abbrev pub Opens : {A : Type 0} → Result A Exit → (before now : World ℕ) → Type 0
 Opens (Ok u) w v = IsOpened w v × (passes w.deepest (suc w.history) ≡ false)
-Opens (Err OutOfClock) w v = (w.clock ≡ 0) × (v ≡ w)
-Opens (Err OutOfDepth) w v = IsOpened w v × (passes w.deepest (suc w.history) ≡ true)
-Opens (Err NoMemory) w v = Unit {0}
+Opens (Err exit.OutOfClock) w v = (w.clock ≡ 0) × (v ≡ w)
+Opens (Err exit.OutOfDepth) w v = IsOpened w v × (passes w.deepest (suc w.history) ≡ true)
+Opens (Err exit.NoMemory) w v = Unit {0}
 Opens (Err _) w v = ⊥
 
 -- A register was read, or could not be.

@@ -12,7 +12,9 @@ use Rattle.vg_interp_run.specs.declared.run.Run.{Run}
 use Rattle.vg_interp_run.specs.declared.calling.Call.{Call}
 use Rattle.vg_interp_run.specs.declared.calling.Outside.{Outside}
 use Rattle.vg_interp_run.specs.declared.signal.Signal.{Signal}
-use Rattle.vg_interp_run.specs.Run.{state, world, Answers, Signals}
+use Rattle.vg_interp_run.specs.declared.signal.Exit.{Exit}
+use Rattle.vg_interp_run.specs.Exits.{Comes}
+use Rattle.vg_interp_run.specs.Run.{state, world, Signals}
 
 -- What is called was found, or the run ends.
 abbrev pub Calls : Result Call Signal → Caller ℕ → State → World ℕ → Answer State ℕ → Type 0
@@ -42,11 +44,11 @@ Opened o b count self before now =
     × (now.frames.below ≡ under count before)
 
 -- Below a caller is what was there.
-abbrev pub StaysUnder : {A : Type 0} → Result A Signal → (caller now : Run) → Type 0
+abbrev pub StaysUnder : {A E : Type 0} → Result A E → (caller now : Run) → Type 0
 StaysUnder (Ok u) r s = s.frames.below ≡ r.frames.below
 StaysUnder (Err why) r s = Unit {0}
 
 -- A body was left, and its caller goes on with what it had.
-abbrev pub Leaves : {A : Type 0} → Result A Signal → Tables → CoreType → Outside → (before now : Run) → Type 0
+abbrev pub Leaves : {A : Type 0} → Result A Exit → Tables → CoreType → Outside → (before now : Run) → Type 0
 Leaves result p t o before now = (count : ℕ) (caller : Run) → IsOutside o caller → before.frames.below ≡ under count caller
-    → Answers result (state now) (world now) (back_in p t count (state caller) (state before) (world before)) × StaysUnder result caller now
+    → Comes result now (back_in p t count (state caller) (state before) (world before)) × StaysUnder result caller now

@@ -1,3 +1,4 @@
 pub mod Around
 pub mod Run
 pub mod Calling
+pub mod Exits

@@ -1,11 +1,10 @@
 -- A run as the state and the world of the meaning, and what functions of the code answer.
 use Rattle.std.specs.Prelude.{◌≡◌, ℕ, Bool, [], ◌∷◌, Result, Ok, Err}
-use Rattle.vg_meaning.specs.Loops.{Test, Tested, Untested}
 use Rattle.vg_meaning.specs.World.{World}
 use Rattle.vg_meaning.specs.Answer as answer
 use Rattle.vg_meaning.specs.Answer.{End, Over, Breaks, Continues, Returns, Answer, Gives, Ends, Piece, kept, over}
 use Rattle.vg_core.specs.declared.step.Step.{Step}
-use Rattle.vg_core.specs.declared.step.Step.TheVariants.{CallMethod, CallValue, CallComponent, NewObject, Super}
+use Rattle.vg_core.specs.declared.step.Step.TheVariants.{Put, Local, Operate, SetLocal, CallMethod, CallValue, CallComponent, NewObject, Super}
 use Rattle.vg_core.specs.declared.value.CoreValue.{CoreValue}
 use Rattle.vg_core.specs.Heap.{Place, OfArray}
 use Rattle.vg_core.specs.State.{State}
@@ -74,12 +73,6 @@ abbrev pub Reaches : Result Element Signal → (Place → Piece State ℕ) → S
 Reaches (Ok e) go s w a = a ≡ go (OfArray e.array e.index) s w
 Reaches (Err why) go s w a = Signals why s w a
 
--- A truth value was taken, or there is none.
-abbrev pub Tests : Result Bool Signal → State → Test State → Type 0
-Tests (Ok b) s t = t ≡ Tested b s
-Tests (Err Wrong) s t = t ≡ Untested
-Tests (Err _) s t = ⊥
-
 -- The value below others was taken, or there is none.
 abbrev pub TakesBelow : Result CoreValue Signal → (CoreValue → Piece State ℕ) → State → World ℕ → Answer State ℕ → Type 0
 TakesBelow (Ok v) go s w a = a ≡ go v s w
@@ -102,3 +95,16 @@ IsAlone (CallComponent method count) = ⊥
 IsAlone (NewObject at class count) = ⊥
 IsAlone (Super class count) = ⊥
 IsAlone _ = Unit {0}
+
+-- A step that calls nothing, and is none of those that come most.
+abbrev pub IsRare : Step → Type 0
+IsRare (Put v) = ⊥
+IsRare (Local number) = ⊥
+IsRare (Operate at op left right) = ⊥
+IsRare (SetLocal number t) = ⊥
+IsRare (CallMethod at class selector count) = ⊥
+IsRare (CallValue at count t) = ⊥
+IsRare (CallComponent method count) = ⊥
+IsRare (NewObject at class count) = ⊥
+IsRare (Super class count) = ⊥
+IsRare _ = Unit {0}

@@ -6,7 +6,7 @@ ghost use Rattle.vg_meaning.specs.Outside.{with_event};
 ghost use Rattle.vg_source.specs.Session.{running_world, starting_world};
 ghost use Rattle.vg_interp_run.specs.Around.{phase_of, Interrupts, Opens, Reads, Ticks, Writes};
 
-use crate::signal::Signal;
+use crate::signal::{Exit, Signal};
 use std::alloc::Global;
 use std::marker::Model;
 use vg_base::NoMemory;
@@ -147,33 +147,34 @@ impl Around {
     }
 
     /// Takes a tick.
-    pub fn tick(&mut self) -> Result<(), Signal>
+    #[inline(always)]
+    pub fn tick(&mut self) -> Result<(), Exit>
         ensures { Ticks result self.old self.new }
     {
         if self.clock == 0 {
-            return Err(Signal::OutOfClock);
+            return Err(Exit::OutOfClock);
         }
         self.clock -= 1;
         Ok(())
     }
 
     /// Opens a call: a tick that sees it, and the look at the depth.
-    pub fn open(&mut self) -> Result<(), Signal>
+    pub fn open(&mut self) -> Result<(), Exit>
         ensures { Opens result self.old self.new }
     {
         if self.clock == 0 {
-            return Err(Signal::OutOfClock);
+            return Err(Exit::OutOfClock);
         }
         if self.depth == u32::MAX {
             // No run has so many calls open: each took a tick.
-            return Err(Signal::NoMemory);
+            return Err(Exit::NoMemory);
         }
         self.clock -= 1;
         self.depth += 1;
         match self.deepest {
             Some(most) => {
                 if most < self.depth {
-                    Err(Signal::OutOfDepth)
+                    Err(Exit::OutOfDepth)
                 } else {
                     Ok(())
                 }

@@ -12,11 +12,12 @@ ghost use Rattle.vg_core.specs.Meaning as meaning;
 ghost use Rattle.vg_core.specs.Meaning.{Caller, adding, at_start, checked, defaults, from_below, with_class, with_found};
 ghost use Rattle.vg_meaning.specs.Answer.{Piece};
 ghost use Rattle.vg_interp_run.specs.Calling.{Calls, Leaves, Makes, Opened};
+ghost use Rattle.vg_interp_run.specs.Exits.{Adds, Finds};
 ghost use Rattle.vg_interp_run.specs.Run.{state, world, Kept};
 
 use crate::around::Phase;
 use crate::run::Run;
-use crate::signal::Signal;
+use crate::signal::{Exit, Signal};
 use vg_base::NoMemory;
 use vg_core::{Body, CoreType, CoreValue, Tables, Target};
 use vg_interp_frames::Mark;
@@ -86,14 +87,16 @@ pub fn leave(
     tables: &Tables,
     result_type: CoreType,
     outside: Outside,
-) -> Result<(), Signal>
+) -> Result<(), Exit>
     requires order { outside.mark.start ≤ outside.mark.base }
     requires within { outside.mark.base ≤ length run.old.frames.below }
     ensures { Leaves result tables.now result_type outside run.old run.new }
 {
-    let value = run.pop()?;
+    let Some(value) = run.frames.pop() else {
+        return Err(Exit::Wrong);
+    };
     if !run.has_type(tables, result_type, value) {
-        return Err(Signal::Wrong);
+        return Err(Exit::Wrong);
     }
     run.frames.leave(outside.mark, value)?;
     run.receiver = outside.receiver;
@@ -102,6 +105,25 @@ pub fn leave(
 
 /// A call of a method of the object below the arguments.
 pub fn method_call(
+    run: &mut Run,
+    tables: &Tables,
+    at: u32,
+    class: u16,
+    selector: u16,
+    count: u16,
+) -> Result<Call, Exit>
+    ensures calls { (call : Caller ℕ) → Finds result call run.new
+        (meaning.call_method tables.now call at class selector count (state run.old) (world run.old)) }
+    ensures kept { Kept run.old run.new }
+{
+    match method_below(run, tables, at, class, selector, count) {
+        Ok(found) => Ok(found),
+        Err(why) => Err(run.exit(why)),
+    }
+}
+
+// The same, with its signal.
+fn method_below(
     run: &mut Run,
     tables: &Tables,
     at: u32,
@@ -156,6 +178,24 @@ fn method_of_object(
 
 /// A call of the delegate below the arguments.
 pub fn value_call(
+    run: &mut Run,
+    tables: &Tables,
+    at: u32,
+    count: u16,
+    type_: u32,
+) -> Result<Call, Exit>
+    ensures calls { (call : Caller ℕ) → Finds result call run.new
+        (from_below count (meaning.call_bound tables.now call at count type_) (state run.old) (world run.old)) }
+    ensures kept { Kept run.old run.new }
+{
+    match value_below(run, tables, at, count, type_) {
+        Ok(found) => Ok(found),
+        Err(why) => Err(run.exit(why)),
+    }
+}
+
+// The same, with its signal.
+fn value_below(
     run: &mut Run,
     tables: &Tables,
     at: u32,
@@ -217,7 +257,20 @@ fn receiver_of(receiver: Option<u32>) -> CoreValue
 }
 
 /// A new object of default values, before it is constructed; the answer is its cell.
-pub fn new_object(run: &mut Run, tables: &Tables, at: u32, class: u16) -> Result<u32, Signal>
+pub fn new_object(run: &mut Run, tables: &Tables, at: u32, class: u16) -> Result<u32, Exit>
+    ensures makes { (go : ℕ → Piece State ℕ) → Adds result go run.new
+        (at_start (world run.old).phase at (with_found (slice_get tables.now.classes class)
+        (λ k. adding (length k.fields) (Object class (defaults tables.now k.fields)) go)) (state run.old) (world run.old)) }
+    ensures kept { Kept run.old run.new }
+{
+    match cell_of(run, tables, at, class) {
+        Ok(cell) => Ok(cell),
+        Err(why) => Err(run.exit(why)),
+    }
+}
+
+// The same, with its signal.
+fn cell_of(run: &mut Run, tables: &Tables, at: u32, class: u16) -> Result<u32, Signal>
     ensures makes { (go : ℕ → Piece State ℕ) → Makes result go (state run.new) (world run.new)
         (at_start (world run.old).phase at (with_found (slice_get tables.now.classes class)
         (λ k. adding (length k.fields) (Object class (defaults tables.now k.fields)) go)) (state run.old) (world run.old)) }

@@ -22,68 +22,6 @@ pub fn apply(run: &mut Run, tables: &Tables, op: Prefix, type_: CoreType) -> Res
     run.push_computed(0, values::apply(op, value))
 }
 
-/// An operator on two values of types.
-#[inline(never)]
-pub fn operate(
-    run: &mut Run,
-    tables: &Tables,
-    at: u32,
-    op: Operator,
-    left: CoreType,
-    right: CoreType,
-) -> Result<(), Signal>
-    ensures answers { Answers result (state run.new) (world run.new) (meaning.step tables.now uncalled (steps.Operate at op left right) (state run.old) (world run.old)) }
-    ensures kept { Kept run.old run.new }
-{
-    let y = run.pop()?;
-    let x = run.pop()?;
-    operate_on(
-        run,
-        tables,
-        at,
-        op,
-        Operand {
-            type_: left,
-            value: x,
-        },
-        Operand {
-            type_: right,
-            value: y,
-        },
-    )
-}
-
-// A value that is to be of a type.
-#[derive(Clone, Copy, Debug, PartialEq, Eq)]
-struct Operand {
-    type_: CoreType,
-    value: CoreValue,
-}
-
-// An operator on these two values.
-#[inline(always)]
-#[tactic(auto, using(crate::proofs::Steps::looked_up))]
-fn operate_on(
-    run: &mut Run,
-    tables: &Tables,
-    at: u32,
-    op: Operator,
-    left: Operand,
-    right: Operand,
-) -> Result<(), Signal>
-    ensures answers { Answers result (state run.new) (world run.new)
-        (meaning.operated tables.now at op left.type_ right.type_ left.value right.value (state run.old) (world run.old)) }
-    ensures kept { Kept run.old run.new }
-{
-    if !run.has_type(tables, right.type_, right.value) {
-        return Err(Signal::Wrong);
-    }
-    if !run.has_type(tables, left.type_, left.value) {
-        return Err(Signal::Wrong);
-    }
-    run.push_computed(at, values::operate(op, left.value, right.value))
-}
-
 /// A cast of a value of a type to another type.
 pub fn cast_to(
     run: &mut Run,

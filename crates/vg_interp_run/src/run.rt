@@ -5,15 +5,16 @@ ghost use Rattle.vg_core.specs.declared.value.CoreValue.{CoreValue};
 ghost use Rattle.vg_core.specs.State as state_of;
 ghost use Rattle.vg_core.specs.Heap.{OfArray, Place, stored_values};
 ghost use Rattle.vg_core.specs.State.{State};
-ghost use Rattle.vg_core.specs.Meaning.{computed, from_below, put, put_found, truth, with_index, with_int, with_item};
+ghost use Rattle.vg_core.specs.Meaning.{computed, from_below, put, put_found, with_index, with_int, with_item};
 ghost use Rattle.vg_core.specs.Session.{with_heap};
 ghost use Rattle.vg_meaning.specs.World.{World};
-ghost use Rattle.vg_meaning.specs.Answer.{Piece, passes};
+ghost use Rattle.vg_meaning.specs.Answer.{Answer, Piece, passes};
 ghost use Rattle.vg_interp_values.specs.Made.{Makes};
-ghost use Rattle.vg_interp_run.specs.Run.{state, world, Answers, Kept, Pops, Reaches, TakesBelow, Tests};
+ghost use Rattle.vg_interp_run.specs.Exits.{Exits};
+ghost use Rattle.vg_interp_run.specs.Run.{state, world, Answers, Kept, Pops, Reaches, Signals, TakesBelow};
 
 use crate::around::Around;
-use crate::signal::Signal;
+use crate::signal::{Cause, Exit, Signal};
 use std::alloc::Global;
 use vg_base::NoMemory;
 use vg_core::{CoreType, CoreValue, Tables};
@@ -30,6 +31,8 @@ pub struct Run {
     pub receiver: CoreValue,
     pub store: Store,
     pub around: Around,
+    /// Why it is over, where it is.
+    pub cause: Cause,
 }
 
 /// An element of an array: the array's cell, and the index.
@@ -50,6 +53,7 @@ impl Run {
             receiver: CoreValue::Null,
             store,
             around,
+            cause: Cause::none(),
         }
     }
 
@@ -172,22 +176,48 @@ impl Run {
 }
 
 impl Run {
-    /// Takes the truth value that waits in front.
-    #[inline(always)]
-    pub fn test(&mut self) -> Result<bool, Signal>
-        ensures tests { Tests result (state self.new) (truth (state self.old)) }
+    /// Keeps the cause of a signal, and gives its kind.
+    #[inline(never)]
+    pub fn exit(&mut self, why: Signal) -> Exit
+        ensures exits { (a : Answer State ℕ) → Signals why (state self.old) (world self.old) a → Exits result self.new a }
+        ensures state { state self.new ≡ state self.old }
         ensures world { world self.new ≡ world self.old }
         ensures kept { Kept self.old self.new }
     {
-        match self.pop()? {
-            CoreValue::Bool(holds) => Ok(holds),
-            CoreValue::Int(_)
-            | CoreValue::Char(_)
-            | CoreValue::Raw(_, _)
-            | CoreValue::Null
-            | CoreValue::Obj(_)
-            | CoreValue::Arr(_)
-            | CoreValue::Bound(_, _) => Err(Signal::Wrong),
+        match why {
+            Signal::Break => Exit::Break,
+            Signal::Continue => Exit::Continue,
+            Signal::Return => Exit::Return,
+            Signal::Stops(code, at) => {
+                self.cause = Cause {
+                    code,
+                    at,
+                    address: 0,
+                };
+                Exit::Stops
+            }
+            Signal::Wants(address) => {
+                self.cause = Cause {
+                    code: 0,
+                    at: 0,
+                    address,
+                };
+                Exit::Wants
+            }
+            Signal::Touches(address) => {
+                self.cause = Cause {
+                    code: 0,
+                    at: 0,
+                    address,
+                };
+                Exit::Touches
+            }
+            Signal::Done => Exit::Done,
+            Signal::OutOfClock => Exit::OutOfClock,
+            Signal::OutOfDepth => Exit::OutOfDepth,
+            Signal::OutOfRoom => Exit::OutOfRoom,
+            Signal::Wrong => Exit::Wrong,
+            Signal::NoMemory => Exit::NoMemory,
         }
     }
 }

@@ -5,16 +5,7 @@ ghost use Rattle.vg_interp_run.specs.Run.{state, uncalled, world, Answers, Kept}
 
 use crate::run::Run;
 use crate::signal::Signal;
-use vg_core::{CoreType, CoreValue, Tables};
-
-/// A value that is no reference to a cell.
-#[inline(never)]
-pub fn put(run: &mut Run, tables: &Tables, value: CoreValue) -> Result<(), Signal>
-    ensures answers { Answers result (state run.new) (world run.new) (meaning.step tables.now uncalled (steps.Put value) (state run.old) (world run.old)) }
-    ensures kept { Kept run.old run.new }
-{
-    run.push(value)
-}
+use vg_core::{CoreValue, Tables};
 
 /// The array of a literal.
 pub fn literal(run: &mut Run, tables: &Tables, number: u32) -> Result<(), Signal>
@@ -33,35 +24,6 @@ pub fn receiver(run: &mut Run, tables: &Tables) -> Result<(), Signal>
     ensures kept { Kept run.old run.new }
 {
     run.push(run.receiver)
-}
-
-/// A parameter or local.
-#[inline(never)]
-pub fn local(run: &mut Run, tables: &Tables, number: u8) -> Result<(), Signal>
-    ensures answers { Answers result (state run.new) (world run.new) (meaning.step tables.now uncalled (steps.Local number) (state run.old) (world run.old)) }
-    ensures kept { Kept run.old run.new }
-{
-    let found = run.frames.local(number);
-    run.push_found(found)
-}
-
-/// A parameter or local is set.
-#[inline(never)]
-pub fn set_local(run: &mut Run, tables: &Tables, number: u8, type_: CoreType) -> Result<(), Signal>
-    ensures answers { Answers result (state run.new) (world run.new) (meaning.step tables.now uncalled (steps.SetLocal number type_) (state run.old) (world run.old)) }
-    ensures kept { Kept run.old run.new }
-{
-    let value = run.pop()?;
-    if !run.has_type(tables, type_, value) {
-        return Err(Signal::Wrong);
-    }
-    match run.frames.local(number) {
-        Some(_) => {
-            run.frames.set_local(number, value);
-            Ok(())
-        }
-        None => Err(Signal::Wrong),
-    }
 }
 
 /// A method of a component, as a value.

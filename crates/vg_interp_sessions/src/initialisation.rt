@@ -5,7 +5,7 @@ ghost use Rattle.vg_core.specs.HeldProgram.{program_at};
 ghost use Rattle.vg_core.specs.Session as session;
 ghost use Rattle.vg_core.specs.Session.{starting};
 ghost use Rattle.vg_interp_run.specs.Run.{state, world, Answers};
-ghost use Rattle.vg_interp.specs.Running.{GoesOn};
+ghost use Rattle.vg_interp_run.specs.Calling.{StaysUnder};
 ghost use Rattle.vg_interp_sessions.specs.Starts.{Starts};
 
 use std::alloc::Global;
@@ -65,7 +65,7 @@ fn start_all(run: &mut Run, program: &Program) -> Result<(), Signal>
 pub fn call_alone(run: &mut Run, program: &Program, target: Target) -> Result<(), Signal>
     ensures answers { Answers result (state run.new) (world run.new)
         (session.call_alone depth_alone (program_at program.now) target (state run.old) (world run.old)) }
-    ensures kept { GoesOn result run.old run.new }
+    ensures kept { StaysUnder result run.old run.new }
 {
     let most = run.around.clock();
     let alone = Call {

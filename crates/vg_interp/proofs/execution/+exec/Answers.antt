@@ -8,11 +8,12 @@ use Rattle.vg_core.specs.HeldProgram.{body_at, code_of, program_at}
 use Rattle.vg_core.specs.State.{State}
 use Rattle.vg_core.specs.Meaning as meaning
 use Rattle.vg_core.specs.Meaning.{truth}
-use Rattle.vg_interp_run.specs.Run.{state, world, Answers, Signals}
+use Rattle.vg_interp_run.specs.Exits.{Comes, Exits}
+use Rattle.vg_interp_run.specs.Run.{state, world}
 use Rattle.vg_interp.specs.Running.{calling, does}
 use Rattle.vg_interp.specs.Weights.{weight}
 use Rattle.vg_interp.proofs.Rows.{row_same, row_weighs, chain_same, chain_weighs, arms_same, arms_weigh, part_weighs, some_weight}
-use Rattle.vg_interp.proofs.Turns.{turn_of, turns_on, turns_end, call_is, chosen, not_chosen, open_is, signals_on}
+use Rattle.vg_interp.proofs.Turns.{turn_of, turns_on, turns_end, call_is, chosen, not_chosen, open_is, exits_on}
 use Rattle.vg_interp.proofs.execution.+exec.Goals as goal
 
 pub exec-row-requires : goal.exec-row-requires
@@ -32,19 +33,19 @@ exec-arms-requires t c =
 
 pub exec-returns-in-Row-clause-answers : goal.exec-returns-in-Row-clause-answers
 exec-returns-in-Row-clause-answers t c =
-    subst (λ z. Answers c.row.result (state c.row.new.run) (world c.row.new.run)
+    subst (λ z. Comes c.row.result c.row.new.run
     (does (program_at c.args.program.now) c.args.most z (state c.args.run.now) (world c.args.run.now)))
     (sym (row_same c.args.code.now c.in-Row.codes c.as_slice.result.now c.in-Row.is c.as_slice.ensures.value)) c.row.ensures.answers
 
 pub exec-returns-in-Chain-clause-answers : goal.exec-returns-in-Chain-clause-answers
 exec-returns-in-Chain-clause-answers t c =
-    subst (λ z. Answers c.chain.result (state c.chain.new.run) (world c.chain.new.run)
+    subst (λ z. Comes c.chain.result c.chain.new.run
     (does (program_at c.args.program.now) c.args.most z (state c.args.run.now) (world c.args.run.now)))
     (sym (chain_same c.args.code.now c.in-Chain.codes c.as_slice-in-Chain.result.now c.in-Chain.is c.as_slice-in-Chain.ensures.value)) c.chain.ensures.answers
 
 pub exec-returns-in-Arms-clause-answers : goal.exec-returns-in-Arms-clause-answers
 exec-returns-in-Arms-clause-answers t c =
-    subst (λ z. Answers c.arms.result (state c.arms.new.run) (world c.arms.new.run)
+    subst (λ z. Comes c.arms.result c.arms.new.run
     (does (program_at c.args.program.now) c.args.most z (state c.args.run.now) (world c.args.run.now)))
     (sym (arms_same c.args.code.now c.in-Arms.all c.in-Arms.last c.as_slice-in-Arms.result.now c.deref-in-Arms.result.now c.in-Arms.is
     c.as_slice-in-Arms.ensures.value c.deref-in-Arms.ensures)) c.arms.ensures.answers
@@ -79,44 +80,44 @@ pub arms-exec-requires-2 : goal.arms-exec-requires-2
 arms-exec-requires-2 t c =
     let e = some_weight c.args.all.now in (omega (arith, e, c.decreases), c.requires)
 
-pub call-returns-clause-answers : goal.call-returns-clause-answers
-call-returns-clause-answers t c =
-    subst (Answers c.find.result (state c.find.new.run) (world c.find.new.run))
+pub call_target-returns-clause-answers : goal.call_target-returns-clause-answers
+call_target-returns-clause-answers t c =
+    subst (Comes c.find.result c.find.new.run)
     (sym (call_is (program_at c.args.program.now) c.args.most c.args.call.target c.args.call.count c.args.call.receiver (state c.args.run.now) (world c.args.run.now) c.if-most-eq0.false))
     c.find.ensures.answers
 
 pub perform_call-returns-in-Ok-clause-answers : goal.perform_call-returns-in-Ok-clause-answers
 perform_call-returns-in-Ok-clause-answers t c =
     let caller = calling (program_at c.args.program.now) c.args.most in
-    subst (λ x. Answers c.call.result (state c.call.new.run) (world c.call.new.run)
+    subst (λ x. Comes c.call_target.result c.call_target.new.run
     (meaning.step c.args.program.now.tables caller x (state c.args.run.now) (world c.args.run.now))) (sym c.in-CallMethod.is)
-    (subst (Answers c.call.result (state c.call.new.run) (world c.call.new.run)) (sym (c.in-Ok.ensures.calls caller)) c.call.ensures.answers)
+    (subst (Comes c.call_target.result c.call_target.new.run) (sym (c.in-Ok.ensures.calls caller)) c.call_target.ensures.answers)
 
 pub perform_call-returns-in-Err-clause-answers : goal.perform_call-returns-in-Err-clause-answers
 perform_call-returns-in-Err-clause-answers t c =
     let caller = calling (program_at c.args.program.now) c.args.most in
-    subst (λ x. Answers {A = Unit {0}} (Err c.in-Err.why) (state c.method_call.new.run) (world c.method_call.new.run)
+    subst (λ x. Comes {A = Unit {0}} (Err c.in-Err.why) c.method_call.new.run
     (meaning.step c.args.program.now.tables caller x (state c.args.run.now) (world c.args.run.now))) (sym c.in-CallMethod.is)
     (c.in-Err.ensures.calls caller)
 
 pub perform_call-returns-in-Ok-value_call-clause-answers : goal.perform_call-returns-in-Ok-value_call-clause-answers
 perform_call-returns-in-Ok-value_call-clause-answers t c =
     let caller = calling (program_at c.args.program.now) c.args.most in
-    subst (λ x. Answers c.call-in-Ok-value_call.result (state c.call-in-Ok-value_call.new.run) (world c.call-in-Ok-value_call.new.run)
+    subst (λ x. Comes c.call_target-in-Ok-value_call.result c.call_target-in-Ok-value_call.new.run
     (meaning.step c.args.program.now.tables caller x (state c.args.run.now) (world c.args.run.now))) (sym c.in-CallValue.is)
-    (subst (Answers c.call-in-Ok-value_call.result (state c.call-in-Ok-value_call.new.run) (world c.call-in-Ok-value_call.new.run)) (sym (c.in-Ok-value_call.ensures.calls caller)) c.call-in-Ok-value_call.ensures.answers)
+    (subst (Comes c.call_target-in-Ok-value_call.result c.call_target-in-Ok-value_call.new.run) (sym (c.in-Ok-value_call.ensures.calls caller)) c.call_target-in-Ok-value_call.ensures.answers)
 
 pub perform_call-returns-in-Err-value_call-clause-answers : goal.perform_call-returns-in-Err-value_call-clause-answers
 perform_call-returns-in-Err-value_call-clause-answers t c =
     let caller = calling (program_at c.args.program.now) c.args.most in
-    subst (λ x. Answers {A = Unit {0}} (Err c.in-Err-value_call.why) (state c.value_call.new.run) (world c.value_call.new.run)
+    subst (λ x. Comes {A = Unit {0}} (Err c.in-Err-value_call.why) c.value_call.new.run
     (meaning.step c.args.program.now.tables caller x (state c.args.run.now) (world c.args.run.now))) (sym c.in-CallValue.is)
     (c.in-Err-value_call.ensures.calls caller)
 
 pub construct-returns-in-Ok-clause-answers : goal.construct-returns-in-Ok-clause-answers
 construct-returns-in-Ok-clause-answers t c =
     let go : ℕ → Piece State ℕ = meaning.constructing (calling (program_at c.args.program.now) c.args.most) c.args.class c.args.count in
-    subst (Answers c.build.result (state c.build.new.run) (world c.build.new.run)) (sym (c.in-Ok.ensures.makes go)) c.build.ensures.answers
+    subst (Comes c.build.result c.build.new.run) (sym (c.in-Ok.ensures.makes go)) c.build.ensures.answers
 
 pub construct-returns-in-Err-clause-answers : goal.construct-returns-in-Err-clause-answers
 construct-returns-in-Err-clause-answers t c =
@@ -137,7 +138,7 @@ repeat-returns-in-Err-clause-answers t c =
     let rest : Piece State ℕ = turns depth_alone left test body next in
     let fewer : c.clock-all.result - c.loop-turn._turn ≡ left + 1 = omega (arith, c.loop-turn-test.true) in
     let start = all ∙ c.loop-turn.invariant.0 ∙ turns_on (c.clock-all.result - c.loop-turn._turn) left test body next (state c.loop-turn.run) (world c.loop-turn.run) fewer in
-    subst (Signals c.in-Err.why (state c.holds.new.run) (world c.holds.new.run)) (sym start) (c.in-Err.ensures.answers (turn_of body next rest))
+    subst (Exits c.in-Err.why c.holds.new.run) (sym start) (c.in-Err.ensures.answers (turn_of body next rest))
 
 pub repeat-returns-then-not-goes-clause-answers : goal.repeat-returns-then-not-goes-clause-answers
 repeat-returns-then-not-goes-clause-answers t c =
@@ -153,7 +154,7 @@ repeat-returns-then-not-goes-clause-answers t c =
     let rest : Piece State ℕ = turns depth_alone left test body next in
     let fewer : c.clock-all.result - c.loop-turn._turn ≡ left + 1 = omega (arith, c.loop-turn-test.true) in
     let start = all ∙ c.loop-turn.invariant.0 ∙ turns_on (c.clock-all.result - c.loop-turn._turn) left test body next (state c.loop-turn.run) (world c.loop-turn.run) fewer in
-    start ∙ not_chosen c.in-Ok.goes (turn_of body next rest) (state c.holds.new.run) (world c.holds.new.run)
+    start ∙ not_chosen c.in-Ok.goes (turn_of body next rest) c.holds.new.run
     (test (turn_of body next rest) (state c.loop-turn.run) (world c.loop-turn.run)) c.if-not-goes.true (c.in-Ok.ensures.answers (turn_of body next rest))
 
 pub repeat-returns-in-Err-turn-clause-answers : goal.repeat-returns-in-Err-turn-clause-answers
@@ -170,9 +171,9 @@ repeat-returns-in-Err-turn-clause-answers t c =
     let rest : Piece State ℕ = turns depth_alone left test body next in
     let fewer : c.clock-all.result - c.loop-turn._turn ≡ left + 1 = omega (arith, c.loop-turn-test.true) in
     let start = all ∙ c.loop-turn.invariant.0 ∙ turns_on (c.clock-all.result - c.loop-turn._turn) left test body next (state c.loop-turn.run) (world c.loop-turn.run) fewer in
-    let went = start ∙ chosen c.in-Ok.goes (turn_of body next rest) (state c.holds.new.run) (world c.holds.new.run)
+    let went = start ∙ chosen c.in-Ok.goes (turn_of body next rest) c.holds.new.run
     (test (turn_of body next rest) (state c.loop-turn.run) (world c.loop-turn.run)) c.if-not-goes.false (c.in-Ok.ensures.answers (turn_of body next rest)) in
-    subst (Signals c.in-Err-turn.why (state c.turn.new.run) (world c.turn.new.run)) (sym went) (c.in-Err-turn.ensures.answers rest)
+    subst (Exits c.in-Err-turn.why c.turn.new.run) (sym went) (c.in-Err-turn.ensures.answers rest)
 
 pub repeat-returns-then-not-stays-clause-answers : goal.repeat-returns-then-not-stays-clause-answers
 repeat-returns-then-not-stays-clause-answers t c =
@@ -188,9 +189,9 @@ repeat-returns-then-not-stays-clause-answers t c =
     let rest : Piece State ℕ = turns depth_alone left test body next in
     let fewer : c.clock-all.result - c.loop-turn._turn ≡ left + 1 = omega (arith, c.loop-turn-test.true) in
     let start = all ∙ c.loop-turn.invariant.0 ∙ turns_on (c.clock-all.result - c.loop-turn._turn) left test body next (state c.loop-turn.run) (world c.loop-turn.run) fewer in
-    let went = start ∙ chosen c.in-Ok.goes (turn_of body next rest) (state c.holds.new.run) (world c.holds.new.run)
+    let went = start ∙ chosen c.in-Ok.goes (turn_of body next rest) c.holds.new.run
     (test (turn_of body next rest) (state c.loop-turn.run) (world c.loop-turn.run)) c.if-not-goes.false (c.in-Ok.ensures.answers (turn_of body next rest)) in
-    went ∙ not_chosen c.in-Ok-turn.stays rest (state c.turn.new.run) (world c.turn.new.run)
+    went ∙ not_chosen c.in-Ok-turn.stays rest c.turn.new.run
     (turn_of body next rest (state c.holds.new.run) (world c.holds.new.run)) c.if-not-stays.true (c.in-Ok-turn.ensures.answers rest)
 
 pub repeat-loop-turn-preserved : goal.repeat-loop-turn-preserved
@@ -207,9 +208,9 @@ repeat-loop-turn-preserved t c =
     let rest : Piece State ℕ = turns depth_alone left test body next in
     let fewer : c.clock-all.result - c.loop-turn._turn ≡ left + 1 = omega (arith, c.loop-turn-test.true) in
     let start = all ∙ c.loop-turn.invariant.0 ∙ turns_on (c.clock-all.result - c.loop-turn._turn) left test body next (state c.loop-turn.run) (world c.loop-turn.run) fewer in
-    let went = start ∙ chosen c.in-Ok.goes (turn_of body next rest) (state c.holds.new.run) (world c.holds.new.run)
+    let went = start ∙ chosen c.in-Ok.goes (turn_of body next rest) c.holds.new.run
     (test (turn_of body next rest) (state c.loop-turn.run) (world c.loop-turn.run)) c.if-not-goes.false (c.in-Ok.ensures.answers (turn_of body next rest)) in
-    let onward = went ∙ chosen c.in-Ok-turn.stays rest (state c.turn.new.run) (world c.turn.new.run)
+    let onward = went ∙ chosen c.in-Ok-turn.stays rest c.turn.new.run
     (turn_of body next rest (state c.holds.new.run) (world c.holds.new.run)) c.if-not-stays.false (c.in-Ok-turn.ensures.answers rest) in
     (sym all ∙ onward, c.in-Ok-turn.ensures.kept ∙ c.in-Ok.ensures.kept ∙ c.loop-turn.invariant.1)
 
@@ -225,7 +226,7 @@ repeat-returns-in-Err-holds-clause-answers t c =
     ap (λ n. turns depth_alone n test body next s w) (sym c.clock-all.ensures) in
     let none : c.clock-all.result - c.loop-turn._turn ≡ 0 = omega (arith, c.loop-turn-test.false) in
     let start = all ∙ c.loop-turn.invariant.0 ∙ turns_end (c.clock-all.result - c.loop-turn._turn) test body next (state c.loop-turn.run) (world c.loop-turn.run) none in
-    subst (Signals c.in-Err-holds.why (state c.holds-2.new.run) (world c.holds-2.new.run)) (sym start) (c.in-Err-holds.ensures.answers (over OutOfClock))
+    subst (Exits c.in-Err-holds.why c.holds-2.new.run) (sym start) (c.in-Err-holds.ensures.answers (over OutOfClock))
 
 pub repeat-returns-then-goes-clause-answers : goal.repeat-returns-then-goes-clause-answers
 repeat-returns-then-goes-clause-answers t c =
@@ -239,7 +240,7 @@ repeat-returns-then-goes-clause-answers t c =
     ap (λ n. turns depth_alone n test body next s w) (sym c.clock-all.ensures) in
     let none : c.clock-all.result - c.loop-turn._turn ≡ 0 = omega (arith, c.loop-turn-test.false) in
     let start = all ∙ c.loop-turn.invariant.0 ∙ turns_end (c.clock-all.result - c.loop-turn._turn) test body next (state c.loop-turn.run) (world c.loop-turn.run) none in
-    start ∙ chosen c.in-Ok-holds.goes (over OutOfClock) (state c.holds-2.new.run) (world c.holds-2.new.run)
+    start ∙ chosen c.in-Ok-holds.goes (over OutOfClock) c.holds-2.new.run
     (test (over OutOfClock) (state c.loop-turn.run) (world c.loop-turn.run)) c.if-goes.true (c.in-Ok-holds.ensures.answers (over OutOfClock))
 
 pub repeat-returns-else-goes-clause-answers : goal.repeat-returns-else-goes-clause-answers
@@ -254,7 +255,7 @@ repeat-returns-else-goes-clause-answers t c =
     ap (λ n. turns depth_alone n test body next s w) (sym c.clock-all.ensures) in
     let none : c.clock-all.result - c.loop-turn._turn ≡ 0 = omega (arith, c.loop-turn-test.false) in
     let start = all ∙ c.loop-turn.invariant.0 ∙ turns_end (c.clock-all.result - c.loop-turn._turn) test body next (state c.loop-turn.run) (world c.loop-turn.run) none in
-    start ∙ not_chosen c.in-Ok-holds.goes (over OutOfClock) (state c.holds-2.new.run) (world c.holds-2.new.run)
+    start ∙ not_chosen c.in-Ok-holds.goes (over OutOfClock) c.holds-2.new.run
     (test (over OutOfClock) (state c.loop-turn.run) (world c.loop-turn.run)) c.if-goes.false (c.in-Ok-holds.ensures.answers (over OutOfClock))
 
 pub open-returns-in-Err-clause-answers : goal.open-returns-in-Err-clause-answers
@@ -265,5 +266,5 @@ open-returns-in-Err-clause-answers t c =
     let checks = sym c.has_arguments.ensures.same ∙ c.if-not-has_arguments.false in
     let e = open_is p (c.args.most - 1) call.target c.args.params.now c.args.result_type (body_at c.args.body.now) call.count call.receiver s
     (world c.args.run.now) (c.open.new.self) checks c.in_ok-open.ensures.0.0 c.in_ok-open.ensures.0.1 c.in_ok-open.ensures.1 in
-    subst (Signals c.in-Err.why (state c.run_body.new.run) (world c.run_body.new.run)) (sym e)
-    (signals_on c.in-Err.why (state c.run_body.new.run) (world c.run_body.new.run) _ (closed depth_alone) c.in-Err.ensures.answers)
+    subst (Exits c.in-Err.why c.run_body.new.run) (sym e)
+    (exits_on c.in-Err.why c.run_body.new.run _ (closed depth_alone) c.in-Err.ensures.answers)

@@ -50,8 +50,8 @@ decreases-build l = l.most * whole l.program.now + 6
 abbrev pub decreases-construct_above : goal.decreases-construct_above
 decreases-construct_above l = l.most * whole l.program.now + 6
 
-abbrev pub decreases-call : goal.decreases-call
-decreases-call l = l.most * whole l.program.now + 5
+abbrev pub decreases-call_target : goal.decreases-call_target
+decreases-call_target l = l.most * whole l.program.now + 5
 
 abbrev pub decreases-find : goal.decreases-find
 decreases-find l = l.most * whole l.program.now + 4
