@@ -20,7 +20,7 @@ use Rattle.vg_templates.specs.Operands.{least, padded}
 use Rattle.vg_chains.specs.Numbers.{number_in}
 
 -- a byte of the stack
-stack_below : (e : Run) (pc : ℕ) (v : View) (s : State) → At e pc v s → (j : ℕ) → j < length v.stack → slice_index v.stack j < 256
+pub stack_below : (e : Run) (pc : ℕ) (v : View) (s : State) → At e pc v s → (j : ℕ) → j < length v.stack → slice_index v.stack j < 256
 stack_below e pc v s a j h =
     let size = a.memory.size in
     let address = 0x1100 + j - length v.stack in
