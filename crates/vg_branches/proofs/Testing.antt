@@ -2,11 +2,11 @@
 use Rattle.std.proofs.Common.{◌≡◌, ◌≢◌, ℕ, zero, suc, ◌+◌, ◌/◌, ◌%◌, ◌<◌, ◌≤◌, ◌⊎◌, inl, inr, Bool, true, false, not, ◌==◌, nat_lt, if◌then◌else◌}
 use Rattle.std.proofs.Common.{List, [], ◌∷◌, ◌++◌, length, Some, refl, sym, ap, ◌∙◌, subst, arith}
 use Rattle.vg_meaning.specs.Outside.{Outside}
-use Rattle.avr_instr.specs.declared.instr.Instr.TheVariants.{Jmp}
+use Rattle.avr_instr.specs.declared.instr.Instr.TheVariants.{Jmp, Rjmp}
 use Rattle.avr_isa.specs.Flags.{is_set, with_flags}
-use Rattle.avr_isa.specs.Flow.{near_from}
+use Rattle.avr_isa.specs.Flow.{near_from, far_from}
 use Rattle.avr_isa.specs.Machine.{State as MachineState}
-use Rattle.avr_isa.specs.Standing.{widths, AllStandAt}
+use Rattle.avr_isa.specs.Standing.{widths, StandsAt, AllStandAt}
 use Rattle.avr_isa.proofs.Standing.{front_stands, back_stands}
 use Rattle.vg_lin.specs.declared.instr.Comparison.{Comparison}
 use Rattle.vg_lin.specs.declared.instr.Comparison.TheVariants.{Below, Less, Same}
@@ -20,7 +20,7 @@ use Rattle.avr_view.specs.Registers.{Regs, does_all, ArePlain}
 use Rattle.avr_view.specs.Run.{Run, Goes}
 use Rattle.avr_view.specs.View.{View, At}
 use Rattle.avr_view.proofs.Going.{goes_then, goes_fewer, goes_wider}
-use Rattle.avr_view.proofs.JumpSteps.{goes_brbs, goes_brbc, goes_jmp, sign_set}
+use Rattle.avr_view.proofs.JumpSteps.{goes_brbs, goes_brbc, goes_jmp, goes_rjmp, sign_set}
 use Rattle.avr_view.proofs.Rows.{carry_set, zero_set}
 use Rattle.vg_frames.specs.Spots.{Spot, InFrame, InRegisters}
 use Rattle.vg_frames.specs.Layouts.{Layout, IsLayout, IsSpot, width_of}
@@ -83,7 +83,7 @@ found_kept l ok live (Local k) n old new ready small h = at (l.spots k) (width_o
         let inside = spot.1 in
         padded_kept old new r w n (h 1 (inl (omega arith))) (λ x lo hi. h x (inl (omega arith)))
 
-beside_registers : (low' high : ℕ) (rs : List ℕ) → AreBeside low' high rs → AreRegisters rs
+pub beside_registers : (low' high : ℕ) (rs : List ℕ) → AreBeside low' high rs → AreRegisters rs
 beside_registers low' high [] k = tt
 beside_registers low' high (r ∷ rs) (here, more) = (here.1, beside_registers low' high rs more)
 
@@ -258,3 +258,23 @@ module _ (i : Places) (ok : (m : ℕ) → IsLayout (i.layouts m)) (m : ℕ) (fra
       (takes_tests live s t x y v some small ready_left ready_right got_left got_right h pc q (front_stands e.flash pc is js stand) (omega arith) a)
       (λ u z. goes_far v.out (told_by t.comparison) to (pc + widths is) wanted truth live behind s z.view u kept (back_stands e.flash pc is js stand) room away
       z.kind z.at))
+
+  -- ---- jumps
+
+  pub goes_jump_far : (live behind : ℕ → Bool) (s : State) (to pc : ℕ) (v : View) (q : MachineState) → IsKept live behind → Held i m live s frames v
+      → StandsAt e.flash pc (Jmp to) → to ≢ pc → At e pc v q → Goes e deep 1 q (Sees e (Lies i m behind s frames v.out) to)
+  goes_jump_far live behind s to pc v q kept h stand away a =
+      goes_wider e deep 1 q (At e to v) (Sees e (Lies i m behind s frames v.out) to)
+      (λ t b. record { view = v; kind = record { held = held_fewer i m live behind s frames v kept h; out = refl }; at = b })
+      (goes_jmp e deep pc v q a to stand away)
+
+  pub goes_jump_near : (live behind : ℕ → Bool) (s : State) (k to pc : ℕ) (v : View) (q : MachineState) → IsKept live behind → Held i m live s frames v
+      → StandsAt e.flash pc (Rjmp k) → far_from pc k ≡ to → to ≢ pc → At e pc v q → Goes e deep 1 q (Sees e (Lies i m behind s frames v.out) to)
+  goes_jump_near live behind s k to pc v q kept h stand there away a =
+      goes_wider e deep 1 q (At e (far_from pc k) v) (Sees e (Lies i m behind s frames v.out) to)
+      (λ t b. record {
+        view = v;
+        kind = record { held = held_fewer i m live behind s frames v kept h; out = refl };
+        at = subst (λ n. At e n v t) there b;
+      })
+      (goes_rjmp e deep pc v q a k stand (subst (λ n. n ≢ pc) (sym there) away))

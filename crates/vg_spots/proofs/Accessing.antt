@@ -47,7 +47,7 @@ pub written_within : (wait own under : List ℕ) (at w v : ℕ) → at + w ≤ l
 written_within wait own under at w v h =
     written-back wait (own ++ under) (length wait) at w v refl ∙ ap (λ l. wait ++ l) (written-front own under at w v h)
 
-written_digits : (l : List ℕ) (at w x y : ℕ) → x < 256 → written (slice_set l at x) (suc at) w y ≡ written l at (suc w) (x + 256 * y)
+pub written_digits : (l : List ℕ) (at w x y : ℕ) → x < 256 → written (slice_set l at x) (suc at) w y ≡ written l at (suc w) (x + 256 * y)
 written_digits l at w x y h =
     let low : x ≡ (x + 256 * y) % 256 = omega arith in
     let high : y ≡ (x + 256 * y) / 256 = omega arith in
