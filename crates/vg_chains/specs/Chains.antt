@@ -1,8 +1,8 @@
 -- Chains of instructions that compute with numbers of several bytes: one instruction a byte, with the carry between them. The left number is in registers
 -- from d on and becomes the result; the right one is in a list of registers.
-use Rattle.std.specs.Prelude.{ℕ, zero, suc, ◌/◌, ◌%◌, ◌==◌, if◌then◌else◌, List, [], ◌∷◌, ◌++◌}
+use Rattle.std.specs.Prelude.{ℕ, zero, suc, ◌/◌, ◌%◌, List, [], ◌∷◌}
 use Rattle.avr_instr.specs.declared.instr.Instr.{Instr}
-use Rattle.avr_instr.specs.declared.instr.Instr.TheVariants.{Adc, Add, And, Andi, Cp, Cpc, Eor, Or, Ori, Sbc, Sbci, Sub, Subi}
+use Rattle.avr_instr.specs.declared.instr.Instr.TheVariants.{Adc, Add, And, Cp, Cpc, Eor, Or, Sbc, Sbci, Sub, Subi}
 
 -- sums
 abbrev pub adds_on : (d : ℕ) → List ℕ → List Instr
@@ -30,7 +30,7 @@ abbrev pub takes_known : (d count value : ℕ) → List Instr
 takes_known d zero v = []
 takes_known d (suc n) v = Subi d (v % 256) ∷ takes_known_on (suc d) n (v / 256)
 
--- logic, byte by byte; with known bytes, those alone that change something
+-- logic, byte by byte
 abbrev pub ands : (d : ℕ) → List ℕ → List Instr
 ands d [] = []
 ands d (r ∷ rs) = And d r ∷ ands (suc d) rs
@@ -42,14 +42,6 @@ ors d (r ∷ rs) = Or d r ∷ ors (suc d) rs
 abbrev pub eors : (d : ℕ) → List ℕ → List Instr
 eors d [] = []
 eors d (r ∷ rs) = Eor d r ∷ eors (suc d) rs
-
-abbrev pub ands_known : (d count value : ℕ) → List Instr
-ands_known d zero v = []
-ands_known d (suc n) v = (if v % 256 == 255 then [] else Andi d (v % 256) ∷ []) ++ ands_known (suc d) n (v / 256)
-
-abbrev pub ors_known : (d count value : ℕ) → List Instr
-ors_known d zero v = []
-ors_known d (suc n) v = (if v % 256 == 0 then [] else Ori d (v % 256) ∷ []) ++ ors_known (suc d) n (v / 256)
 
 -- comparisons of two numbers, both in lists of registers
 abbrev pub compares_on : (left right : List ℕ) → List Instr
