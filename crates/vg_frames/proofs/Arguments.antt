@@ -12,14 +12,14 @@ use Rattle.vg_frames.specs.Frames.{Fits, Waits, Pushed, bytes_of, bytes_behind, 
 
 -- ---- numbers of two lists, one behind the other
 
-read-front : (xs ys : List ℕ) (at w : ℕ) → at + w ≤ length xs → read (xs ++ ys) at w ≡ read xs at w
+pub read-front : (xs ys : List ℕ) (at w : ℕ) → at + w ≤ length xs → read (xs ++ ys) at w ≡ read xs at w
 read-front xs ys at zero h = refl
 read-front xs ys at (suc w) h =
     let one : slice_index (xs ++ ys) at ≡ slice_index xs at = get_or_append_left xs ys 0 at (omega arith) in
     let rest = read-front xs ys (suc at) w (omega arith) in
     omega (arith, one, rest)
 
-read-back : (xs ys : List ℕ) (n at w : ℕ) → length xs ≡ n → read (xs ++ ys) (n + at) w ≡ read ys at w
+pub read-back : (xs ys : List ℕ) (n at w : ℕ) → length xs ≡ n → read (xs ++ ys) (n + at) w ≡ read ys at w
 read-back xs ys n at zero e = refl
 read-back xs ys n at (suc w) e =
     let same : n + at - n ≡ at = omega arith in

@@ -54,29 +54,29 @@ reliable_still l old new ok others all d (inr r) = by_pointer l.pointed refl
     by_pointer false e = inr (all e d)
 
 module _ (e : Run) (deep : Type 0) (i : Places) (ok : (m : ℕ) → IsLayout (i.layouts m)) where
-  -- a call of q, for which f waits, or at an interrupt the call in the stub of its handler; with these of the bytes that wait as its arguments
-  pub goes_begin : (q pc entry : ℕ) (f : Frame LinState) (frames : List (Frame LinState)) (args wait own under : List ℕ) (v : View) (s : State)
-      → StandsAt e.flash pc (Call entry) → pc + 2 < 65536 → back_to i f.awaits q f.proc f.pc ≡ pc + 2
+  -- from where a step has put the return address on the stack and led to the entry of q, for which f waits; with these of the bytes that wait as its
+  -- arguments
+  pub goes_begin_from : (q entry : ℕ) (f : Frame LinState) (frames : List (Frame LinState)) (args wait own under : List ℕ) (v : View) (s : State)
+      → Goes e deep 1 s (At e entry (record v { stack = word_bytes (back_to i f.awaits q f.proc f.pc) ++ v.stack }))
       → AllStandAt e.flash entry (prologue (i.layouts q)) → entry + widths (prologue (i.layouts q)) < 65536
       → v.stack ≡ args ++ (between i f.awaits f.proc f.pc ++ (wait ++ (own ++ under))) → Points (i.layouts f.proc) own under v.regs
       → Waits f.kept.waiting wait
       → Fits (i.layouts f.proc) (needed (i.layouts f.proc) f.awaits f.pc) f.kept.locals own v.regs → Callers i frames f.proc own under v.regs
-      → (0x1100 < e.floor + length v.stack + 2 + length (i.layouts q).saved + (i.layouts q).slots → deep) → At e pc v s
+      → (0x1100 < e.floor + length v.stack + 2 + length (i.layouts q).saved + (i.layouts q).slots → deep)
       → Goes e deep 1 s (Begun e i q f frames args (entry + widths (prologue (i.layouts q))) v)
-  goes_begin q pc entry f frames args wait own under v s call room back code low cut points waits fits more full a =
+  goes_begin_from q entry f frames args wait own under v s first code low cut points waits fits more full =
       let l = i.layouts q in
       let to = back_to i f.awaits q f.proc f.pc in
-      let v1 : View = record v { stack = word_bytes (pc + 2) ++ v.stack } in
+      let v1 : View = record v { stack = word_bytes to ++ v.stack } in
       let goal = Begun e i q f frames args (entry + widths (prologue l)) v in
       goes_fewer e deep (1 + 0) 1 s goal (omega arith)
-      (goes_then e deep 1 0 s (At e entry v1) goal (goes_call e deep pc v s a entry call room (λ h. full (omega arith)))
+      (goes_then e deep 1 0 s (At e entry v1) goal first
       (λ t b. goes_wider e deep 0 t (Entered e l (entry + widths (prologue l)) v1) goal
       (λ u n.
       let behind = between i f.awaits f.proc f.pc ++ (wait ++ (own ++ under)) in
       let frame = opened n.slots v.regs l.saved to args in
-      let stack_is : n.slots ++ (map v.regs.of l.saved ++ (word_bytes (pc + 2) ++ v.stack)) ≡ frame ++ behind =
-      ap (λ k. n.slots ++ (map v.regs.of l.saved ++ (word_bytes (pc + 2) ++ k))) cut
-      ∙ ap (λ k. n.slots ++ (map v.regs.of l.saved ++ (word_bytes k ++ (args ++ behind)))) (sym back)
+      let stack_is : n.slots ++ (map v.regs.of l.saved ++ (word_bytes to ++ v.stack)) ≡ frame ++ behind =
+      ap (λ k. n.slots ++ (map v.regs.of l.saved ++ (word_bytes to ++ k))) cut
       ∙ sym (append_assoc n.slots (map v.regs.of l.saved ++ (word_bytes to ++ args)) behind
       ∙ ap (λ k. n.slots ++ k) (append_assoc (map v.regs.of l.saved) (word_bytes to ++ args) behind)) in
       let callers = callers_begin i ok q f.proc f.pc f.awaits f.kept frames n.slots args wait own under v.regs n.regs n.enough
@@ -92,6 +92,20 @@ module _ (e : Run) (deep : Type 0) (i : Places) (ok : (m : ℕ) → IsLayout (i.
         at = subst (λ k. At e (entry + widths (prologue l)) (record v { regs = n.regs; stack = k }) u) stack_is n.at;
       })
       (goes_prologue e deep l entry v1 t (ok q).no_pointer (ok q).small code low (λ h. full (omega arith)) b)))
+
+  -- a call of q, for which f waits, or at an interrupt the call in the stub of its handler
+  pub goes_begin : (q pc entry : ℕ) (f : Frame LinState) (frames : List (Frame LinState)) (args wait own under : List ℕ) (v : View) (s : State)
+      → StandsAt e.flash pc (Call entry) → pc + 2 < 65536 → back_to i f.awaits q f.proc f.pc ≡ pc + 2
+      → AllStandAt e.flash entry (prologue (i.layouts q)) → entry + widths (prologue (i.layouts q)) < 65536
+      → v.stack ≡ args ++ (between i f.awaits f.proc f.pc ++ (wait ++ (own ++ under))) → Points (i.layouts f.proc) own under v.regs
+      → Waits f.kept.waiting wait
+      → Fits (i.layouts f.proc) (needed (i.layouts f.proc) f.awaits f.pc) f.kept.locals own v.regs → Callers i frames f.proc own under v.regs
+      → (0x1100 < e.floor + length v.stack + 2 + length (i.layouts q).saved + (i.layouts q).slots → deep) → At e pc v s
+      → Goes e deep 1 s (Begun e i q f frames args (entry + widths (prologue (i.layouts q))) v)
+  goes_begin q pc entry f frames args wait own under v s call room back code low cut points waits fits more full a =
+      goes_begin_from q entry f frames args wait own under v s
+      (subst (λ n. Goes e deep 1 s (At e entry (record v { stack = word_bytes n ++ v.stack }))) (sym back)
+      (goes_call e deep pc v s a entry call room (λ h. full (omega arith)))) code low cut points waits fits more full
 
   -- the exit of q, for which f waits
   pub goes_resume : (q pc : ℕ) (live : ℕ → Bool) (now : LinState) (f : Frame LinState) (frames : List (Frame LinState)) (v : View) (s : State)

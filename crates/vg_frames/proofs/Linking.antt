@@ -1,5 +1,5 @@
 -- What the entry of a procedure and its exit do to the stack and to the registers.
-use Rattle.std.proofs.Common.{◌≡◌, ◌≢◌, ℕ, zero, suc, ◌+◌, ◌-◌, ◌*◌, ◌/◌, ◌%◌, ◌<◌, ◌≤◌, ◌⊎◌, inl, inr, Bool, true, false, if◌then◌else◌}
+use Rattle.std.proofs.Common.{◌≡◌, ℕ, zero, suc, ◌+◌, ◌-◌, ◌*◌, ◌/◌, ◌%◌, ◌<◌, ◌≤◌, ◌⊎◌, inl, inr, Bool, true, false, if◌then◌else◌}
 use Rattle.std.proofs.Common.{List, [], ◌∷◌, ◌++◌, length, refl, sym, ap, ◌∙◌, subst, arith, nat_lt, length-append}
 use Rattle.std.specs.Prelude.{map}
 use Rattle.avr_instr.specs.declared.instr.Instr.TheVariants.{Adiw, Push, Ret, Sbci, Sbiw, Subi}
@@ -18,6 +18,7 @@ use Rattle.vg_frames.specs.Layouts.{Layout}
 use Rattle.vg_frames.specs.Linkage.{pushes, pops, y_less, y_more, sp_is_y, takes_slots, drops_slots, frame_pointer, prologue, epilogue}
 use Rattle.vg_frames.specs.Linkage.{AreOthers, Entered, Left}
 use Rattle.vg_frames.specs.Frames.{restored, word_bytes}
+use Rattle.vg_frames.proofs.Numbers.{put_other}
 
 pub widths-pushes : (ds : List ℕ) → widths (pushes ds) ≡ length ds
 widths-pushes [] = refl
@@ -34,16 +35,12 @@ map_long : (f : ℕ → ℕ) (xs : List ℕ) → length (map f xs) ≡ length xs
 map_long f [] = refl
 map_long f (x ∷ xs) = ap suc (map_long f xs)
 
--- a register other than the one that gets a value
-put_other : (g : Regs) (r x d : ℕ) → d ≢ r → (put g r x).of d ≡ g.of d
-put_other g r x d h = grind arith
-
 both_other : (g : Regs) (x y d : ℕ) → (d < 28) ⊎ (30 ≤ d) → (put (put g 28 x) 29 y).of d ≡ g.of d
 both_other g x y d (inl h) = put_other (put g 28 x) 29 y d (omega arith) ∙ put_other g 28 x d (omega arith)
 both_other g x y d (inr h) = put_other (put g 28 x) 29 y d (omega arith) ∙ put_other g 28 x d (omega arith)
 
 -- a difference of two bytes with the borrow between them
-borrowed : (a b k : ℕ) → a < 256 → b < 256 → k < 65536
+pub borrowed : (a b k : ℕ) → a < 256 → b < 256 → k < 65536
     → difference_of b (k / 256) (number_of (nat_lt a (k % 256 + 0))) * 256 + difference_of a (k % 256) 0 ≡ (a + 256 * b + 65536 - k) % 65536
 borrowed a b k p q h = test (nat_lt a (k % 256 + 0)) refl
   where

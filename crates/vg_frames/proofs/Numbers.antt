@@ -12,7 +12,7 @@ pow_positive zero = omega arith
 pow_positive (suc w) = let h = pow_positive w in let e = pow-suc 256 w in omega (arith, h, e)
 
 -- the low byte and the rest of a number that is cut
-cut : (v w x y : ℕ) → x ≡ v % 256 → y ≡ v / 256 % 256 ^ w → x + 256 * y ≡ v % 256 ^ suc w
+pub cut : (v w x y : ℕ) → x ≡ v % 256 → y ≡ v / 256 % 256 ^ w → x + 256 * y ≡ v % 256 ^ suc w
 cut v w x y p q =
     let e : v / 256 % 256 ^ w * 256 + v % 256 ≡ x + 256 * y = omega (arith, p, q) in
     sym (ap (λ n. v % n) (pow-suc 256 w) ∙ mod-mul v (pow_positive w) (omega arith) ∙ e)
@@ -73,10 +73,10 @@ piece-written l at (suc w) v n k (inr h) =
 
 -- ---- registers
 
-put_other : (g : Regs) (r x d : ℕ) → d ≢ r → (put g r x).of d ≡ g.of d
+pub put_other : (g : Regs) (r x d : ℕ) → d ≢ r → (put g r x).of d ≡ g.of d
 put_other g r x d h = grind arith
 
-put_same : (g : Regs) (r x : ℕ) → (put g r x).of r ≡ x
+pub put_same : (g : Regs) (r x : ℕ) → (put g r x).of r ≡ x
 put_same g r x = grind arith
 
 pub put_number-beside : (g : Regs) (r w v d : ℕ) → (d < r) ⊎ (r + w ≤ d) → (put_number g r w v).of d ≡ g.of d
@@ -86,14 +86,14 @@ put_number-beside g r (suc w) v d (inl h) =
 put_number-beside g r (suc w) v d (inr h) =
     put_number-beside (put g r (v % 256)) (suc r) w (v / 256) d (inr (omega arith)) ∙ put_other g r (v % 256) d (omega arith)
 
-number-put : (g : Regs) (r w v : ℕ) → number (put_number g r w v) r w ≡ v % 256 ^ w
+pub number-put : (g : Regs) (r w v : ℕ) → number (put_number g r w v) r w ≡ v % 256 ^ w
 number-put g r zero v = omega arith
 number-put g r (suc w) v =
     let low : (put_number g r (suc w) v).of r ≡ v % 256 =
     put_number-beside (put g r (v % 256)) (suc r) w (v / 256) r (inl (omega arith)) ∙ put_same g r (v % 256) in
     cut v w _ _ low (number-put (put g r (v % 256)) (suc r) w (v / 256))
 
-number-beside : (g : Regs) (r w v f n : ℕ) → (f + n ≤ r) ⊎ (r + w ≤ f) → number (put_number g r w v) f n ≡ number g f n
+pub number-beside : (g : Regs) (r w v f n : ℕ) → (f + n ≤ r) ⊎ (r + w ≤ f) → number (put_number g r w v) f n ≡ number g f n
 number-beside g r w v f zero h = refl
 number-beside g r w v f (suc n) (inl h) =
     let one = put_number-beside g r w v f (inl (omega arith)) in

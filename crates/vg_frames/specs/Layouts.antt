@@ -38,6 +38,7 @@ IsSpot l (InFrame at) w = (l.pointed ≡ true) × (at + w ≤ frame_size l) × (
 IsSpot l (InRegisters r) w = (2 ≤ r) × (r + w ≤ 18) × ((d : ℕ) → r ≤ d → d < r + w → IsIn d l.saved)
 
 pub record IsLayout (l : Layout) : Type 0 where
+  pub narrow : (k : ℕ) → k < length l.widths → width_of l k ≤ 4
   pub spot : (k : ℕ) → k < length l.widths → IsSpot l (l.spots k) (width_of l k)
   pub apart : (place j k : ℕ) → l.live place j ≡ true → l.live place k ≡ true → j ≢ k → Apart (l.spots j) (width_of l j) (l.spots k) (width_of l k)
   pub pointer : l.pointed ≡ true → IsIn 28 l.saved × IsIn 29 l.saved

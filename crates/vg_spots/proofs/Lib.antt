@@ -1,0 +1,5 @@
+pub mod Composing
+pub mod Moving
+pub mod Accessing
+pub mod Spotting
+pub mod Holding

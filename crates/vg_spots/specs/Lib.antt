@@ -1,0 +1,4 @@
+pub mod Pieces
+pub mod Transfers
+pub mod Outcomes
+pub mod Held
