@@ -43,8 +43,8 @@ Typed k looped below Break x y = (looped ≡ true) × (below + x ≡ 0) × (y �
 Typed k looped below Continue x y = (looped ≡ true) × (below + x ≡ 0) × (y ≡ 0)
 Typed k looped below Return x y = (below ≡ 0) × (x ≡ 1) × (y ≡ 0)
 
--- A packed procedure is typed: it has at most 60 parameters and locals, at most 48 values wait at one time, and nothing waits where
+-- A packed procedure is typed: it has at most 60 parameters and locals, at most 191 values wait at one time, and nothing waits where
 -- its body begins and ends.
 pub record IsTyped (lay : Layout) (m : Procedure) : Type 0 where
   pub few : length m.widths ≤ 60
-  pub code : Typed (record { layout = lay; locals = length m.widths; most = 48 }) false 0 m.body 0 0
+  pub code : Typed (record { layout = lay; locals = length m.widths; most = 191 }) false 0 m.body 0 0

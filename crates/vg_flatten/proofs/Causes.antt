@@ -32,14 +32,14 @@ module _ (lay : Layout) (m : Procedure) (r : Room) (receiver : r.receiver ≡ re
   not_taken (Gives b s) h = inl h
   not_taken (Refused why) h = h
 
-  cause_by : (e : Refusal Fault) → WholeFails e (made_of lay m) → IsCause e lay m
+  cause_by : (e : Refusal Fault) → WholeFails e (made_of lay m) m → IsCause e lay m
   cause_by Memory h = tt
-  cause_by (Faulty TooLong) h = tt
+  cause_by (Faulty TooLong) h = h
   cause_by (Faulty TooHigh) h = inr h
   cause_by (Faulty NotTaken) h = not_taken (made_of lay m) h
 
-  pub failed : (e : Refusal Fault) → WholeFails e (flat lay r m.body empty) → IsCause e lay m
-  failed e h = cause_by e (subst (WholeFails e) made_is h)
+  pub failed : (e : Refusal Fault) → WholeFails e (flat lay r m.body empty) m → IsCause e lay m
+  failed e h = cause_by e (subst (λ z. WholeFails e z m) made_is h)
 
   unfit_in : (made : Made) (code : List Open) → IsWhole code made m → (AllSet code → ⊥) → IsNotTakenAs m made
   unfit_in (Refused why) code h no' = absurd h

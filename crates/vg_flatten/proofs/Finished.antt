@@ -1,6 +1,8 @@
 -- That what the code makes of a procedure is the flattened procedure.
 use Rattle.std.specs.Prelude.{◌≡◌, ℕ, zero, suc, ◌+◌, ◌-◌, ◌<◌, ◌≤◌, true, false, List, [], ◌∷◌, ◌++◌, length, drop, map, replicate, Some}
 use Rattle.std.specs.List.{AllByRecursion}
+use Rattle.std.specs.Prelude.{Result, Ok, Err}
+use Rattle.std.specs.Result.{IsErrAnd}
 use Rattle.std.proofs.lemmas.List.{append_assoc}
 use Rattle.std.proofs.Common.{refl, sym, ap, ◌∙◌, subst, arith}
 use Rattle.vg_firm.specs.Program.{Procedure as FirmProcedure}
@@ -22,8 +24,15 @@ use Rattle.vg_flatten_control.specs.Flat.{flat}
 use Rattle.vg_flatten.specs.Closing.{AllSet}
 use Rattle.vg_flatten_shapes.specs.Blocks.{set_in}
 use Rattle.vg_flatten.specs.Flattened.{zeroes, zero_list, receivers, own_widths, own_params, widened, all_widths, whole, IsFlat}
-use Rattle.vg_flatten_shapes.specs.Laying.{IsPiece}
-use Rattle.vg_flatten.specs.Sealing.{IsWhole}
+use Rattle.vg_flatten_shapes.specs.Laying.{IsPiece, Fails}
+use Rattle.vg_flatten_shapes.specs.Blocks.{block_size}
+use Rattle.vg_flatten_shapes.proofs.Sizes.{block_long}
+use Rattle.vg_base.specs.declared.refusal.Refusal.{Refusal}
+use Rattle.vg_base.specs.declared.refusal.Refusal.TheVariants.{Fault as Faulty, NoMemory as Memory}
+use Rattle.vg_flatten_shapes.specs.declared.fault.Fault.{Fault}
+use Rattle.vg_flatten_shapes.specs.declared.fault.Fault.TheVariants.{NotTaken, TooHigh, TooLong}
+use Rattle.vg_flatten.specs.Refusals.{IsTooLong}
+use Rattle.vg_flatten.specs.Sealing.{IsNotTaken, IsWhole, WholeFails, Wholes}
 use Rattle.vg_flatten.proofs.Sound.{MadeIn, BlockIn, in_flat}
 use Rattle.vg_flatten.proofs.Whole.{whole_sound, own_long, in_zeroes}
 use Rattle.vg_flatten.proofs.Onward.{leads_onward}
@@ -78,6 +87,46 @@ whole_laid m (Gives b s) body first rest code at hf ha hp he hr hc = (
 
     place : at ≡ 0 + length (open_code (zeroes (length m.widths - m.params) (own_params m)) 0)
     place = ha ∙ ap (λ z. 0 + length z) zs
+
+-- what is too long in a part is too long in the whole
+zeroes_long : (m : FirmProcedure) (first : List Open) → first ≡ zero_list (length m.widths - m.params) (own_params m)
+    → length first ≤ block_size (zeroes (length m.widths - m.params) (own_params m))
+zeroes_long m first hf =
+    let is = ap length (hf ∙ sym (zero_code (length m.widths - m.params) (own_params m) 0)) in
+    let l = block_long (zeroes (length m.widths - m.params) (own_params m)) 0 in
+    omega (arith, is, l)
+
+whole_late : (m : FirmProcedure) (made : Made) (first : List Open) (e : Refusal Fault) (n : ℕ) → first ≡ zero_list (length m.widths - m.params) (own_params m)
+    → n ≡ length first → (e ≡ Faulty TooLong) × (65535 < 0 + n) → WholeFails e made m
+whole_late m made first e n hf en h = subst (λ z. WholeFails z made m) (sym h.0) (by_made made)
+  where
+    by_made : (made : Made) → IsTooLong m made
+    by_made (Gives b s) = let far = h.1 in let l = zeroes_long m first hf in omega (arith, far, l, en)
+    by_made (Refused why) = tt
+
+whole_fails : (m : FirmProcedure) (made : Made) (first : List Open) (at : ℕ) (e : Refusal Fault)
+    → first ≡ zero_list (length m.widths - m.params) (own_params m) → at ≡ 0 + length first → Fails e at made → WholeFails e made m
+whole_fails m made first at Memory hf ep h = tt
+whole_fails m made first at (Faulty TooHigh) hf ep h = h
+whole_fails m made first at (Faulty NotTaken) hf ep h = subst IsNotTaken (sym h) refl
+whole_fails m (Refused why) first at (Faulty TooLong) hf ep h = tt
+whole_fails m (Gives b s) first at (Faulty TooLong) hf ep h = let l = zeroes_long m first hf in omega (arith, h, l, ep)
+
+whole_err : (res : Result (List Open) (Refusal Fault)) (e : Refusal Fault) (made : Made) (m : FirmProcedure) → IsErrAnd res (λ y. y ≡ e) → WholeFails e made m
+    → Wholes res made m
+whole_err (Ok code) e made m r h = absurd r
+whole_err (Err y) e made m r h = subst (λ z. WholeFails z made m) (sym r) h
+
+pub late_lays : (m : FirmProcedure) (made : Made) (first : List Open) (res : Result (List Open) (Refusal Fault)) (e : Refusal Fault) (n : ℕ)
+    → IsErrAnd res (λ y. y ≡ e) → first ≡ zero_list (length m.widths - m.params) (own_params m) → n ≡ length first
+    → (e ≡ Faulty TooLong) × (65535 < 0 + n) → Wholes res made m
+late_lays m made first res e n r hf en h = whole_err res e made m r (whole_late m made first e n hf en h)
+
+pub fails_lays : (m : FirmProcedure) (go : Shape → Made) (s : Shape) (first : List Open) (at : ℕ) (res : Result (List Open) (Refusal Fault)) (e : Refusal Fault)
+    → IsErrAnd res (λ y. y ≡ e) → s ≡ empty → first ≡ zero_list (length m.widths - m.params) (own_params m) → at ≡ 0 + length first → Fails e at (go s)
+    → Wholes res (go empty) m
+fails_lays m go s first at res e r is hf ep h =
+    whole_err res e (go empty) m r (whole_fails m (go empty) first at e hf ep (subst (λ z. Fails e at (go z)) is h))
 
 module _ (lay : Layout) (m : FirmProcedure) (r : Room) (receiver : r.receiver ≡ receivers m.receives) (locals : r.locals ≡ length (own_widths m))
     (few : r.locals + r.temps ≤ 252) (hp : m.params ≤ length m.widths)

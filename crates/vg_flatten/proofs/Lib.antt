@@ -1,6 +1,7 @@
 pub mod Sound
 pub mod Typed
 pub mod Sizes
+pub mod Calls
 pub mod Jumps
 pub mod Whole
 pub mod Starting

@@ -39,8 +39,8 @@ use Rattle.vg_flatten_shapes.specs.declared.layout.Layout.{Layout}
 use Rattle.vg_flatten_shapes.specs.declared.room.Room.{Room}
 use Rattle.vg_flatten_shapes.specs.Shapes.{Shape, only, empty, is_empty, is_free, same_operand, same_homes, taken, temp}
 use Rattle.vg_flatten_shapes.specs.Blocks.{Block, Skip, One, CallTo, TakeInterrupt, GiveBack, BreakOut, GoOn, Both, Choice, Repeat, stop_where}
-use Rattle.vg_flatten_shapes.specs.Blocks.{branch, closed, call_code, open_code, set_in}
-use Rattle.vg_flatten_shapes.proofs.Choices.{choice_cases}
+use Rattle.vg_flatten_shapes.specs.Blocks.{open_code, block_size, set_in}
+use Rattle.vg_flatten_shapes.proofs.Sizes.{block_long}
 use Rattle.vg_flatten_shapes.specs.Made.{Made, Gives, Refused, behind, after, by_temp, settled, settled_as, Tested, tested, is_zero}
 use Rattle.vg_flatten_values.specs.Values.{computing, comparing, computed, operated, operated_as, bytes_of, bytes_around, cut_bits, cut, applied}
 use Rattle.vg_flatten_values.specs.Values.{divided, masked, shifted_left, shifted_right, combined, divisor_checked, may_be_zero}
@@ -54,75 +54,6 @@ use Rattle.vg_flatten_control.specs.Flat.{landed_as, landed, joined, chosen, whe
 use Rattle.vg_flatten_control.specs.Flat.{given_back, flat}
 use Rattle.vg_flatten.specs.Flattened.{zeroes, own_params, whole, IsFlat}
 use Rattle.vg_flatten.specs.Sizes.{step_size, code_size, procedure_size}
-
--- ---- blocks
-
--- At most so many instructions are in a block.
-abbrev pub block_size : Block → ℕ
-block_size Skip = 0
-block_size (CallTo pushed c) = length pushed + 1
-block_size (Both a b) = block_size a + block_size b
-block_size (Choice t a b) = 2 + block_size a + block_size b
-block_size (Repeat p t body next) = 2 + block_size p + block_size body + block_size next
-block_size b = 1
-
-call_long : (pushed : List Operand) (c : Calling) → length (call_code pushed c) ≤ length pushed + 1
-call_long [] c = omega arith
-call_long (a ∷ more) c = let h = call_long more c in omega (arith, h)
-
-pub block_long : (b : Block) (at : ℕ) → length (open_code b at) ≤ block_size b
-block_long Skip at = omega arith
-block_long (One p) at = omega arith
-block_long (CallTo pushed c) at = call_long pushed c
-block_long TakeInterrupt at = omega arith
-block_long (GiveBack a) at = omega arith
-block_long BreakOut at = omega arith
-block_long GoOn at = omega arith
-block_long (Both a b) at =
-    let l = length-append (open_code a at) (open_code b (at + length (open_code a at))) in
-    let ha = block_long a at in
-    let hb = block_long b (at + length (open_code a at)) in
-    omega (arith, l, ha, hb)
-block_long (Choice t a b) at =
-    choice_cases (λ z. length z ≤ 2 + block_size a + block_size b) t at xs ys
-    (λ e. let ha = block_long a (at + 1) in omega (arith, ha))
-    (let l = length-append xs (Set (Jump (at + 1 + length xs + 1 + length ys)) ∷ ys) in
-    let ha = block_long a (at + 1) in
-    let hb = block_long b (at + 1 + length xs + 1) in
-    omega (arith, l, ha, hb))
-  where
-    xs : List Open
-    xs = open_code a (at + 1)
-
-    ys : List Open
-    ys = open_code b (at + 1 + length xs + 1)
-block_long (Repeat p t body next) at =
-    let l1 = length-append xs (Set (branch t e) ∷ (map (closed e n) ys ++ (zs ++ (Set (Jump at) ∷ [])))) in
-    let l2 = length-append (map (closed e n) ys) (zs ++ (Set (Jump at) ∷ [])) in
-    let l3 = length-append zs (Set (Jump at) ∷ []) in
-    let l4 = length-map ys (closed e n) in
-    let hp = block_long p at in
-    let hb = block_long body u in
-    let hn = block_long next n in
-    omega (arith, l1, l2, l3, l4, hp, hb, hn)
-  where
-    xs : List Open
-    xs = open_code p at
-
-    u : ℕ
-    u = at + length xs + 1
-
-    ys : List Open
-    ys = open_code body u
-
-    n : ℕ
-    n = u + length ys
-
-    zs : List Open
-    zs = open_code next n
-
-    e : ℕ
-    e = n + length zs + 1
 
 -- ---- what is made
 
@@ -307,7 +238,7 @@ module _ (lay : Layout) (r : Room) where
   multiplied_few : (to by : ℕ) (h : Operand) → block_size (multiplied to by h) ≤ 1
   multiplied_few to by h = by_one (by == 1)
     where
-      by_one : (b : Bool) → block_size (if b then Skip else One (Compute (record { operator = Product; width = 4; to = to; left = h; right = Known by }))) ≤ 1
+      by_one : (b : Bool) → block_size (if b then Skip else One (Compute (record { operator = Product; width = 2; to = to; left = h; right = Known by }))) ≤ 1
       by_one true = omega arith
       by_one false = omega arith
 

@@ -451,7 +451,7 @@ module _ (L : Type 0) (lay : Layout) (r : Room) where
   in_multiplied : (to by : ℕ) (h : Operand) → to < size → IsIn size h → BlockIn L size (multiplied to by h)
   in_multiplied to by h lt hh = by_one (by == 1)
     where
-      by_one : (b : Bool) → BlockIn L size (if b then Skip else One (Compute (record { operator = Product; width = 4; to = to; left = h; right = Known by })))
+      by_one : (b : Bool) → BlockIn L size (if b then Skip else One (Compute (record { operator = Product; width = 2; to = to; left = h; right = Known by })))
       by_one true = tt
       by_one false = (omega arith, omega arith, lt, hh, tt)
 

@@ -57,8 +57,8 @@ use Rattle.vg_firm_typed.specs.Steps.{takes, leaves, IsWidth, columns_of, Names}
 use Rattle.vg_firm_typed.specs.Typed.{Known as Knows, Leads, IsAlone, Typed, IsTyped}
 use Rattle.vg_flatten.specs.Closing.{AllSet}
 use Rattle.vg_flatten.specs.Flattened.{zeroes, receivers, with_receiver_width, own_widths, own_params, whole}
-use Rattle.vg_flatten.specs.Refusals.{temps_for, room_for, made_of, IsNotTakenAs, IsTooHigh, IsCause, IsRefusedFor}
-use Rattle.vg_flatten.specs.Taking.{IsLeft, IsTaken}
+use Rattle.vg_flatten.specs.Refusals.{temps_for, room_for, made_of, IsNotTakenAs, IsTooHigh, IsTooLong, IsCause, IsRefusedFor}
+use Rattle.vg_flatten.specs.Taking.{IsMadeTooLong, IsLeft, IsTaken}
 
 -- ---- what is made of typed code
 
@@ -379,7 +379,7 @@ module _ (lay : Layout) (r : Room) (looped : Bool) (under : List Operand) where
   stays_multiplied : (to by : ℕ) (h : Operand) → Stays looped (multiplied to by h)
   stays_multiplied to by h = by_one (by == 1)
     where
-      by_one : (b : Bool) → Stays looped (if b then Skip else One (Compute (record { operator = Product; width = 4; to = to; left = h; right = Known by })))
+      by_one : (b : Bool) → Stays looped (if b then Skip else One (Compute (record { operator = Product; width = 2; to = to; left = h; right = Known by })))
       by_one true = tt
       by_one false = tt
 
@@ -821,11 +821,8 @@ module _ (lay : Layout) (m : Procedure) (typed : IsTyped lay m) where
       one true = omega arith
       one false = omega arith
 
-  temps : temps_for (length (own_widths m)) ≡ 48
-  temps = at_most (length (own_widths m)) few
-    where
-      at_most : (n : ℕ) → n ≤ 61 → temps_for n ≡ 48
-      at_most n le = grind arith
+  temps : 191 ≤ temps_for (length (own_widths m))
+  temps = let le = few in omega (arith, le)
 
   itself : (b : Bool) (ws : List ℕ) → ((receivers b == 0) ≡ true) ⊎ (0 < length (with_receiver_width b ws))
   itself true ws = inr (omega arith)
@@ -833,7 +830,7 @@ module _ (lay : Layout) (m : Procedure) (typed : IsTyped lay m) where
 
   body_fine : Fine false [] 0 (made_of lay m)
   body_fine =
-      fine_flat lay (room_for m) (record { layout = lay; locals = length m.widths; most = 48 }) refl
+      fine_flat lay (room_for m) (record { layout = lay; locals = length m.widths; most = 191 }) refl
       (λ i lt. let l = receiver_few m.receives m.widths in omega (arith, l, lt)) (itself m.receives m.widths) (omega (arith, temps)) (omega (arith, temps))
       m.body false [] empty 0 0 typed.code (nothing [] 0 refl)
 
@@ -850,13 +847,17 @@ module _ (lay : Layout) (m : Procedure) (typed : IsTyped lay m) where
   not_high (inl lt) = let f = few in omega (arith, lt, f)
   not_high (inr e) = high_by (made_of lay m) body_fine e
 
+  long_by : (made : Made) → Fine false [] 0 made → IsTooLong m made → IsMadeTooLong m made
+  long_by (Gives b s) h g = g
+  long_by (Refused why) h g = h
+
   -- the cause of a refusal is none that typed procedures have
-  pub no_cause : (e : Refusal Fault) → IsCause e lay m → IsLeft e
+  pub no_cause : (e : Refusal Fault) → IsCause e lay m → IsLeft e lay m
   no_cause OutOfMemory h = tt
-  no_cause (Faulty TooLong) h = tt
+  no_cause (Faulty TooLong) h = long_by (made_of lay m) body_fine h
   no_cause (Faulty TooHigh) h = not_high h
   no_cause (Faulty NotTaken) h = taken_by (made_of lay m) body_fine h
 
-  pub is_taken : (answer : Result LinProcedure (Refusal Fault)) → IsRefusedFor answer lay m → IsTaken answer
+  pub is_taken : (answer : Result LinProcedure (Refusal Fault)) → IsRefusedFor answer lay m → IsTaken answer lay m
   is_taken (Ok p) h = tt
   is_taken (Err e) h = no_cause e h

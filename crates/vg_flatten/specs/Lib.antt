@@ -6,3 +6,4 @@ pub mod Loops
 pub mod Sealing
 pub mod Taking
 pub mod Sizes
+pub mod Calls

@@ -1,5 +1,5 @@
 -- When a procedure is not flattened.
-use Rattle.std.specs.Prelude.{◌≡◌, ◌⊎◌, ℕ, ◌-◌, ◌<◌, nat_lt, false, length, Result, Ok, Err, if◌then◌else◌}
+use Rattle.std.specs.Prelude.{◌≡◌, ◌⊎◌, ℕ, ◌-◌, ◌<◌, false, length, Result, Ok, Err}
 use Rattle.vg_base.specs.declared.refusal.Refusal.{Refusal}
 use Rattle.vg_base.specs.declared.refusal.Refusal.TheVariants.{Fault as Faulty, NoMemory as Memory}
 use Rattle.vg_firm.specs.Program.{Procedure}
@@ -9,15 +9,15 @@ use Rattle.vg_flatten_shapes.specs.declared.fault.Fault.TheVariants.{NotTaken, T
 use Rattle.vg_flatten_shapes.specs.declared.layout.Layout.{Layout}
 use Rattle.vg_flatten_shapes.specs.declared.room.Room.{Room}
 use Rattle.vg_flatten_shapes.specs.Shapes.{empty, is_empty}
-use Rattle.vg_flatten_shapes.specs.Blocks.{open_code}
+use Rattle.vg_flatten_shapes.specs.Blocks.{open_code, block_size}
 use Rattle.vg_flatten_shapes.specs.Made.{Made, Gives, Refused}
 use Rattle.vg_flatten_control.specs.Flat.{flat}
 use Rattle.vg_flatten.specs.Closing.{AllSet}
 use Rattle.vg_flatten.specs.Flattened.{receivers, own_widths, whole}
 
--- 48 temporaries, or as many as there is room for beside the locals.
+-- As many temporaries as there is room for beside the locals.
 abbrev pub temps_for : (locals : ℕ) → ℕ
-temps_for n = if nat_lt 204 n then 252 - n else 48
+temps_for n = 252 - n
 
 abbrev pub room_for : Procedure → Room
 room_for m = record { receiver = receivers m.receives; locals = length (own_widths m); temps = temps_for (length (own_widths m)) }
@@ -35,12 +35,18 @@ IsNotTakenAs m (Gives b s) = (is_empty s ≡ false) ⊎ (AllSet (open_code (whol
 abbrev pub IsTooHigh : Layout → Procedure → Type 0
 IsTooHigh lay m = (252 < length (own_widths m)) ⊎ (made_of lay m ≡ Refused TooHigh)
 
--- The cause of a refusal; that some place would be above 65,535 is said of no more than the answer itself.
+-- The instructions lead to one of the last 16 places, or behind them: there are more than 65,519, where a choice counts with the jump
+-- before its second way. Of what is refused anyway nothing is said.
+abbrev pub IsTooLong : Procedure → Made → Type 0
+IsTooLong m (Gives b s) = 65519 < block_size (whole m b)
+IsTooLong m (Refused why) = Unit {0}
+
+-- The cause of a refusal.
 abbrev pub IsCause : Refusal Fault → Layout → Procedure → Type 0
 IsCause Memory lay m = Unit {0}
 IsCause (Faulty NotTaken) lay m = IsNotTakenAs m (made_of lay m)
 IsCause (Faulty TooHigh) lay m = IsTooHigh lay m
-IsCause (Faulty TooLong) lay m = Unit {0}
+IsCause (Faulty TooLong) lay m = IsTooLong m (made_of lay m)
 
 abbrev pub IsRefusedFor : Result LinProcedure (Refusal Fault) → Layout → Procedure → Type 0
 IsRefusedFor (Ok p) lay m = Unit {0}

@@ -10,6 +10,7 @@ use Rattle.vg_flatten_shapes.specs.Shapes.{is_empty}
 use Rattle.vg_flatten.specs.Closing.{AllSet}
 use Rattle.vg_flatten_shapes.specs.Blocks.{set_in}
 use Rattle.vg_flatten.specs.Flattened.{whole}
+use Rattle.vg_flatten.specs.Refusals.{IsTooLong}
 use Rattle.vg_firm.specs.Program.{Procedure as FirmProcedure}
 use Rattle.vg_lin.specs.declared.instr.Instr.{Instr}
 use Rattle.vg_flatten_shapes.specs.Made.{Made, Gives, Refused}
@@ -27,11 +28,11 @@ abbrev pub IsNotTaken : Made → Type 0
 IsNotTaken (Gives b s) = is_empty s ≡ false
 IsNotTaken (Refused why) = why ≡ NotTaken
 
-abbrev pub WholeFails : Refusal Fault → Made → Type 0
-WholeFails Memory m = Unit {0}
-WholeFails (Faulty TooLong) m = Unit {0}
-WholeFails (Faulty TooHigh) m = m ≡ Refused TooHigh
-WholeFails (Faulty NotTaken) m = IsNotTaken m
+abbrev pub WholeFails : Refusal Fault → Made → FirmProcedure → Type 0
+WholeFails Memory made m = Unit {0}
+WholeFails (Faulty TooLong) made m = IsTooLong m made
+WholeFails (Faulty TooHigh) made m = made ≡ Refused TooHigh
+WholeFails (Faulty NotTaken) made m = IsNotTaken made
 
 abbrev pub IsWhole : List Open → Made → FirmProcedure → Type 0
 IsWhole code (Gives b s) m = (is_empty s ≡ true) × (code ≡ open_code (whole m b) 0)
@@ -39,4 +40,4 @@ IsWhole code (Refused why) m = ⊥
 
 abbrev pub Wholes : Result (List Open) (Refusal Fault) → Made → FirmProcedure → Type 0
 Wholes (Ok code) made m = IsWhole code made m
-Wholes (Err e) made m = WholeFails e made
+Wholes (Err e) made m = WholeFails e made m

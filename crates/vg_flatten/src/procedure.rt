@@ -1,5 +1,5 @@
 // Procedures, flattened.
-ghost use Rattle.std.specs.Prelude.{◌↔◌, ◌≡◌, ◌+◌, ◌-◌, ◌≤◌, ◌++◌, ◌∷◌, [], true, false, min, map, length, nat_le, replicate, IfOk, OnOk, IsTrue, Some, None};
+ghost use Rattle.std.specs.Prelude.{◌↔◌, ◌≡◌, ◌+◌, ◌-◌, ◌≤◌, ◌++◌, ◌∷◌, [], true, false, map, length, nat_le, replicate, IfOk, IfSome, OnOk, IsTrue, Some, None};
 ghost use Rattle.std.specs.List.{AllByRecursion};
 ghost use Rattle.vg_firm.specs.Held.{procedure_of, code_of};
 ghost use Rattle.vg_lin.specs.Sound.{IsWidth};
@@ -13,6 +13,7 @@ ghost use Rattle.vg_flatten.specs.Loops.{has_loop};
 ghost use Rattle.vg_flatten.specs.Refusals.{temps_for, IsRefusedFor};
 ghost use Rattle.vg_flatten.specs.Taking.{IsTaken};
 ghost use Rattle.vg_flatten.specs.Sizes.{procedure_size};
+ghost use Rattle.vg_flatten.specs.Calls.{calls_in, calls_of};
 ghost use Rattle.vg_firm_typed.specs.Typed.{IsTyped};
 ghost use Rattle.vg_flatten_control.specs.Flat.{flat};
 ghost use Rattle.vg_flatten_shapes.specs.Shapes.{empty};
@@ -142,19 +143,20 @@ fn widened(alloc: Global, count: u8, widths: &[u8]) -> Result<Row<u8>, NoMemory>
     Ok(row)
 }
 
-/// As many temporaries as values may wait at one time, or as many as there is room for beside so many locals.
+/// As many temporaries as there is room for beside so many locals.
 fn temps_beside(locals: u8) -> u8
     requires { locals ≤ 252 }
     ensures few { locals + result ≤ 252 }
     ensures is { result ≡ temps_for locals }
 {
-    if locals > 204 { 252 - locals } else { 48 }
+    252 - locals
 }
 
 /// A procedure as linear code, in a program whose columns stand so and of whose procedures these get a receiver.
 ///
 /// It refuses what it does not take. Of a typed procedure it takes each step, and each value finds a temporary: then the only cause but
-/// want of memory is that an instruction would have a place above 65,535.
+/// want of memory is that there would be more than 65,519 instructions. The calls of the procedure stand in its code, each once and in
+/// their order, and no other; it has at most 252 locals, and a jump back only where its body has a loop.
 pub fn flatten(
     alloc: Global,
     layout: &Layout,
@@ -166,7 +168,9 @@ pub fn flatten(
     ensures onward { IfOk result (λ p. has_loop (code_of procedure.now.body) ≡ false → all_lead_on 0 p.code ≡ true) }
     ensures refusal { IsRefusedFor result layout.now (procedure_of procedure.now) }
     ensures short { IfOk result (λ p. length p.code ≤ procedure_size (procedure_of procedure.now)) }
-    ensures typed { IsTyped layout.now (procedure_of procedure.now) → IsTaken result }
+    ensures calls { IfOk result (λ p. calls_in p.code ≡ calls_of (code_of procedure.now.body)) }
+    ensures few { IfOk result (λ p. length p.widths ≤ 252) }
+    ensures typed { IsTyped layout.now (procedure_of procedure.now) → IsTaken result layout.now (procedure_of procedure.now) }
 {
     flattened(alloc, layout, procedure)
 }
@@ -180,16 +184,65 @@ fn flattened(
     requires widths { AllByRecursion IsWidth procedure.now.widths }
     ensures flat { IfOk result (λ p. IsFlat layout.now (procedure_of procedure.now) p) }
     ensures onward { IfOk result (λ p. has_loop (code_of procedure.now.body) ≡ false → all_lead_on 0 p.code ≡ true) }
+    ensures few { IfOk result (λ p. length p.widths ≤ 252) }
     ensures refusal { IsRefusedFor result layout.now (procedure_of procedure.now) }
 {
-    let receiver = receivers(procedure.receives);
     let own = with_receiver_width(alloc, procedure.receives, procedure.widths.as_slice())?;
     let count = own.len();
     if count > 252 {
         return Err(Refusal::Fault(Fault::TooHigh));
     }
+    let most = temps_beside(count as u8);
+    match with_fewest(alloc, layout, procedure, own.as_slice(), most) {
+        Some(made) => Ok(made),
+        None => flattened_with(alloc, layout, procedure, own.as_slice(), most),
+    }
+}
+
+/// The procedure with as few temporaries as it can do with, where they are fewer than these: no local is there for nothing.
+fn with_fewest(
+    alloc: Global,
+    layout: &Layout,
+    procedure: &Procedure,
+    own: &[u8],
+    most: u8,
+) -> Option<LinProc>
+    requires params { procedure.now.params ≤ length procedure.now.widths }
+    requires widths { AllByRecursion IsWidth procedure.now.widths }
+    requires own { own.now ≡ own_widths (procedure_of procedure.now) }
+    requires room { length own.now + most ≤ 252 }
+    ensures flat { IfSome result (λ p. IsFlat layout.now (procedure_of procedure.now) p) }
+    ensures onward { IfSome result (λ p. has_loop (code_of procedure.now.body) ≡ false → all_lead_on 0 p.code ≡ true) }
+    ensures few { IfSome result (λ p. length p.widths ≤ 252) }
+{
+    for temps in 0..most {
+        if let Ok(made) = flattened_with(alloc, layout, procedure, own, temps) {
+            return Some(made);
+        }
+    }
+    None
+}
+
+/// The procedure with so many temporaries behind its own locals.
+fn flattened_with(
+    alloc: Global,
+    layout: &Layout,
+    procedure: &Procedure,
+    own: &[u8],
+    temps: u8,
+) -> Result<LinProc, Refusal<Fault>>
+    requires params { procedure.now.params ≤ length procedure.now.widths }
+    requires widths { AllByRecursion IsWidth procedure.now.widths }
+    requires own { own.now ≡ own_widths (procedure_of procedure.now) }
+    requires room { length own.now + temps ≤ 252 }
+    ensures flat { IfOk result (λ p. IsFlat layout.now (procedure_of procedure.now) p) }
+    ensures onward { IfOk result (λ p. has_loop (code_of procedure.now.body) ≡ false → all_lead_on 0 p.code ≡ true) }
+    ensures few { IfOk result (λ p. length p.widths ≤ 252) }
+    ensures refusal { temps ≡ temps_for (length own.now) → IsRefusedFor result layout.now (procedure_of procedure.now) }
+{
+    let receiver = receivers(procedure.receives);
+    let count = own.len();
     let locals = count as u8;
-    let temps = temps_beside(locals);
     let room = Room {
         receiver,
         locals,
@@ -199,6 +252,8 @@ fn flattened(
     let instrs = sealed(alloc, code.as_slice())?;
     let params = receiver + procedure.params;
     let pushed = params.saturating_sub(4);
-    let widths = with_temps(widened(alloc, pushed, own.as_slice())?, temps)?;
-    Ok(LinProc::new(Some(procedure.method), params, widths, instrs))
+    let widths = with_temps(widened(alloc, pushed, own)?, temps)?;
+    let made = LinProc::new(Some(procedure.method), params, widths, instrs);
+    made.keeps();
+    Ok(made)
 }

@@ -14,18 +14,21 @@ use Rattle.vg_flatten_shapes.specs.declared.piece.Piece.{Piece}
 use Rattle.vg_flatten_shapes.specs.Shapes.{Shape}
 use Rattle.vg_flatten_shapes.specs.Blocks.{Block, Skip, Both, open_code}
 use Rattle.vg_flatten_shapes.specs.Made.{Made, Gives, Refused, after, behind}
-use Rattle.vg_flatten_shapes.specs.Laying.{IsPiece, Fails}
+use Rattle.vg_flatten_shapes.specs.Laying.{IsLong, IsPiece, Fails}
+use Rattle.vg_flatten_shapes.proofs.Sizes.{block_long, late}
+use Rattle.vg_flatten_control.proofs.Failing.{first_fails}
 
 -- What the rest becomes from the place behind the code so far tells what the whole becomes.
 pub record Along (at : ℕ) (whole rest : Made) (code : List Open) : Type 0 where
   pub made : (b : Block) (s : Shape) → rest ≡ Gives b s
       → (all : Block) × (whole ≡ Gives all s) × (open_code all at ≡ code ++ open_code b (at + length code))
   pub refused : (why : Fault) → rest ≡ Refused why → whole ≡ Refused why
+  pub long : IsLong (at + length code) rest → IsLong at whole
 
 pub along_starts : (at : ℕ) (m : Made) (code : List Open) → code ≡ [] → Along at m m code
 along_starts at m code e =
     subst (Along at m m) (sym e)
-    (record { made = λ b s h. (b, h, ap (open_code b) (from_zero at)); refused = λ why h. h })
+    (record { made = λ b s h. (b, h, ap (open_code b) (from_zero at)); refused = λ why h. h; long = λ h. subst (λ n. IsLong n m) (sym (from_zero at)) h })
   where
     from_zero : (n : ℕ) → n ≡ n + 0
     from_zero n = omega arith
@@ -36,7 +39,11 @@ pub along_on : (at place : ℕ) (whole m : Made) (more : Shape → Made) (code n
 along_on at place whole (Refused why) more code new piece h ep hp en = absurd hp
 along_on at place whole (Gives a s1) more code new piece h ep hp en =
     subst (λ z. Along at whole (more z) new) (sym hp.1)
-    (record { made = λ b s e. made_of b s (more s1) refl e; refused = λ why e. h.refused why (ap (behind a) e) })
+    (record {
+      made = λ b s e. made_of b s (more s1) refl e;
+      refused = λ why e. h.refused why (ap (behind a) e);
+      long = λ far. h.long (longer (more s1) far);
+    })
   where
     code_is : piece.code ≡ open_code a (at + length code)
     code_is = hp.0 ∙ ap (open_code a) ep
@@ -51,6 +58,14 @@ along_on at place whole (Gives a s1) more code new piece h ep hp en =
       where
         sum_is : (x y z : ℕ) → z ≡ x + y → at + x + y ≡ at + z
         sum_is x y z e = omega (arith, e)
+
+    longer : (m : Made) → IsLong (at + length new) m → IsLong (at + length code) (behind a m)
+    longer (Gives b s) far =
+        let l = block_long a (at + length code) in
+        let is = ap length code_is in
+        let all = ap length en in
+        omega (arith, far, l, is, all, n)
+    longer (Refused why) far = tt
 
     joins : (b : Block)
         → code ++ open_code (Both a b) (at + length code) ≡ new ++ open_code b (at + length new)
@@ -88,9 +103,15 @@ along_ends at whole rest code s h e = by_made (h.made Skip s e)
         subst (λ z. IsPiece (record { code = code; homes = s }) at z) (sym is) (sym (append-nil code) ∙ sym c, refl)
 
 -- a part that is refused
-pub along_fails : (at : ℕ) (whole m : Made) (more : Shape → Made) (code : List Open) (e : Refusal Fault) → Along at whole (after m more) code → Fails e m
-    → Fails e whole
-along_fails at whole m more code Memory h f = tt
-along_fails at whole m more code (Faulty TooLong) h f = tt
-along_fails at whole m more code (Faulty NotTaken) h f = h.refused NotTaken (ap (λ z. after z more) f)
-along_fails at whole m more code (Faulty TooHigh) h f = h.refused TooHigh (ap (λ z. after z more) f)
+pub along_fails : (at place : ℕ) (whole m : Made) (more : Shape → Made) (code : List Open) (e : Refusal Fault) → Along at whole (after m more) code
+    → place ≡ at + length code → Fails e place m → Fails e at whole
+along_fails at place whole m more code Memory h ep f = tt
+along_fails at place whole m more code (Faulty TooLong) h ep f = h.long (first_fails (at + length code) m more (Faulty TooLong) (subst (λ n. IsLong n m) ep f))
+along_fails at place whole m more code (Faulty NotTaken) h ep f = h.refused NotTaken (ap (λ z. after z more) f)
+along_fails at place whole m more code (Faulty TooHigh) h ep f = h.refused TooHigh (ap (λ z. after z more) f)
+
+-- a place that is too high
+pub along_late : (at : ℕ) (whole rest : Made) (code : List Open) (e : Refusal Fault) → Along at whole rest code
+    → (e ≡ Faulty TooLong) × (65535 < at + length code) → Fails e at whole
+along_late at whole rest code e h f =
+    subst (λ z. Fails z at whole) (sym f.0) (h.long (late (at + length code) rest (let far = f.1 in omega (arith, far))))

@@ -1,3 +1,4 @@
 pub mod Rows
 pub mod LoopPieces
 pub mod Along
+pub mod Failing

@@ -1,5 +1,5 @@
 -- How functions of choices answer: mirrors of the definitions, by cases.
-use Rattle.std.specs.Prelude.{◌≡◌, ℕ, true, false, reverse, Result, Ok, Err, Option, Some, None}
+use Rattle.std.specs.Prelude.{◌≡◌, ℕ, ◌+◌, ◌<◌, length, true, false, reverse, Result, Ok, Err, Option, Some, None}
 use Rattle.vg_base.specs.declared.refusal.Refusal.{Refusal}
 use Rattle.vg_base.specs.declared.refusal.Refusal.TheVariants.{Fault as Faulty, NoMemory as Memory}
 use Rattle.vg_flatten_shapes.specs.declared.fault.Fault.{Fault}
@@ -20,6 +20,6 @@ abbrev pub Joins : Result Piece (Refusal Fault) → Truth → (at : ℕ) → (fi
 Joins (Ok p) t at first rest =
     (same_homes (reverse first.homes.homes) (reverse rest.homes.homes) ≡ true) × (p.code ≡ choice_code t at first.code rest.code) × (p.homes ≡ first.homes)
 Joins (Err Memory) t at first rest = Unit {0}
-Joins (Err (Faulty TooLong)) t at first rest = Unit {0}
+Joins (Err (Faulty TooLong)) t at first rest = 65535 < at + 2 + length first.code + length rest.code
 Joins (Err (Faulty TooHigh)) t at first rest = ⊥
 Joins (Err (Faulty NotTaken)) t at first rest = same_homes (reverse first.homes.homes) (reverse rest.homes.homes) ≡ false

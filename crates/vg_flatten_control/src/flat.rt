@@ -32,6 +32,7 @@ fn settle(alloc: Global, room: Room, at: u16, homes: Homes) -> Result<Piece, Ref
     }
 }
 
+#[tactic(auto, using(vg_flatten_shapes::proofs::Sizes::late))]
 fn make_number(
     alloc: Global,
     room: Room,
@@ -98,7 +99,7 @@ fn repetition(
     body: &[Open],
     next: &[Open],
 ) -> Result<Row<Open>, Refusal<Fault>>
-    ensures { LaysCode result (loop_code truth at before body.now next.now) }
+    ensures { LaysCode result (at + 2 + length before + length body.now + length next.now) (loop_code truth at before body.now next.now) }
 {
     let test_at = place_behind(at, before.len())?;
     let body_at = place_behind(test_at, 1)?;
@@ -435,13 +436,32 @@ fn arm_first(
 {
     match code {
         Code::Arm(condition, block) => {
-            let first = flat(alloc, layout, room, at, condition, homes)?;
-            let rest_at = place_behind(at, first.code.len())?;
-            let rest = arm_or(alloc, layout, room, rest_at, block, more, last, first.homes)?;
-            Ok(behind(first.code, rest)?)
+            arm_more(alloc, layout, room, at, condition, block, more, last, homes)
         }
         _ => code_and_arms(alloc, layout, room, at, code, more, last, homes),
     }
+}
+
+// An arm by its condition and its block, and the others behind it.
+#[cycle(flat)]
+fn arm_more(
+    alloc: Global,
+    layout: &Layout,
+    room: Room,
+    at: u16,
+    condition: &Code,
+    block: &Code,
+    more: &[Code],
+    last: &Code,
+    homes: Homes,
+) -> Result<Piece, Refusal<Fault>>
+    requires { room.locals + room.temps ≤ 252 }
+    ensures { Lays result at (flat layout.now room (Then (code_of condition.now) (If (code_of block.now) (arms_list more.now (code_of last.now)))) homes) }
+{
+    let first = flat(alloc, layout, room, at, condition, homes)?;
+    let rest_at = place_behind(at, first.code.len())?;
+    let rest = arm_or(alloc, layout, room, rest_at, block, more, last, first.homes)?;
+    Ok(behind(first.code, rest)?)
 }
 
 // Code that is no arm, and the arms behind it.

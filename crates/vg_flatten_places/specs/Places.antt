@@ -31,9 +31,9 @@ is_width width = nat_lt 0 width && nat_lt width 5
 abbrev pub load_from : Memory → (width to base : ℕ) → Operand → Plain
 load_from memory width to base index = Load memory width to (record { base = base; index = index })
 
--- A number, so many times.
+-- A number, so many times. An address has two bytes, and so has each part of the sum that it is.
 abbrev pub multiplied : (to by : ℕ) → Operand → Block
-multiplied to by h = if by == 1 then Skip else One (Compute (record { operator = Product; width = 4; to = to; left = h; right = Known by }))
+multiplied to by h = if by == 1 then Skip else One (Compute (record { operator = Product; width = 2; to = to; left = h; right = Known by }))
 
 abbrev pub multiple : (to by : ℕ) → Operand → Operand
 multiple to by h = if by == 1 then h else InLocal to
@@ -122,14 +122,14 @@ abbrev pub is_place : Elements → Place → Bool
 is_place e place = (e.address == place.address) && (e.width == place.width)
 
 abbrev pub timed : (to by : ℕ) → Operand → Plain
-timed to by h = Compute (record { operator = Product; width = 4; to = to; left = h; right = Known by })
+timed to by h = Compute (record { operator = Product; width = 2; to = to; left = h; right = Known by })
 
 -- What is done with the address of an element, which is so many times its width behind that of the array.
 abbrev pub place_of : Reach → (last : Plain) → Block
 place_of x last =
     Both (One (load_from Flash 2 x.first (x.table - 4) (InLocal x.first)))
     (Both (One (timed x.second x.width x.index))
-    (Both (One (Compute (record { operator = Sum; width = 4; to = x.first; left = InLocal x.first; right = InLocal x.second }))) (One last)))
+    (Both (One (Compute (record { operator = Sum; width = 2; to = x.first; left = InLocal x.first; right = InLocal x.second }))) (One last)))
 
 -- The same behind the bounds check.
 abbrev pub bounded : Reach → (last : Plain) → Block

@@ -46,7 +46,7 @@ pub(crate) fn memory_of(home: Home) -> Memory
     }
 }
 
-/// A number, so many times.
+/// The low two bytes of a number, so many times.
 fn multiplied(
     alloc: Global,
     at: u16,
@@ -54,7 +54,7 @@ fn multiplied(
     by: u8,
     home: Operand,
 ) -> Result<Row<Open>, Refusal<Fault>>
-    ensures { LaysCode result (open_code (multiplied to by home) at) }
+    ensures { LaysCode result at (open_code (multiplied to by home) at) }
 {
     let mut code = Row::new(alloc);
     if by == 1 {
@@ -62,7 +62,7 @@ fn multiplied(
     }
     code.push(Open::Set(Instr::Plain(Plain::Compute(Computation {
         operator: Operator::Times,
-        width: 4,
+        width: 2,
         to,
         left: home,
         right: Operand::Known(by as u32),
@@ -77,6 +77,7 @@ fn multiple(to: u8, by: u8, home: Operand) -> Operand
 }
 
 /// Behind the null check of a number, so many bytes: those at a base, so many times further as the number says.
+#[tactic(auto, using(vg_flatten_shapes::proofs::Sizes::late))]
 fn fetched(
     alloc: Global,
     room: Room,
@@ -94,7 +95,7 @@ fn fetched(
 {
     let to = temp(room, &homes)?;
     let check = stop_where(alloc, at, 1, Truth::Holds(is_zero(home)))?;
-    let inside = place_behind(at, check.len())?;
+    let inside = place_behind(at, 2)?;
     let mut rest = multiplied(alloc, inside, to, by, home)?;
     let load = load_from(memory, width, to, base, multiple(to, by, home));
     rest.push(Open::Set(Instr::Plain(load)))?;
@@ -158,6 +159,7 @@ pub fn distance(to: u8, first: u16, home: Operand) -> Plain
 }
 
 /// The same, where the number is counted from another one.
+#[tactic(auto, using(vg_flatten_shapes::proofs::Sizes::late))]
 fn fetched_from(
     alloc: Global,
     room: Room,
@@ -175,7 +177,7 @@ fn fetched_from(
     let to = temp(room, &homes)?;
     let number = Operand::Local(to);
     let check = stop_where(alloc, at, 1, Truth::Holds(is_zero(home)))?;
-    let distance_at = place_behind(at, check.len())?;
+    let distance_at = place_behind(at, 2)?;
     let inside = place_behind(distance_at, 1)?;
     let mut rest = multiplied(alloc, inside, to, place.width, number)?;
     let index = multiple(to, place.width, number);
@@ -349,6 +351,7 @@ pub fn store(
 }
 
 /// Behind the null check of a number, a value goes to so many bytes: those at a base, so many times further as the number says.
+#[tactic(auto, using(vg_flatten_shapes::proofs::Sizes::late))]
 fn put_of(
     alloc: Global,
     room: Room,
@@ -370,7 +373,7 @@ fn put_of(
     homes.pop();
     homes.pop();
     let check = stop_where(alloc, at, 1, Truth::Holds(is_zero(home)))?;
-    let inside = place_behind(at, check.len())?;
+    let inside = place_behind(at, 2)?;
     let mut rest = multiplied(alloc, inside, to, width, home)?;
     let store = store_at(width, base, multiple(to, width, home), value);
     rest.push(Open::Set(Instr::Plain(store)))?;
@@ -379,6 +382,7 @@ fn put_of(
 }
 
 /// The same, where the number is counted from another one.
+#[tactic(auto, using(vg_flatten_shapes::proofs::Sizes::late))]
 fn put_from(
     alloc: Global,
     room: Room,
@@ -401,7 +405,7 @@ fn put_from(
     homes.pop();
     let number = Operand::Local(to);
     let check = stop_where(alloc, at, 1, Truth::Holds(is_zero(home)))?;
-    let distance_at = place_behind(at, check.len())?;
+    let distance_at = place_behind(at, 2)?;
     let inside = place_behind(distance_at, 1)?;
     let mut rest = multiplied(alloc, inside, to, place.width, number)?;
     let index = multiple(to, place.width, number);

@@ -38,7 +38,7 @@ fn timed(to: u8, by: u8, home: Operand) -> Plain
 {
     Plain::Compute(Computation {
         operator: Operator::Times,
-        width: 4,
+        width: 2,
         to,
         left: home,
         right: Operand::Known(by as u32),
@@ -48,13 +48,13 @@ fn timed(to: u8, by: u8, home: Operand) -> Plain
 /// What is done with the address of an element, which is so many times its width behind that of the array.
 fn place_of(alloc: Global, at: u16, reach: Reach, last: Plain) -> Result<Row<Open>, Refusal<Fault>>
     requires { 4 ≤ reach.table }
-    ensures { LaysCode result (open_code (place_of reach last) at) }
+    ensures { LaysCode result at (open_code (place_of reach last) at) }
 {
     let first = Operand::Local(reach.first);
     let address = load_from(Memory::Flash, 2, reach.first, reach.table - 4, first);
     let sum = Computation {
         operator: Operator::Plus,
-        width: 4,
+        width: 2,
         to: reach.first,
         left: first,
         right: Operand::Local(reach.second),
@@ -70,11 +70,11 @@ fn place_of(alloc: Global, at: u16, reach: Reach, last: Plain) -> Result<Row<Ope
 /// The same behind the bounds check.
 fn bounded(alloc: Global, at: u16, reach: Reach, last: Plain) -> Result<Row<Open>, Refusal<Fault>>
     requires { 4 ≤ reach.table }
-    ensures { LaysCode result (open_code (bounded reach last) at) }
+    ensures { LaysCode result (at + 3) (open_code (bounded reach last) at) }
 {
     let within = test_of(Comparison::Below, reach.index, Operand::Local(reach.second));
     let check = stop_where(alloc, at, 2, Truth::Fails(within))?;
-    let inside = place_behind(at, check.len())?;
+    let inside = place_behind(at, 2)?;
     let rest = place_of(alloc, inside, reach, last)?;
     Ok(append(check, rest.as_slice())?)
 }
@@ -82,7 +82,7 @@ fn bounded(alloc: Global, at: u16, reach: Reach, last: Plain) -> Result<Row<Open
 /// The same behind a load of the length of the array.
 fn reached(alloc: Global, at: u16, reach: Reach, last: Plain) -> Result<Row<Open>, Refusal<Fault>>
     requires { 4 ≤ reach.table }
-    ensures { LaysCode result (open_code (reached reach last) at) }
+    ensures { LaysCode result (at + 5) (open_code (reached reach last) at) }
 {
     let first = Operand::Local(reach.first);
     let length = load_from(Memory::Flash, 2, reach.second, reach.table - 2, first);
@@ -103,14 +103,15 @@ fn element_of(
     last: Plain,
 ) -> Result<Row<Open>, Refusal<Fault>>
     requires { 4 ≤ reach.table }
-    ensures { LaysCode result (open_code (element_of reach last) at) }
+    ensures { LaysCode result (at + 7) (open_code (element_of reach last) at) }
 {
     let check = stop_where(alloc, at, 1, Truth::Holds(is_zero(reach.home)))?;
-    let inside = place_behind(at, check.len())?;
+    let inside = place_behind(at, 2)?;
     let rest = reached(alloc, inside, reach, last)?;
     Ok(append(check, rest.as_slice())?)
 }
 
+#[tactic(auto, using(vg_flatten_shapes::proofs::Sizes::late))]
 fn load_element(
     alloc: Global,
     room: Room,
@@ -199,6 +200,7 @@ pub fn load_item(
     }
 }
 
+#[tactic(auto, using(vg_flatten_shapes::proofs::Sizes::late))]
 fn store_element(
     alloc: Global,
     room: Room,

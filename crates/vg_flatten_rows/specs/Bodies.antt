@@ -264,7 +264,7 @@ narrow_field = refl
 -- the same of four bytes, where it has the number 2
 wide_field : flattened_in layout 4 (procedure 2 (2 ∷ 4 ∷ []) (steps (Get 0 ∷ LoadAt Flash 2 2 ∷ SetLocal 1 ∷ []) Nothing))
     ≡ Some (
-    Unless (is_zero (Local 0)) 2 ∷ Plain (Stop 1) ∷ computes Product 4 2 (Local 0) (Known 4) ∷ loads 4 2 192 (Local 2) ∷ Plain (Copy 1 (Local 2))
+    Unless (is_zero (Local 0)) 2 ∷ Plain (Stop 1) ∷ computes Product 2 2 (Local 0) (Known 4) ∷ loads 4 2 192 (Local 2) ∷ Plain (Copy 1 (Local 2))
     ∷ Return (Known 0) ∷ [])
 wide_field = refl
 
@@ -275,7 +275,7 @@ component_field_in_ram = refl
 
 field_in_ram : flattened_in layout 4 (procedure 2 (2 ∷ 2 ∷ []) (steps (Get 0 ∷ LoadAt Ram 1 1 ∷ SetLocal 1 ∷ []) Nothing))
     ≡ Some (
-    Unless (is_zero (Local 0)) 2 ∷ Plain (Stop 1) ∷ computes Product 4 2 (Local 0) (Known 2)
+    Unless (is_zero (Local 0)) 2 ∷ Plain (Stop 1) ∷ computes Product 2 2 (Local 0) (Known 2)
     ∷ Plain (LoadsBytes InRam 2 2 (record { base = 256; index = Local 2 })) ∷ Plain (Copy 1 (Local 2)) ∷ Return (Known 0) ∷ [])
 field_in_ram = refl
 
@@ -286,7 +286,7 @@ store_component_field = refl
 
 store_field : flattened_in layout 4 (procedure 2 (2 ∷ 2 ∷ []) (steps (Get 0 ∷ Get 1 ∷ StoreAt 1 1 2 ∷ []) Nothing))
     ≡ Some (
-    Unless (is_zero (Local 0)) 2 ∷ Plain (Stop 1) ∷ computes Product 4 4 (Local 0) (Known 2)
+    Unless (is_zero (Local 0)) 2 ∷ Plain (Stop 1) ∷ computes Product 2 4 (Local 0) (Known 2)
     ∷ Plain (StoresBytes 2 (record { base = 256; index = Local 4 }) (Local 1)) ∷ Return (Known 0) ∷ [])
 store_field = refl
 
@@ -302,7 +302,7 @@ step_field = refl
 -- n = a.length;
 array_length : flattened_in layout 4 (procedure 2 (2 ∷ 4 ∷ []) (steps (Get 0 ∷ Length 0 ∷ SetLocal 1 ∷ []) Nothing))
     ≡ Some (
-    Unless (is_zero (Local 0)) 2 ∷ Plain (Stop 1) ∷ computes Product 4 2 (Local 0) (Known 4) ∷ loads 2 2 178 (Local 2) ∷ Plain (Copy 1 (Local 2))
+    Unless (is_zero (Local 0)) 2 ∷ Plain (Stop 1) ∷ computes Product 2 2 (Local 0) (Known 4) ∷ loads 2 2 178 (Local 2) ∷ Plain (Copy 1 (Local 2))
     ∷ Return (Known 0) ∷ [])
 array_length = refl
 
@@ -314,20 +314,20 @@ bytes = record { home = Ram; column = 0; address = 256; table = 0; width = 1 }
 -- x = a[i]; of bytes in RAM, by the table at 180: the length is checked before the address is read.
 element : flattened_in layout 4 (procedure 3 (2 ∷ 4 ∷ 1 ∷ []) (steps (Get 0 ∷ Get 1 ∷ LoadItem bytes ∷ SetLocal 2 ∷ []) Nothing))
     ≡ Some (
-    Unless (is_zero (Local 0)) 2 ∷ Plain (Stop 1) ∷ computes Product 4 5 (Local 0) (Known 4) ∷ loads 2 6 178 (Local 5)
-    ∷ When (below (Local 1) (Local 6)) 6 ∷ Plain (Stop 2) ∷ loads 2 5 176 (Local 5) ∷ computes Product 4 6 (Local 1) (Known 1)
-    ∷ sum 4 5 (Local 5) (Local 6) ∷ Plain (LoadsBytes InRam 1 3 (record { base = 0; index = Local 5 })) ∷ Plain (Copy 2 (Local 3)) ∷ Return (Known 0) ∷ [])
+    Unless (is_zero (Local 0)) 2 ∷ Plain (Stop 1) ∷ computes Product 2 5 (Local 0) (Known 4) ∷ loads 2 6 178 (Local 5)
+    ∷ When (below (Local 1) (Local 6)) 6 ∷ Plain (Stop 2) ∷ loads 2 5 176 (Local 5) ∷ computes Product 2 6 (Local 1) (Known 1)
+    ∷ sum 2 5 (Local 5) (Local 6) ∷ Plain (LoadsBytes InRam 1 3 (record { base = 0; index = Local 5 })) ∷ Plain (Copy 2 (Local 3)) ∷ Return (Known 0) ∷ [])
 element = refl
 
 -- a[i] = b[i]; of bytes in RAM
 copied_element : flattened_in layout 8 (procedure 3 (2 ∷ 2 ∷ 4 ∷ []) (steps (Get 0 ∷ Get 2 ∷ Get 1 ∷ Get 2 ∷ LoadItem bytes ∷ StoreItem bytes ∷ []) Nothing))
     ≡ Some (
-    Unless (is_zero (Local 1)) 2 ∷ Plain (Stop 1) ∷ computes Product 4 7 (Local 1) (Known 4) ∷ loads 2 8 178 (Local 7)
-    ∷ When (below (Local 2) (Local 8)) 6 ∷ Plain (Stop 2) ∷ loads 2 7 176 (Local 7) ∷ computes Product 4 8 (Local 2) (Known 1)
-    ∷ sum 4 7 (Local 7) (Local 8) ∷ Plain (LoadsBytes InRam 1 5 (record { base = 0; index = Local 7 }))
-    ∷ Unless (is_zero (Local 0)) 12 ∷ Plain (Stop 1) ∷ computes Product 4 6 (Local 0) (Known 4) ∷ loads 2 7 178 (Local 6)
-    ∷ When (below (Local 2) (Local 7)) 16 ∷ Plain (Stop 2) ∷ loads 2 6 176 (Local 6) ∷ computes Product 4 7 (Local 2) (Known 1)
-    ∷ sum 4 6 (Local 6) (Local 7) ∷ Plain (StoresBytes 1 (record { base = 0; index = Local 6 }) (Local 5)) ∷ Return (Known 0) ∷ [])
+    Unless (is_zero (Local 1)) 2 ∷ Plain (Stop 1) ∷ computes Product 2 7 (Local 1) (Known 4) ∷ loads 2 8 178 (Local 7)
+    ∷ When (below (Local 2) (Local 8)) 6 ∷ Plain (Stop 2) ∷ loads 2 7 176 (Local 7) ∷ computes Product 2 8 (Local 2) (Known 1)
+    ∷ sum 2 7 (Local 7) (Local 8) ∷ Plain (LoadsBytes InRam 1 5 (record { base = 0; index = Local 7 }))
+    ∷ Unless (is_zero (Local 0)) 12 ∷ Plain (Stop 1) ∷ computes Product 2 6 (Local 0) (Known 4) ∷ loads 2 7 178 (Local 6)
+    ∷ When (below (Local 2) (Local 7)) 16 ∷ Plain (Stop 2) ∷ loads 2 6 176 (Local 6) ∷ computes Product 2 7 (Local 2) (Known 1)
+    ∷ sum 2 6 (Local 6) (Local 7) ∷ Plain (StoresBytes 1 (record { base = 0; index = Local 6 }) (Local 5)) ∷ Return (Known 0) ∷ [])
 copied_element = refl
 
 -- for (i = 0; i < a.length; i = i + 1) M.PORTB = a[i];
@@ -335,10 +335,10 @@ array_loop : flattened_in layout 8 (procedure 1 (2 ∷ 4 ∷ [])
     (steps (Number 0 ∷ SetLocal 1 ∷ []) (Loop (steps (Get 1 ∷ Get 0 ∷ Length 0 ∷ Operate (Less Signed) ∷ []) Nothing)
     (steps (Get 0 ∷ Get 1 ∷ LoadItem bytes ∷ WriteDevice 0x38 ∷ []) Nothing) (steps (Get 1 ∷ Number 1 ∷ Operate Plus ∷ SetLocal 1 ∷ []) Nothing))))
     ≡ Some (
-    Plain (Copy 1 (Known 0)) ∷ Plain (Copy 1 (Known 0)) ∷ Unless (is_zero (Local 0)) 4 ∷ Plain (Stop 1) ∷ computes Product 4 3 (Local 0) (Known 4)
+    Plain (Copy 1 (Known 0)) ∷ Plain (Copy 1 (Known 0)) ∷ Unless (is_zero (Local 0)) 4 ∷ Plain (Stop 1) ∷ computes Product 2 3 (Local 0) (Known 4)
     ∷ loads 2 3 178 (Local 3) ∷ Unless (less (Local 1) (Local 3)) 21 ∷ Unless (is_zero (Local 0)) 9 ∷ Plain (Stop 1)
-    ∷ computes Product 4 4 (Local 0) (Known 4) ∷ loads 2 5 178 (Local 4) ∷ When (below (Local 1) (Local 5)) 13 ∷ Plain (Stop 2)
-    ∷ loads 2 4 176 (Local 4) ∷ computes Product 4 5 (Local 1) (Known 1) ∷ sum 4 4 (Local 4) (Local 5)
+    ∷ computes Product 2 4 (Local 0) (Known 4) ∷ loads 2 5 178 (Local 4) ∷ When (below (Local 1) (Local 5)) 13 ∷ Plain (Stop 2)
+    ∷ loads 2 4 176 (Local 4) ∷ computes Product 2 5 (Local 1) (Known 1) ∷ sum 2 4 (Local 4) (Local 5)
     ∷ Plain (LoadsBytes InRam 1 2 (record { base = 0; index = Local 4 })) ∷ Plain (Writes 0x38 (Local 2)) ∷ sum 4 2 (Local 1) (Known 1)
     ∷ Plain (Copy 1 (Local 2)) ∷ Jump 2 ∷ Return (Known 0) ∷ [])
 array_loop = refl
@@ -346,7 +346,7 @@ array_loop = refl
 -- x = o.f; and o.f = 7; where the first object that has it has so high a number that one of the number 0 would lie below all addresses
 far_field : flattened_in layout 4 (procedure 2 (2 ∷ 2 ∷ []) (steps (Get 0 ∷ LoadAt Ram 1 200 ∷ SetLocal 1 ∷ []) Nothing))
     ≡ Some (
-    Unless (is_zero (Local 0)) 2 ∷ Plain (Stop 1) ∷ computes Difference 4 2 (Local 0) (Known 200) ∷ computes Product 4 2 (Local 2) (Known 2)
+    Unless (is_zero (Local 0)) 2 ∷ Plain (Stop 1) ∷ computes Difference 4 2 (Local 0) (Known 200) ∷ computes Product 2 2 (Local 2) (Known 2)
     ∷ Plain (LoadsBytes InRam 2 2 (record { base = 258; index = Local 2 })) ∷ Plain (Copy 1 (Local 2)) ∷ Return (Known 0) ∷ [])
 far_field = refl
 
@@ -424,3 +424,7 @@ high = refl
 -- One more has no temporary.
 too_high : flattened 48 (procedure 0 (replicate 60 4) (steps (reads 49 ++ (sums 48 ++ Forget ∷ [])) Nothing)) ≡ None
 too_high = refl
+
+-- f(a1, .., a50); of fifty arguments that are read: 50 reads, 46 pushes, the call and the end.
+many_arguments : option_map length (flattened 50 (procedure 0 [] (steps (reads 50 ++ (CallOf 3 50 ∷ Forget ∷ [])) Nothing))) ≡ Some 98
+many_arguments = refl

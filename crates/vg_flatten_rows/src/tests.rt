@@ -55,13 +55,17 @@ fn flattened(alloc: Global, count: u8) -> Result<LinProc, Refusal<Fault>> {
     flatten(alloc, &layout, &high(alloc, count)?)
 }
 
-// How many instructions and locals there are; one value more finds no temporary.
+// How many instructions and locals there are: no more temporaries than values wait, and 192 beside 60 locals at most.
 #[test]
 fn many_values_wait(rt: HostRuntime) {
     let alloc = rt.alloc();
+    let few = flattened(alloc, 1).map(|p| p.code().len() + p.widths().len());
+    assert!(rt; few == Ok(123));
     let high = flattened(alloc, 48).map(|p| p.code().len() + p.widths().len());
+    assert!(rt; high == Ok(264));
+    let highest = flattened(alloc, 192).map(|p| p.code().len() + p.widths().len());
     assert!(rt;
-        high == Ok(264) && flattened(alloc, 49).err() == Some(Refusal::Fault(Fault::TooHigh))
+        highest == Ok(696) && flattened(alloc, 193).err() == Some(Refusal::Fault(Fault::TooHigh))
     );
 }
 

@@ -1,3 +1,4 @@
 pub mod Temps
 pub mod Choices
 pub mod Taking
+pub mod Sizes

@@ -104,3 +104,12 @@ abbrev pub set_in : (behind again : ℕ) → Open → Instr
 set_in x y (Set i) = i
 set_in x y Break = Jump x
 set_in x y Continue = Jump y
+
+-- At most so many instructions are in a block: a choice counts with the jump before its second way.
+abbrev pub block_size : Block → ℕ
+block_size Skip = 0
+block_size (CallTo pushed c) = length pushed + 1
+block_size (Both a b) = block_size a + block_size b
+block_size (Choice t a b) = 2 + block_size a + block_size b
+block_size (Repeat p t body next) = 2 + block_size p + block_size body + block_size next
+block_size b = 1

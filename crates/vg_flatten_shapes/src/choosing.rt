@@ -1,5 +1,5 @@
 // The code of choices.
-ghost use Rattle.std.specs.Prelude.{◌≡◌, ◌∷◌};
+ghost use Rattle.std.specs.Prelude.{◌≡◌, ◌+◌, ◌∷◌, length, IfOk};
 ghost use Rattle.vg_flatten_shapes.specs.declared.open.Open.TheVariants.{Set};
 ghost use Rattle.vg_flatten_shapes.specs.Blocks.{branch, choice_code, stop_where, open_code};
 ghost use Rattle.vg_flatten_shapes.specs.Laying.{LaysCode};
@@ -8,7 +8,7 @@ use crate::fault::Fault;
 use crate::open::{Open, Truth};
 use crate::piece::{append, place_behind};
 use std::alloc::Global;
-use vg_base::{Refusal, Row};
+use vg_base::{NoMemory, Refusal, Row};
 use vg_lin::{Instr, Plain};
 
 /// The branch to a place where the truth value is false.
@@ -29,12 +29,12 @@ pub fn choice(
     first: &[Open],
     rest: &[Open],
 ) -> Result<Row<Open>, Refusal<Fault>>
-    ensures { LaysCode result (choice_code truth at first.now rest.now) }
+    ensures { LaysCode result (at + 2 + length first.now + length rest.now) (choice_code truth at first.now rest.now) }
 {
     let first_at = place_behind(at, 1)?;
     let jump_at = place_behind(first_at, first.len())?;
     if rest.len() == 0 {
-        return choice_alone(alloc, truth, jump_at, first);
+        return Ok(choice_alone(alloc, truth, jump_at, first)?);
     }
     let rest_at = place_behind(jump_at, 1)?;
     let end = place_behind(rest_at, rest.len())?;
@@ -51,12 +51,12 @@ fn choice_alone(
     truth: Truth,
     end: u16,
     first: &[Open],
-) -> Result<Row<Open>, Refusal<Fault>>
-    ensures { LaysCode result (Set (branch truth end) ∷ first.now) }
+) -> Result<Row<Open>, NoMemory>
+    ensures { IfOk result (λ code. code ≡ Set (branch truth end) ∷ first.now) }
 {
     let mut code = Row::new(alloc);
     code.push(Open::Set(branch(truth, end)))?;
-    Ok(append(code, first)?)
+    append(code, first)
 }
 
 /// The run stops with an exception of this code where the truth value holds.
@@ -66,7 +66,7 @@ pub fn stop_where(
     code: u8,
     truth: Truth,
 ) -> Result<Row<Open>, Refusal<Fault>>
-    ensures { LaysCode result (open_code (stop_where code truth) at) }
+    ensures { LaysCode result (at + 3) (open_code (stop_where code truth) at) }
 {
     let stop = [Open::Set(Instr::Plain(Plain::Stop(code)))];
     choice(alloc, at, truth, stop.as_slice(), &[])

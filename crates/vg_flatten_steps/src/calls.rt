@@ -140,6 +140,7 @@ pub(crate) fn called_for(
     }
 }
 
+#[tactic(auto, using(vg_flatten_shapes::proofs::Sizes::late))]
 fn called_on(
     alloc: Global,
     room: Room,
@@ -160,7 +161,7 @@ fn called_on(
             let to = temp(room, &homes)?;
             let mut all = stop_where(alloc, at, 1, Truth::Holds(is_zero(*home)))?;
             all.push(Open::Set(Instr::Plain(Plain::Find(dispatch, code, *home))))?;
-            let call_at = place_behind(at, all.len())?;
+            let call_at = place_behind(at, 3)?;
             let callee = Callee::Code(Operand::Local(code));
             let all = passing(all, call_at, callee, to, args)?;
             let mut homes = homes;
@@ -190,6 +191,7 @@ pub(crate) fn called_value(
     }
 }
 
+#[tactic(auto, using(vg_flatten_shapes::proofs::Sizes::late))]
 fn called_by(
     alloc: Global,
     room: Room,
@@ -215,7 +217,7 @@ fn called_by(
                 left: *home,
                 right: Operand::Known(16),
             }))))?;
-            let call_at = place_behind(at, all.len())?;
+            let call_at = place_behind(at, 3)?;
             let passed = with_first(alloc, Operand::Local(receiver), rest)?;
             let all = passing(all, call_at, Callee::Code(*home), to, passed.as_slice())?;
             let mut homes = homes;

@@ -35,7 +35,7 @@ fn found_and_bound(
     above: u8,
     home: Operand,
 ) -> Result<Row<Open>, Refusal<Fault>>
-    ensures { LaysCode result (open_code (found_and_bound dispatch to above home) at) }
+    ensures { LaysCode result (at + 3) (open_code (found_and_bound dispatch to above home) at) }
 {
     let shift = Computation {
         operator: Operator::ShiftLeft,
@@ -59,6 +59,7 @@ fn found_and_bound(
 }
 
 /// A delegate of the method that a dispatch has for an object.
+#[tactic(auto, using(vg_flatten_shapes::proofs::Sizes::late))]
 pub(crate) fn bound_for(
     alloc: Global,
     room: Room,

@@ -16,6 +16,7 @@ use vg_flatten_values::{is_zero, temp, test_of};
 use vg_lin::{Comparison, Instr, Operand, Test};
 
 /// The null check of a field that no object has, whose value is 0.
+#[tactic(auto, using(vg_flatten_shapes::proofs::Sizes::late))]
 pub(crate) fn load_nothing(alloc: Global, at: u16, homes: Homes) -> Result<Piece, Refusal<Fault>>
     requires { homes.truth ≡ None }
     ensures { Lays result at (load_nothing homes.homes) }
@@ -32,6 +33,7 @@ pub(crate) fn load_nothing(alloc: Global, at: u16, homes: Homes) -> Result<Piece
 }
 
 /// The null check of a field that is not kept.
+#[tactic(auto, using(vg_flatten_shapes::proofs::Sizes::late))]
 pub(crate) fn store_nothing(alloc: Global, at: u16, homes: Homes) -> Result<Piece, Refusal<Fault>>
     requires { homes.truth ≡ None }
     ensures { Lays result at (store_nothing homes.homes) }
@@ -90,7 +92,7 @@ fn stop_unless_near(
     count: u16,
     home: Operand,
 ) -> Result<Row<Open>, Refusal<Fault>>
-    ensures { LaysCode result (open_code (Both (One (distance to first home)) (stop_where 4 (Fails (is_near to count)))) at) }
+    ensures { LaysCode result (at + 4) (open_code (Both (One (distance to first home)) (stop_where 4 (Fails (is_near to count)))) at) }
 {
     let mut code = Row::new(alloc);
     code.push(Open::Set(Instr::Plain(distance(to, first, home))))?;
@@ -100,6 +102,7 @@ fn stop_unless_near(
 }
 
 /// A cast: the number stays where it is, and the run stops unless it is 0 or one of so many.
+#[tactic(auto, using(vg_flatten_shapes::proofs::Sizes::late))]
 pub(crate) fn cast_to(
     alloc: Global,
     room: Room,

@@ -11,6 +11,7 @@ use vg_base::{Refusal, Row};
 use vg_flatten_shapes::{Fault, Homes, Open, Piece, Room, Truth, stop_where};
 use vg_lin::{Computation, Instr, Operand, Operator, Plain};
 
+#[tactic(auto, using(vg_flatten_shapes::proofs::Sizes::late))]
 pub(crate) fn divided(
     alloc: Global,
     room: Room,
@@ -43,7 +44,7 @@ pub(crate) fn divided(
 
 /// The run stops where a divisor is 0.
 fn divisor_checked(alloc: Global, at: u16, right: Operand) -> Result<Row<Open>, Refusal<Fault>>
-    ensures { LaysCode result (open_code (divisor_checked right) at) }
+    ensures { LaysCode result (at + 3) (open_code (divisor_checked right) at) }
 {
     if may_be_zero(right) {
         return stop_where(alloc, at, 3, Truth::Holds(is_zero(right)));

@@ -41,7 +41,7 @@ use Rattle.vg_flatten_places.specs.Places.{distance, fetched_from, load_placed, 
 use Rattle.vg_flatten.specs.Columns.{ColumnStands, TableStands, FlashStands}
 use Rattle.vg_flattened.proofs.Alike.{IsFair, Alike, gives, wrong}
 use Rattle.vg_flattened.proofs.Related.{ArePlaced, AreAt, AreWidths, AreSame, Held, Leaves}
-use Rattle.vg_flattened.proofs.Numbers.{low_same}
+use Rattle.vg_flattened.proofs.Numbers.{low_two}
 use Rattle.vg_flattened.proofs.Locals.{value_of_home, put_temp, placed_temp}
 use Rattle.vg_flattened.proofs.Right.{Right, linear}
 use Rattle.vg_flattened.proofs.StepRight.{into_temp, computes_to, plain_goes}
@@ -57,6 +57,16 @@ found_at memory address le = ap (λ b. if b then None else Some (address - first
 
 pub width_high : (w : ℕ) → is_width w ≡ true → w ≤ 4
 width_high w e = grind arith
+
+pub width_low : (w : ℕ) → is_width w ≡ true → 0 < w
+width_low w e = grind arith
+
+-- an entry ends within its column
+pub entry_within : (w i n : ℕ) → 0 < w → i < n → w * i < w * n
+entry_within w i n above lt =
+    let le : w * suc i ≤ w * n = mul-le-mul_left w (omega (arith, lt)) in
+    let one : w * suc i ≡ w * i + w = grind arith in
+    omega (arith, le, one, above)
 
 pub four_bytes : (w v : ℕ) → w ≤ 4 → v < 256 ^ w → v < 2 ^ 32
 four_bytes zero v le lt = omega (arith, lt)
@@ -108,7 +118,7 @@ module _ (k : Codes) (f : FirmProgram) (m : FirmProcedure) (call : FirmCaller Hi
 
   -- the same, where a number says how far
   does_fetched : (memory : Memory) (width by base : ℕ) (h : Operand) (hs : List Operand) → ArePlaced r.locals hs → (to : ℕ) → temp r hs ≡ Some to
-      → (n j x : ℕ) (s : Firm) (d : Deciding State) (w : World History) → IsFair w → value h d.state ≡ Some n → n * by < 2 ^ 32
+      → (n j x : ℕ) (s : Firm) (d : Deciding State) (w : World History) → IsFair w → value h d.state ≡ Some n → n * by < 65536
       → AreSame lay r ws hs s d.state → first_address memory ≤ base + n * by → base + n * by - first_address memory ≡ j
       → number_at (bytes_of p memory d.state) width j ≡ Some x → x < 2 ^ 32
       → Alike (Held lay r ws (only (Local to ∷ hs))) (Leaves lay r ws) (put x s w)
@@ -116,10 +126,10 @@ module _ (k : Codes) (f : FirmProgram) (m : FirmProcedure) (call : FirmCaller Hi
   does_fetched memory width by base h hs placed to has n j x s d w i hv few same le e num small = by_one (by == 1) refl
     where
       product : Block
-      product = One (Compute (record { operator = Product; width = 4; to = to; left = h; right = Known by }))
+      product = One (Compute (record { operator = Product; width = 2; to = to; left = h; right = Known by }))
 
       there : AreSame lay r ws (Local to ∷ hs) (record s { values = n * by ∷ s.values }) (sets to (n * by) d.state)
-      there = put_temp lay r m.widths ws hs s d.state to (n * by) wide placed has few same
+      there = put_temp lay r m.widths ws hs s d.state to (n * by) wide placed has (omega (arith, few)) same
 
       once : (a b : ℕ) → b ≡ 1 → a ≡ a * b
       once a b e1 = grind arith
@@ -135,9 +145,9 @@ module _ (k : Codes) (f : FirmProgram) (m : FirmProcedure) (call : FirmCaller Hi
           subst (λ z. Alike (Held lay r ws (only (Local to ∷ hs))) (Leaves lay r ws) (put x s w)
           (and_then z (linear' (One (load_from memory width to base (Local to))))))
           (sym (plain_goes k f m call handle p go lay r ws wide
-          (Compute (record { operator = Product; width = 4; to = to; left = h; right = Known by })) d w (sets to (n * by) d.state)
-          (computes_to k f m call handle p go lay r ws wide Product 4 to h (Known by) n by (n * by) d.state w.outside hv refl
-          (ap Some (low_same (n * by) few)))))
+          (Compute (record { operator = Product; width = 2; to = to; left = h; right = Known by })) d w (sets to (n * by) d.state)
+          (computes_to k f m call handle p go lay r ws wide Product 2 to h (Known by) n by (n * by) d.state w.outside hv refl
+          (ap Some (low_two (n * by) few)))))
           (into_temp k f m call handle p go lay r ws wide hs to x (load_from memory width to base (Local to)) s
           (record d { state = sets to (n * by) d.state }) w i placed has small
           (record { waits = there.waits.1; kept = there.kept; none = there.none; ram = there.ram })
@@ -295,7 +305,7 @@ module _ (k : Codes) (f : FirmProgram) (m : FirmProcedure) (call : FirmCaller Hi
       inside to = Both (multiplied to place.width h) (One (load_from (memory_of home) place.width to base (multiple to place.width h)))
 
       -- the place of an entry, over plain numbers
-      short_is : (address a b all : ℕ) → address + all ≤ 65536 → a ≤ address → b ≤ all → a + b < 2 ^ 32
+      short_is : (address a b all : ℕ) → address + all ≤ 65536 → a ≤ address → b < all → a + b < 65536
       short_is address a b all h1 h2 h3 = omega (arith, h1, h2, h3)
 
       behind_is : (low' address a b : ℕ) → low' ≤ address → a ≤ address → low' ≤ address - a + (a + b)
@@ -312,12 +322,12 @@ module _ (k : Codes) (f : FirmProgram) (m : FirmProcedure) (call : FirmCaller Hi
       does is le to has n ge s d w i hv same vs hc v he =
           let stands = stands_in home hs s d.state same c place vs e hc in
           let lt = slice_get_within vs (n - first) v he in
-          let within : place.width * (n - first) ≤ place.width * length vs = mul-le-mul_left place.width (omega (arith, lt)) in
+          let within = entry_within place.width (n - first) (length vs) (width_low place.width is) lt in
           let both = times_both n first place.width ge in
           let a = place.width * first in
           let b = place.width * (n - first) in
           does_fetched (memory_of home) place.width place.width base h hs placed.1 to has n (place.address - first_address (memory_of home) + b) v s d w i hv
-          (subst (λ z. z < 2 ^ 32) (sym both) (short_is place.address a b (place.width * length vs) stands.short le within)) same
+          (subst (λ z. z < 65536) (sym both) (short_is place.address a b (place.width * length vs) stands.short le within)) same
           (subst (λ z. first_address (memory_of home) ≤ base + z) (sym both) (behind_is (first_address (memory_of home)) place.address a b stands.behind le))
           (ap (λ z. base + z - first_address (memory_of home)) both ∙ place_is (first_address (memory_of home)) place.address a b stands.behind le)
           (stands.held (n - first) v he).0 (four_bytes place.width v (width_high place.width is) (stands.held (n - first) v he).1)
@@ -331,7 +341,7 @@ module _ (k : Codes) (f : FirmProgram) (m : FirmProcedure) (call : FirmCaller Hi
       times : (a b : ℕ) → a * b ≡ b * a
       times a b = grind arith
 
-      few_is : (address b all : ℕ) → address + all ≤ 65536 → b ≤ all → b < 2 ^ 32
+      few_is : (address b all : ℕ) → address + all ≤ 65536 → b < all → b < 65536
       few_is address b all h1 h2 = omega (arith, h1, h2)
 
       low_is : (low' address b : ℕ) → low' ≤ address → low' ≤ address + b
@@ -350,7 +360,7 @@ module _ (k : Codes) (f : FirmProgram) (m : FirmProcedure) (call : FirmCaller Hi
       does_from is to has n ge small s d w i hv same vs hc v he =
           let stands = stands_in home hs s d.state same c place vs e hc in
           let lt = slice_get_within vs (n - first) v he in
-          let within : place.width * (n - first) ≤ place.width * length vs = mul-le-mul_left place.width (omega (arith, lt)) in
+          let within = entry_within place.width (n - first) (length vs) (width_low place.width is) lt in
           let turned = times (n - first) place.width in
           let b = place.width * (n - first) in
           subst (λ z. Alike (Held lay r ws (only (Local to ∷ hs))) (Leaves lay r ws) (put v s w) (and_then z (linear'
@@ -358,7 +368,7 @@ module _ (k : Codes) (f : FirmProgram) (m : FirmProcedure) (call : FirmCaller Hi
           (sym (measured to first n h d w hv ge small))
           (does_fetched (memory_of home) place.width place.width place.address (Local to) hs placed.1 to has (n - first)
           (place.address - first_address (memory_of home) + b) v s (record d { state = sets to (n - first) d.state }) w i there.waits.0.0
-          (subst (λ z. z < 2 ^ 32) (sym turned) (few_is place.address b (place.width * length vs) stands.short within))
+          (subst (λ z. z < 65536) (sym turned) (few_is place.address b (place.width * length vs) stands.short within))
           (record { waits = there.waits.1; kept = there.kept; none = there.none; ram = there.ram })
           (subst (λ z. first_address (memory_of home) ≤ place.address + z) (sym turned) (low_is (first_address (memory_of home)) place.address b stands.behind))
           (ap (λ z. place.address + z - first_address (memory_of home)) turned ∙ index_is (first_address (memory_of home)) place.address b stands.behind)

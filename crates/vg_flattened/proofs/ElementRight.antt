@@ -44,13 +44,13 @@ use Rattle.vg_flatten_values.specs.Values.{test_of}
 use Rattle.vg_flatten.specs.Columns.{ColumnStands, TableStands, FlashStands}
 use Rattle.vg_flattened.proofs.Alike.{IsFair, Alike, gives, wrong}
 use Rattle.vg_flattened.proofs.Related.{ArePlaced, AreAt, AreWidths, AreSame, Held, Leaves, said}
-use Rattle.vg_flattened.proofs.Numbers.{low_same, below_same}
+use Rattle.vg_flattened.proofs.Numbers.{low_two, below_same}
 use Rattle.vg_flattened.proofs.Operating.{holds_of}
 use Rattle.vg_flattened.proofs.Locals.{value_of_home, put_temp, placed_temp}
 use Rattle.vg_flattened.proofs.Right.{Right, linear}
 use Rattle.vg_flattened.proofs.StepRight.{into_temp, computes_to, plain_goes}
 use Rattle.vg_flattened.proofs.CombinedRight.{stops_both, stopped, passed}
-use Rattle.vg_flattened.proofs.ColumnRight.{width_high, four_bytes, null_then, loads, stands_in}
+use Rattle.vg_flattened.proofs.ColumnRight.{width_low, entry_within, width_high, four_bytes, null_then, loads, stands_in}
 
 -- ---- the place of an element
 
@@ -64,10 +64,10 @@ whole_behind address first w i le e =
     from_zero a b e1 = omega (arith, e1)
 
 -- over plain numbers: d is how far the array is behind the column, t how far the element is behind the array
-pub sum_small : (address first t all : ℕ) → first ≤ address → first + all ≤ 65536 → address - first + t ≤ all → address + t < 2 ^ 32
+pub sum_small : (address first t all : ℕ) → first ≤ address → first + all ≤ 65536 → address - first + t < all → address + t < 65536
 sum_small address first t all h1 h2 h3 = omega (arith, h1, h2, h3)
 
-pub times_small : (d t all first : ℕ) → first + all ≤ 65536 → d + t ≤ all → t < 2 ^ 32
+pub times_small : (d t all first : ℕ) → first + all ≤ 65536 → d + t < all → t < 65536
 times_small d t all first h1 h2 = omega (arith, h1, h2)
 
 pub sum_behind : (low' address first t : ℕ) → low' ≤ first → first ≤ address → low' ≤ 0 + (address + t)
@@ -100,10 +100,10 @@ module _ (k : Codes) (f : FirmProgram) (m : FirmProcedure) (call : FirmCaller Hi
   step_then {G} {L} i b a d w t e h =
       subst (λ z. Alike G L a (and_then z (linear' b))) (sym (plain_goes k f m call handle p go lay r ws wide i d w t e)) h
 
-  pub times_is : (to by : ℕ) (h : Operand) (n : ℕ) (t : State) (o : Outside) → value h t ≡ Some n → n * by < 2 ^ 32
+  pub times_is : (to by : ℕ) (h : Operand) (n : ℕ) (t : State) (o : Outside) → value h t ≡ Some n → n * by < 65536
       → plain p (timed to by h) t o ≡ Goes (sets to (n * by) t) o
   times_is to by h n t o hv few =
-      computes_to k f m call handle p go lay r ws wide Product 4 to h (Known by) n by (n * by) t o hv refl (ap Some (low_same (n * by) few))
+      computes_to k f m call handle p go lay r ws wide Product 2 to h (Known by) n by (n * by) t o hv refl (ap Some (low_two (n * by) few))
 
   -- the newest value is left out
   pub less : (h : Operand) (hs : List Operand) (v : ℕ) (vs : List ℕ) (s : Firm) (t : State) → AreSame lay r ws (h ∷ hs) (record s { values = v ∷ vs }) t
@@ -128,7 +128,7 @@ module _ (k : Codes) (f : FirmProgram) (m : FirmProcedure) (call : FirmCaller Hi
 
     -- the last sum
     abbrev sum : Plain
-    sum = Compute (record { operator = Sum; width = 4; to = first; left = Local first; right = Local second })
+    sum = Compute (record { operator = Sum; width = 2; to = first; left = Local first; right = Local second })
 
     -- what the packed program does with the array's number
     abbrev sought : ℕ → ℕ → Piece Firm History
@@ -155,8 +155,8 @@ module _ (k : Codes) (f : FirmProgram) (m : FirmProcedure) (call : FirmCaller Hi
         (step_then (timed second e.width i) (Both (One sum) (One last)) answer (record d { state = t1 }) w t2
         (times_is second e.width i x t1 w.outside (value_of_home i x t1 q1.waits.1.0.0) few)
         (step_then sum (One last) answer (record d { state = t2 }) w t3
-        (computes_to k f m call handle p go lay r ws wide Sum 4 first (Local first) (Local second) a.address (x * e.width) (a.address + x * e.width) t2
-        w.outside q2.waits.1.0.0 q2.waits.0.0 (ap Some (low_same (a.address + x * e.width) sum_few)))
+        (computes_to k f m call handle p go lay r ws wide Sum 2 first (Local first) (Local second) a.address (x * e.width) (a.address + x * e.width) t2
+        w.outside q2.waits.1.0.0 q2.waits.0.0 (ap Some (low_two (a.address + x * e.width) sum_few)))
         (into_temp k f m call handle p go lay r ws wide hs to v last (record s { values = vs }) (record d { state = t3 }) w fair placed.1.1 has0
         (four_bytes e.width v (width_high e.width is) (subst (λ z. v < 256 ^ z) (sym same_width) (stands.held index v he).1))
         (less h hs n vs s t3 (less i (h ∷ hs) x (n ∷ vs) s t3 (less (Local first) (i ∷ h ∷ hs) (a.address + x * e.width) (x ∷ n ∷ vs) s t3 q3)))
@@ -198,8 +198,8 @@ module _ (k : Codes) (f : FirmProgram) (m : FirmProcedure) (call : FirmCaller Hi
         c_behind : first_address (memory_of e.home) ≤ e.address
         c_behind = subst (λ z. first_address (memory_of e.home) ≤ z) (sym same_address) before.behind
 
-        within : e.width * index ≤ e.width * length us
-        within = let inner = slice_get_within us index v he in mul-le-mul_left e.width (omega (arith, inner))
+        within : e.width * index < e.width * length us
+        within = entry_within e.width index (length us) (width_low e.width is) (slice_get_within us index v he)
 
         all_short : e.address + e.width * length us ≤ 65536
         all_short =
@@ -211,13 +211,13 @@ module _ (k : Codes) (f : FirmProgram) (m : FirmProcedure) (call : FirmCaller Hi
         behind_array : e.width * index ≡ a.address - e.address + x * e.width
         behind_array = whole_behind a.address e.address e.width x low' whole ∙ ap (λ z. a.address - e.address + z) (sym turned)
 
-        at_most : a.address - e.address + x * e.width ≤ e.width * length us
-        at_most = subst (λ z. z ≤ e.width * length us) behind_array within
+        at_most : a.address - e.address + x * e.width < e.width * length us
+        at_most = subst (λ z. z < e.width * length us) behind_array within
 
-        few : x * e.width < 2 ^ 32
+        few : x * e.width < 65536
         few = times_small (a.address - e.address) (x * e.width) (e.width * length us) e.address all_short at_most
 
-        sum_few : a.address + x * e.width < 2 ^ 32
+        sum_few : a.address + x * e.width < 65536
         sum_few = sum_small a.address e.address (x * e.width) (e.width * length us) low' all_short at_most
 
         t2 : State
@@ -228,14 +228,14 @@ module _ (k : Codes) (f : FirmProgram) (m : FirmProcedure) (call : FirmCaller Hi
             put_temp lay r m.widths ws (Local first ∷ i ∷ h ∷ hs) (record s {
               values =
                   a.address ∷ x ∷ n ∷ vs;
-            }) t1 second (x * e.width) wide placed1 has2 few q1
+            }) t1 second (x * e.width) wide placed1 has2 (omega (arith, few)) q1
 
         t3 : State
         t3 = sets first (a.address + x * e.width) t2
 
         q3 : AreSame lay r ws (Local first ∷ i ∷ h ∷ hs) (record s { values = (a.address + x * e.width) ∷ x ∷ n ∷ vs }) t3
         q3 =
-            put_temp lay r m.widths ws (i ∷ h ∷ hs) (record s { values = x ∷ n ∷ vs }) t2 first (a.address + x * e.width) wide placed has1 sum_few
+            put_temp lay r m.widths ws (i ∷ h ∷ hs) (record s { values = x ∷ n ∷ vs }) t2 first (a.address + x * e.width) wide placed has1 (omega (arith, sum_few))
             (less (Local first) (i ∷ h ∷ hs) a.address (x ∷ n ∷ vs) s t2
             (less (Local second) (Local first ∷ i ∷ h ∷ hs) (x * e.width) (a.address ∷ x ∷ n ∷ vs) s t2 q2))
 
@@ -343,17 +343,18 @@ module _ (k : Codes) (f : FirmProgram) (m : FirmProcedure) (call : FirmCaller Hi
         short : a.length < 65536
         short = (stood.lengths (n - 1) a found).1
 
-        few : n * 4 < 2 ^ 32
+        few : n * 4 < 65536
         few =
             let inner = slice_get_within arrays (n - 1) a found in
             let all = stood.short in
-            omega (arith, inner, all, above)
+            let behind = t_behind in
+            omega (arith, inner, all, above, behind)
 
         t1 : State
         t1 = sets first (n * 4) d.state
 
         q1 : AreSame lay r ws (Local first ∷ i ∷ h ∷ hs) (record s { values = n * 4 ∷ x ∷ n ∷ vs }) t1
-        q1 = put_temp lay r m.widths ws (i ∷ h ∷ hs) (record s { values = x ∷ n ∷ vs }) d.state first (n * 4) wide placed has1 few q
+        q1 = put_temp lay r m.widths ws (i ∷ h ∷ hs) (record s { values = x ∷ n ∷ vs }) d.state first (n * 4) wide placed has1 (omega (arith, few)) q
 
         t2 : State
         t2 = sets second a.length t1

@@ -42,13 +42,13 @@ use Rattle.vg_flatten_values.specs.Values.{test_of}
 use Rattle.vg_flatten.specs.Columns.{ColumnStands, TableStands, FlashStands}
 use Rattle.vg_flattened.proofs.Alike.{IsFair, Alike, gives, wrong}
 use Rattle.vg_flattened.proofs.Related.{ArePlaced, AreAt, AreWidths, AreSame, Held, Leaves, said}
-use Rattle.vg_flattened.proofs.Numbers.{low_same, below_same}
+use Rattle.vg_flattened.proofs.Numbers.{low_two, below_same}
 use Rattle.vg_flattened.proofs.Operating.{holds_of}
 use Rattle.vg_flattened.proofs.Locals.{value_of_home, put_temp, placed_temp}
 use Rattle.vg_flattened.proofs.Right.{Right, linear}
 use Rattle.vg_flattened.proofs.StepRight.{into_temp, computes_to, plain_goes}
 use Rattle.vg_flattened.proofs.CombinedRight.{stops_both, stopped, passed}
-use Rattle.vg_flattened.proofs.ColumnRight.{null_then, loads}
+use Rattle.vg_flattened.proofs.ColumnRight.{width_low, entry_within, null_then, loads}
 use Rattle.vg_flattened.proofs.StoreRight.{does_store}
 use Rattle.vg_flattened.proofs.ElementRight.{whole_behind, sum_small, times_small, sum_behind, sum_is, step_then, times_is, less}
 
@@ -82,7 +82,7 @@ module _ (k : Codes) (f : FirmProgram) (m : FirmProcedure) (call : FirmCaller Hi
 
     -- the last sum
     abbrev sum : Plain
-    sum = Compute (record { operator = Sum; width = 4; to = first; left = Local first; right = Local second })
+    sum = Compute (record { operator = Sum; width = 2; to = first; left = Local first; right = Local second })
 
     -- what the packed program does with the array's number
     abbrev sought : ℕ → ℕ → ℕ → Piece Firm History
@@ -110,8 +110,8 @@ module _ (k : Codes) (f : FirmProgram) (m : FirmProcedure) (call : FirmCaller Hi
         (step_then k f m call handle p go lay r ws wide flash (timed second e.width i) (Both (One sum) (One last)) answer (record d { state = t1 }) w t2
         (times_is k f m call handle p go lay r ws wide flash second e.width i x t1 w.outside (value_of_home i x t1 q1.waits.1.1.0.0) few)
         (step_then k f m call handle p go lay r ws wide flash sum (One last) answer (record d { state = t2 }) w t3
-        (computes_to k f m call handle p go lay r ws wide Sum 4 first (Local first) (Local second) a.address (x * e.width) (a.address + x * e.width) t2
-        w.outside q2.waits.1.0.0 q2.waits.0.0 (ap Some (low_same (a.address + x * e.width) sum_few)))
+        (computes_to k f m call handle p go lay r ws wide Sum 2 first (Local first) (Local second) a.address (x * e.width) (a.address + x * e.width) t2
+        w.outside q2.waits.1.0.0 q2.waits.0.0 (ap Some (low_two (a.address + x * e.width) sum_few)))
         (subst (λ z. Alike G L answer (linear' (One (store_at z 0 (Local first) from)) (record d { state = t3 }) w)) (sym same_width)
         (does_store k f m call handle p go lay r ws wide flash hs e.column index y old (a.address + x * e.width) 0 place us (Local first) from
         (record s { values = vs }) (record d { state = t3 }) w fair column_at hc he (subst (λ z. y < 256 ^ z) same_width small-y) q3.waits.0.0
@@ -154,8 +154,8 @@ module _ (k : Codes) (f : FirmProgram) (m : FirmProcedure) (call : FirmCaller Hi
         c_behind : first_address Ram ≤ e.address
         c_behind = subst (λ z. first_address Ram ≤ z) (sym same_address) before.behind
 
-        within : e.width * index ≤ e.width * length us
-        within = let inner = slice_get_within us index old he in mul-le-mul_left e.width (omega (arith, inner))
+        within : e.width * index < e.width * length us
+        within = entry_within e.width index (length us) (width_low e.width is) (slice_get_within us index old he)
 
         all_short : e.address + e.width * length us ≤ 65536
         all_short =
@@ -167,13 +167,13 @@ module _ (k : Codes) (f : FirmProgram) (m : FirmProcedure) (call : FirmCaller Hi
         behind_array : e.width * index ≡ a.address - e.address + x * e.width
         behind_array = whole_behind a.address e.address e.width x low' whole ∙ ap (λ z. a.address - e.address + z) (sym turned)
 
-        at_most : a.address - e.address + x * e.width ≤ e.width * length us
-        at_most = subst (λ z. z ≤ e.width * length us) behind_array within
+        at_most : a.address - e.address + x * e.width < e.width * length us
+        at_most = subst (λ z. z < e.width * length us) behind_array within
 
-        few : x * e.width < 2 ^ 32
+        few : x * e.width < 65536
         few = times_small (a.address - e.address) (x * e.width) (e.width * length us) e.address all_short at_most
 
-        sum_few : a.address + x * e.width < 2 ^ 32
+        sum_few : a.address + x * e.width < 65536
         sum_few = sum_small a.address e.address (x * e.width) (e.width * length us) low' all_short at_most
 
         t2 : State
@@ -184,14 +184,14 @@ module _ (k : Codes) (f : FirmProgram) (m : FirmProcedure) (call : FirmCaller Hi
             put_temp lay r m.widths ws (Local first ∷ from ∷ i ∷ h ∷ hs) (record s {
               values =
                   a.address ∷ y ∷ x ∷ n ∷ vs;
-            }) t1 second (x * e.width) wide placed1 has2 few q1
+            }) t1 second (x * e.width) wide placed1 has2 (omega (arith, few)) q1
 
         t3 : State
         t3 = sets first (a.address + x * e.width) t2
 
         q3 : AreSame lay r ws (Local first ∷ from ∷ i ∷ h ∷ hs) (record s { values = (a.address + x * e.width) ∷ y ∷ x ∷ n ∷ vs }) t3
         q3 =
-            put_temp lay r m.widths ws (from ∷ i ∷ h ∷ hs) (record s { values = y ∷ x ∷ n ∷ vs }) t2 first (a.address + x * e.width) wide placed has1 sum_few
+            put_temp lay r m.widths ws (from ∷ i ∷ h ∷ hs) (record s { values = y ∷ x ∷ n ∷ vs }) t2 first (a.address + x * e.width) wide placed has1 (omega (arith, sum_few))
             (less k f m call handle p go lay r ws wide flash (Local first) (from ∷ i ∷ h ∷ hs) a.address (y ∷ x ∷ n ∷ vs) s t2
             (less k f m call handle p go lay r ws wide flash (Local second) (Local first ∷ from ∷ i ∷ h ∷ hs) (x * e.width)
             (a.address ∷ y ∷ x ∷ n ∷ vs) s t2 q2))
@@ -294,17 +294,18 @@ module _ (k : Codes) (f : FirmProgram) (m : FirmProcedure) (call : FirmCaller Hi
         short : a.length < 65536
         short = (stood.lengths (n - 1) a found).1
 
-        few : n * 4 < 2 ^ 32
+        few : n * 4 < 65536
         few =
             let inner = slice_get_within arrays (n - 1) a found in
             let all = stood.short in
-            omega (arith, inner, all, above)
+            let behind = t_behind in
+            omega (arith, inner, all, above, behind)
 
         t1 : State
         t1 = sets first (n * 4) d.state
 
         q1 : AreSame lay r ws (Local first ∷ from ∷ i ∷ h ∷ hs) (record s { values = n * 4 ∷ y ∷ x ∷ n ∷ vs }) t1
-        q1 = put_temp lay r m.widths ws (from ∷ i ∷ h ∷ hs) (record s { values = y ∷ x ∷ n ∷ vs }) d.state first (n * 4) wide placed has1 few q
+        q1 = put_temp lay r m.widths ws (from ∷ i ∷ h ∷ hs) (record s { values = y ∷ x ∷ n ∷ vs }) d.state first (n * 4) wide placed has1 (omega (arith, few)) q
 
         t2 : State
         t2 = sets second a.length t1

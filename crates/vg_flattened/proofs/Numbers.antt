@@ -16,6 +16,10 @@ use Rattle.vg_lin.specs.Values.{low, signed, compared, divided}
 pub low_same : (x : ℕ) → x < 2 ^ 32 → low 4 x ≡ x
 low_same x h = omega arith
 
+-- the same of two bytes
+pub low_two : (x : ℕ) → x < 65536 → low 2 x ≡ x
+low_two x h = omega arith
+
 pub low_small : (x : ℕ) → low 4 x < 2 ^ 32
 low_small x = omega arith
 

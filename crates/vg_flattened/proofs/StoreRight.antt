@@ -35,12 +35,12 @@ use Rattle.vg_flatten_places.specs.Places.{distance, put_from, store_placed, is_
 use Rattle.vg_flatten.specs.Columns.{ColumnStands, FlashStands}
 use Rattle.vg_flattened.proofs.Alike.{IsFair, Alike, gives, wrong}
 use Rattle.vg_flattened.proofs.Related.{ArePlaced, AreAt, AreWidths, AreSame, Held, Leaves}
-use Rattle.vg_flattened.proofs.Numbers.{low_same}
+use Rattle.vg_flattened.proofs.Numbers.{low_two}
 use Rattle.vg_flattened.proofs.Locals.{value_of_home, put_temp}
 use Rattle.vg_flattened.proofs.Right.{Right, linear}
 use Rattle.vg_flattened.proofs.StepRight.{computes_to, plain_goes}
 use Rattle.vg_flattened.proofs.Writing.{ram_behind_store}
-use Rattle.vg_flattened.proofs.ColumnRight.{found_at, reached, first_is, times_both, null_then, measured}
+use Rattle.vg_flattened.proofs.ColumnRight.{width_low, entry_within, found_at, reached, first_is, times_both, null_then, measured}
 
 module _ (k : Codes) (f : FirmProgram) (m : FirmProcedure) (call : FirmCaller History) (handle : ℕ → Piece Firm History)
     (p : LinProgram) (go : LinCaller State) (lay : Layout) (r : Room) (ws : List ℕ) (wide : AreWidths r m.widths ws)
@@ -208,7 +208,7 @@ module _ (k : Codes) (f : FirmProgram) (m : FirmProcedure) (call : FirmCaller Hi
       → (to : ℕ) → temp r (v ∷ h ∷ hs) ≡ Some to → (number : Operand) (a base n x : ℕ) → x < 256 ^ place.width → (s : Firm) (gs : List ℕ)
       (d : Deciding State) (w : World History) → IsFair w → AreSame lay r ws (v ∷ h ∷ hs) (record s { values = x ∷ n ∷ gs }) d.state
       → (vs : List ℕ) → slice_get s.columns c ≡ Some vs → (old : ℕ) → slice_get vs (n - first) ≡ Some old
-      → value number d.state ≡ Some a → a * place.width < 2 ^ 32 → first_address Ram ≤ base + a * place.width
+      → value number d.state ≡ Some a → a * place.width < 65536 → first_address Ram ≤ base + a * place.width
       → base + a * place.width - first_address Ram ≡ place.address - first_address Ram + place.width * (n - first)
       → Alike (Held lay r ws (only hs)) (Leaves lay r ws) (Gives (record s { values = gs; columns = set_entry s.columns c (n - first) x }) w)
       (linear' (Both (multiplied to place.width number) (One (store_at place.width base (multiple to place.width number) v))) d w)
@@ -218,10 +218,10 @@ module _ (k : Codes) (f : FirmProgram) (m : FirmProcedure) (call : FirmCaller Hi
       once e b e1 = grind arith
 
       product : Block
-      product = One (Compute (record { operator = Product; width = 4; to = to; left = number; right = Known place.width }))
+      product = One (Compute (record { operator = Product; width = 2; to = to; left = number; right = Known place.width }))
 
       there : AreSame lay r ws (Local to ∷ v ∷ h ∷ hs) (record s { values = a * place.width ∷ x ∷ n ∷ gs }) (sets to (a * place.width) d.state)
-      there = put_temp lay r m.widths ws (v ∷ h ∷ hs) (record s { values = x ∷ n ∷ gs }) d.state to (a * place.width) wide placed has few q
+      there = put_temp lay r m.widths ws (v ∷ h ∷ hs) (record s { values = x ∷ n ∷ gs }) d.state to (a * place.width) wide placed has (omega (arith, few)) q
 
       by_one : (b : Bool) → (place.width == 1) ≡ b
           → Alike (Held lay r ws (only hs)) (Leaves lay r ws) (Gives (record s { values = gs; columns = set_entry s.columns c (n - first) x }) w)
@@ -236,18 +236,18 @@ module _ (k : Codes) (f : FirmProgram) (m : FirmProcedure) (call : FirmCaller Hi
           (Gives (record s { values = gs; columns = set_entry s.columns c (n - first) x }) w)
           (and_then z (linear' (One (store_at place.width base (Local to) v)))))
           (sym (plain_goes k f m call handle p go lay r ws wide
-          (Compute (record { operator = Product; width = 4; to = to; left = number; right = Known place.width })) d w (sets to (a * place.width) d.state)
-          (computes_to k f m call handle p go lay r ws wide Product 4 to number (Known place.width) a place.width (a * place.width) d.state w.outside
-          hv refl (ap Some (low_same (a * place.width) few)))))
+          (Compute (record { operator = Product; width = 2; to = to; left = number; right = Known place.width })) d w (sets to (a * place.width) d.state)
+          (computes_to k f m call handle p go lay r ws wide Product 2 to number (Known place.width) a place.width (a * place.width) d.state w.outside
+          hv refl (ap Some (low_two (a * place.width) few)))))
           (does_store hs c (n - first) x old (a * place.width) base place vs (Local to) v (record s { values = gs })
           (record d { state = sets to (a * place.width) d.state }) w i at hc he lt there.waits.0.0
           (value_of_home v x (sets to (a * place.width) d.state) there.waits.1.0.0) low_is index_is
           (record { waits = there.waits.1.1.1; kept = there.kept; none = there.none; ram = there.ram }))
 
-  right_put : (c first : ℕ) (place : Place) → slice_get lay.ram c ≡ Some place → place.width * first ≤ place.address → (v h : Operand) (hs : List Operand)
+  right_put : (c first : ℕ) (place : Place) → slice_get lay.ram c ≡ Some place → 0 < place.width → place.width * first ≤ place.address → (v h : Operand) (hs : List Operand)
       → ArePlaced r.locals (v ∷ h ∷ hs)
       → Right' (only (v ∷ h ∷ hs)) (put_of r place.width (place.address - place.width * first) v h hs) (step' (StoreAt c first place.width))
-  right_put c first place at le v h hs placed =
+  right_put c first place at above le v h hs placed =
       right_put_by c first place at v h hs placed
       (λ to. Both (multiplied to place.width h) (One (store_at place.width base (multiple to place.width h) v)))
       (λ to has n x ge lt s gs d w i q vs hc old he. does to has n x ge lt s gs d w i q vs hc old he (q.ram.stands c place vs at hc) (times_both n first place.width ge))
@@ -255,7 +255,7 @@ module _ (k : Codes) (f : FirmProgram) (m : FirmProcedure) (call : FirmCaller Hi
       base : ℕ
       base = place.address - place.width * first
 
-      short_is : (address a b all : ℕ) → address + all ≤ 65536 → a ≤ address → b ≤ all → a + b < 2 ^ 32
+      short_is : (address a b all : ℕ) → address + all ≤ 65536 → a ≤ address → b < all → a + b < 65536
       short_is address a b all h1 h2 h3 = omega (arith, h1, h2, h3)
 
       behind_is : (low' address a b : ℕ) → low' ≤ address → a ≤ address → low' ≤ address - a + (a + b)
@@ -272,9 +272,9 @@ module _ (k : Codes) (f : FirmProgram) (m : FirmProcedure) (call : FirmCaller Hi
           (linear' (Both (multiplied to place.width h) (One (store_at place.width base (multiple to place.width h) v))) d w)
       does to has n x ge lt s gs d w i q vs hc old he stands both =
           let inner = slice_get_within vs (n - first) old he in
-          let within : place.width * (n - first) ≤ place.width * length vs = mul-le-mul_left place.width (omega (arith, inner)) in
+          let within = entry_within place.width (n - first) (length vs) above inner in
           does_put c first place at v h hs placed to has h n base n x lt s gs d w i q vs hc old he (value_of_home h n d.state q.waits.1.0.0)
-          (subst (λ z. z < 2 ^ 32) (sym both)
+          (subst (λ z. z < 65536) (sym both)
           (short_is place.address (place.width * first) (place.width * (n - first)) (place.width * length vs) stands.short le within))
           (subst (λ z. first_address Ram ≤ base + z) (sym both)
           (behind_is (first_address Ram) place.address (place.width * first) (place.width * (n - first)) stands.behind le))
@@ -282,9 +282,9 @@ module _ (k : Codes) (f : FirmProgram) (m : FirmProcedure) (call : FirmCaller Hi
           ∙ place_is (first_address Ram) place.address (place.width * first) (place.width * (n - first)) stands.behind le)
 
   -- the same, counted from the first object
-  right_put_from : (c first : ℕ) (place : Place) → slice_get lay.ram c ≡ Some place → (v h : Operand) (hs : List Operand) → ArePlaced r.locals (v ∷ h ∷ hs)
+  right_put_from : (c first : ℕ) (place : Place) → slice_get lay.ram c ≡ Some place → 0 < place.width → (v h : Operand) (hs : List Operand) → ArePlaced r.locals (v ∷ h ∷ hs)
       → Right' (only (v ∷ h ∷ hs)) (put_from r place.width first place.address v h hs) (step' (StoreAt c first place.width))
-  right_put_from c first place at v h hs placed =
+  right_put_from c first place at above v h hs placed =
       right_put_by c first place at v h hs placed inside
       (λ to has n x ge lt s gs d w i q vs hc old he. does to has n x ge lt s gs d w i q vs hc old he (q.ram.stands c place vs at hc))
     where
@@ -297,7 +297,7 @@ module _ (k : Codes) (f : FirmProgram) (m : FirmProcedure) (call : FirmCaller Hi
       times : (a b : ℕ) → a * b ≡ b * a
       times a b = grind arith
 
-      few_is : (address b all : ℕ) → address + all ≤ 65536 → b ≤ all → b < 2 ^ 32
+      few_is : (address b all : ℕ) → address + all ≤ 65536 → b < all → b < 65536
       few_is address b all h1 h2 = omega (arith, h1, h2)
 
       low_is : (low' address b : ℕ) → low' ≤ address → low' ≤ address + b
@@ -316,14 +316,14 @@ module _ (k : Codes) (f : FirmProgram) (m : FirmProcedure) (call : FirmCaller Hi
           (linear' (inside to) d w)
       does to has n x ge lt s gs d w i q vs hc old he stands =
           let inner = slice_get_within vs (n - first) old he in
-          let within : place.width * (n - first) ≤ place.width * length vs = mul-le-mul_left place.width (omega (arith, inner)) in
+          let within = entry_within place.width (n - first) (length vs) above inner in
           let turned = times (n - first) place.width in
           subst (λ z. Alike (Held lay r ws (only hs)) (Leaves lay r ws) (Gives (record s { values = gs; columns = set_entry s.columns c (n - first) x }) w)
           (and_then z (linear' (last to))))
           (sym (measured k f m call handle p go lay r ws wide flash to first n h d w (value_of_home h n d.state q.waits.1.0.0) ge q.waits.1.0.1))
           (does_put c first place at v h hs placed to has (Local to) (n - first) place.address n x lt s gs (record d { state = sets to (n - first) d.state }) w i
           (record { waits = there.waits.1; kept = there.kept; none = there.none; ram = there.ram }) vs hc old he there.waits.0.0
-          (subst (λ z. z < 2 ^ 32) (sym turned) (few_is place.address (place.width * (n - first)) (place.width * length vs) stands.short within))
+          (subst (λ z. z < 65536) (sym turned) (few_is place.address (place.width * (n - first)) (place.width * length vs) stands.short within))
           (subst (λ z. first_address Ram ≤ place.address + z) (sym turned)
           (low_is (first_address Ram) place.address (place.width * (n - first)) stands.behind))
           (ap (λ z. place.address + z - first_address Ram) turned
@@ -344,20 +344,20 @@ module _ (k : Codes) (f : FirmProgram) (m : FirmProcedure) (call : FirmCaller Hi
       by_place (Some place) e [] placed1 = tt
       by_place (Some place) e (v ∷ []) placed1 = tt
       by_place (Some place) e (v ∷ h ∷ gs) placed1 =
-          by_width (is_width width) (width == place.width) refl
+          by_width (is_width width) refl (width == place.width) refl
         where
-          by_address : (b : Bool) → nat_le (place.width * first) place.address ≡ b
+          by_address : 0 < place.width → (b : Bool) → nat_le (place.width * first) place.address ≡ b
               → Right' (only (v ∷ h ∷ gs)) (if b then put_of r place.width (place.address - place.width * first) v h gs
               else put_from r place.width first place.address v h gs) (step' (StoreAt c first place.width))
-          by_address true le = right_put c first place e (grind arith) v h gs placed1
-          by_address false le = right_put_from c first place e v h gs placed1
+          by_address above true le = right_put c first place e above (grind arith) v h gs placed1
+          by_address above false le = right_put_from c first place e above v h gs placed1
 
-          by_width : (b b1 : Bool) → (width == place.width) ≡ b1
+          by_width : (b : Bool) → is_width width ≡ b → (b1 : Bool) → (width == place.width) ≡ b1
               → Right' (only (v ∷ h ∷ gs)) (if b && b1 then store_placed r width first place.address v h gs else Refused NotTaken)
               (step' (StoreAt c first width))
-          by_width true true same =
+          by_width true fit true same =
               let is : width ≡ place.width = grind arith in
               subst (λ z. Right' (only (v ∷ h ∷ gs)) (store_placed r z first place.address v h gs) (step' (StoreAt c first z))) (sym is)
-              (by_address (nat_le (place.width * first) place.address) refl)
-          by_width true false same = tt
-          by_width false b1 same = tt
+              (by_address (width_low place.width (ap is_width (sym is) ∙ fit)) (nat_le (place.width * first) place.address) refl)
+          by_width true fit false same = tt
+          by_width false fit b1 same = tt

@@ -48,10 +48,10 @@ in_range {X} xs i x e = by_case (slice_get_cases xs i).1
 
 module _ (p : Tables) (l : Layout) (k : Codes) (f : FirmProgram) (lay : Placed) (suits : Suits p l k lay) (ts : List CoreType) where
   abbrev knows : Known
-  knows = record { layout = lay; locals = length ts; most = 48 }
+  knows = record { layout = lay; locals = length ts; most = 191 }
 
   one_step : (below x y : ℕ) (s : Step) (q : FirmStep) → firm_steps.takes q ≡ takes s → firm_steps.leaves q ≡ leaves s
-      → ((n : ℕ) → IsAlone s n → firm_typed.IsAlone q n) → Names lay (length ts) q → Counts 48 below s x y → Leads knows below q x y
+      → ((n : ℕ) → IsAlone s n → firm_typed.IsAlone q n) → Names lay (length ts) q → Counts 191 below s x y → Leads knows below q x y
   one_step below x y s q et el alone names c =
       record {
         rest = c.rest;
@@ -62,15 +62,15 @@ module _ (p : Tables) (l : Layout) (k : Codes) (f : FirmProgram) (lay : Placed) 
         names = names;
       }
 
-  no_step : (below x y : ℕ) (s : Step) → takes s ≡ leaves s → Counts 48 below s x y → x ≡ y
+  no_step : (below x y : ℕ) (s : Step) → takes s ≡ leaves s → Counts 191 below s x y → x ≡ y
   no_step below x y s e c = c.before ∙ ap (λ z. z + c.rest) e ∙ sym c.behind
 
-  cut_typed : (looped : Bool) (below x y : ℕ) (s : Step) (o : Option Prefix) → 1 ≡ takes s → 1 ≡ leaves s → Counts 48 below s x y
+  cut_typed : (looped : Bool) (below x y : ℕ) (s : Step) (o : Option Prefix) → 1 ≡ takes s → 1 ≡ leaves s → Counts 191 below s x y
       → Typed knows looped below (cut o) x y
   cut_typed looped below x y s (Some op) et el c = one_step below x y s (firm.Apply op) et el (λ n a. tt) tt c
   cut_typed looped below x y s None et el c = no_step below x y s (sym et ∙ el) c
 
-  cast_typed : (looped : Bool) (below x y : ℕ) (at : ℕ) (t u : CoreType) → Counts 48 below (CastTo at t u) x y → Typed knows looped below (cast l t u) x y
+  cast_typed : (looped : Bool) (below x y : ℕ) (at : ℕ) (t u : CoreType) → Counts 191 below (CastTo at t u) x y → Typed knows looped below (cast l t u) x y
   cast_typed looped below x y at t IntType c = cut_typed looped below x y (CastTo at t IntType) (cut_for t IntType) refl refl c
   cast_typed looped below x y at t CharType c = cut_typed looped below x y (CastTo at t CharType) (cut_for t CharType) refl refl c
   cast_typed looped below x y at t (RawType n) c = cut_typed looped below x y (CastTo at t (RawType n)) (cut_for t (RawType n)) refl refl c
@@ -83,13 +83,13 @@ module _ (p : Tables) (l : Layout) (k : Codes) (f : FirmProgram) (lay : Placed) 
   cast_typed looped below x y at t NoType c = no_step below x y (CastTo at t NoType) refl c
   cast_typed looped below x y at t (MoreTypes first rest) c = no_step below x y (CastTo at t (MoreTypes first rest)) refl c
 
-  load_typed : (looped : Bool) (below x y f' : ℕ) (c : Column) → l.column f' ≡ Some c → Counts 48 below (ComponentField f') x y
+  load_typed : (looped : Bool) (below x y f' : ℕ) (c : Column) → l.column f' ≡ Some c → Counts 191 below (ComponentField f') x y
       → Typed knows looped below (Do (load (l.column f'))) x y
   load_typed looped below x y f' c e h =
       subst (λ o. Typed knows looped below (Do (load o)) x y) (sym e)
       (one_step below x y (ComponentField f') (firm.Load c.home c.column) refl refl (λ n a. tt) (suits.columns f' c e) h)
 
-  store_typed : (looped : Bool) (below x y f' : ℕ) → IsWritten (l.column f') → Counts 48 below (SetComponentField f') x y
+  store_typed : (looped : Bool) (below x y f' : ℕ) → IsWritten (l.column f') → Counts 191 below (SetComponentField f') x y
       → Typed knows looped below (Do (store (l.column f') (width_in l (field_type p f')))) x y
   store_typed looped below x y f' w h = by_column (l.column f') refl w
     where
@@ -98,7 +98,7 @@ module _ (p : Tables) (l : Layout) (k : Codes) (f : FirmProgram) (lay : Placed) 
           one_step below x y (SetComponentField f') (firm.Store c.column (width_in l (field_type p f'))) refl refl (λ n a. tt) (suits.fields f' c e ram) h
       by_column None e ram = one_step below x y (SetComponentField f') firm.Forget refl refl (λ n a. tt) tt h
 
-  load_at_typed : (looped : Bool) (below x y at f' : ℕ) → Counts 48 below (Field at f') x y
+  load_at_typed : (looped : Bool) (below x y at f' : ℕ) → Counts 191 below (Field at f') x y
       → Typed knows looped below (Do (load_at (l.column f') (first_with p l f'))) x y
   load_at_typed looped below x y at f' h = by_column (l.column f') refl
     where
@@ -107,7 +107,7 @@ module _ (p : Tables) (l : Layout) (k : Codes) (f : FirmProgram) (lay : Placed) 
           one_step below x y (Field at f') (firm.LoadAt c.home c.column (first_with p l f')) refl refl (λ n a. tt) (suits.columns f' c e) h
       by_column None e = one_step below x y (Field at f') firm.LoadNothing refl refl (λ n a. tt) tt h
 
-  store_at_typed : (looped : Bool) (below x y at f' : ℕ) → IsWritten (l.column f') → Counts 48 below (SetField at f') x y
+  store_at_typed : (looped : Bool) (below x y at f' : ℕ) → IsWritten (l.column f') → Counts 191 below (SetField at f') x y
       → Typed knows looped below (Do (store_at (l.column f') (first_with p l f') (width_in l (field_type p f')))) x y
   store_at_typed looped below x y at f' w h = by_column (l.column f') refl w
     where
@@ -119,7 +119,7 @@ module _ (p : Tables) (l : Layout) (k : Codes) (f : FirmProgram) (lay : Placed) 
       by_column None e ram = one_step below x y (SetField at f') firm.StoreNothing refl refl (λ n a. tt) tt h
 
   step_typed : (looped : Bool) (calls : List ℕ) (o : Owner) (below x y : ℕ) (xs ys : List CoreType) (s : Step) → Takes p ts o s xs ys → Allowed p l f calls s
-      → Counts 48 below s x y → Typed knows looped below (move p l k s) x y
+      → Counts 191 below s x y → Typed knows looped below (move p l k s) x y
   step_typed looped calls o below x y xs ys (Put v) t a c =
       one_step below x y (Put v) (firm.Number (coded l.numbering k v)) refl refl (λ n z. tt) (suits.values v a) c
   step_typed looped calls o below x y xs ys (Literal i) t a c =
@@ -165,7 +165,7 @@ module _ (p : Tables) (l : Layout) (k : Codes) (f : FirmProgram) (lay : Placed) 
   step_typed looped calls o below x y xs ys (Super d count) t a c = absurd a
 
   code_typed : (calls : List ℕ) (o : Owner) (result : CoreType) (c : Code Step) (looped : Bool) (below x y : ℕ) (xs ys : List CoreType)
-      → Fits (allowing p l f calls ts o result) looped c xs ys → Counted 48 looped below c x y → Typed knows looped below (replaced (move p l k) c) x y
+      → Fits (allowing p l f calls ts o result) looped c xs ys → Counted 191 looped below c x y → Typed knows looped below (replaced (move p l k) c) x y
   code_typed calls o result Nothing looped below x y xs ys h c = c
   code_typed calls o result (Then a b) looped below x y xs ys (zs, ha, hb) (z, ca, cb) =
       (z, code_typed calls o result a looped below x z xs zs ha ca, code_typed calls o result b looped below z y zs ys hb cb)
@@ -186,12 +186,12 @@ module _ (p : Tables) (l : Layout) (k : Codes) (f : FirmProgram) (lay : Placed) 
   code_typed calls o result Return looped below x y xs ys h c = c
 
 pub is_typed : (p : Tables) (l : Layout) (k : Codes) (f : FirmProgram) (lay : Placed) (calls : List ℕ) (m : ℕ) (g : Signature) (b : Body) → Suits p l k lay
-    → Fits (allowing p l f calls (locals_of g b) g.owner g.result) false b.code [] [] → length (locals_of g b) ≤ 60 → Counted 48 false 0 b.code 0 0
+    → Fits (allowing p l f calls (locals_of g b) g.owner g.result) false b.code [] [] → length (locals_of g b) ≤ 60 → Counted 191 false 0 b.code 0 0
     → IsTyped lay (packed p l k m g b)
 is_typed p l k f lay calls m g b suits h few c =
     record {
       few = let e = length-map (locals_of g b) width_of in omega (arith, e, few);
       code =
-          subst (λ n. Typed (record { layout = lay; locals = n; most = 48 }) false 0 (replaced (move p l k) b.code) 0 0)
+          subst (λ n. Typed (record { layout = lay; locals = n; most = 191 }) false 0 (replaced (move p l k) b.code) 0 0)
           (sym (length-map (locals_of g b) width_of)) (code_typed p l k f lay suits (locals_of g b) calls g.owner g.result b.code false 0 0 0 [] [] h c);
     }

@@ -15,10 +15,10 @@ ghost use Rattle.vg_packed_typed.specs.Counted.{Counted};
 ghost use Rattle.vg_packed_typed.specs.Suits.{Suits};
 
 /// The procedure of a method is typed, where its columns and tables stand as the packed program says, the method has at most 60
-/// parameters and locals, its steps are typed and allowed, and at most 48 values wait, in order. The body is empty: its contract is a
+/// parameters and locals, its steps are typed and allowed, and at most 191 values wait, in order. The body is empty: its contract is a
 /// law of the definitions.
 pub fn typed_packed()
     ensures { (p : Tables) (l : Layout) (k : Codes) (f : FirmProgram) (lay : Placed) (calls : List ℕ) (m : ℕ) (g : Signature) (b : Body)
         → Suits p l k lay → Fits (allowing p l f calls (locals_of g b) g.owner g.result) false b.code [] []
-        → length (locals_of g b) ≤ 60 → Counted 48 false 0 b.code 0 0 → IsTyped lay (packed p l k m g b) }
+        → length (locals_of g b) ≤ 60 → Counted 191 false 0 b.code 0 0 → IsTyped lay (packed p l k m g b) }
 {}

@@ -1,9 +1,13 @@
-use Rattle.std.proofs.Common.{◌+◌, ◌++◌, drop, sym, ap, ◌∙◌, subst, arith}
+use Rattle.std.proofs.Common.{◌≡◌, ◌+◌, ◌<◌, ◌⊎◌, ◌++◌, length, drop, refl, sym, ap, ◌∙◌, subst, arith}
 use Rattle.vg_flatten_shapes.specs.Blocks.{loop_code}
 use Rattle.vg_firm.specs.Held.{code_of, list_of}
 use Rattle.vg_flatten_control.proofs.Along.{Along, along_on, left_of, part_weighs}
 use Rattle.vg_flatten_shapes.specs.Shapes.{empty}
-use Rattle.vg_flatten_control.specs.Flat.{flat}
+use Rattle.vg_meaning.specs.Code.{Nothing, If}
+use Rattle.vg_flatten_shapes.specs.Made.{after, settled, tested}
+use Rattle.vg_flatten_control.specs.Flat.{landed_as, landed, repeated_body, flat}
+use Rattle.vg_flatten_control.specs.Weights.{arms_list}
+use Rattle.vg_flatten_control.proofs.Failing.{lays_err, place_lays, rest_lays, place_way, rest_way, joined_ways, early_loop, body_fails, late_loop, next_fails, code_fails, from_empty}
 use Rattle.vg_flatten_control.proofs.LoopPieces.{loop_laid}
 use Rattle.vg_flatten_shapes.specs.Laying.{Lays, IsPiece}
 use Rattle.vg_flatten_control.proofs.Rows.{row_same, row_weighs, arms_same, arms_weigh}
@@ -63,3 +67,187 @@ row-parts-preserved t c =
     (left_of c.args.codes.now c.parts.part-index c.part-item.result c.parts-test.true (sym c.part-item.is)) c.parts.invariant)
     (c.in_ok-part_at.ensures ∙ ap (λ z. c.args.at + z) c.len.ensures) c.in_ok-piece.ensures
     (c.in_ok-code.ensures ∙ ap (λ z. c.parts.code ++ z) c.as_slice.ensures)
+
+pub landed-returns-in_err-rest_at : goal.landed-returns-in_err-rest_at
+landed-returns-in_err-rest_at t c =
+    place_lays c.args.at (flat c.args.layout.now c.args.room (code_of c.args.code.now) c.args.homes) (λ s. after (settled c.args.room s) (λ s1. landed_as c.args.room s1.homes)) c.in_ok-first.first c.from_residual-in_err-rest_at.result _ c.len.result
+    c.from_residual-in_err-rest_at.ensures.1 c.in_ok-first.ensures c.len.ensures c.in_err-rest_at.ensures
+
+pub landed-returns-in_err-rest : goal.landed-returns-in_err-rest
+landed-returns-in_err-rest t c =
+    rest_lays c.args.at c.in_ok-rest_at.rest_at (flat c.args.layout.now c.args.room (code_of c.args.code.now) c.args.homes) (λ s. after (settled c.args.room s) (λ s1. landed_as c.args.room s1.homes)) c.in_ok-first.first c.from_residual-in_err-rest.result _ c.len.result
+    c.from_residual-in_err-rest.ensures.1 c.in_ok-first.ensures c.len.ensures c.in_ok-rest_at.ensures c.in_err-rest.ensures
+
+pub landed_arms-returns-in_err-rest_at : goal.landed_arms-returns-in_err-rest_at
+landed_arms-returns-in_err-rest_at t c =
+    place_lays c.args.at (flat c.args.layout.now c.args.room (arms_list c.args.all.now (code_of c.args.last.now)) c.args.homes) (λ s. after (settled c.args.room s) (λ s1. landed_as c.args.room s1.homes)) c.in_ok-first.first c.from_residual-in_err-rest_at.result _ c.len.result
+    c.from_residual-in_err-rest_at.ensures.1 c.in_ok-first.ensures c.len.ensures c.in_err-rest_at.ensures
+
+pub landed_arms-returns-in_err-rest : goal.landed_arms-returns-in_err-rest
+landed_arms-returns-in_err-rest t c =
+    rest_lays c.args.at c.in_ok-rest_at.rest_at (flat c.args.layout.now c.args.room (arms_list c.args.all.now (code_of c.args.last.now)) c.args.homes) (λ s. after (settled c.args.room s) (λ s1. landed_as c.args.room s1.homes)) c.in_ok-first.first c.from_residual-in_err-rest.result _ c.len.result
+    c.from_residual-in_err-rest.ensures.1 c.in_ok-first.ensures c.len.ensures c.in_ok-rest_at.ensures c.in_err-rest.ensures
+
+pub arm-returns-in_err-rest_at : goal.arm-returns-in_err-rest_at
+arm-returns-in_err-rest_at t c =
+    place_lays c.args.at (flat c.args.layout.now c.args.room (code_of c.args.condition.now) c.args.homes) (flat c.args.layout.now c.args.room (If (code_of c.args.block.now) Nothing)) c.in_ok-first.first c.from_residual-in_err-rest_at.result _ c.len.result
+    c.from_residual-in_err-rest_at.ensures.1 c.in_ok-first.ensures c.len.ensures c.in_err-rest_at.ensures
+
+pub arm-returns-in_err-rest : goal.arm-returns-in_err-rest
+arm-returns-in_err-rest t c =
+    rest_lays c.args.at c.in_ok-rest_at.rest_at (flat c.args.layout.now c.args.room (code_of c.args.condition.now) c.args.homes) (flat c.args.layout.now c.args.room (If (code_of c.args.block.now) Nothing)) c.in_ok-first.first c.from_residual-in_err-rest.result _ c.len.result
+    c.from_residual-in_err-rest.ensures.1 c.in_ok-first.ensures c.len.ensures c.in_ok-rest_at.ensures c.in_err-rest.ensures
+
+pub arm_more-returns-in_err-rest_at : goal.arm_more-returns-in_err-rest_at
+arm_more-returns-in_err-rest_at t c =
+    place_lays c.args.at (flat c.args.layout.now c.args.room (code_of c.args.condition.now) c.args.homes) (flat c.args.layout.now c.args.room (If (code_of c.args.block.now) (arms_list c.args.more.now (code_of c.args.last.now)))) c.in_ok-first.first c.from_residual-in_err-rest_at.result _ c.len.result
+    c.from_residual-in_err-rest_at.ensures.1 c.in_ok-first.ensures c.len.ensures c.in_err-rest_at.ensures
+
+pub arm_more-returns-in_err-rest : goal.arm_more-returns-in_err-rest
+arm_more-returns-in_err-rest t c =
+    rest_lays c.args.at c.in_ok-rest_at.rest_at (flat c.args.layout.now c.args.room (code_of c.args.condition.now) c.args.homes) (flat c.args.layout.now c.args.room (If (code_of c.args.block.now) (arms_list c.args.more.now (code_of c.args.last.now)))) c.in_ok-first.first c.from_residual-in_err-rest.result _ c.len.result
+    c.from_residual-in_err-rest.ensures.1 c.in_ok-first.ensures c.len.ensures c.in_ok-rest_at.ensures c.in_err-rest.ensures
+
+pub code_and_arms-returns-in_err-rest_at : goal.code_and_arms-returns-in_err-rest_at
+code_and_arms-returns-in_err-rest_at t c =
+    place_lays c.args.at (flat c.args.layout.now c.args.room (code_of c.args.code.now) c.args.homes) (flat c.args.layout.now c.args.room (arms_list c.args.more.now (code_of c.args.last.now))) c.in_ok-first.first c.from_residual-in_err-rest_at.result _ c.len.result
+    c.from_residual-in_err-rest_at.ensures.1 c.in_ok-first.ensures c.len.ensures c.in_err-rest_at.ensures
+
+pub code_and_arms-returns-in_err-rest : goal.code_and_arms-returns-in_err-rest
+code_and_arms-returns-in_err-rest t c =
+    rest_lays c.args.at c.in_ok-rest_at.rest_at (flat c.args.layout.now c.args.room (code_of c.args.code.now) c.args.homes) (flat c.args.layout.now c.args.room (arms_list c.args.more.now (code_of c.args.last.now))) c.in_ok-first.first c.from_residual-in_err-rest.result _ c.len.result
+    c.from_residual-in_err-rest.ensures.1 c.in_ok-first.ensures c.len.ensures c.in_ok-rest_at.ensures c.in_err-rest.ensures
+
+pub chosen-returns-in_err-rest_at-in-Some : goal.chosen-returns-in_err-rest_at-in-Some
+chosen-returns-in_err-rest_at-in-Some t c =
+    lays_err c.from_residual-in_err-rest_at-in-Some.result _ c.args.at _ c.from_residual-in_err-rest_at-in-Some.ensures.1
+    (place_way c.args.at c.args.room (tested c.args.homes) c.in-Some.truth c.take_truth.new.homes
+    (flat c.args.layout.now c.args.room (code_of c.args.first.now)) (flat c.args.layout.now c.args.room (code_of c.args.rest.now)) c.in-Some.ensures
+    c.in_ok-first_at-in-Some.first_at c.in_ok-first-in-Some.first _ c.len.result c.in_ok-first_at-in-Some.ensures
+    (subst (λ z. IsPiece c.in_ok-first-in-Some.first c.in_ok-first_at-in-Some.first_at (landed c.args.room (flat c.args.layout.now c.args.room (code_of c.args.first.now) z))) c.in_ok-copy-in-Some.ensures c.in_ok-first-in-Some.ensures)
+    c.len.ensures c.in_err-rest_at-in-Some.ensures)
+
+pub chosen-returns-in_err-rest-in-Some : goal.chosen-returns-in_err-rest-in-Some
+chosen-returns-in_err-rest-in-Some t c =
+    lays_err c.from_residual-in_err-rest-in-Some.result _ c.args.at _ c.from_residual-in_err-rest-in-Some.ensures.1
+    (rest_way c.args.at c.args.room (tested c.args.homes) c.in-Some.truth c.take_truth.new.homes
+    (flat c.args.layout.now c.args.room (code_of c.args.first.now)) (flat c.args.layout.now c.args.room (code_of c.args.rest.now)) c.in-Some.ensures
+    c.in_ok-first_at-in-Some.first_at c.in_ok-rest_at-in-Some.rest_at c.in_ok-first-in-Some.first _
+    (subst (λ z. IsPiece c.in_ok-first-in-Some.first c.in_ok-first_at-in-Some.first_at (landed c.args.room (flat c.args.layout.now c.args.room (code_of c.args.first.now) z))) c.in_ok-copy-in-Some.ensures c.in_ok-first-in-Some.ensures)
+    (c.in_ok-rest_at-in-Some.ensures ∙ ap (λ n. c.args.at + 1 + n + 1) c.len.ensures) c.in_err-rest-in-Some.ensures)
+
+pub chosen-returns-in_ok-rest-in-Some : goal.chosen-returns-in_ok-rest-in-Some
+chosen-returns-in_ok-rest-in-Some t c =
+    joined_ways c.args.at c.args.room (tested c.args.homes) c.in-Some.truth c.take_truth.new.homes
+    (flat c.args.layout.now c.args.room (code_of c.args.first.now)) (flat c.args.layout.now c.args.room (code_of c.args.rest.now)) c.in-Some.ensures
+    c.in_ok-first_at-in-Some.first_at c.in_ok-rest_at-in-Some.rest_at c.in_ok-first-in-Some.first c.in_ok-rest-in-Some.rest c.join.result c.in_ok-first_at-in-Some.ensures
+    (c.in_ok-rest_at-in-Some.ensures ∙ ap (λ n. c.args.at + 1 + n + 1) c.len.ensures)
+    (subst (λ z. IsPiece c.in_ok-first-in-Some.first c.in_ok-first_at-in-Some.first_at (landed c.args.room (flat c.args.layout.now c.args.room (code_of c.args.first.now) z))) c.in_ok-copy-in-Some.ensures c.in_ok-first-in-Some.ensures)
+    c.in_ok-rest-in-Some.ensures c.join.ensures
+
+pub arm_or-returns-in_err-rest_at-in-Some : goal.arm_or-returns-in_err-rest_at-in-Some
+arm_or-returns-in_err-rest_at-in-Some t c =
+    lays_err c.from_residual-in_err-rest_at-in-Some.result _ c.args.at _ c.from_residual-in_err-rest_at-in-Some.ensures.1
+    (place_way c.args.at c.args.room (tested c.args.homes) c.in-Some.truth c.take_truth.new.homes
+    (flat c.args.layout.now c.args.room (code_of c.args.block.now)) (flat c.args.layout.now c.args.room (arms_list c.args.more.now (code_of c.args.last.now))) c.in-Some.ensures
+    c.in_ok-first_at-in-Some.first_at c.in_ok-first-in-Some.first _ c.len.result c.in_ok-first_at-in-Some.ensures
+    (subst (λ z. IsPiece c.in_ok-first-in-Some.first c.in_ok-first_at-in-Some.first_at (landed c.args.room (flat c.args.layout.now c.args.room (code_of c.args.block.now) z))) c.in_ok-copy-in-Some.ensures c.in_ok-first-in-Some.ensures)
+    c.len.ensures c.in_err-rest_at-in-Some.ensures)
+
+pub arm_or-returns-in_err-rest-in-Some : goal.arm_or-returns-in_err-rest-in-Some
+arm_or-returns-in_err-rest-in-Some t c =
+    lays_err c.from_residual-in_err-rest-in-Some.result _ c.args.at _ c.from_residual-in_err-rest-in-Some.ensures.1
+    (rest_way c.args.at c.args.room (tested c.args.homes) c.in-Some.truth c.take_truth.new.homes
+    (flat c.args.layout.now c.args.room (code_of c.args.block.now)) (flat c.args.layout.now c.args.room (arms_list c.args.more.now (code_of c.args.last.now))) c.in-Some.ensures
+    c.in_ok-first_at-in-Some.first_at c.in_ok-rest_at-in-Some.rest_at c.in_ok-first-in-Some.first _
+    (subst (λ z. IsPiece c.in_ok-first-in-Some.first c.in_ok-first_at-in-Some.first_at (landed c.args.room (flat c.args.layout.now c.args.room (code_of c.args.block.now) z))) c.in_ok-copy-in-Some.ensures c.in_ok-first-in-Some.ensures)
+    (c.in_ok-rest_at-in-Some.ensures ∙ ap (λ n. c.args.at + 1 + n + 1) c.len.ensures) c.in_err-rest-in-Some.ensures)
+
+pub arm_or-returns-in_ok-rest-in-Some : goal.arm_or-returns-in_ok-rest-in-Some
+arm_or-returns-in_ok-rest-in-Some t c =
+    joined_ways c.args.at c.args.room (tested c.args.homes) c.in-Some.truth c.take_truth.new.homes
+    (flat c.args.layout.now c.args.room (code_of c.args.block.now)) (flat c.args.layout.now c.args.room (arms_list c.args.more.now (code_of c.args.last.now))) c.in-Some.ensures
+    c.in_ok-first_at-in-Some.first_at c.in_ok-rest_at-in-Some.rest_at c.in_ok-first-in-Some.first c.in_ok-rest-in-Some.rest c.join.result c.in_ok-first_at-in-Some.ensures
+    (c.in_ok-rest_at-in-Some.ensures ∙ ap (λ n. c.args.at + 1 + n + 1) c.len.ensures)
+    (subst (λ z. IsPiece c.in_ok-first-in-Some.first c.in_ok-first_at-in-Some.first_at (landed c.args.room (flat c.args.layout.now c.args.room (code_of c.args.block.now) z))) c.in_ok-copy-in-Some.ensures c.in_ok-first-in-Some.ensures)
+    c.in_ok-rest-in-Some.ensures c.join.ensures
+
+pub arm_or_nothing-returns-in_err-rest_at-in-Some : goal.arm_or_nothing-returns-in_err-rest_at-in-Some
+arm_or_nothing-returns-in_err-rest_at-in-Some t c =
+    lays_err c.from_residual-in_err-rest_at-in-Some.result _ c.args.at _ c.from_residual-in_err-rest_at-in-Some.ensures.1
+    (place_way c.args.at c.args.room (tested c.args.homes) c.in-Some.truth c.take_truth.new.homes
+    (flat c.args.layout.now c.args.room (code_of c.args.block.now)) (flat c.args.layout.now c.args.room Nothing) c.in-Some.ensures
+    c.in_ok-first_at-in-Some.first_at c.in_ok-first-in-Some.first _ c.len.result c.in_ok-first_at-in-Some.ensures
+    (subst (λ z. IsPiece c.in_ok-first-in-Some.first c.in_ok-first_at-in-Some.first_at (landed c.args.room (flat c.args.layout.now c.args.room (code_of c.args.block.now) z))) c.in_ok-copy-in-Some.ensures c.in_ok-first-in-Some.ensures)
+    c.len.ensures c.in_err-rest_at-in-Some.ensures)
+
+pub arm_or_nothing-returns-in_err-rest-in-Some : goal.arm_or_nothing-returns-in_err-rest-in-Some
+arm_or_nothing-returns-in_err-rest-in-Some t c =
+    lays_err c.from_residual-in_err-rest-in-Some.result _ c.args.at _ c.from_residual-in_err-rest-in-Some.ensures.1
+    (rest_way c.args.at c.args.room (tested c.args.homes) c.in-Some.truth c.take_truth.new.homes
+    (flat c.args.layout.now c.args.room (code_of c.args.block.now)) (flat c.args.layout.now c.args.room Nothing) c.in-Some.ensures
+    c.in_ok-first_at-in-Some.first_at c.in_ok-rest_at-in-Some.rest_at c.in_ok-first-in-Some.first _
+    (subst (λ z. IsPiece c.in_ok-first-in-Some.first c.in_ok-first_at-in-Some.first_at (landed c.args.room (flat c.args.layout.now c.args.room (code_of c.args.block.now) z))) c.in_ok-copy-in-Some.ensures c.in_ok-first-in-Some.ensures)
+    (c.in_ok-rest_at-in-Some.ensures ∙ ap (λ n. c.args.at + 1 + n + 1) c.len.ensures) c.in_err-rest-in-Some.ensures)
+
+pub arm_or_nothing-returns-in_ok-rest-in-Some : goal.arm_or_nothing-returns-in_ok-rest-in-Some
+arm_or_nothing-returns-in_ok-rest-in-Some t c =
+    joined_ways c.args.at c.args.room (tested c.args.homes) c.in-Some.truth c.take_truth.new.homes
+    (flat c.args.layout.now c.args.room (code_of c.args.block.now)) (flat c.args.layout.now c.args.room Nothing) c.in-Some.ensures
+    c.in_ok-first_at-in-Some.first_at c.in_ok-rest_at-in-Some.rest_at c.in_ok-first-in-Some.first c.in_ok-rest-in-Some.rest c.join.result c.in_ok-first_at-in-Some.ensures
+    (c.in_ok-rest_at-in-Some.ensures ∙ ap (λ n. c.args.at + 1 + n + 1) c.len.ensures)
+    (subst (λ z. IsPiece c.in_ok-first-in-Some.first c.in_ok-first_at-in-Some.first_at (landed c.args.room (flat c.args.layout.now c.args.room (code_of c.args.block.now) z))) c.in_ok-copy-in-Some.ensures c.in_ok-first-in-Some.ensures)
+    c.in_ok-rest-in-Some.ensures c.join.ensures
+
+pub repeated_parts-returns-in_err-test_at : goal.repeated_parts-returns-in_err-test_at
+repeated_parts-returns-in_err-test_at t c =
+    λ b e. lays_err c.from_residual.result _ c.args.at (repeated_body b c.args.truth (flat c.args.layout.now c.args.room (code_of c.args.body.now) empty)
+    (flat c.args.layout.now c.args.room (code_of c.args.next.now) empty)) c.from_residual.ensures.1
+    (early_loop c.args.at b c.args.truth c.args.before e (flat c.args.layout.now c.args.room (code_of c.args.body.now) empty)
+    (flat c.args.layout.now c.args.room (code_of c.args.next.now) empty) _ (c.args.at + length c.args.before + 1) refl
+    (c.in_err-test_at.ensures.0, let far = c.in_err-test_at.ensures.1 in let n = c.len.ensures in omega (arith, far, n)))
+
+pub repeated_parts-returns-in_err-body_at : goal.repeated_parts-returns-in_err-body_at
+repeated_parts-returns-in_err-body_at t c =
+    λ b e. lays_err c.from_residual-in_err-body_at.result _ c.args.at (repeated_body b c.args.truth (flat c.args.layout.now c.args.room (code_of c.args.body.now) empty)
+    (flat c.args.layout.now c.args.room (code_of c.args.next.now) empty)) c.from_residual-in_err-body_at.ensures.1
+    (early_loop c.args.at b c.args.truth c.args.before e (flat c.args.layout.now c.args.room (code_of c.args.body.now) empty)
+    (flat c.args.layout.now c.args.room (code_of c.args.next.now) empty) _ (c.args.at + length c.args.before + 1) refl
+    (c.in_err-body_at.ensures.0, let far = c.in_err-body_at.ensures.1 in let e1 = c.in_ok-test_at.ensures in let n = c.len.ensures in omega (arith, far, e1, n)))
+
+pub repeated_parts-returns-in_err-body : goal.repeated_parts-returns-in_err-body
+repeated_parts-returns-in_err-body t c =
+    λ b e. lays_err c.from_residual-in_err-body.result _ c.args.at (repeated_body b c.args.truth (flat c.args.layout.now c.args.room (code_of c.args.body.now) empty)
+    (flat c.args.layout.now c.args.room (code_of c.args.next.now) empty)) c.from_residual-in_err-body.ensures.1
+    (body_fails c.args.at b c.args.truth c.args.before e (flat c.args.layout.now c.args.room (code_of c.args.body.now) empty)
+    (flat c.args.layout.now c.args.room (code_of c.args.next.now) empty) _ c.in_ok-body_at.body_at (let e1 = c.in_ok-test_at.ensures in let e2 = c.in_ok-body_at.ensures in let n = c.len.ensures in omega (arith, e1, e2, n))
+    (from_empty _ c.in_ok-body_at.body_at (flat c.args.layout.now c.args.room (code_of c.args.body.now)) c.new.result c.new.ensures c.in_err-body.ensures))
+
+pub repeated_parts-returns-in_err-next_at : goal.repeated_parts-returns-in_err-next_at
+repeated_parts-returns-in_err-next_at t c =
+    λ b e. lays_err c.from_residual-in_err-next_at.result _ c.args.at (repeated_body b c.args.truth (flat c.args.layout.now c.args.room (code_of c.args.body.now) empty)
+    (flat c.args.layout.now c.args.room (code_of c.args.next.now) empty)) c.from_residual-in_err-next_at.ensures.1
+    (late_loop c.args.at b c.args.truth c.args.before e (flat c.args.layout.now c.args.room (code_of c.args.body.now) empty)
+    (flat c.args.layout.now c.args.room (code_of c.args.next.now) empty) _ c.in_ok-body_at.body_at (c.in_ok-body_at.body_at + c.len-2.result) c.in_ok-body.body (let e1 = c.in_ok-test_at.ensures in let e2 = c.in_ok-body_at.ensures in let n = c.len.ensures in omega (arith, e1, e2, n))
+    (subst (λ z. IsPiece c.in_ok-body.body c.in_ok-body_at.body_at (flat c.args.layout.now c.args.room (code_of c.args.body.now) z)) c.new.ensures c.in_ok-body.ensures)
+    (ap (λ n. c.in_ok-body_at.body_at + n) c.len-2.ensures) c.in_err-next_at.ensures)
+
+pub repeated_parts-returns-in_err-next : goal.repeated_parts-returns-in_err-next
+repeated_parts-returns-in_err-next t c =
+    λ b e. lays_err c.from_residual-in_err-next.result _ c.args.at (repeated_body b c.args.truth (flat c.args.layout.now c.args.room (code_of c.args.body.now) empty)
+    (flat c.args.layout.now c.args.room (code_of c.args.next.now) empty)) c.from_residual-in_err-next.ensures.1
+    (next_fails c.args.at b c.args.truth c.args.before e (flat c.args.layout.now c.args.room (code_of c.args.body.now) empty)
+    (flat c.args.layout.now c.args.room (code_of c.args.next.now) empty) _ c.in_ok-body_at.body_at c.in_ok-next_at.next_at c.in_ok-body.body c.is_empty.result (let e1 = c.in_ok-test_at.ensures in let e2 = c.in_ok-body_at.ensures in let n = c.len.ensures in omega (arith, e1, e2, n))
+    (subst (λ z. IsPiece c.in_ok-body.body c.in_ok-body_at.body_at (flat c.args.layout.now c.args.room (code_of c.args.body.now) z)) c.new.ensures c.in_ok-body.ensures)
+    (let e3 = c.in_ok-next_at.ensures in let n2 = c.len-2.ensures in omega (arith, e3, n2)) c.is_empty.ensures c.if-not-is_empty.false
+    (from_empty _ c.in_ok-next_at.next_at (flat c.args.layout.now c.args.room (code_of c.args.next.now)) c.new-2.result c.new-2.ensures c.in_err-next.ensures))
+
+pub repeated_parts-returns-in_err-code : goal.repeated_parts-returns-in_err-code
+repeated_parts-returns-in_err-code t c =
+    λ b e. lays_err c.from_residual-in_err-code.result _ c.args.at (repeated_body b c.args.truth (flat c.args.layout.now c.args.room (code_of c.args.body.now) empty)
+    (flat c.args.layout.now c.args.room (code_of c.args.next.now) empty)) c.from_residual-in_err-code.ensures.1
+    (code_fails c.args.at b c.args.truth c.args.before e (flat c.args.layout.now c.args.room (code_of c.args.body.now) empty)
+    (flat c.args.layout.now c.args.room (code_of c.args.next.now) empty) _ c.in_ok-body_at.body_at c.in_ok-next_at.next_at c.in_ok-body.body c.in_ok-next.next c.as_slice.result.now c.as_slice-2.result.now
+    (subst (λ z. IsPiece c.in_ok-body.body c.in_ok-body_at.body_at (flat c.args.layout.now c.args.room (code_of c.args.body.now) z)) c.new.ensures c.in_ok-body.ensures)
+    (subst (λ z. IsPiece c.in_ok-next.next c.in_ok-next_at.next_at (flat c.args.layout.now c.args.room (code_of c.args.next.now) z)) c.new-2.ensures c.in_ok-next.ensures)
+    c.as_slice.ensures c.as_slice-2.ensures c.in_err-code.ensures)

@@ -35,6 +35,9 @@ decreases-arm_or_nothing l = 4 * weight l.block.now + 2
 abbrev pub decreases-arm_first : goal.decreases-arm_first
 decreases-arm_first l = 4 * (weight l.code.now + weights l.more.now + weight l.last.now) + 2
 
+abbrev pub decreases-arm_more : goal.decreases-arm_more
+decreases-arm_more l = 4 * (weight l.condition.now + weight l.block.now + weights l.more.now + weight l.last.now) + 3
+
 abbrev pub decreases-landed_arms : goal.decreases-landed_arms
 decreases-landed_arms l = 4 * (weights l.all.now + weight l.last.now) + 1
 
