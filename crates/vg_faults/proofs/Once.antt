@@ -9,11 +9,11 @@ use Rattle.vg_source.specs.Session.{Initialised, started}
 use Rattle.vg_rules.specs.Refusal.{refusal_of}
 use Rattle.vg_texts.proofs.Once.{no_fault, not_deep, one_cause, one_end, one_bracket}
 use Rattle.vg_texts.proofs.Values.{one_tree}
-use Rattle.vg_front.specs.declared.fault.Fault.{Fault}
-use Rattle.vg_front.specs.declared.fault.Fault.TheVariants.{NoTree, TooDeep, TooMany, Broken, InitTrap, InitSteps, InitDepth, InitTouches, InitTooBig, NotBuilt}
-use Rattle.vg_front.specs.Judged.{IsLegal, RefusedIn, fault_of, tree_fault}
-use Rattle.vg_front.specs.Starting.{FailsIn, StartsIn, start_fault}
-use Rattle.vg_front.specs.Answer.{HasFault}
+use Rattle.vg_faults.specs.declared.fault.Fault.{Fault}
+use Rattle.vg_faults.specs.declared.fault.Fault.TheVariants.{NoTree, TooDeep, TooMany, Broken, InitTrap, InitSteps, InitDepth, InitTouches, InitTooBig, Allocates, NoMember, NotBuilt}
+use Rattle.vg_faults.specs.Judged.{IsLegal, RefusedIn, fault_of, tree_fault}
+use Rattle.vg_faults.specs.Starting.{FailsIn, StartsIn, start_fault}
+use Rattle.vg_faults.specs.Faults.{HasFault}
 
 -- a fault by what has it: the text behind a token, a bracket, the tree, or its initialisation
 abbrev Sorted : Fault → List ℕ → ℕ → Type 0
@@ -31,6 +31,8 @@ sorted InitSteps bytes clock h = inr (inr (inr h))
 sorted InitDepth bytes clock h = inr (inr (inr h))
 sorted (InitTouches address) bytes clock h = inr (inr (inr h))
 sorted InitTooBig bytes clock h = inr (inr (inr h))
+sorted (Allocates p line) bytes clock h = absurd h
+sorted NoMember bytes clock h = absurd h
 sorted (NotBuilt p) bytes clock h = absurd h
 
 some_same : (a b : Fault) → Some a ≡ Some b → a ≡ b

@@ -1,5 +1,5 @@
-use Rattle.vg_front.proofs.Once.{no_start_fault, one_fault}
-use Rattle.vg_front.proofs.laws.faults_exclude.Goals as goal
+use Rattle.vg_faults.proofs.Once.{no_start_fault, one_fault}
+use Rattle.vg_faults.proofs.laws.faults_exclude.Goals as goal
 
 pub returns-clause-one : goal.returns-clause-one
 returns-clause-one c = one_fault

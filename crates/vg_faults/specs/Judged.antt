@@ -7,8 +7,8 @@ use Rattle.vg_syntax.specs.Reads.{Reads}
 use Rattle.vg_syntax.specs.Tree.{Node}
 use Rattle.vg_rules.specs.Refusal.{Refused, TooMany, Broken, refusal_of}
 use Rattle.vg_places.specs.Places.{place_at}
-use Rattle.vg_front.specs.declared.fault.Fault.{Fault}
-use Rattle.vg_front.specs.declared.fault.Fault.TheVariants as fault
+use Rattle.vg_faults.specs.declared.fault.Fault.{Fault}
+use Rattle.vg_faults.specs.declared.fault.Fault.TheVariants as fault
 
 -- the place of the node of this number
 abbrev pub place_in : (id : ℕ) → Node → Place

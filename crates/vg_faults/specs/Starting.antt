@@ -5,9 +5,13 @@ use Rattle.vg_syntax.specs.Tree.{Node}
 use Rattle.vg_source.specs.Values.{Heap}
 use Rattle.vg_source.specs.Program.{source_of}
 use Rattle.vg_source.specs.Session.{Initialised, Started, Failed, started}
-use Rattle.vg_front.specs.declared.fault.Fault.{Fault}
-use Rattle.vg_front.specs.declared.fault.Fault.TheVariants.{InitTrap, InitSteps, InitDepth, InitTouches, InitTooBig}
-use Rattle.vg_front.specs.Judged.{IsLegal, place_in}
+use Rattle.vg_faults.specs.declared.fault.Fault.{Fault}
+use Rattle.vg_faults.specs.declared.fault.Fault.TheVariants.{InitTrap, InitSteps, InitDepth, InitTouches, InitTooBig}
+use Rattle.vg_faults.specs.Judged.{IsLegal, place_in}
+
+-- the ticks that initialisation may take where nothing else is asked for
+abbrev pub init_steps : ℕ
+init_steps = 1000000
 
 -- what is answered for why the initialisation of a tree failed: the place in place of the node; no legal program fails in another way
 abbrev pub failure_of : Node → End → Option Fault

@@ -1,9 +1,9 @@
 // Why a source text is refused.
-use vg_base::Place;
+use vg_base::{Place, Row};
 use vg_rules::what::What;
 
 /// Why a source text was refused. Where it has several faults, the first of these is named.
-#[derive(Clone, Copy, Debug, PartialEq, Eq)]
+#[derive(Drop)]
 pub enum Fault {
     /// The token at this place, or the end, is the first that no text of the language has there.
     NoTree(Place),
@@ -33,6 +33,14 @@ pub enum Fault {
     InitTouches(u8),
     /// Initialisation stores a 60,001st value.
     InitTooBig,
-    /// The text is a legal one that starts, and a form that is not built yet stands at this place.
+    /// A live method would make an object or an array: the place is that of the first `new` in the first such method of the text. The line
+    /// names the method and the place, and has its line end.
+    Allocates {
+        place: Place,
+        line: Row<u8>,
+    },
+    /// No class or component of the text declares the member that is asked for.
+    NoMember,
+    /// The text is a legal one that starts and that allocates nothing, and a form that is not built yet stands at this place.
     NotBuilt(Place),
 }
