@@ -15,8 +15,8 @@ use Rattle.avr_isa.specs.Agrees.{Agrees, NeverReaches}
 use Rattle.vg_hex.specs.HexImage.{HexImage}
 use Rattle.vg_hex.specs.HexText.{hex_text}
 use Rattle.vg_hex.proofs.Again.{one_image}
-use Rattle.vg_front.specs.Judged.{IsLegal}
-use Rattle.vg_front.specs.Starting.{StartsIn}
+use Rattle.vg_faults.specs.Judged.{IsLegal}
+use Rattle.vg_faults.specs.Starting.{StartsIn}
 use Rattle.vg_build.specs.declared.building.Built.{Built}
 use Rattle.vg_build.specs.declared.layout.Layout.{Layout}
 use Rattle.vg_build.specs.Image.{IsBuiltOf, IsImageOf}

@@ -5,10 +5,9 @@ use Rattle.vg_base.specs.declared.refusal.Refusal.{Refusal}
 use Rattle.vg_base.specs.declared.refusal.Refusal.TheVariants as refusal
 use Rattle.vg_first_text.specs.declared.device_write.DeviceWrite.{DeviceWrite}
 use Rattle.vg_first_text.specs.FirstText.{IsFirst}
-use Rattle.vg_front.specs.declared.fault.Fault.{Fault}
-use Rattle.vg_front.specs.declared.fault.Fault.TheVariants.{NotBuilt}
-use Rattle.vg_front.specs.Answer as front
-use Rattle.vg_front.specs.Starting.{StartsIn}
+use Rattle.vg_faults.specs.declared.fault.Fault.{Fault}
+use Rattle.vg_faults.specs.declared.fault.Fault.TheVariants.{NotBuilt}
+use Rattle.vg_faults.specs.Living.{HasLiveFault, IsFirmIn}
 use Rattle.vg_build.specs.declared.building.Built.{Built}
 use Rattle.vg_build.specs.Image.{IsBuiltOf}
 
@@ -32,9 +31,9 @@ fault_in (Err refusal.NoMemory) = None
 abbrev pub IsNoFirst : List ℕ → Type 0
 IsNoFirst bytes = (writes : List DeviceWrite) → IsFirst bytes writes → ⊥
 
--- the bytes are a legal text that starts with this clock, of a form that is not built yet
+-- the bytes are a legal text that starts with this clock and whose live methods make nothing, of a form that is not built yet
 abbrev pub IsNotBuilt : List ℕ → (clock : ℕ) → Type 0
-IsNotBuilt bytes clock = StartsIn bytes clock × IsNoFirst bytes
+IsNotBuilt bytes clock = IsFirmIn bytes clock × IsNoFirst bytes
 
 -- the first place of a text
 abbrev pub first_place : Place
@@ -43,7 +42,7 @@ first_place = record { line = 1; col = 1 }
 -- the bytes have this fault, where initialisation has this clock; a form that is not built stands at the first place
 abbrev pub HasFault : Fault → List ℕ → (clock : ℕ) → Type 0
 HasFault (NotBuilt place) bytes clock = IsNotBuilt bytes clock × (place ≡ first_place)
-HasFault why bytes clock = front.HasFault why bytes clock
+HasFault why bytes clock = HasLiveFault why bytes clock
 
 -- why nothing was built of the bytes: they have a fault, or memory was wanting
 abbrev pub IsCause : Refusal Fault → List ℕ → (clock : ℕ) → Type 0

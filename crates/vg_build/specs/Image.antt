@@ -7,7 +7,7 @@ use Rattle.vg_source.specs.Session.{Started, started}
 use Rattle.vg_source.specs.Peak.{sessions}
 use Rattle.vg_first_text.specs.declared.device_write.DeviceWrite.{DeviceWrite}
 use Rattle.vg_first_text.specs.FirstText.{IsFirst}
-use Rattle.vg_front.specs.Judged.{IsLegal}
+use Rattle.vg_faults.specs.Judged.{IsLegal}
 use Rattle.avr_isa.specs.Agrees.{Agrees, NeverReaches}
 use Rattle.vg_hex.specs.HexText.{hex_text}
 use Rattle.vg_hex.specs.HexImage.{HexImage}

@@ -20,8 +20,8 @@ use Rattle.vg_build.specs.Answer.{Answer, Answers, HasFault, IsNotBuilt, fault_i
 use Rattle.vg_build.specs.Image.{IsBuiltOf, IsImageOf}
 use Rattle.vg_build.specs.Layout.{layout_text, stated}
 use Rattle.vg_build.specs.declared.building.Built.{Built}
-use Rattle.vg_front.specs.declared.fault.Fault.{Fault}
-use Rattle.vg_front.specs.declared.fault.Fault.TheVariants.{NotBuilt}
+use Rattle.vg_faults.specs.declared.fault.Fault.{Fault}
+use Rattle.vg_faults.specs.declared.fault.Fault.TheVariants.{NoTree, TooDeep, TooMany, Broken, InitTrap, InitSteps, InitDepth, InitTouches, InitTooBig, Allocates, NoMember, NotBuilt}
 use Rattle.vg_build.specs.declared.layout.Layout.{Layout}
 use Rattle.vg_build.proofs.Faults.{complete_of, exactly, first_of}
 use Rattle.vg_drive.specs.declared.status.Status.{Status}
@@ -32,7 +32,7 @@ use Rattle.vg_drive.specs.Mirrors.{BuildBy, Change, Fails, GainsAll, GainsFront,
 use Rattle.vg_drive.specs.Statuses.{IsBeforePuts, IsDoneOrNoMemory, IsSettled, IsShown, status_without_file}
 use Rattle.vg_drive.proofs.Files.{of_file, with_file}
 use Rattle.vg_drive.proofs.Statuses.{missing_no_refusal, missing_no_write, missing_not_shown, missing_of_build, missing_unsettled}
-use Rattle.vg_drive.proofs.Statuses.{refusal_no_write, refusal_not_shown, refusal_of_build}
+use Rattle.vg_drive.proofs.Statuses.{refusal_no_write, refusal_not_shown}
 
 -- THE ANSWER TO THE BYTES, BY THE STATUS
 
@@ -74,10 +74,26 @@ before_same (Ok built) s out note (inl h) before = absurd (subst IsBeforePuts h.
 before_same (Ok built) s out note (inr h) before = absurd (subst IsBeforePuts h.0 before)
 before_same (Err why) s out note h before = (h.1, h.2)
 
-put_answer : (r : Answer) (s : Status) (out note : Change) → PutBy r s out note → IsAnswerOfBuild s
-put_answer (Ok built) s out note (inl h) = subst IsAnswerOfBuild (sym h.0) tt
-put_answer (Ok built) s out note (inr h) = subst IsAnswerOfBuild (sym h.0) tt
-put_answer (Err why) s out note h = subst IsAnswerOfBuild (sym h.0) (refusal_of_build why)
+-- each fault of the bytes is an answer: what is asked of them further is none
+fault_answer : (why : Fault) (bytes : List ℕ) (clock : ℕ) → HasFault why bytes clock → IsAnswerOfBuild (Refused why)
+fault_answer (NoTree p) bytes clock h = tt
+fault_answer (TooDeep p) bytes clock h = tt
+fault_answer (TooMany what limit p) bytes clock h = tt
+fault_answer (Broken rule p) bytes clock h = tt
+fault_answer (InitTrap code p) bytes clock h = tt
+fault_answer InitSteps bytes clock h = tt
+fault_answer InitDepth bytes clock h = tt
+fault_answer (InitTouches address) bytes clock h = tt
+fault_answer InitTooBig bytes clock h = tt
+fault_answer (Allocates p line) bytes clock h = tt
+fault_answer NoMember bytes clock h = h
+fault_answer (NotBuilt p) bytes clock h = tt
+
+put_answer : (r : Answer) (s : Status) (bytes : List ℕ) (clock : ℕ) (out note : Change) → Answers bytes clock r → PutBy r s out note → IsAnswerOfBuild s
+put_answer (Ok built) s bytes clock out note says (inl h) = subst IsAnswerOfBuild (sym h.0) tt
+put_answer (Ok built) s bytes clock out note says (inr h) = subst IsAnswerOfBuild (sym h.0) tt
+put_answer (Err (refusal.Fault why)) s bytes clock out note says h = subst IsAnswerOfBuild (sym h.0) (fault_answer why bytes clock says)
+put_answer (Err refusal.NoMemory) s bytes clock out note says h = subst IsAnswerOfBuild (sym h.0) tt
 
 -- THE BYTES OF THE FILE
 
@@ -117,13 +133,13 @@ first_by s told file clock out note (inr h) place e =
 
 -- COMPLETENESS
 
-missing_completes : (reason : NoFile) (s : Status) (long shelf rest : Type 0) → s ≡ status_without_file reason → (reason ≡ missing.Long → long)
+pub missing_completes : (reason : NoFile) (s : Status) (long shelf rest : Type 0) → s ≡ status_without_file reason → (reason ≡ missing.Long → long)
     → (s ≡ ReadFault → shelf) → (IsDoneOrNoMemory s ⊎ (shelf ⊎ rest)) ⊎ long
 missing_completes missing.Failed s long shelf rest tells too_long read = inl (inr (inl (read tells)))
 missing_completes missing.Wanting s long shelf rest tells too_long read = inl (inl (subst IsDoneOrNoMemory (sym tells) tt))
 missing_completes missing.Long s long shelf rest tells too_long read = inr (too_long refl)
 
-not_both : (n : ℕ) → text_limit < n → n ≤ text_limit → ⊥
+pub not_both : (n : ℕ) → text_limit < n → n ≤ text_limit → ⊥
 not_both n long short = omega (arith, long, short)
 
 -- what holds of every file that is not too long
@@ -215,7 +231,7 @@ before_by s told file clock out note (inr h) before = before_same h.answer s out
 
 pub answers_by : (s : Status) (told : Option (List File)) (file : List ℕ) (clock : ℕ) (out note : Change) → BuildBy s told file clock out note → IsAnswerOfBuild s
 answers_by s told file clock out note (inl h) = subst IsAnswerOfBuild (sym h.0.tells) (missing_of_build h.0.reason)
-answers_by s told file clock out note (inr h) = put_answer h.answer s out note h.puts
+answers_by s told file clock out note (inr h) = put_answer h.answer s h.bytes clock out note h.says h.puts
 
 -- THE SECOND SINK
 

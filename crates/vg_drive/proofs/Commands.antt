@@ -2,21 +2,22 @@
 use Rattle.std.proofs.Common.{◌≡◌, ℕ, ◌≤◌, ◌⊎◌, ◌↔◌, List, Option, Some, None, refl, subst, arith, inl, inr}
 use Rattle.vg_io.specs.Count.{Rose}
 use Rattle.vg_io.specs.declared.file.File.{File}
-use Rattle.vg_words.specs.Commands.{Command, Build, Run, Sim}
+use Rattle.vg_words.specs.Commands.{Command, Build, Run, Sim, Why}
 use Rattle.vg_base.specs.declared.place.Place.{Place}
 use Rattle.vg_build.specs.Answer.{first_place}
-use Rattle.vg_run.specs.Shown.{init_steps}
-use Rattle.vg_front.specs.declared.fault.Fault.TheVariants.{NotBuilt}
+use Rattle.vg_faults.specs.Starting.{init_steps}
+use Rattle.vg_faults.specs.declared.fault.Fault.TheVariants.{NotBuilt}
 use Rattle.vg_build.specs.declared.layout.Layout.{Layout}
 use Rattle.vg_drive.specs.declared.status.Status.{Status}
 use Rattle.vg_drive.specs.declared.status.Status.TheVariants.{Refused, Usage, WriteFault}
 use Rattle.vg_drive.specs.Answers.{ForImage}
-use Rattle.vg_drive.specs.Commands.{IsAnswerOf, IsAnswerOfBuild, IsAnswerOfRun, IsAnswerOfSim, OnBuild, OnRun, OnSim, OnSource, PutsNothing}
-use Rattle.vg_drive.specs.Mirrors.{AnswerBy, BuildBy, Change, Fails, IsSame, PlayBy, SimBy}
+use Rattle.vg_drive.specs.Commands.{IsAnswerOf, IsAnswerOfBuild, IsAnswerOfRun, IsAnswerOfSim, IsAnswerOfWhy, OnBuild, OnLive, OnRun, OnSim, OnSource, OnWhy, PutsNothing}
+use Rattle.vg_drive.specs.Mirrors.{AnswerBy, BuildBy, Change, Fails, IsSame, PlayBy, SimBy, WhyBy}
 use Rattle.vg_drive.specs.Statuses.{IsBeforePuts}
 use Rattle.vg_drive.proofs.Builds as builds
 use Rattle.vg_drive.proofs.Plays as plays
 use Rattle.vg_drive.proofs.Sims as sims
+use Rattle.vg_drive.proofs.Whys as whys
 
 pub on_build : (c : Option Command) (s : Status) (told : Option (List File)) (out note : Change) (P : List ℕ → ℕ → Type 0) → AnswerBy c s told out note
     → ((file : List ℕ) (clock : ℕ) → BuildBy s told file clock out note → P file clock) → OnBuild c P
@@ -24,6 +25,7 @@ on_build None s told out note P h f = tt
 on_build (Some (Build file clock)) s told out note P h f = f file clock h
 on_build (Some (Run file script steps)) s told out note P h f = tt
 on_build (Some (Sim hex script steps)) s told out note P h f = tt
+on_build (Some (Why file member)) s told out note P h f = tt
 
 pub on_run : (c : Option Command) (s : Status) (told : Option (List File)) (out note : Change) (P : (file script : List ℕ) → ℕ → Type 0)
     → AnswerBy c s told out note → ((file script : List ℕ) (steps : ℕ) → PlayBy s told file script steps out → P file script steps) → OnRun c P
@@ -31,14 +33,34 @@ on_run None s told out note P h f = tt
 on_run (Some (Build file clock)) s told out note P h f = tt
 on_run (Some (Run file script steps)) s told out note P h f = f file script steps h.0
 on_run (Some (Sim hex script steps)) s told out note P h f = tt
+on_run (Some (Why file member)) s told out note P h f = tt
 
 pub on_source : (c : Option Command) (s : Status) (told : Option (List File)) (out note : Change) (P : List ℕ → ℕ → Type 0) → AnswerBy c s told out note
     → ((file : List ℕ) (clock : ℕ) → BuildBy s told file clock out note → P file clock)
-    → ((file script : List ℕ) (steps : ℕ) → PlayBy s told file script steps out → P file init_steps) → OnSource c P
-on_source None s told out note P h f g = tt
-on_source (Some (Build file clock)) s told out note P h f g = f file clock h
-on_source (Some (Run file script steps)) s told out note P h f g = g file script steps h.0
-on_source (Some (Sim hex script steps)) s told out note P h f g = tt
+    → ((file script : List ℕ) (steps : ℕ) → PlayBy s told file script steps out → P file init_steps)
+    → ((file member : List ℕ) → WhyBy s told file member out → P file init_steps) → OnSource c P
+on_source None s told out note P h f g w = tt
+on_source (Some (Build file clock)) s told out note P h f g w = f file clock h
+on_source (Some (Run file script steps)) s told out note P h f g w = g file script steps h.0
+on_source (Some (Sim hex script steps)) s told out note P h f g w = tt
+on_source (Some (Why file member)) s told out note P h f g w = w file member h.0
+
+pub on_live : (c : Option Command) (s : Status) (told : Option (List File)) (out note : Change) (P : List ℕ → ℕ → Type 0) → AnswerBy c s told out note
+    → ((file : List ℕ) (clock : ℕ) → BuildBy s told file clock out note → P file clock)
+    → ((file member : List ℕ) → WhyBy s told file member out → P file init_steps) → OnLive c P
+on_live None s told out note P h f w = tt
+on_live (Some (Build file clock)) s told out note P h f w = f file clock h
+on_live (Some (Run file script steps)) s told out note P h f w = tt
+on_live (Some (Sim hex script steps)) s told out note P h f w = tt
+on_live (Some (Why file member)) s told out note P h f w = w file member h.0
+
+pub on_why : (c : Option Command) (s : Status) (told : Option (List File)) (out note : Change) (P : (file member : List ℕ) → Type 0)
+    → AnswerBy c s told out note → ((file member : List ℕ) → WhyBy s told file member out → P file member) → OnWhy c P
+on_why None s told out note P h f = tt
+on_why (Some (Build file clock)) s told out note P h f = tt
+on_why (Some (Run file script steps)) s told out note P h f = tt
+on_why (Some (Sim hex script steps)) s told out note P h f = tt
+on_why (Some (Why file member)) s told out note P h f = f file member h.0
 
 -- what follows on each file of a source text
 pub with_source : (c : Option Command) (P Q : List ℕ → ℕ → Type 0) → ((file : List ℕ) (clock : ℕ) → P file clock → Q file clock) → OnSource c P → OnSource c Q
@@ -46,6 +68,7 @@ with_source None P Q f h = tt
 with_source (Some (Build file clock)) P Q f h = f file clock h
 with_source (Some (Run file script steps)) P Q f h = f file init_steps h
 with_source (Some (Sim hex script steps)) P Q f h = tt
+with_source (Some (Why file member)) P Q f h = f file init_steps h
 
 pub on_sim : (c : Option Command) (s : Status) (told : Option (List File)) (out note : Change) (P : (hex script : List ℕ) → ℕ → Type 0)
     → AnswerBy c s told out note → ((hex script : List ℕ) (steps : ℕ) → SimBy s told hex script steps out → P hex script steps) → OnSim c P
@@ -53,12 +76,14 @@ on_sim None s told out note P h f = tt
 on_sim (Some (Build file clock)) s told out note P h f = tt
 on_sim (Some (Run file script steps)) s told out note P h f = tt
 on_sim (Some (Sim hex script steps)) s told out note P h f = f hex script steps h.0
+on_sim (Some (Why file member)) s told out note P h f = tt
 
 pub answers_of : (c : Option Command) (s : Status) (told : Option (List File)) (out note : Change) → AnswerBy c s told out note → IsAnswerOf c s
 answers_of None s told out note h = h.0
 answers_of (Some (Build file clock)) s told out note h = builds.answers_by s told file clock out note h
 answers_of (Some (Run file script steps)) s told out note h = plays.answers_by s told file script steps out h.0
 answers_of (Some (Sim hex script steps)) s told out note h = sims.answers_by s told hex script steps out h.0
+answers_of (Some (Why file member)) s told out note h = whys.answers_by s told file member out h.0
 
 -- words without a meaning are Usage, and nothing else is
 usage_means : (c : Option Command) (s : Status) → IsAnswerOf c s → (s ≡ Usage) ↔ (c ≡ None)
@@ -66,6 +91,7 @@ usage_means None s is = (λ e. refl, λ e. is)
 usage_means (Some (Build file clock)) s is = (λ e. absurd (subst IsAnswerOfBuild e is), λ e. cc)
 usage_means (Some (Run file script steps)) s is = (λ e. absurd (subst IsAnswerOfRun e is), λ e. cc)
 usage_means (Some (Sim hex script steps)) s is = (λ e. absurd (subst IsAnswerOfSim e is), λ e. cc)
+usage_means (Some (Why file member)) s is = (λ e. absurd (subst IsAnswerOfWhy e is), λ e. cc)
 
 pub usage_of : (c : Option Command) (s : Status) (told : Option (List File)) (out note : Change) → AnswerBy c s told out note → (s ≡ Usage) ↔ (c ≡ None)
 usage_of c s told out note h = usage_means c s (answers_of c s told out note h)
@@ -76,6 +102,7 @@ write_fault_of None s told out note h e = let u = h.0 in cc
 write_fault_of (Some (Build file clock)) s told out note h e = builds.write_fault_by s told file clock out note h e
 write_fault_of (Some (Run file script steps)) s told out note h e = inl (plays.write_fault_by s told file script steps out h.0 e)
 write_fault_of (Some (Sim hex script steps)) s told out note h e = inl (sims.write_fault_by s told hex script steps out h.0 e)
+write_fault_of (Some (Why file member)) s told out note h e = inl (whys.write_fault_by s told file member out h.0 e)
 
 -- nothing was put to the second sink before the first put
 pub note_before_of : (c : Option Command) (s : Status) (told : Option (List File)) (out note : Change) → AnswerBy c s told out note → IsBeforePuts s
@@ -84,6 +111,7 @@ note_before_of None s told out note h before = h.2
 note_before_of (Some (Build file clock)) s told out note h before = (builds.before_by s told file clock out note h before).1
 note_before_of (Some (Run file script steps)) s told out note h before = h.1
 note_before_of (Some (Sim hex script steps)) s told out note h before = h.1
+note_before_of (Some (Why file member)) s told out note h before = h.1
 
 -- and nothing to the first
 pub out_before_of : (c : Option Command) (s : Status) (told : Option (List File)) (out note : Change) → AnswerBy c s told out note → PutsNothing c s
@@ -92,6 +120,7 @@ out_before_of None s told out note h before = h.1
 out_before_of (Some (Build file clock)) s told out note h before = (builds.before_by s told file clock out note h before).0
 out_before_of (Some (Run file script steps)) s told out note h before = plays.before_by s told file script steps out h.0 before
 out_before_of (Some (Sim hex script steps)) s told out note h before = sims.before_by s told hex script steps out h.0 before
+out_before_of (Some (Why file member)) s told out note h before = whys.before_by s told file member out h.0 before
 
 -- what holds of the image holds of it with what follows
 pub of_image : (told : Option (List File)) (file : List ℕ) (clock : ℕ) (P Q : List ℕ → Layout → Type 0)
@@ -121,3 +150,4 @@ first_of (Some (Build file clock)) s told out note h place e = builds.first_by s
 first_of (Some (Run file script steps)) s told out note h place e =
     absurd (subst IsAnswerOfRun e (plays.answers_by s told file script steps out h.0))
 first_of (Some (Sim hex script steps)) s told out note h place e = absurd (subst IsAnswerOfSim e (sims.answers_by s told hex script steps out h.0))
+first_of (Some (Why file member)) s told out note h place e = absurd (subst IsAnswerOfWhy e (whys.answers_by s told file member out h.0))

@@ -3,7 +3,7 @@ use Rattle.std.proofs.Common.{◌≡◌, ℕ, List, Option, Some, None, sym, sub
 use Rattle.vg_io.specs.Files.{bytes_under}
 use Rattle.vg_io.specs.declared.file.File.{File}
 use Rattle.vg_fetch.specs.Told.{ForFile, ForFiles}
-use Rattle.vg_drive.specs.Answers.{ForTexts}
+use Rattle.vg_drive.specs.Answers.{ForText, ForTexts}
 
 pub of_file : (told : Option (List File)) (file bytes : List ℕ) (P : List ℕ → Type 0) → ForFile told file (λ b. b ≡ bytes) → P bytes → ForFile told file P
 of_file None file bytes P whole h = tt
@@ -18,6 +18,10 @@ pub of_texts : (told : Option (List File)) (first second a b : List ℕ) (P : Li
     → ForFiles told first second (λ x y. (x ≡ a) × (y ≡ b)) → P a b → ForTexts told first second P
 of_texts None first second a b P whole h = (a, b, h)
 of_texts (Some files) first second a b P (x, y) h = subst (λ u. P u (bytes_under files second)) (sym x) (subst (λ v. P a v) (sym y) h)
+
+pub of_text : (told : Option (List File)) (file bytes : List ℕ) (P : List ℕ → Type 0) → ForFile told file (λ b. b ≡ bytes) → P bytes → ForText told file P
+of_text None file bytes P whole h = (bytes, h)
+of_text (Some files) file bytes P whole h = subst P (sym whole) h
 
 -- the first of two files
 pub of_first : (told : Option (List File)) (first second a b : List ℕ) (P : List ℕ → Type 0)

@@ -3,6 +3,7 @@ pub mod Statuses
 pub mod Fetches
 pub mod Builds
 pub mod Sims
+pub mod Whys
 pub mod Commands
 pub mod Notes
 pub mod Plays

@@ -1,17 +1,20 @@
 -- What the second sink holds, behind the second text and the fault line.
-use Rattle.std.proofs.Common.{◌≡◌, ℕ, ◌⊎◌, List, [], ◌++◌, take, Option, Some, None, sym, ap, ◌∙◌, subst, inl, inr, append-nil}
+use Rattle.std.proofs.Common.{◌≡◌, ℕ, zero, suc, ◌⊎◌, List, [], ◌∷◌, ◌++◌, take, Option, Some, None, Result, Ok, Err, refl, sym, ap, ◌∙◌, subst, inl, inr, append-nil}
+use Rattle.std.specs.Prelude.{OnErr, OnOk}
 use Rattle.vg_io.specs.Piece.{AppendsAll, AppendsFront}
 use Rattle.vg_io.specs.declared.file.File.{File}
-use Rattle.vg_words.specs.Commands.{Command, Build, Run, Sim}
+use Rattle.vg_words.specs.Commands.{Command, Build, Run, Sim, Why}
 use Rattle.vg_hex.specs.HexText.{hex_text}
 use Rattle.vg_build.specs.Layout.{layout_text}
 use Rattle.vg_drive.specs.declared.status.Status.{Status}
-use Rattle.vg_drive.specs.declared.status.Status.TheVariants.{Done, WriteFault}
+use Rattle.vg_drive.specs.declared.status.Status.TheVariants.{Done, Refused, Usage, ReadFault, WriteFault, NoMemory, TooLong}
+use Rattle.vg_drive.specs.declared.status.Status.TheVariants.{Stopped, Wants, Budget, Depth, HexRefused, ScriptRefused, BadInstruction}
+use Rattle.vg_drive.specs.Lines.{fault_line}
 use Rattle.vg_drive.specs.Answers.{AppendsBegun, AppendsFronts, AppendsFrontAndAll, ForImage}
 use Rattle.vg_drive.specs.Commands.{OnBuild, second_text}
 use Rattle.vg_drive.specs.Mirrors.{AnswerBy, Change, GainsAll, GainsFront}
 use Rattle.vg_drive.specs.Statuses.{IsBeforePuts, IsShown}
-use Rattle.vg_drive.proofs.Builds.{headline_by, no_front, second_by, second_front_by}
+use Rattle.vg_drive.proofs.Builds.{all_is_front, headline_by, no_front, second_by, second_front_by}
 use Rattle.vg_drive.proofs.Commands.{note_before_of, of_image, on_build}
 
 -- nothing is appended
@@ -25,6 +28,7 @@ second_all None s told out note h shown = nothing note.before note.after h.2
 second_all (Some (Build file clock)) s told out note h shown = second_by s told file clock out note h shown
 second_all (Some (Run file script steps)) s told out note h shown = nothing note.before note.after h.1
 second_all (Some (Sim hex script steps)) s told out note h shown = nothing note.before note.after h.1
+second_all (Some (Why file member)) s told out note h shown = nothing note.before note.after h.1
 
 -- a second text that was put whole, where nothing came behind it
 pub second_of : (c : Option Command) (s : Status) (told : Option (List File)) (out note : Change) (new : Option (List ℕ)) → AnswerBy c s told out note
@@ -52,6 +56,7 @@ second_front None s told out note h e = no_front note.before note.after [] h.2
 second_front (Some (Build file clock)) s told out note h e = second_front_by s told file clock out note h e
 second_front (Some (Run file script steps)) s told out note h e = no_front note.before note.after [] h.1
 second_front (Some (Sim hex script steps)) s told out note h e = no_front note.before note.after [] h.1
+second_front (Some (Why file member)) s told out note h e = no_front note.before note.after [] h.1
 
 -- two fronts one behind the other
 fronts : (old mid new : Option (List ℕ)) (first second : List ℕ) → AppendsFront old mid first → AppendsFront mid new second → AppendsFronts old new first second
@@ -88,3 +93,38 @@ pub line_of : (c : Option Command) (s : Status) (told : Option (List File)) (out
     → AnswerBy c s told out note → rose ⊎ AppendsAll note.after new line → (rose → later) → IsBeforePuts s → later ⊎ AppendsAll note.before new line
 line_of c s told out note new line rose later h (inl r) up before = inl (up r)
 line_of c s told out note new line rose later h (inr k) up before = inr (subst (λ x. AppendsAll x new line) (note_before_of c s told out note h before) k)
+
+-- ---- the fault line
+
+-- what a put appends is a front of the piece
+pub put_front : {V E : Type 0} (r : Result V E) (old new : Option (List ℕ)) (piece : List ℕ) → OnOk r (AppendsAll old new piece)
+    → OnErr r (AppendsFront old new piece) → AppendsFront old new piece
+put_front (Ok v) old new piece all front = all_is_front old new piece all
+put_front (Err e) old new piece all front = front
+
+take_none : (k : ℕ) (xs : List ℕ) → xs ≡ [] → take k xs ≡ []
+take_none zero xs e = refl
+take_none (suc k) [] e = refl
+take_none (suc k) (x ∷ xs) e = cc
+
+-- a front of nothing is nothing
+front_of_nothing : (old new : Option (List ℕ)) → AppendsFront old new [] → new ≡ old
+front_of_nothing None new e = e
+front_of_nothing (Some old) new (k, e) = e ∙ ap Some (ap (λ x. old ++ x) (take_none k [] refl) ∙ append-nil old)
+
+-- an answer behind all puts has no fault line
+pub shown_none : (s : Status) (old new : Option (List ℕ)) → AppendsFront old new (fault_line s) → IsShown s → new ≡ old
+shown_none Done old new h shown = front_of_nothing old new h
+shown_none (Refused fault) old new h shown = absurd shown
+shown_none Usage old new h shown = absurd shown
+shown_none ReadFault old new h shown = absurd shown
+shown_none WriteFault old new h shown = absurd shown
+shown_none NoMemory old new h shown = absurd shown
+shown_none TooLong old new h shown = absurd shown
+shown_none (Stopped code) old new h shown = front_of_nothing old new h
+shown_none (Wants address) old new h shown = front_of_nothing old new h
+shown_none Budget old new h shown = front_of_nothing old new h
+shown_none Depth old new h shown = front_of_nothing old new h
+shown_none (HexRefused fault) old new h shown = absurd shown
+shown_none (ScriptRefused line) old new h shown = absurd shown
+shown_none (BadInstruction pc word) old new h shown = front_of_nothing old new h

@@ -11,13 +11,13 @@ use Rattle.vg_source.specs.Program.{source_of}
 use Rattle.vg_source.specs.Session.{Session, Started, session, started}
 use Rattle.vg_script.specs.Script.{IsScript, Lists, first_bad}
 use Rattle.avr_sim.specs.Run.{trace_lines}
-use Rattle.vg_front.specs.declared.fault.Fault.{Fault}
-use Rattle.vg_front.specs.declared.fault.Fault.TheVariants.{NoTree, TooDeep, TooMany, Broken, InitTrap, InitSteps, InitDepth, InitTouches, InitTooBig, NotBuilt}
-use Rattle.vg_front.specs.Judged.{IsLegal}
-use Rattle.vg_front.specs.Starting.{StartsIn}
-use Rattle.vg_front.specs.Answer.{HasFault}
-use Rattle.vg_front.proofs.Once.{no_start_fault, one_fault, one_legal}
-use Rattle.vg_run.specs.Shown.{ForSession, ending_in, init_steps, lines_of}
+use Rattle.vg_faults.specs.declared.fault.Fault.{Fault}
+use Rattle.vg_faults.specs.declared.fault.Fault.TheVariants.{NoTree, TooDeep, TooMany, Broken, InitTrap, InitSteps, InitDepth, InitTouches, InitTooBig, Allocates, NoMember, NotBuilt}
+use Rattle.vg_faults.specs.Judged.{IsLegal}
+use Rattle.vg_faults.specs.Starting.{StartsIn, init_steps}
+use Rattle.vg_faults.specs.Faults.{HasFault}
+use Rattle.vg_faults.proofs.Once.{no_start_fault, one_fault, one_legal}
+use Rattle.vg_run.specs.Shown.{ForSession, ending_in, lines_of}
 use Rattle.vg_run.specs.Answer.{Plays}
 use Rattle.vg_run.specs.declared.playing.RunEnd.{RunEnd}
 use Rattle.vg_run.specs.declared.playing.RunEnd.TheVariants as run_end
@@ -84,6 +84,8 @@ fault_answer InitSteps bytes h = tt
 fault_answer InitDepth bytes h = tt
 fault_answer (InitTouches address) bytes h = tt
 fault_answer InitTooBig bytes h = tt
+fault_answer (Allocates p line) bytes h = h
+fault_answer NoMember bytes h = h
 fault_answer (NotBuilt p) bytes h = h
 
 played_answer : (answer : Played) (text script : List ℕ) (steps : ℕ) (a b : Option (List ℕ)) → Plays answer text script steps a b

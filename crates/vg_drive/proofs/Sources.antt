@@ -4,24 +4,28 @@ use Rattle.vg_base.specs.declared.place.Place.{Place}
 use Rattle.vg_io.specs.declared.file.File.{File}
 use Rattle.vg_words.specs.Commands.{Command}
 use Rattle.vg_fetch.specs.Told.{ForFile}
-use Rattle.vg_front.specs.declared.fault.Fault.{Fault}
-use Rattle.vg_front.specs.declared.fault.Fault.TheVariants.{NoTree, TooDeep, TooMany, Broken, InitTrap, InitSteps, InitDepth, InitTouches, InitTooBig, NotBuilt}
-use Rattle.vg_front.specs.Answer.{HasFault, IsOfInit}
-use Rattle.vg_front.specs.Starting.{FailsIn}
+use Rattle.vg_faults.specs.declared.fault.Fault.{Fault}
+use Rattle.vg_faults.specs.declared.fault.Fault.TheVariants.{NoTree, TooDeep, TooMany, Broken, InitTrap, InitSteps, InitDepth, InitTouches, InitTooBig, Allocates, NoMember, NotBuilt}
+use Rattle.vg_faults.specs.Faults.{HasFault, IsOfInit}
+use Rattle.vg_faults.specs.Starting.{FailsIn, init_steps}
+use Rattle.vg_faults.specs.Living.{AllocatesIn}
 use Rattle.vg_build.specs.Answer as of_build
-use Rattle.vg_run.specs.Shown.{init_steps}
+use Rattle.vg_why.specs.Answer as of_why
 use Rattle.vg_drive.specs.declared.status.Status.{Status}
 use Rattle.vg_drive.specs.declared.status.Status.TheVariants.{Refused}
-use Rattle.vg_drive.specs.Commands.{OnSource}
+use Rattle.vg_drive.specs.Commands.{OnLive, OnSource}
 use Rattle.vg_drive.specs.Mirrors.{AnswerBy, Change}
 use Rattle.vg_drive.specs.Statuses.{IsSettled}
 use Rattle.vg_drive.proofs.Builds as builds
 use Rattle.vg_drive.proofs.Plays as plays
-use Rattle.vg_drive.proofs.Commands.{on_source, with_source}
+use Rattle.vg_drive.proofs.Whys as whys
+use Rattle.vg_drive.proofs.Commands.{on_live, on_source, with_source}
 use Rattle.vg_drive.proofs.Files.{with_file}
 
 -- a fault that every command answers
 abbrev pub IsOfText : Fault → Type 0
+IsOfText (Allocates p line) = ⊥
+IsOfText NoMember = ⊥
 IsOfText (NotBuilt p) = ⊥
 IsOfText _ = Unit {0}
 
@@ -37,7 +41,25 @@ of_text InitSteps s bytes clock asked f = f
 of_text InitDepth s bytes clock asked f = f
 of_text (InitTouches address) s bytes clock asked f = f
 of_text InitTooBig s bytes clock asked f = f
+of_text (Allocates p line) s bytes clock asked f = absurd asked
+of_text NoMember s bytes clock asked f = absurd asked
 of_text (NotBuilt p) s bytes clock asked f = absurd asked
+
+-- and `why` too
+of_asked : (why : Fault) (s : Status) (bytes member : List ℕ) → IsOfText why → (s ≡ Refused why) ↔ of_why.HasFault why bytes member
+    → (s ≡ Refused why) ↔ HasFault why bytes init_steps
+of_asked (NoTree p) s bytes member asked f = f
+of_asked (TooDeep p) s bytes member asked f = f
+of_asked (TooMany what limit p) s bytes member asked f = f
+of_asked (Broken rule p) s bytes member asked f = f
+of_asked (InitTrap code p) s bytes member asked f = f
+of_asked InitSteps s bytes member asked f = f
+of_asked InitDepth s bytes member asked f = f
+of_asked (InitTouches address) s bytes member asked f = f
+of_asked InitTooBig s bytes member asked f = f
+of_asked (Allocates p line) s bytes member asked f = absurd asked
+of_asked NoMember s bytes member asked f = absurd asked
+of_asked (NotBuilt p) s bytes member asked f = absurd asked
 
 -- exactly the faults of a text are named
 abbrev pub Exactly : Status → List ℕ → ℕ → Type 0
@@ -51,6 +73,21 @@ exactly_of c s told out note h settled =
     (builds.exactly_by s told file clock out note b settled))
     (λ file script steps p. with_file told file _ (λ bytes. Exactly s bytes init_steps) (λ bytes f why asked. f why)
     (plays.exactly_by s told file script steps out p settled))
+    (λ file member w. with_file told file _ (λ bytes. Exactly s bytes init_steps) (λ bytes f why asked. of_asked why s bytes member asked (f why))
+    (whys.exactly_by s told file member out w settled))
+
+-- exactly the texts whose live methods make something are refused so, and the line says which does and where
+abbrev pub AllocatesSo : Status → List ℕ → ℕ → Type 0
+AllocatesSo s bytes clock = (place : Place) (line : List ℕ) → (s ≡ Refused (Allocates place line)) ↔ AllocatesIn bytes clock place line
+
+pub allocates_of : (c : Option Command) (s : Status) (told : Option (List File)) (out note : Change) → AnswerBy c s told out note → IsSettled s
+    → OnLive c (λ file clock. ForFile told file (λ bytes. AllocatesSo s bytes clock))
+allocates_of c s told out note h settled =
+    on_live c s told out note (λ file clock. ForFile told file (λ bytes. AllocatesSo s bytes clock)) h
+    (λ file clock b. with_file told file _ (λ bytes. AllocatesSo s bytes clock) (λ bytes f place line. f (Allocates place line))
+    (builds.exactly_by s told file clock out note b settled))
+    (λ file member w. with_file told file _ (λ bytes. AllocatesSo s bytes init_steps) (λ bytes f place line. f (Allocates place line))
+    (whys.exactly_by s told file member out w settled))
 
 -- what follows of each text
 pub source_is : (c : Option Command) (s : Status) (told : Option (List File)) (Q : List ℕ → ℕ → Type 0)
@@ -71,4 +108,6 @@ init_is s bytes clock f InitSteps asked = f InitSteps tt
 init_is s bytes clock f InitDepth asked = f InitDepth tt
 init_is s bytes clock f (InitTouches address) asked = f (InitTouches address) tt
 init_is s bytes clock f InitTooBig asked = f InitTooBig tt
+init_is s bytes clock f (Allocates p line) asked = absurd asked
+init_is s bytes clock f NoMember asked = absurd asked
 init_is s bytes clock f (NotBuilt p) asked = absurd asked

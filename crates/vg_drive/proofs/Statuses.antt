@@ -6,8 +6,8 @@ use Rattle.avr_isa.specs.declared.ending.MachineEnd.{MachineEnd}
 use Rattle.avr_isa.specs.declared.ending.MachineEnd.TheVariants as machine_end
 use Rattle.vg_fetch.specs.declared.fetch.NoFile.{NoFile}
 use Rattle.vg_fetch.specs.declared.fetch.NoFile.TheVariants as missing
-use Rattle.vg_front.specs.declared.fault.Fault.{Fault}
-use Rattle.vg_drive.specs.Commands.{IsAnswerOfBuild, IsAnswerOfRun, IsAnswerOfSim}
+use Rattle.vg_faults.specs.declared.fault.Fault.{Fault}
+use Rattle.vg_drive.specs.Commands.{IsAnswerOfBuild, IsAnswerOfRun, IsAnswerOfSim, IsAnswerOfWhy}
 use Rattle.vg_drive.specs.Mirrors.{IsBehindFiles}
 use Rattle.vg_drive.specs.Statuses.{IsSettled, IsShown, status_of_ending, status_of_refusal, status_without_file}
 use Rattle.vg_drive.specs.declared.status.Status.TheVariants.{Refused, ReadFault, WriteFault, TooLong}
@@ -39,6 +39,11 @@ missing_of_sim missing.Failed = tt
 missing_of_sim missing.Wanting = tt
 missing_of_sim missing.Long = tt
 
+pub missing_of_why : (reason : NoFile) → IsAnswerOfWhy (status_without_file reason)
+missing_of_why missing.Failed = tt
+missing_of_why missing.Wanting = tt
+missing_of_why missing.Long = tt
+
 pub missing_no_write : (reason : NoFile) → status_without_file reason ≡ WriteFault → ⊥
 missing_no_write missing.Failed e = cc
 missing_no_write missing.Wanting e = cc
@@ -60,10 +65,6 @@ long_is_long missing.Wanting e = cc
 long_is_long missing.Long e = refl
 
 -- NOTHING WAS BUILT
-
-pub refusal_of_build : (why : Refusal Fault) → IsAnswerOfBuild (status_of_refusal why)
-refusal_of_build (refusal.Fault fault) = tt
-refusal_of_build refusal.NoMemory = tt
 
 pub refusal_not_shown : (why : Refusal Fault) → IsShown (status_of_refusal why) → ⊥
 refusal_not_shown (refusal.Fault fault) h = h

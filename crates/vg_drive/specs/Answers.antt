@@ -3,6 +3,7 @@ use Rattle.std.specs.Prelude.{ℕ, ◌≡◌, List, ◌++◌, take, Option, Some
 use Rattle.vg_io.specs.Files.{bytes_under}
 use Rattle.vg_io.specs.Piece.{AppendsAll}
 use Rattle.vg_io.specs.declared.file.File.{File}
+use Rattle.vg_why.specs.Asked.{WhyIn}
 use Rattle.vg_build.specs.Image.{IsImageOf}
 use Rattle.vg_build.specs.declared.layout.Layout.{Layout}
 
@@ -11,6 +12,15 @@ abbrev pub ForImage : Option (List File) → (file : List ℕ) → (clock : ℕ)
 ForImage None file clock P = (image : List ℕ) × (layout : Layout) × P image layout
 ForImage (Some files) file clock P =
     (image : List ℕ) × (layout : Layout) × IsImageOf (bytes_under files file) clock None image layout × P image layout
+
+-- P holds of a text, which is that of the file where the shelf tells
+abbrev pub ForText : Option (List File) → (file : List ℕ) → (P : List ℕ → Type 0) → Type 0
+ForText None file P = (bytes : List ℕ) × P bytes
+ForText (Some files) file P = P (bytes_under files file)
+
+-- P holds of some lines that say why a member is live in a text
+abbrev pub ForLines : (bytes member : List ℕ) → (P : List ℕ → Type 0) → Type 0
+ForLines bytes member P = (lines : List ℕ) × WhyIn bytes member lines × P lines
 
 -- P holds of two texts, which are those of the files where the shelf tells
 abbrev pub ForTexts : Option (List File) → (first second : List ℕ) → (P : List ℕ → List ℕ → Type 0) → Type 0

@@ -1,17 +1,17 @@
 -- What a command asks the shelf for, what it writes to its second sink, and what its answers may be.
 use Rattle.std.specs.Prelude.{ℕ, ◌≡◌, List, [], ◌∷◌, Option, Some, None}
 use Rattle.vg_base.specs.Limits.{image_text_limit, text_limit}
-use Rattle.vg_words.specs.Commands.{Command, Build, Run, Sim}
+use Rattle.vg_words.specs.Commands.{Command, Build, Run, Sim, Why}
 use Rattle.vg_fetch.specs.Asking.{Request}
-use Rattle.vg_front.specs.declared.fault.Fault.TheVariants.{NotBuilt}
+use Rattle.vg_faults.specs.declared.fault.Fault.TheVariants.{Allocates, NoMember, NotBuilt}
 use Rattle.vg_build.specs.Layout.{layout_text}
 use Rattle.vg_build.specs.declared.layout.Layout.{Layout}
-use Rattle.vg_run.specs.Shown as of_run
+use Rattle.vg_faults.specs.Starting.{init_steps as default_steps}
 use Rattle.vg_drive.specs.declared.status.Status.{Status}
 use Rattle.vg_drive.specs.declared.status.Status.TheVariants.{Done, Refused, Usage, ReadFault, WriteFault, NoMemory, TooLong, Depth, HexRefused, BadInstruction}
 use Rattle.vg_drive.specs.Statuses.{IsBeforeLines, IsBeforePuts}
 
--- `build FILE` asks for FILE, `run FILE SCRIPT` for FILE and then SCRIPT, and `sim HEX SCRIPT` for HEX and then SCRIPT, each with its limit
+-- `build FILE` and `why FILE MEMBER` ask for FILE, `run FILE SCRIPT` for FILE and then SCRIPT, and `sim HEX SCRIPT` for HEX and then SCRIPT, each with its limit
 abbrev pub requests_of : Option Command → List Request
 requests_of None = []
 requests_of (Some (Build file init_steps)) = record { name = file; limit = text_limit } ∷ []
@@ -19,12 +19,13 @@ requests_of (Some (Run file script steps)) =
     record { name = file; limit = text_limit } ∷ record { name = script; limit = image_text_limit } ∷ []
 requests_of (Some (Sim hex script steps)) =
     record { name = hex; limit = image_text_limit } ∷ record { name = script; limit = image_text_limit } ∷ []
+requests_of (Some (Why file member)) = record { name = file; limit = text_limit } ∷ []
 
 -- the layout of an image of constants: no static bytes, and all SRAM from 0x0100 on for the stack
 abbrev pub constants_layout : Layout
 constants_layout = record { static_bytes = 0; floor = 0x0100; stack = 4096 }
 
--- `build` writes the layout to its second sink, which is `static 0100 0` and `stack 0100 4096`; `run` and `sim` write nothing
+-- `build` writes the layout to its second sink, which is `static 0100 0` and `stack 0100 4096`; the others write nothing
 abbrev pub second_text : Option Command → List ℕ
 second_text (Some (Build file init_steps)) = layout_text constants_layout
 second_text _ = []
@@ -42,8 +43,20 @@ OnRun _ P = Unit {0}
 -- where the command reads a source text: P holds of its file and of the clock of its initialisation
 abbrev pub OnSource : Option Command → (P : (file : List ℕ) → (clock : ℕ) → Type 0) → Type 0
 OnSource (Some (Build file init_steps)) P = P file init_steps
-OnSource (Some (Run file script steps)) P = P file of_run.init_steps
+OnSource (Some (Run file script steps)) P = P file default_steps
+OnSource (Some (Why file member)) P = P file default_steps
 OnSource _ P = Unit {0}
+
+-- where the command asks what of a source text is live: P holds of its file and of the clock of its initialisation
+abbrev pub OnLive : Option Command → (P : (file : List ℕ) → (clock : ℕ) → Type 0) → Type 0
+OnLive (Some (Build file init_steps)) P = P file init_steps
+OnLive (Some (Why file member)) P = P file default_steps
+OnLive _ P = Unit {0}
+
+-- where the command is `why`: P holds of its file and of its member
+abbrev pub OnWhy : Option Command → (P : (file member : List ℕ) → Type 0) → Type 0
+OnWhy (Some (Why file member)) P = P file member
+OnWhy _ P = Unit {0}
 
 -- where the command is `sim`: P holds of its two files and of its steps
 abbrev pub OnSim : Option Command → (P : (hex script : List ℕ) → ℕ → Type 0) → Type 0
@@ -52,6 +65,7 @@ OnSim _ P = Unit {0}
 
 abbrev pub IsAnswerOfBuild : Status → Type 0
 IsAnswerOfBuild Done = Unit {0}
+IsAnswerOfBuild (Refused NoMember) = ⊥
 IsAnswerOfBuild (Refused fault) = Unit {0}
 IsAnswerOfBuild ReadFault = Unit {0}
 IsAnswerOfBuild WriteFault = Unit {0}
@@ -60,6 +74,8 @@ IsAnswerOfBuild TooLong = Unit {0}
 IsAnswerOfBuild _ = ⊥
 
 abbrev pub IsAnswerOfRun : Status → Type 0
+IsAnswerOfRun (Refused (Allocates place line)) = ⊥
+IsAnswerOfRun (Refused NoMember) = ⊥
 IsAnswerOfRun (Refused (NotBuilt place)) = ⊥
 IsAnswerOfRun Usage = ⊥
 IsAnswerOfRun (HexRefused fault) = ⊥
@@ -72,12 +88,23 @@ IsAnswerOfSim Usage = ⊥
 IsAnswerOfSim Depth = ⊥
 IsAnswerOfSim _ = Unit {0}
 
+abbrev pub IsAnswerOfWhy : Status → Type 0
+IsAnswerOfWhy Done = Unit {0}
+IsAnswerOfWhy (Refused (NotBuilt place)) = ⊥
+IsAnswerOfWhy (Refused fault) = Unit {0}
+IsAnswerOfWhy ReadFault = Unit {0}
+IsAnswerOfWhy WriteFault = Unit {0}
+IsAnswerOfWhy NoMemory = Unit {0}
+IsAnswerOfWhy TooLong = Unit {0}
+IsAnswerOfWhy _ = ⊥
+
 -- the answers that a command may have; words without a meaning have one
 abbrev pub IsAnswerOf : Option Command → Status → Type 0
 IsAnswerOf None s = s ≡ Usage
 IsAnswerOf (Some (Build file init_steps)) s = IsAnswerOfBuild s
 IsAnswerOf (Some (Run file script steps)) s = IsAnswerOfRun s
 IsAnswerOf (Some (Sim hex script steps)) s = IsAnswerOfSim s
+IsAnswerOf (Some (Why file member)) s = IsAnswerOfWhy s
 
 -- nothing was put to the first sink
 abbrev pub PutsNothing : Option Command → Status → Type 0

@@ -1,19 +1,17 @@
 -- The lines that the program writes to its second sink.
 use Rattle.std.specs.Prelude.{ℕ, List, [], ◌++◌, codes, decimal}
-use Rattle.vg_base.specs.declared.place.Place.{Place}
 use Rattle.vg_hex.specs.declared.fault.HexFault.{HexFault}
 use Rattle.vg_hex.specs.declared.fault.HexFault.TheVariants.{Form, Sum, Twice, Beyond, NoEnd}
 use Rattle.vg_rules.specs.declared.what.What.{What}
 use Rattle.vg_rules.specs.declared.what.What.TheVariants.{Classes, Methods, Locals, Height}
-use Rattle.vg_front.specs.declared.fault.Fault.{Fault}
-use Rattle.vg_front.specs.declared.fault.Fault.TheVariants.{NoTree, TooDeep, TooMany, Broken, InitTrap, InitSteps, InitDepth, InitTouches, InitTooBig, NotBuilt}
+use Rattle.vg_faults.specs.declared.fault.Fault.{Fault}
+use Rattle.vg_faults.specs.declared.fault.Fault.TheVariants.{NoTree, TooDeep, TooMany, Broken, InitTrap, InitSteps, InitDepth, InitTouches, InitTooBig, Allocates, NoMember, NotBuilt}
+use Rattle.vg_faults.specs.Living.{place_text}
 use Rattle.vg_script.specs.Traces.{byte_digits}
+use Rattle.vg_drive.specs.declared.lines.FaultLine.{FaultLine}
+use Rattle.vg_drive.specs.declared.lines.FaultLine.TheVariants.{Made, Held}
 use Rattle.vg_drive.specs.declared.status.Status.{Status}
 use Rattle.vg_drive.specs.declared.status.Status.TheVariants.{Refused, Usage, ReadFault, WriteFault, NoMemory, TooLong, HexRefused, ScriptRefused}
-
--- a place: its line, a colon and its column
-abbrev pub place_text : Place → List ℕ
-place_text place = decimal place.line ++ codes ":" ++ decimal place.col
 
 -- what there are too many of
 abbrev pub what_text : What → List ℕ
@@ -32,6 +30,8 @@ refusal_line InitSteps = codes "init steps\n"
 refusal_line InitDepth = codes "init depth\n"
 refusal_line (InitTouches address) = codes "init touches " ++ byte_digits address ++ codes "\n"
 refusal_line InitTooBig = codes "init too big\n"
+refusal_line (Allocates place line) = line
+refusal_line NoMember = codes "no member\n"
 refusal_line (NotBuilt place) = codes "not built at " ++ place_text place ++ codes "\n"
 
 -- the line of a fault of a HEX text: the number of its line, or a byte address, in decimal
@@ -53,3 +53,19 @@ fault_line TooLong = codes "too long\n"
 fault_line (HexRefused fault) = hex_line fault
 fault_line (ScriptRefused line) = codes "script form " ++ decimal line ++ codes "\n"
 fault_line _ = []
+
+-- the bytes of a line that was made, or that a fault has
+abbrev pub line_bytes : FaultLine → List ℕ
+line_bytes (Made line) = line.bytes
+line_bytes (Held line) = line.now
+
+-- ---- mirrors
+
+-- the fault has no line of its own
+abbrev pub IsMadeOf : Fault → Type 0
+IsMadeOf (Allocates place line) = ⊥
+IsMadeOf _ = Unit {0}
+
+abbrev pub IsMade : Status → Type 0
+IsMade (Refused fault) = IsMadeOf fault
+IsMade _ = Unit {0}

@@ -5,7 +5,7 @@ use Rattle.vg_io.specs.Count.{Rose}
 use Rattle.vg_io.specs.Piece.{AppendsAll, AppendsFront}
 use Rattle.vg_io.specs.declared.asked.Asked.{Asked}
 use Rattle.vg_io.specs.declared.file.File.{File}
-use Rattle.vg_words.specs.Commands.{Command, Build, Run, Sim}
+use Rattle.vg_words.specs.Commands.{Command, Build, Run, Sim, Why}
 use Rattle.vg_fetch.specs.Asking.{Fetched, Request}
 use Rattle.vg_fetch.specs.Told.{ForFile, ForFiles}
 use Rattle.vg_fetch.specs.declared.fetch.NoFile.{NoFile}
@@ -15,6 +15,7 @@ use Rattle.vg_build.specs.declared.building.Built.{Built}
 use Rattle.vg_run.specs.Answer.{Plays}
 use Rattle.vg_run.specs.declared.playing.Played.{Played}
 use Rattle.vg_run.specs.declared.playing.Played.TheVariants as played
+use Rattle.vg_why.specs.Answer as why
 use Rattle.vg_hex.specs.HexImage.{fault_in}
 use Rattle.vg_script.specs.Script.{first_bad}
 use Rattle.vg_sim.specs.Shown.{ForRun, lines_of}
@@ -145,6 +146,26 @@ abbrev pub SimBy : Status → (told : Option (List File)) → (hex script : List
 SimBy s told hex script steps out =
     FilesMissing s (IsLong told hex script) out ⊎ SimulatesFiles s told hex script steps out
 
+-- WHY
+
+-- what was put of the lines, with the answer that tells of it
+abbrev pub PutLines : why.Answer → Status → (out : Change) → Type 0
+PutLines (Ok lines) s out = ((s ≡ Done) × GainsAll out lines) ⊎ ((s ≡ WriteFault) × GainsFront out lines × Fails out)
+PutLines (Err reason) s out = (s ≡ status_of_refusal reason) × IsSame out
+
+-- the bytes of the file were answered, and the answer put
+pub record TellsFile (s : Status) (told : Option (List File)) (file member : List ℕ) (out : Change) : Type 0 where
+  pub bytes : List ℕ
+  pub whole : ForFile told file (λ b. b ≡ bytes)
+  pub answer : why.Answer
+  pub says : why.Answers bytes member answer
+  pub puts : PutLines answer s out
+
+-- what `why` leaves
+abbrev pub WhyBy : Status → (told : Option (List File)) → (file member : List ℕ) → (out : Change) → Type 0
+WhyBy s told file member out =
+    FilesMissing s (ForFile told file (λ bytes. text_limit < length bytes)) out ⊎ TellsFile s told file member out
+
 -- ALL WORDS
 
 -- what a command, or words without a meaning, leaves
@@ -153,3 +174,4 @@ AnswerBy None s told out note = (s ≡ Usage) × IsSame out × IsSame note
 AnswerBy (Some (Build file clock)) s told out note = BuildBy s told file clock out note
 AnswerBy (Some (Run file script steps)) s told out note = PlayBy s told file script steps out × IsSame note
 AnswerBy (Some (Sim hex script steps)) s told out note = SimBy s told hex script steps out × IsSame note
+AnswerBy (Some (Why file member)) s told out note = WhyBy s told file member out × IsSame note

@@ -8,7 +8,7 @@ use Rattle.vg_fetch.specs.declared.fetch.NoFile.{NoFile}
 use Rattle.vg_fetch.specs.declared.fetch.NoFile.TheVariants as missing
 use Rattle.vg_meaning.specs.Ending.{Ending}
 use Rattle.vg_meaning.specs.Ending as session_end
-use Rattle.vg_front.specs.declared.fault.Fault.{Fault}
+use Rattle.vg_faults.specs.declared.fault.Fault.{Fault}
 use Rattle.vg_run.specs.Shown.{ending_in}
 use Rattle.vg_run.specs.declared.playing.Played.{Played}
 use Rattle.vg_run.specs.declared.playing.Played.TheVariants as played

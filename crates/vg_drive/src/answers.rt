@@ -6,8 +6,8 @@ ghost use Rattle.vg_run.specs.Shown.{ending_in};
 use crate::status::Status;
 use avr_isa::MachineEnd;
 use vg_base::Refusal;
+use vg_faults::Fault;
 use vg_fetch::NoFile;
-use vg_front::Fault;
 use vg_run::{Played, RunEnd};
 use vg_sim::Simulated;
 

@@ -17,10 +17,11 @@ ghost use Rattle.vg_source.specs.Program.{source_of};
 ghost use Rattle.vg_source.specs.Session.{Started, session, started};
 ghost use Rattle.vg_source.specs.Values.{Heap};
 ghost use Rattle.vg_rules.specs.declared.what.What.{What};
-ghost use Rattle.vg_front.specs.Answer.{IsOfInit};
-ghost use Rattle.vg_front.specs.Judged.{IsLegal, RefusedIn};
-ghost use Rattle.vg_front.specs.Starting.{FailsIn, StartsIn};
-ghost use Rattle.vg_front.specs.declared.fault.Fault as fault;
+ghost use Rattle.vg_faults.specs.Faults.{IsOfInit};
+ghost use Rattle.vg_faults.specs.Judged.{IsLegal, RefusedIn};
+ghost use Rattle.vg_faults.specs.Living.{AllocatesIn};
+ghost use Rattle.vg_faults.specs.Starting.{FailsIn, StartsIn, init_steps};
+ghost use Rattle.vg_faults.specs.declared.fault.Fault as fault;
 ghost use Rattle.vg_build.specs.Answer.{IsNotBuilt, first_place};
 ghost use Rattle.vg_build.specs.Layout.{layout_text};
 ghost use Rattle.vg_hex.specs.HexText.{hex_text};
@@ -30,9 +31,10 @@ ghost use Rattle.vg_script.specs.Script.{IsScript, Lists, first_bad};
 ghost use Rattle.avr_sim.specs.Run.{simulated, trace_lines};
 ghost use Rattle.vg_sim.specs.Shown.{ForRun, lines_of};
 ghost use Rattle.vg_run.specs.Shown as of_run;
-ghost use Rattle.vg_run.specs.Shown.{ForSession, init_steps};
-ghost use Rattle.vg_drive.specs.Answers.{AppendsBegun, AppendsFrontAndAll, AppendsFronts, ForImage, ForTexts};
-ghost use Rattle.vg_drive.specs.Commands.{IsAnswerOf, OnBuild, OnRun, OnSim, OnSource, PutsNothing, requests_of, second_text};
+ghost use Rattle.vg_run.specs.Shown.{ForSession};
+ghost use Rattle.vg_why.specs.Asked.{IsDeclaredIn, NoMemberIn};
+ghost use Rattle.vg_drive.specs.Answers.{AppendsBegun, AppendsFrontAndAll, AppendsFronts, ForImage, ForLines, ForText, ForTexts};
+ghost use Rattle.vg_drive.specs.Commands.{IsAnswerOf, OnBuild, OnLive, OnRun, OnSim, OnSource, OnWhy, PutsNothing, requests_of, second_text};
 ghost use Rattle.vg_drive.specs.Lines.{fault_line};
 ghost use Rattle.vg_drive.specs.Mirrors.{AnswerBy, FetchedBy, change};
 ghost use Rattle.vg_drive.specs.Statuses.{IsBeforePuts, IsDoneOrNoMemory, IsSettled, IsShown, status_of_end, status_of_ending};
@@ -42,6 +44,7 @@ use crate::lines::fault_line;
 use crate::session::run_session;
 use crate::sim::run_sim;
 use crate::status::Status;
+use crate::why::run_why;
 use std::alloc::Global;
 use vg_io::{Shelf, Sink};
 use vg_words::{Command, command_of};
@@ -51,7 +54,8 @@ use vg_words::{Command, command_of};
 /// `build FILE` fetches FILE, which has at most 262,144 bytes, initialises its components in at most `--init-steps` ticks, puts the HEX text of its image
 /// to `out` in one put, and then the layout to `note` in one put. `run FILE SCRIPT` fetches such a text and one of at most 1,048,576 bytes, runs the first
 /// by the language's meaning on the second for at most `--steps` ticks, and puts the lines of its trace and of its ending to `out`. `sim HEX SCRIPT` fetches two texts of at most 1,048,576 bytes each, runs the image of the first
-/// on the second for at most `--steps` instructions, and puts the lines of its trace and of its ending to `out`. Behind an answer that
+/// on the second for at most `--steps` instructions, and puts the lines of its trace and of its ending to `out`. `why FILE MEMBER` fetches such a text
+/// as `build`, and puts the lines that say why the member is live to `out` in one put. Behind an answer that
 /// is no success and no ending it tries one put of the fault line to `note`.
 pub fn run<S: Shelf, O: Sink, N: Sink>(
     alloc: Global,
@@ -71,7 +75,7 @@ pub fn run<S: Shelf, O: Sink, N: Sink>(
     ensures read_failed { result ≡ Status.ReadFault → HasFailed (last_of (gained (S.asked shelf.old) (S.asked shelf.new))) }
     ensures too_long { result ≡ Status.TooLong ↔ HasPassedLimit (last_of (gained (S.asked shelf.old) (S.asked shelf.new))) }
 
-    // `build` and `run`: which source texts are refused.
+    // `build`, `run` and `why`: which source texts are refused.
     ensures no_tree { IsSettled result → OnSource (command_of (words_in words.now)) (λ file clock. ForFile (S.told shelf.old) file (λ bytes.
         (place : Place) → (result ≡ Status.Refused (fault.Fault.NoTree place)) ↔ NoTreeIn bytes place)) }
     ensures too_deep { IsSettled result → OnSource (command_of (words_in words.now)) (λ file clock. ForFile (S.told shelf.old) file (λ bytes.
@@ -83,6 +87,10 @@ pub fn run<S: Shelf, O: Sink, N: Sink>(
         (rule : ℕ) (place : Place) → (result ≡ Status.Refused (fault.Fault.Broken rule place)) ↔ RefusedIn bytes (fault.Fault.Broken rule place))) }
     ensures init { IsSettled result → OnSource (command_of (words_in words.now)) (λ file clock. ForFile (S.told shelf.old) file (λ bytes.
         (why : fault.Fault) → IsOfInit why → (result ≡ Status.Refused why) ↔ FailsIn bytes clock why)) }
+
+    // `build` and `why`: which live methods would make something.
+    ensures allocates { IsSettled result → OnLive (command_of (words_in words.now)) (λ file clock. ForFile (S.told shelf.old) file (λ bytes.
+        (place : Place) (line : List ℕ) → (result ≡ Status.Refused (fault.Fault.Allocates place line)) ↔ AllocatesIn bytes clock place line)) }
 
     // `build`: which legal texts are not built, and which are.
     ensures not_built { IsSettled result → OnBuild (command_of (words_in words.now)) (λ file clock. ForFile (S.told shelf.old) file (λ bytes.
@@ -130,6 +138,17 @@ pub fn run<S: Shelf, O: Sink, N: Sink>(
         → length t ≤ text_limit → length s ≤ image_text_limit
         → ((option_map status_of_end (session (source_of tree) heap (Some 400) lists.reads lists.interrupts steps).ending ≡ Some result)
         ⊎ (result ≡ Status.NoMemory)) ⊎ (Rose (S.faults shelf.old) (S.faults shelf.new) ⊎ Rose (O.faults out.old) (O.faults out.new)))) }
+
+    // `why`: which members are not declared, and the lines of the others, whole on `out` with Done.
+    ensures no_member { IsSettled result → OnWhy (command_of (words_in words.now)) (λ file member. ForFile (S.told shelf.old) file (λ bytes.
+        (result ≡ Status.Refused fault.Fault.NoMember) ↔ NoMemberIn bytes member)) }
+    ensures why_lines { result ≡ Status.Done → OnWhy (command_of (words_in words.now)) (λ file member. ForText (S.told shelf.old) file (λ bytes.
+        ForLines bytes member (λ lines. AppendsAll (O.told out.old) (O.told out.new) lines))) }
+    ensures why_front { result ≡ Status.WriteFault → OnWhy (command_of (words_in words.now)) (λ file member. ForText (S.told shelf.old) file (λ bytes.
+        ForLines bytes member (λ lines. AppendsFront (O.told out.old) (O.told out.new) lines))) }
+    ensures why_complete { OnWhy (command_of (words_in words.now)) (λ file member. ForFile (S.told shelf.old) file (λ bytes.
+        IsDeclaredIn bytes member → length bytes ≤ text_limit
+        → IsDoneOrNoMemory result ⊎ (Rose (S.faults shelf.old) (S.faults shelf.new) ⊎ Rose (O.faults out.old) (O.faults out.new)))) }
 
     // What may fail, and what nothing was put for.
     ensures write_fault { result ≡ Status.WriteFault → Rose (O.faults out.old) (O.faults out.new) ⊎ Rose (N.faults note.old) (N.faults note.new) }
@@ -197,6 +216,7 @@ fn obey<S: Shelf, O: Sink, N: Sink>(
             steps,
         } => run_session(alloc, file, script, steps, shelf, out),
         Command::Sim { hex, script, steps } => run_sim(alloc, hex, script, steps, shelf, out),
+        Command::Why { file, member } => run_why(alloc, file, member, shelf, out),
     }
 }
 
@@ -214,8 +234,15 @@ fn put_fault_line<N: Sink>(status: &Status, note: &mut N)
         | Status::Budget
         | Status::Depth
         | Status::BadInstruction { .. } => {}
-        _ => {
-            let _ = note.put(fault_line(status).as_str().as_bytes());
-        }
+        _ => put_line(fault_line(status).as_bytes(), note),
     }
+}
+
+// One put of a line. What becomes of it changes nothing.
+fn put_line<N: Sink>(line: &[u8], note: &mut N)
+    ensures front { AppendsFront (N.told note.old) (N.told note.new) line.now }
+    ensures whole { Rose (N.faults note.old) (N.faults note.new) ⊎ AppendsAll (N.told note.old) (N.told note.new) line.now }
+    ensures later { N.faults note.old ≤ N.faults note.new }
+{
+    let _ = note.put(line);
 }

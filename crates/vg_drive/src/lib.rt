@@ -8,7 +8,8 @@ mod lines;
 mod session;
 mod sim;
 mod status;
+mod why;
 
 pub use call::run;
-pub use lines::fault_line;
+pub use lines::{FaultLine, fault_line};
 pub use status::Status;

@@ -2,21 +2,52 @@
 ghost use Rattle.std.specs.Prelude.{◌≡◌, ◌++◌, ◌∷◌, [], ◌<◌, ◌≤◌, ℕ, decimal, codes, length, slice_index};
 ghost use Rattle.hex.specs.Hex.{lower_digits};
 ghost use Rattle.vg_script.specs.Traces.{byte_digits};
-ghost use Rattle.vg_drive.specs.Lines.{fault_line, hex_line, refusal_line, place_text, what_text};
+ghost use Rattle.vg_faults.specs.Living.{place_text};
+ghost use Rattle.vg_drive.specs.Lines.{IsMade, IsMadeOf, fault_line, hex_line, line_bytes, refusal_line, what_text};
 
 use crate::status::Status;
 use arrayvec::ArrayString;
 use itoa::Buffer;
 use vg_base::Place;
-use vg_front::Fault;
+use vg_faults::Fault;
 use vg_hex::HexFault;
 use vg_rules::what::What;
 
 /// The bytes of the longest fault line, or more: a place has two numbers of at most ten digits, and a rule's number at most three.
 pub const LONGEST_LINE: usize = 48;
 
+/// A fault line: one that was made, or one that a fault has.
+#[derive(Drop)]
+pub enum FaultLine<'a> {
+    Made(ArrayString<LONGEST_LINE>),
+    Held(&'a [u8]),
+}
+
+impl FaultLine<'_> {
+    /// The bytes of the line.
+    pub fn as_bytes(&self) -> &[u8]
+        ensures { result.now ≡ line_bytes self.now }
+    {
+        match self {
+            FaultLine::Made(line) => line.as_str().as_bytes(),
+            FaultLine::Held(line) => line,
+        }
+    }
+}
+
 /// The fault line of an answer, with its line end. It takes no memory.
-pub fn fault_line(status: &Status) -> ArrayString<LONGEST_LINE>
+pub fn fault_line(status: &Status) -> FaultLine<'_>
+    ensures { line_bytes result ≡ fault_line status.entry.now }
+{
+    match status {
+        Status::Refused(Fault::Allocates { line, .. }) => FaultLine::Held(line.as_slice()),
+        _ => FaultLine::Made(made_line(status)),
+    }
+}
+
+// The fault line of an answer that has no line of its own.
+fn made_line(status: &Status) -> ArrayString<LONGEST_LINE>
+    requires { IsMade status.now }
     ensures { result.bytes ≡ fault_line status.now }
 {
     let mut line = ArrayString::new();
@@ -40,6 +71,7 @@ pub fn fault_line(status: &Status) -> ArrayString<LONGEST_LINE>
 }
 
 fn refusal_line(fault: &Fault) -> ArrayString<LONGEST_LINE>
+    requires { IsMadeOf fault.now }
     ensures { result.bytes ≡ refusal_line fault.now }
 {
     match fault {
@@ -52,6 +84,8 @@ fn refusal_line(fault: &Fault) -> ArrayString<LONGEST_LINE>
         Fault::InitDepth => plain_line("init depth\n"),
         Fault::InitTouches(address) => touches_line(*address),
         Fault::InitTooBig => plain_line("init too big\n"),
+        Fault::Allocates { .. } => unreachable!(),
+        Fault::NoMember => plain_line("no member\n"),
         Fault::NotBuilt(place) => placed_line("not built at ", *place),
     }
 }

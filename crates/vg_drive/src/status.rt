@@ -1,11 +1,11 @@
 // How a call ends.
 ghost use Rattle.std.specs.Prelude.{◌≡◌};
 
-use vg_front::Fault;
+use vg_faults::Fault;
 use vg_hex::HexFault;
 
 /// How a call of the program ends.
-#[derive(Clone, Copy, Debug, PartialEq, Eq)]
+#[derive(Drop)]
 pub enum Status {
     /// All was put. The session of `run` idles and the machine of `sim` sleeps, and no interrupt is left.
     Done,

@@ -1,10 +1,10 @@
-mod Runs
-mod Names
+pub mod Runs
+pub mod Names
 pub mod Spelled
 mod Nodes
 mod Parts
 mod Depth
 pub mod Texts
-mod Placed
+pub mod Placed
 mod Legal
 pub mod Means

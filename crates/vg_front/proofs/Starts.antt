@@ -9,6 +9,7 @@ use Rattle.vg_syntax.specs.Reads.{Reads}
 use Rattle.vg_syntax.specs.Tree.{Node}
 use Rattle.vg_source.specs.Program.{source_of}
 use Rattle.vg_source.specs.Session as source
+use Rattle.vg_source.specs.Values.{Heap}
 use Rattle.vg_rules.specs.Refusal.{Refused, refusal_of}
 use Rattle.vg_rules.specs.Refusal as refused
 use Rattle.vg_tree_walks.specs.Whole.{tree_at}
@@ -19,15 +20,16 @@ use Rattle.vg_core.specs.Program.{Program}
 use Rattle.vg_core.specs.Session as core
 use Rattle.vg_renamed.specs.Stands.{named_start}
 use Rattle.vg_types.specs.Programs.{IsProgramOf}
-use Rattle.vg_types.proofs.Alike.{initialised}
+use Rattle.vg_types.proofs.Alike.{initialised, sessions}
 use Rattle.vg_session.specs.declared.initialisation.InitFault.{InitFault}
 use Rattle.vg_session.specs.Initialises.{Initialises, why_of}
-use Rattle.vg_front.specs.declared.fault.Fault.{Fault}
-use Rattle.vg_front.specs.declared.fault.Fault.TheVariants.{NoTree, TooDeep, TooMany, Broken, InitTrap, InitSteps, InitDepth, InitTouches, InitTooBig, NotBuilt}
+use Rattle.vg_faults.specs.declared.fault.Fault.{Fault}
+use Rattle.vg_faults.specs.declared.fault.Fault.TheVariants.{NoTree, TooDeep, TooMany, Broken, InitTrap, InitSteps, InitDepth, InitTouches, InitTooBig, Allocates, NoMember, NotBuilt}
 use Rattle.vg_front.specs.declared.starting.Start.{Start}
-use Rattle.vg_front.specs.Judged.{IsLegal, RefusedIn, fault_of, tree_fault}
-use Rattle.vg_front.specs.Starting.{FailsIn, StartsIn, failure_of, start_fault}
-use Rattle.vg_front.specs.Answer.{HasFault, IsStartOf, Starts}
+use Rattle.vg_faults.specs.Judged.{IsLegal, RefusedIn, fault_of, tree_fault}
+use Rattle.vg_faults.specs.Starting.{FailsIn, StartsIn, failure_of, start_fault}
+use Rattle.vg_front.specs.Answer.{IsStartOf, Starts}
+use Rattle.vg_faults.specs.Faults.{HasFault}
 use Rattle.vg_front.specs.Mirrors.{FailsSo, GoesOn, IsMadeOf}
 
 -- a typed program of a tree whose initialisation fails so: the tree's fails so
@@ -72,6 +74,8 @@ of_tree bytes clock InitSteps asked h = absurd asked
 of_tree bytes clock InitDepth asked h = absurd asked
 of_tree bytes clock (InitTouches address) asked h = absurd asked
 of_tree bytes clock InitTooBig asked h = absurd asked
+of_tree bytes clock (Allocates p line) asked h = absurd asked
+of_tree bytes clock NoMember asked h = absurd asked
 of_tree bytes clock (NotBuilt p) asked h = absurd asked
 
 -- the faults of initialisation, and no others, are answers of it
@@ -106,6 +110,8 @@ of_start bytes clock InitSteps failure h = h
 of_start bytes clock InitDepth failure h = h
 of_start bytes clock (InitTouches address) failure h = h
 of_start bytes clock InitTooBig failure h = h
+of_start bytes clock (Allocates p line) failure h = absurd failure
+of_start bytes clock NoMember failure h = absurd failure
 of_start bytes clock (NotBuilt p) failure h = absurd failure
 
 fault_by : (bytes : List ℕ) (tree : Node) (clock : ℕ) (why : Fault) → IsText bytes → Reads bytes tree → (tree_fault tree ≡ Some why) ⊎ FailsSo tree clock why
@@ -135,12 +141,27 @@ answered bytes names tree clock (Ok s) text reads h = made_is bytes names tree c
 answered bytes names tree clock (Err (refusal.Fault why)) text reads h = fault_by bytes (tree_at names tree) clock why text reads h
 answered bytes names tree clock (Err refusal.NoMemory) text reads h = tt
 
--- the bytes of what starts are a text that starts
-pub start_is_start : (bytes : List ℕ) (clock : ℕ) (s : Start) → IsStartOf bytes clock s → StartsIn bytes clock
-start_is_start bytes clock s is = (
-  tree_at s.names s.tree,
-  is.legal,
-  named_heap (naming_of s.names s.program.tables) s.program.tables s.heap,
-  sym (initialised s.names (tree_at s.names s.tree) (program_at s.program) is.program clock)
-      ∙ ap (named_start (naming_of s.names s.program.tables) s.program.tables) is.starts,
-)
+module _ (bytes : List ℕ) (clock : ℕ) (s : Start) (is : IsStartOf bytes clock s) where
+  -- the tree of what starts
+  abbrev pub start_tree : Node
+  start_tree = tree_at s.names s.tree
+
+  -- the heap that the constructors of the tree leave
+  abbrev pub start_heap : Heap
+  start_heap = named_heap (naming_of s.names s.program.tables) s.program.tables s.heap
+
+  -- the tree of what starts is initialised to this heap
+  pub tree_starts : source.started (source_of start_tree) clock ≡ source.Started start_heap
+  tree_starts =
+      sym (initialised s.names start_tree (program_at s.program) is.program clock)
+      ∙ ap (named_start (naming_of s.names s.program.tables) s.program.tables) is.starts
+
+  -- the sessions of what starts are those of the tree
+  pub start_sessions : (deepest : Option ℕ) (reads interrupts : List ℕ) (steps : ℕ)
+      → core.session (program_at s.program) s.heap deepest reads interrupts steps
+      ≡ source.session (source_of start_tree) start_heap deepest reads interrupts steps
+  start_sessions = sessions s.names start_tree (program_at s.program) is.program s.heap is.typed
+
+  -- the bytes of what starts are a text that starts
+  pub start_is_start : StartsIn bytes clock
+  start_is_start = (start_tree, is.legal, start_heap, tree_starts)

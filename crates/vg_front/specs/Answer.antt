@@ -2,35 +2,15 @@
 use Rattle.std.specs.Prelude.{ℕ, ◌≡◌, List, Result, Ok, Err}
 use Rattle.vg_base.specs.declared.refusal.Refusal.{Refusal}
 use Rattle.vg_base.specs.declared.refusal.Refusal.TheVariants as refusal
-use Rattle.vg_syntax.specs.Faults.{NoTreeIn, TooDeepIn}
 use Rattle.vg_tree_walks.specs.Whole.{tree_at}
 use Rattle.vg_core.specs.HeldProgram.{program_at}
 use Rattle.vg_core.specs.Session as core
 use Rattle.vg_sound.specs.Good.{HasTypedHeap}
 use Rattle.vg_types.specs.Programs.{IsProgramOf}
-use Rattle.vg_front.specs.declared.fault.Fault.{Fault}
-use Rattle.vg_front.specs.declared.fault.Fault.TheVariants.{NoTree, TooDeep, TooMany, Broken, InitTrap, InitSteps, InitDepth, InitTouches, InitTooBig, NotBuilt}
+use Rattle.vg_faults.specs.declared.fault.Fault.{Fault}
 use Rattle.vg_front.specs.declared.starting.Start.{Start}
-use Rattle.vg_front.specs.Judged.{IsLegal, RefusedIn}
-use Rattle.vg_front.specs.Starting.{FailsIn}
-
--- the faults of initialisation
-abbrev pub IsOfInit : Fault → Type 0
-IsOfInit (InitTrap code place) = Unit {0}
-IsOfInit InitSteps = Unit {0}
-IsOfInit InitDepth = Unit {0}
-IsOfInit (InitTouches address) = Unit {0}
-IsOfInit InitTooBig = Unit {0}
-IsOfInit _ = ⊥
-
--- the bytes have this fault, where initialisation has this clock; what is not built is no fault of theirs
-abbrev pub HasFault : Fault → List ℕ → (clock : ℕ) → Type 0
-HasFault (NoTree place) bytes clock = NoTreeIn bytes place
-HasFault (TooDeep place) bytes clock = TooDeepIn bytes place
-HasFault (TooMany what limit place) bytes clock = RefusedIn bytes (TooMany what limit place)
-HasFault (Broken rule place) bytes clock = RefusedIn bytes (Broken rule place)
-HasFault (NotBuilt place) bytes clock = ⊥
-HasFault why bytes clock = FailsIn bytes clock why
+use Rattle.vg_faults.specs.Judged.{IsLegal}
+use Rattle.vg_faults.specs.Faults.{HasFault}
 
 -- the bytes are a legal text with this tree, whose typed program is initialised with this clock to this heap
 pub record IsStartOf (bytes : List ℕ) (clock : ℕ) (s : Start) : Type 0 where

@@ -1,4 +1,2 @@
-pub mod Judged
-pub mod Starting
 pub mod Answer
 pub mod Mirrors

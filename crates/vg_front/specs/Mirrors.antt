@@ -12,10 +12,10 @@ use Rattle.vg_core.specs.HeldProgram.{program_at}
 use Rattle.vg_core.specs.Session as core
 use Rattle.vg_sound.specs.Good.{HasTypedHeap}
 use Rattle.vg_types.specs.Programs.{IsProgramOf}
-use Rattle.vg_front.specs.declared.fault.Fault.{Fault}
+use Rattle.vg_faults.specs.declared.fault.Fault.{Fault}
 use Rattle.vg_front.specs.declared.starting.Start.{Start}
-use Rattle.vg_front.specs.Judged.{tree_fault}
-use Rattle.vg_front.specs.Starting.{start_fault}
+use Rattle.vg_faults.specs.Judged.{tree_fault}
+use Rattle.vg_faults.specs.Starting.{start_fault}
 
 -- what is made of a tree that is refused for nothing
 pub record IsMadeOf (names : List (List ℕ)) (tree : Tree) (clock : ℕ) (s : Start) : Type 0 where

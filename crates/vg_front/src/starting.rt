@@ -7,15 +7,15 @@ ghost use Rattle.vg_core.specs.HeldProgram.{program_at};
 ghost use Rattle.vg_types.specs.Programs.{IsProgramOf};
 ghost use Rattle.vg_types.specs.Checks.{refused_view};
 ghost use Rattle.vg_session.specs.Initialises.{why_of};
-ghost use Rattle.vg_front.specs.Judged.{fault_of, place_in};
-ghost use Rattle.vg_front.specs.Starting.{failure_of};
+ghost use Rattle.vg_faults.specs.Judged.{fault_of, place_in};
+ghost use Rattle.vg_faults.specs.Starting.{failure_of};
 ghost use Rattle.vg_front.specs.Answer.{Starts};
 ghost use Rattle.vg_front.specs.Mirrors.{GoesOn, Makes};
 
-use crate::fault::Fault;
 use std::alloc::Global;
 use vg_base::{Names, NodeId, Place, Refusal};
 use vg_core::Program;
+use vg_faults::Fault;
 use vg_places::place_of;
 use vg_reader::{ReadFault, read};
 use vg_session::{InitFault, init};
@@ -121,8 +121,8 @@ fn init_fault(tree: &Tree, why: InitFault) -> Fault
     }
 }
 
-// The place of a node; each node that a fault names is one of the tree.
-fn place_in(tree: &Tree, node: NodeId) -> Place
+/// The place of a node; each node that a fault names is one of the tree.
+pub fn place_in(tree: &Tree, node: NodeId) -> Place
     ensures { (texts : List (List ℕ)) → result ≡ place_in node.0 (tree_at texts tree.now) }
 {
     match place_of(tree, node) {

@@ -53,7 +53,7 @@ pub fn words_of(table: &Table, words: &str) -> Result<Option<Vec<String>>, NoMem
     Ok(Some(list))
 }
 
-// `words WORD ..`: `build FILE STEPS`, `run FILE SCRIPT STEPS`, `sim HEX SCRIPT STEPS` or `none`.
+// `words WORD ..`: `build FILE STEPS`, `run FILE SCRIPT STEPS`, `sim HEX SCRIPT STEPS`, `why FILE MEMBER` or `none`.
 fn meaning(table: &Table, words: &str) -> Result<Option<Row<u8>>, NoMemory> {
     let Some(list) = words_of(table, words)? else {
         return Ok(None);
@@ -75,6 +75,11 @@ fn meaning(table: &Table, words: &str) -> Result<Option<Row<u8>>, NoMemory> {
         ) => push_pair(&mut answer, "run", file, script, steps)?,
         Some(Command::Sim { hex, script, steps }) => {
             push_pair(&mut answer, "sim", hex, script, steps)?
+        }
+        Some(Command::Why { file, member }) => {
+            push_part(&mut answer, b"why")?;
+            push_part(&mut answer, file.as_bytes())?;
+            push_part(&mut answer, member.as_bytes())?;
         }
     }
     Ok(Some(answer))

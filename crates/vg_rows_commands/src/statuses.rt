@@ -4,7 +4,7 @@ use itoa::Buffer;
 use std::alloc::Global;
 use vg_base::{NoMemory, Place, Row};
 use vg_drive::{Status, fault_line};
-use vg_front::Fault;
+use vg_faults::Fault;
 use vg_hex::HexFault;
 use vg_rules::what::What;
 use vg_types_counts::{CLASS_LIMIT, HEIGHT_LIMIT, LOCAL_LIMIT, METHOD_LIMIT};
@@ -21,7 +21,7 @@ pub fn status_told(alloc: Global, words: &str) -> Result<Option<Row<u8>>, NoMemo
 pub fn told(alloc: Global, status: &Status) -> Result<Option<Row<u8>>, NoMemory> {
     let mut answer = Row::new(alloc);
     push_part(&mut answer, Buffer::new().format(status.code()).as_bytes())?;
-    push_part(&mut answer, fault_line(status).as_str().as_bytes())?;
+    push_part(&mut answer, fault_line(status).as_bytes())?;
     Ok(Some(answer))
 }
 
@@ -64,6 +64,7 @@ fn refused(name: &str, first: u32, second: u32) -> Option<Status> {
         "too-many-methods" => Some(too_many(What::Methods, METHOD_LIMIT, place)),
         "too-many-locals" => Some(too_many(What::Locals, LOCAL_LIMIT, place)),
         "too-many-height" => Some(too_many(What::Height, HEIGHT_LIMIT, place)),
+        "no-member" => Some(Status::Refused(Fault::NoMember)),
         "not-built" => Some(Status::Refused(Fault::NotBuilt(place))),
         "hex-form" => Some(Status::HexRefused(HexFault::Form(first))),
         "hex-sum" => Some(Status::HexRefused(HexFault::Sum(first))),

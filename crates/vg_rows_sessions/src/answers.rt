@@ -5,7 +5,8 @@ ghost use Rattle.vg_sound.specs.Good.{HasTypedHeap};
 
 use std::alloc::Global;
 use vg_base::{IMAGE_TEXT_LIMIT, NoMemory, Refusal, TEXT_LIMIT};
-use vg_front::{Fault, Start, started};
+use vg_faults::Fault;
+use vg_front::{Start, started};
 use vg_io::MemorySink;
 use vg_rows_lines::{TextLine, said, spelled};
 use vg_script::{Script, read_script};

@@ -1,24 +1,18 @@
 -- From the sessions of a typed program to those of the text that it is of.
-use Rattle.std.proofs.Common.{◌≡◌, ℕ, ◌⊎◌, List, Option, Some, refl, sym, ap, ◌∙◌, subst, inl, inr}
+use Rattle.std.proofs.Common.{◌≡◌, ℕ, ◌⊎◌, List, Option, Some, subst, inl, inr}
 use Rattle.vg_io.specs.Piece.{AppendsAll, AppendsFront}
 use Rattle.vg_syntax.specs.Tree.{Node}
-use Rattle.vg_source.specs.Program.{source_of}
-use Rattle.vg_source.specs.Session as source
 use Rattle.vg_source.specs.Session.{Session}
-use Rattle.vg_source.specs.Values as value
-use Rattle.vg_tree_walks.specs.Whole.{tree_at}
-use Rattle.vg_core.specs.Naming.{naming_of, named_heap}
 use Rattle.vg_core.specs.HeldProgram.{program_at}
 use Rattle.vg_core.specs.Session.{session}
-use Rattle.vg_renamed.specs.Stands.{named_start}
 use Rattle.vg_script.specs.Script.{IsScript, Lists}
-use Rattle.vg_types.proofs.Alike.{initialised, sessions}
 use Rattle.vg_front.specs.declared.starting.Start.{Start}
 use Rattle.vg_front.specs.Answer.{IsStartOf}
-use Rattle.vg_front.proofs.Starts.{start_is_start}
+use Rattle.vg_front.proofs.Starts.{start_tree, start_heap, tree_starts, start_sessions, start_is_start}
 use Rattle.vg_run.specs.declared.playing.Played.{Played}
 use Rattle.vg_run.specs.declared.playing.Played.TheVariants.{Ended, WriteFault, Refused, ScriptRefused, NoMemory}
-use Rattle.vg_run.specs.Shown.{ForSession, init_steps}
+use Rattle.vg_faults.specs.Starting.{init_steps}
+use Rattle.vg_run.specs.Shown.{ForSession}
 use Rattle.vg_run.specs.Answer.{Plays}
 use Rattle.vg_run.specs.Mirrors.{PlaysRun, PlaysScript}
 
@@ -30,17 +24,14 @@ run_of start steps lists = session (program_at start.program) start.heap (Some 4
 for_session : (bytes script : List ℕ) (steps : ℕ) (start : Start) (lists : Lists) (P : Session → Type 0) → IsStartOf bytes init_steps start
     → IsScript script lists → P (run_of start steps lists) → ForSession bytes script steps P
 for_session bytes script steps start lists P is scripted h =
-    let tree = tree_at start.names start.tree in
-    let naming = naming_of start.names start.program.tables in
     record {
-      tree = tree;
+      tree = start_tree bytes init_steps start is;
       legal = is.legal;
-      heap = named_heap naming start.program.tables start.heap;
-      starts = sym (initialised start.names tree (program_at start.program) is.program init_steps) ∙ ap (named_start naming start.program.tables) is.starts;
+      heap = start_heap bytes init_steps start is;
+      starts = tree_starts bytes init_steps start is;
       lists = lists;
       scripted = scripted;
-      holds = subst P
-          (sessions start.names tree (program_at start.program) is.program start.heap is.typed (Some 400) lists.reads lists.interrupts steps) h;
+      holds = subst P (start_sessions bytes init_steps start is (Some 400) lists.reads lists.interrupts steps) h;
     }
 
 pub played : (answer : Played) (bytes script : List ℕ) (steps : ℕ) (start : Start) (a b : Option (List ℕ)) → IsStartOf bytes init_steps start

@@ -3,9 +3,9 @@ use Rattle.std.specs.Prelude.{ℕ, ◌≡◌, ◌⊎◌, List, Option, Some}
 use Rattle.vg_io.specs.Piece.{AppendsAll, AppendsFront}
 use Rattle.vg_script.specs.Script.{first_bad}
 use Rattle.avr_sim.specs.Run.{trace_lines}
-use Rattle.vg_front.specs.Starting.{StartsIn}
-use Rattle.vg_front.specs.Answer.{HasFault}
-use Rattle.vg_run.specs.Shown.{ForSession, ending_in, init_steps, lines_of}
+use Rattle.vg_faults.specs.Starting.{StartsIn, init_steps}
+use Rattle.vg_faults.specs.Faults.{HasFault}
+use Rattle.vg_run.specs.Shown.{ForSession, ending_in, lines_of}
 use Rattle.vg_run.specs.declared.playing.Played.{Played}
 use Rattle.vg_run.specs.declared.playing.Played.TheVariants.{Ended, WriteFault, Refused, ScriptRefused, NoMemory}
 

@@ -11,13 +11,10 @@ use Rattle.vg_script.specs.Traces.{ending_line}
 use Rattle.vg_script.specs.declared.traces.EndLine.{EndLine}
 use Rattle.vg_script.specs.declared.traces.EndLine.TheVariants as line
 use Rattle.avr_sim.specs.Run.{trace_lines}
-use Rattle.vg_front.specs.Judged.{IsLegal}
+use Rattle.vg_faults.specs.Judged.{IsLegal}
+use Rattle.vg_faults.specs.Starting.{init_steps}
 use Rattle.vg_run.specs.declared.playing.RunEnd.{RunEnd}
 use Rattle.vg_run.specs.declared.playing.RunEnd.TheVariants.{Idle, Stop, Wants, Budget, Depth}
-
--- the ticks that initialisation may take
-abbrev pub init_steps : ℕ
-init_steps = 1000000
 
 -- the ending that is told of
 abbrev pub ending_in : RunEnd → Ending

@@ -3,4 +3,4 @@
 
 mod playing;
 
-pub use playing::{INIT_STEPS, Played, RunEnd, play};
+pub use playing::{Played, RunEnd, play};

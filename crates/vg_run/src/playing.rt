@@ -13,14 +13,12 @@ ghost use Rattle.vg_run.specs.Mirrors.{PlaysRun, PlaysScript, run_end};
 use std::alloc::Global;
 use vg_base::Refusal;
 use vg_core::Program;
-use vg_front::{Fault, Start, started};
+use vg_faults::{Fault, INIT_STEPS};
+use vg_front::{Start, started};
 use vg_io::Sink;
 use vg_script::{EndLine, Script, ScriptFault, put_ending, read_script};
 use vg_session::{Session, SessionEnd};
 use vg_shape::Store;
-
-/// The ticks that initialisation may take.
-pub const INIT_STEPS: u32 = 1_000_000;
 
 /// How a session ends.
 #[derive(Clone, Copy, Debug, PartialEq, Eq)]
@@ -38,7 +36,7 @@ pub enum RunEnd {
 }
 
 /// How the command went.
-#[derive(Clone, Copy, Debug, PartialEq, Eq)]
+#[derive(Drop)]
 pub enum Played {
     /// The session has ended so, and all lines were put.
     Ended(RunEnd),

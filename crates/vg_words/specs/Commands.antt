@@ -18,6 +18,7 @@ pub data Command : Type 0 where
   Build : (file : List ℕ) (init_steps : ℕ) → Command
   Run : (file script : List ℕ) (steps : ℕ) → Command
   Sim : (hex script : List ℕ) (steps : ℕ) → Command
+  Why : (file member : List ℕ) → Command
 
 -- whether each option is one of these and has a value
 abbrev pub knows : List (List ℕ) → List Item → Bool
@@ -64,6 +65,10 @@ run_of given = option_map (λ w. Run w.0 w.1 w.2) (on_script given)
 abbrev pub sim_of : List Item → Option Command
 sim_of given = option_map (λ w. Sim w.0 w.1 w.2) (on_script given)
 
+-- `why FILE MEMBER`, without an option
+abbrev pub why_of : List Item → Option Command
+why_of given = if knows [] given then option_map (λ w. Why w.0 w.1) (two (plain_words given)) else None
+
 -- the command of all words
 abbrev pub command_of : List (List ℕ) → Option Command
 command_of [] = None
@@ -71,6 +76,7 @@ command_of (name ∷ words) =
     if bytes_eq name (codes "build") then build_of (items words)
     else if bytes_eq name (codes "run") then run_of (items words)
     else if bytes_eq name (codes "sim") then sim_of (items words)
+    else if bytes_eq name (codes "why") then why_of (items words)
     else None
 
 -- the steps of a command are within their range
@@ -78,3 +84,4 @@ abbrev pub HasSteps : Command → Type 0
 HasSteps (Build file init_steps) = (1 ≤ init_steps) × (init_steps ≤ 100000000)
 HasSteps (Run file script steps) = (1 ≤ steps) × (steps ≤ 1000000000)
 HasSteps (Sim hex script steps) = (1 ≤ steps) × (steps ≤ 1000000000)
+HasSteps (Why file member) = Unit {0}

@@ -1,6 +1,6 @@
 // The command that words mean.
 ghost use Rattle.std.specs.Prelude.{◌≡◌, ◌≤◌, IfSome, option_map};
-ghost use Rattle.vg_words.specs.Commands.{HasSteps, build_of, command_of, init_steps_in, on_script, run_of, sim_of, steps_in, words_in};
+ghost use Rattle.vg_words.specs.Commands.{HasSteps, build_of, command_of, init_steps_in, on_script, run_of, sim_of, steps_in, why_of, words_in};
 ghost use Rattle.vg_words.specs.Views.{command_in};
 ghost use Rattle.vg_words.specs.Items.{items};
 
@@ -31,6 +31,11 @@ pub enum Command<'a> {
         script: &'a str,
         steps: u32,
     },
+    /// `why FILE MEMBER`: why the member of this name is live in the source text in this file.
+    Why {
+        file: &'a str,
+        member: &'a str,
+    },
 }
 
 /// The command that the words behind the program's name mean, or `None` where they mean none. It takes no memory.
@@ -39,7 +44,7 @@ pub enum Command<'a> {
 /// `--name=VALUE` are options, each of which may stand once; behind `--` each word is plain. `build FILE` has one plain
 /// word and the option `--init-steps N`, with N from 1 to 100,000,000 in at most nine digits, and 1,000,000 where it is
 /// absent. `run FILE SCRIPT` and `sim HEX SCRIPT` have two and the option `--steps N`, with N from 1 to 1,000,000,000 in at
-/// most ten digits, and 10,000,000 where it is absent.
+/// most ten digits, and 10,000,000 where it is absent. `why FILE MEMBER` has two and no option.
 pub fn command_of(words: &[String]) -> Option<Command<'_>>
     ensures meaning { option_map command_in result ≡ command_of (words_in words.entry.now) }
     ensures steps { IfSome result (λ command. HasSteps (command_in command)) }
@@ -53,6 +58,8 @@ pub fn command_of(words: &[String]) -> Option<Command<'_>>
                 run_of(behind)
             } else if name.as_str() == "sim" {
                 sim_of(behind)
+            } else if name.as_str() == "why" {
+                why_of(behind)
             } else {
                 None
             }
@@ -96,6 +103,20 @@ fn sim_of(words: &[String]) -> Option<Command<'_>>
 {
     match on_script(words) {
         Some((hex, script, steps)) => Some(Command::Sim { hex, script, steps }),
+        None => None,
+    }
+}
+
+// `why FILE MEMBER`
+fn why_of(words: &[String]) -> Option<Command<'_>>
+    ensures meaning { option_map command_in result ≡ why_of (items (words_in words.entry.now)) }
+    ensures steps { IfSome result (λ command. HasSteps (command_in command)) }
+{
+    if !knows(&[], words) {
+        return None;
+    }
+    match two_words(words) {
+        Some((file, member)) => Some(Command::Why { file, member }),
         None => None,
     }
 }

@@ -1,4 +1,4 @@
-use Rattle.vg_front.specs.declared.fault.Fault.TheVariants.{NoTree, TooDeep, TooMany, Broken}
+use Rattle.vg_faults.specs.declared.fault.Fault.TheVariants.{NoTree, TooDeep, TooMany, Broken, Allocates}
 use Rattle.vg_build.proofs.Faults.{complete_of, exactly, first_of, init_of, not_built_of}
 use Rattle.vg_build.proofs.building.build.Goals as goal
 
@@ -16,6 +16,9 @@ returns-clause-broken c = λ settled rule place. exactly _ _ _ c.answer_to.ensur
 
 pub returns-clause-init : goal.returns-clause-init
 returns-clause-init c = init_of _ _ _ c.answer_to.ensures
+
+pub returns-clause-allocates : goal.returns-clause-allocates
+returns-clause-allocates c = λ settled place line. exactly _ _ _ c.answer_to.ensures settled (Allocates place line)
 
 pub returns-clause-not_built : goal.returns-clause-not_built
 returns-clause-not_built c = not_built_of _ _ _ c.answer_to.ensures

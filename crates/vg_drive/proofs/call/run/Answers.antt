@@ -1,14 +1,15 @@
 -- Each clause of the top call: what the answer says of its command, and then what the fault line adds to the second sink.
 -- A clause on `build`, `run` or `sim` is one lemma on its files (Builds, Plays, Sims), lifted to all words by on_build, on_run or on_sim; one on a source
 -- text is lifted from both by on_source (Sources).
-use Rattle.vg_front.specs.declared.fault.Fault.TheVariants.{NoTree, TooDeep, TooMany, Broken}
+use Rattle.vg_faults.specs.declared.fault.Fault.TheVariants.{NoTree, TooDeep, TooMany, Broken}
 use Rattle.vg_drive.proofs.Builds as builds
 use Rattle.vg_drive.proofs.Plays as plays
 use Rattle.vg_drive.proofs.Sims as sims
-use Rattle.vg_drive.proofs.Commands.{answers_of, either_later, first_of, on_build, on_run, on_sim, out_before_of, rose_later, usage_of, write_fault_of}
+use Rattle.vg_drive.proofs.Whys as whys
+use Rattle.vg_drive.proofs.Commands.{answers_of, either_later, first_of, on_build, on_run, on_sim, on_why, out_before_of, rose_later, usage_of, write_fault_of}
 use Rattle.vg_drive.proofs.Fetches.{asks_all_by, asks_front_by, failed_by, too_long_by}
 use Rattle.vg_drive.proofs.Notes.{fronts_of, headline_of, line_front_of, line_last_of, line_of, second_of}
-use Rattle.vg_drive.proofs.Sources.{exactly_of, init_is, source_is}
+use Rattle.vg_drive.proofs.Sources.{allocates_of, exactly_of, init_is, source_is}
 use Rattle.vg_drive.proofs.call.run.Goals as goal
 
 pub returns-clause-usage : goal.returns-clause-usage
@@ -49,6 +50,9 @@ returns-clause-broken g c =
 pub returns-clause-init : goal.returns-clause-init
 returns-clause-init g c =
     λ settled. source_is _ _ _ _ (λ bytes clock f. init_is _ bytes clock f) (exactly_of _ _ _ _ _ c.answer-status.ensures.holds settled)
+
+pub returns-clause-allocates : goal.returns-clause-allocates
+returns-clause-allocates g c = λ settled. allocates_of _ _ _ _ _ c.answer-status.ensures.holds settled
 
 pub returns-clause-not_built : goal.returns-clause-not_built
 returns-clause-not_built g c =
@@ -110,6 +114,22 @@ pub returns-clause-run_complete : goal.returns-clause-run_complete
 returns-clause-run_complete g c =
     on_run _ _ _ _ _ _ c.answer-status.ensures.holds
     (λ file script steps h. plays.complete_by _ _ file script steps _ _ h c.answer-status.ensures.read)
+
+pub returns-clause-no_member : goal.returns-clause-no_member
+returns-clause-no_member g c =
+    λ settled. on_why _ _ _ _ _ _ c.answer-status.ensures.holds (λ file member h. whys.no_member_by _ _ file member _ h settled)
+
+pub returns-clause-why_lines : goal.returns-clause-why_lines
+returns-clause-why_lines g c =
+    λ e. on_why _ _ _ _ _ _ c.answer-status.ensures.holds (λ file member h. whys.lines_by _ _ file member _ h e)
+
+pub returns-clause-why_front : goal.returns-clause-why_front
+returns-clause-why_front g c =
+    λ e. on_why _ _ _ _ _ _ c.answer-status.ensures.holds (λ file member h. whys.front_by _ _ file member _ h e)
+
+pub returns-clause-why_complete : goal.returns-clause-why_complete
+returns-clause-why_complete g c =
+    on_why _ _ _ _ _ _ c.answer-status.ensures.holds (λ file member h. whys.complete_by _ _ file member _ _ h c.answer-status.ensures.read)
 
 pub returns-clause-write_fault : goal.returns-clause-write_fault
 returns-clause-write_fault g c =

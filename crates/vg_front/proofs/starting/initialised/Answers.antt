@@ -1,7 +1,7 @@
 use Rattle.std.proofs.Common.{Some, subst, ◌≡◌}
 use Rattle.vg_tree_walks.specs.Whole.{tree_at}
 use Rattle.vg_session.specs.Initialises.{why_of}
-use Rattle.vg_front.specs.Starting.{failure_of}
+use Rattle.vg_faults.specs.Starting.{failure_of}
 use Rattle.vg_front.proofs.Starts.{fails_by}
 use Rattle.vg_front.proofs.starting.initialised.Goals as goal
 

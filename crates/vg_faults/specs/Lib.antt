@@ -1,0 +1,4 @@
+pub mod Judged
+pub mod Starting
+pub mod Faults
+pub mod Living

@@ -1,0 +1,27 @@
+use Rattle.vg_faults.specs.declared.fault.Fault.TheVariants.{NoTree, TooDeep, TooMany, Broken, Allocates, NoMember}
+use Rattle.vg_why.proofs.Faults.{complete_of, exactly, init_of}
+use Rattle.vg_why.proofs.telling.why_lines.Goals as goal
+
+pub returns-clause-no_tree : goal.returns-clause-no_tree
+returns-clause-no_tree c = λ settled place. exactly _ _ _ c.answer_to.ensures settled (NoTree place)
+
+pub returns-clause-too_deep : goal.returns-clause-too_deep
+returns-clause-too_deep c = λ settled place. exactly _ _ _ c.answer_to.ensures settled (TooDeep place)
+
+pub returns-clause-too_many : goal.returns-clause-too_many
+returns-clause-too_many c = λ settled what limit place. exactly _ _ _ c.answer_to.ensures settled (TooMany what limit place)
+
+pub returns-clause-broken : goal.returns-clause-broken
+returns-clause-broken c = λ settled rule place. exactly _ _ _ c.answer_to.ensures settled (Broken rule place)
+
+pub returns-clause-init : goal.returns-clause-init
+returns-clause-init c = init_of _ _ _ c.answer_to.ensures
+
+pub returns-clause-allocates : goal.returns-clause-allocates
+returns-clause-allocates c = λ settled place line. exactly _ _ _ c.answer_to.ensures settled (Allocates place line)
+
+pub returns-clause-no_member : goal.returns-clause-no_member
+returns-clause-no_member c = λ settled. exactly _ _ _ c.answer_to.ensures settled NoMember
+
+pub returns-clause-complete : goal.returns-clause-complete
+returns-clause-complete c = complete_of _ _ _ c.answer_to.ensures
