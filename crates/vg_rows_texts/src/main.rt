@@ -1,8 +1,14 @@
-//! A table of programs and members: a line each comes in, with the lines that say why the member is live, or why there are none; each line that differs goes out,
-//! and how many there are.
+//! A table of whole texts: a question about a text a line comes in, with its answer; each line that differs goes out, and how many there are. The questions are what
+//! `build` says of it, what its typed program is, what it shows on a script, and why a member of it is live.
 #![tactic(auto)]
 
 mod answers;
+mod faults;
+mod outline;
+mod programs;
+mod rules;
+mod sessions;
+mod why;
 
 use answers::answer_of;
 use std::io;

@@ -1,19 +1,20 @@
-// What is answered to a text.
+// The typed program of a text.
+ghost use Rattle.std.specs.Prelude.{◌≤◌, length};
+ghost use Rattle.vg_base.specs.Limits.{text_limit};
+
 use crate::outline::outline;
 use std::alloc::Global;
-use vg_base::{Names, NoMemory, Refusal, TEXT_LIMIT};
+use vg_base::{Names, NoMemory, Refusal};
 use vg_reader::read;
-use vg_rows_lines::{TextLine, said, spelled};
+use vg_rows_lines::said;
 use vg_types::{TypeFault, check};
 
-/// The outline of the program of a line's text, or what the text is refused for, with the number of the node.
-pub fn answer_of(alloc: Global, line: TextLine<'_>) -> Result<String, NoMemory> {
-    let bytes = spelled(alloc, line.text)?;
-    if bytes.len() > TEXT_LIMIT {
-        return said(alloc, "too long");
-    }
+/// The outline of the typed program of a text, or what the text is refused for, with the number of the node.
+pub fn outlined(alloc: Global, text: &[u8]) -> Result<String, NoMemory>
+    requires { length text.now ≤ text_limit }
+{
     let mut names = Names::new(alloc);
-    let tree = match read(alloc, bytes.as_slice(), &mut names) {
+    let tree = match read(alloc, text, &mut names) {
         Ok(tree) => tree,
         Err(Refusal::Fault(_)) => return said(alloc, "no tree"),
         Err(Refusal::NoMemory) => return Err(NoMemory),

@@ -1,11 +1,13 @@
 // What a program shows.
+ghost use Rattle.std.specs.Prelude.{◌≤◌, length};
+ghost use Rattle.vg_base.specs.Limits.{text_limit};
 ghost use Rattle.vg_core.specs.HeldProgram.{program_at};
 ghost use Rattle.vg_core.specs.Typing.{WellTyped};
 ghost use Rattle.vg_sound.specs.Good.{HasTypedHeap};
 
+use crate::faults::fault_text;
 use std::alloc::Global;
-use vg_base::{IMAGE_TEXT_LIMIT, NoMemory, Refusal, TEXT_LIMIT};
-use vg_faults::Fault;
+use vg_base::{IMAGE_TEXT_LIMIT, NoMemory, Refusal};
 use vg_front::{Start, started};
 use vg_io::MemorySink;
 use vg_rows_lines::{TextLine, said, spelled};
@@ -22,35 +24,41 @@ struct Asked<'a> {
     number: Option<u32>,
 }
 
-/// What the text of a line shows: why its program is not initialised, or its trace on the script of the line, and how it ends.
-pub fn answer_of(alloc: Global, line: TextLine<'_>) -> Result<String, NoMemory> {
-    let text = spelled(alloc, line.text)?;
+/// What a text shows on the script of a line: why its program is not initialised, or its trace, and how it ends.
+pub fn played(alloc: Global, text: &[u8], line: TextLine<'_>) -> Result<String, NoMemory>
+    requires { length text.now ≤ text_limit }
+{
     let script = spelled(alloc, line.word)?;
-    if text.len() > TEXT_LIMIT || script.len() > IMAGE_TEXT_LIMIT {
+    if script.len() > IMAGE_TEXT_LIMIT {
         return said(alloc, "too long");
     }
     let Ok(script) = read_script(alloc, script.as_slice()) else {
         return said(alloc, "no script");
     };
-    let (what, number) = line.question.split_once(':').unwrap_or((line.question, ""));
-    let asked = Asked {
-        what,
-        number: number.parse::<u32>().ok(),
-    };
-    let clock = if what == "init" {
+    let asked = asked_in(line.question);
+    let clock = if asked.what == "init" {
         asked.number.unwrap_or(0)
     } else {
         1_000_000
     };
-    match started(alloc, text.as_slice(), clock) {
-        Ok(start) => played(alloc, start, &script, asked),
+    match started(alloc, text, clock) {
+        Ok(start) => session_of(alloc, start, &script, asked),
         Err(Refusal::Fault(fault)) => fault_text(alloc, fault),
         Err(Refusal::NoMemory) => Err(NoMemory),
     }
 }
 
+// What a question asks: a word, and a number behind a colon.
+fn asked_in(question: &str) -> Asked<'_> {
+    let (what, number) = question.split_once(':').unwrap_or((question, ""));
+    Asked {
+        what,
+        number: number.parse::<u32>().ok(),
+    }
+}
+
 // What the session of a program shows.
-fn played(
+fn session_of(
     alloc: Global,
     start: Start,
     script: &Script,
@@ -113,19 +121,5 @@ fn end_text(alloc: Global, ended: SessionEnd) -> Result<String, NoMemory> {
         SessionEnd::Depth => said(alloc, "depth"),
         SessionEnd::SinkFailed => said(alloc, " failed"),
         SessionEnd::NoMemory => Err(NoMemory),
-    }
-}
-
-// Why a program is not initialised.
-fn fault_text(alloc: Global, fault: Fault) -> Result<String, NoMemory> {
-    match fault {
-        Fault::InitTrap { code, place } => {
-            Ok(format!(in alloc; "init stop {code} at {}:{}", place.line, place.col)?)
-        }
-        Fault::InitSteps => said(alloc, "init steps"),
-        Fault::InitDepth => said(alloc, "init depth"),
-        Fault::InitTouches(address) => Ok(format!(in alloc; "init touches {address:02x}")?),
-        Fault::InitTooBig => said(alloc, "init too big"),
-        _ => said(alloc, "refused"),
     }
 }
