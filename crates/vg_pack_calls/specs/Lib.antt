@@ -1,0 +1,4 @@
+pub mod Procedures
+pub mod Asked
+pub mod Receivers
+pub mod Cases
