@@ -1,13 +1,14 @@
 #!/bin/bash
-# Times the command `why` on generated texts: 200 classes below one, each with a method that calls the same name on an object, and so many objects in an array
-# (live), or made and held by nothing (dead). A text stores at most 60,000 values, of which an object without fields is one and its place in an array another.
+# Times the command `why` on generated texts: 198 classes below one, each with a method that calls the same name on an object, and a component; that is the
+# most that a text may have. So many objects are in an array (live), or made and held by nothing (dead). A text stores at most 60,000 values, of which an
+# object without fields is one and its place in an array another.
 # The last lines are the exponents of growth, by the times without that of the smallest text. The launcher's look for newer sources counts as time of `why`.
 set -eu
 here=$(cd "$(dirname "$0")" && pwd)
 top=$(dirname "$here")
 work=$(mktemp -d)
 trap 'rm -rf "$work"' EXIT
-classes=200
+classes=199
 
 echo "zetikomi of commit $(git -C "$top" rev-parse --short HEAD), built with $(rt version)"
 
