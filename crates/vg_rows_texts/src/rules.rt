@@ -15,13 +15,20 @@ pub fn judged(alloc: Global, text: &[u8]) -> Result<String, NoMemory>
 {
     match started(alloc, text, 1_000_000) {
         Ok(_) => said(alloc, "kept"),
-        Err(Refusal::Fault(fault)) if is_of_init(&fault) => said(alloc, "kept"),
-        Err(Refusal::Fault(fault)) => fault_text(alloc, fault),
+        Err(Refusal::Fault(fault)) => fault_or_kept(alloc, fault),
         Err(Refusal::NoMemory) => Err(NoMemory),
     }
 }
 
-// Whether a fault is one of initialisation, which only a text that keeps all rules has.
+// What is said of a fault. One of initialisation is a fault of a text that keeps all rules.
+fn fault_or_kept(alloc: Global, fault: Fault) -> Result<String, NoMemory> {
+    if is_of_init(&fault) {
+        return said(alloc, "kept");
+    }
+    fault_text(alloc, fault)
+}
+
+// Whether a fault is one of initialisation.
 fn is_of_init(fault: &Fault) -> bool {
     match fault {
         Fault::InitTrap { .. }
