@@ -1,0 +1,5 @@
+mod Columns
+mod Types
+mod Objects
+mod Told
+pub mod Sums
