@@ -1,0 +1,4 @@
+pub mod Storing
+pub mod Pieces
+pub mod Steps
+pub mod Runs

@@ -1,0 +1,4 @@
+//! That the heap which initialisation leaves keeps within its room.
+#![tactic(auto)]
+
+pub mod laws;
