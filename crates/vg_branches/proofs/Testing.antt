@@ -29,14 +29,14 @@ use Rattle.vg_spots.specs.Pieces.{Sees, Takes}
 use Rattle.vg_spots.specs.Held.{Held, IsReady}
 use Rattle.vg_spots.proofs.Composing.{takes_then, takes_wider, takes_bytes, takes_plain}
 use Rattle.vg_spots.proofs.Holding.{held_scratch}
-use Rattle.vg_chains.specs.Numbers.{number_in, HoldBytes, AreBeside, AreRegisters}
+use Rattle.vg_chains.specs.Numbers.{number_in, HoldBytes, AreRegisters}
 use Rattle.vg_chains.specs.Chains.{compares_on, compares}
 use Rattle.vg_chains.specs.Outcomes.{from_least}
 use Rattle.vg_chains.proofs.Comparing.{compares-tell, compares-less}
 use Rattle.vg_templates.specs.Operands.{least, padded, known_registers, spot_found, finds, found_in}
 use Rattle.vg_templates.specs.Outcomes.{Found, Lies, IsKept}
 use Rattle.vg_templates.proofs.Bytes.{least_is}
-use Rattle.vg_templates.proofs.Finding.{found-length, found-beside, takes_finds}
+use Rattle.vg_templates.proofs.Finding.{beside_registers, found-length, found-beside, takes_finds}
 use Rattle.vg_templates.proofs.Storing.{held_fewer}
 use Rattle.vg_branches.specs.Branches.{tests, told_by, near_branch, far_branch, Told, Branched, is_taken}
 use Rattle.vg_branches.proofs.Ordering.{signed_order}
@@ -82,10 +82,6 @@ found_kept l ok live (Local k) n old new ready small h = at (l.spots k) (width_o
         let less = (lesser w).0 in
         let inside = spot.1 in
         padded_kept old new r w n (h 1 (inl (omega arith))) (λ x lo hi. h x (inl (omega arith)))
-
-pub beside_registers : (low' high : ℕ) (rs : List ℕ) → AreBeside low' high rs → AreRegisters rs
-beside_registers low' high [] k = tt
-beside_registers low' high (r ∷ rs) (here, more) = (here.1, beside_registers low' high rs more)
 
 compares_on-plain : (as' rs : List ℕ) → ArePlain (compares_on as' rs)
 compares_on-plain [] rs = tt

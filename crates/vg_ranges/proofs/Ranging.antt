@@ -19,12 +19,12 @@ use Rattle.vg_frames.specs.Layouts.{Layout, IsLayout, IsSpot, width_of}
 use Rattle.vg_frames.specs.Linkage.{pushes}
 use Rattle.vg_spots.specs.Transfers.{clears, known, moves_two, moves, loads, stores, reach, reach_by, fetch, keep}
 use Rattle.vg_spots.specs.Held.{IsReady, IsSet, brings, gives}
-use Rattle.vg_chains.specs.Numbers.{AreBeside, AreRegisters}
+use Rattle.vg_chains.specs.Numbers.{AreRegisters}
 use Rattle.vg_chains.specs.Chains.{adds_on, adds, subtracts_on, subtracts, takes_known_on, takes_known, ands, ors, eors}
 use Rattle.vg_templates.specs.Operands.{least, known_bytes, finds_spot, finds, found_in}
 use Rattle.vg_templates.specs.Plain.{copies, first_of, operates, works}
 use Rattle.vg_templates.proofs.Bytes.{least_is}
-use Rattle.vg_templates.proofs.Finding.{found-length, found-beside}
+use Rattle.vg_templates.proofs.Finding.{beside_registers, found-length, found-beside}
 use Rattle.vg_accesses.specs.Accesses.{points_x, loads_x, stores_x}
 use Rattle.vg_straight.specs.Straight.{plain_code, IsCovered}
 
@@ -129,10 +129,6 @@ module _ (l : Layout) (ok : IsLayout l) where
 
 -- ---- chains
 
-beside_low : (low high : ℕ) (rs : List ℕ) → AreBeside low high rs → AreRegisters rs
-beside_low low high [] k = tt
-beside_low low high (r ∷ rs) (here, more) = (here.1, beside_low low high rs more)
-
 adds_on-fine : (d : ℕ) (rs : List ℕ) → d + length rs ≤ 32 → AreRegisters rs → Fine (adds_on d rs)
 adds_on-fine d [] h k = tt
 adds_on-fine d (r ∷ rs) h (low, k) = ((omega arith, low), adds_on-fine (suc d) rs (omega arith) k)
@@ -204,7 +200,7 @@ device_word address d = let small = d.below in omega arith
 
 module _ (l : Layout) (ok : IsLayout l) (live behind : ℕ → Bool) where
   found_low : (a : Operand) (d n : ℕ) → IsReady l live a → 18 ≤ d → d + n ≤ 26 → AreRegisters (found_in l a d n)
-  found_low a d n ready low h = beside_low 26 26 (found_in l a d n) (found-beside l ok live a d n 26 26 ready low h (omega arith))
+  found_low a d n ready low h = beside_registers 26 26 (found_in l a d n) (found-beside l ok live a d n 26 26 ready low h (omega arith))
 
   works-fine : (o : Operator) (a : Operand) (n : ℕ) → IsReady l live a → n ≤ 4 → Fine (finds l a 18 n ++ operates o (found_in l a 18 n))
   works-fine o a n ready small =

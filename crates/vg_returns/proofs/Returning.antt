@@ -30,6 +30,7 @@ use Rattle.vg_spots.proofs.Holding.{takes_brings, takes_gives, held_scratch}
 use Rattle.vg_templates.specs.Operands.{least}
 use Rattle.vg_templates.specs.Outcomes.{Lies}
 use Rattle.vg_templates.proofs.Bytes.{cut_twice, number_low, least_is}
+use Rattle.vg_templates.proofs.Computing.{number_kept}
 use Rattle.vg_templates.proofs.Storing.{sets-same, held_fewer}
 use Rattle.vg_returns.specs.Returns.{returns_value, pops_away, drops, takes_result, behind_call, CanLand, CanDrop, Returned}
 
@@ -38,13 +39,6 @@ not_reliable d (inl h) (inl k) = let low = k.0 in omega arith
 not_reliable d (inl h) (inr k) = let low = k.0 in omega arith
 not_reliable d (inr h) (inl k) = let low = h.0 in let high = k.1 in omega arith
 not_reliable d (inr h) (inr k) = let high = h.1 in let low = k.0 in omega arith
-
-number_same : (old new : Regs) (r n : ℕ) → ((x : ℕ) → r ≤ x → x < r + n → new.of x ≡ old.of x) → number new r n ≡ number old r n
-number_same old new r zero h = refl
-number_same old new r (suc n) h =
-    let one = h r (omega arith) (omega arith) in
-    let rest = number_same old new (suc r) n (λ x lo hi. h x (omega arith) (omega arith)) in
-    omega (arith, one, rest)
 
 module _ (i : Places) (ok : (m : ℕ) → IsLayout (i.layouts m)) (e : Run) (deep : Type 0) where
   -- a procedure returns a value to the one that waits for it
@@ -129,7 +123,7 @@ module _ (i : Places) (ok : (m : ℕ) → IsLayout (i.layouts m)) (e : Run) (dee
       } in
       record {
         held = held_scratch i ok f.proc frames live now middle u shape (λ r reliable. same r (some r reliable)) (same 1 (omega arith)) before;
-        result = number_same v.regs u.regs 22 n (λ y lo hi. same y (omega arith)) ∙ result;
+        result = number_kept v.regs u.regs 22 n (λ y lo hi. same y (omega arith)) ∙ result;
         out = ap (λ (y : View). y.out) shape ∙ out;
       }
     where
@@ -221,7 +215,7 @@ module _ (i : Places) (ok : (m : ℕ) → IsLayout (i.layouts m)) (e : Run) (dee
       let u : View = record back.exit { regs = r.regs; stack = r.args ++ r.rest } in
       let one : r.regs.of 1 ≡ 0 = r.scratch 1 (not_reliable 1 (inl (omega arith))) ∙ back.r1 in
       let result : number r.regs 22 n ≡ x % 256 ^ n =
-      number_same back.exit.regs r.regs 22 n (λ y lo hi. r.scratch y (not_reliable y (inr (omega arith, omega arith)))) ∙ back.result in
+      number_kept back.exit.regs r.regs 22 n (λ y lo hi. r.scratch y (not_reliable y (inr (omega arith, omega arith)))) ∙ back.result in
       let piece : Takes e deep u is goal =
       takes_then e deep u (drops at_once (i.layouts q).pushed) (takes_result l call.to) (Dropped f frames n x ram o) goal
       (subst (λ c. Takes e deep u (drops at_once c) (Dropped f frames n x ram o)) r.long

@@ -7,6 +7,7 @@ use Rattle.vg_lin.specs.declared.instr.Memory.TheVariants.{Ram}
 use Rattle.vg_lin.specs.declared.instr.Operand.TheVariants.{Known}
 use Rattle.vg_lin.specs.declared.instr.Plain.{Plain}
 use Rattle.vg_lin.specs.declared.instr.Plain.TheVariants.{Copy, Compute, Load, Store, ReadDevice, WriteDevice, Push, CodeOf}
+use Rattle.vg_lin.specs.Sound.{IsWidth}
 use Rattle.vg_frames.specs.Layouts.{Layout, width_of}
 use Rattle.vg_spots.specs.Held.{IsReady, IsSet}
 use Rattle.vg_templates.specs.Outcomes.{IsKept}
@@ -28,9 +29,6 @@ plain_code l codes (WriteDevice address a) = writes_device l address a
 plain_code l codes (Push w a) = pushes_value l w a
 plain_code l codes (CodeOf q to) = copies l to (Known (codes q))
 plain_code l codes _ = []
-
-abbrev pub IsWidth : ℕ → Type 0
-IsWidth w = (0 < w) × (w ≤ 4)
 
 -- There is a template for the instruction, and it can be used where these locals are live, and those behind it: operands are live, a local that is set
 -- shares no byte with the others that are live behind, widths are from one to four bytes, no base of a column is 0, and what is read and written are device registers.

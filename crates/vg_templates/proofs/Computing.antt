@@ -92,7 +92,8 @@ computed_small Remainder w x y z b e = absurd b
 computed_small ShiftLeft w x y z b e = absurd b
 computed_small ShiftRight w x y z b e = absurd b
 
-number_kept : (old new : Regs) (r n : ℕ) → ((x : ℕ) → r ≤ x → x < r + n → new.of x ≡ old.of x) → number new r n ≡ number old r n
+-- a number is kept where its registers are
+pub number_kept : (old new : Regs) (r n : ℕ) → ((x : ℕ) → r ≤ x → x < r + n → new.of x ≡ old.of x) → number new r n ≡ number old r n
 number_kept old new r zero h = refl
 number_kept old new r (suc n) h =
     let one = h r (omega arith) (omega arith) in

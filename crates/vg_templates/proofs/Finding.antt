@@ -22,10 +22,15 @@ use Rattle.vg_spots.proofs.Composing.{takes_none, takes_wider, takes_bytes, take
 use Rattle.vg_spots.proofs.Accessing.{read_within}
 use Rattle.vg_spots.proofs.Spotting.{takes_fetch}
 use Rattle.vg_spots.proofs.Holding.{usable, held_scratch}
-use Rattle.vg_chains.specs.Numbers.{number_in, AreBeside}
+use Rattle.vg_chains.specs.Numbers.{number_in, AreBeside, AreRegisters}
 use Rattle.vg_templates.specs.Operands.{least, padded, known_bytes, known_registers, finds_spot, spot_found, finds, found_in}
 use Rattle.vg_templates.specs.Outcomes.{Found}
 use Rattle.vg_templates.proofs.Bytes.{takes_cells, read_small, number_small, number_low, least_is, least_cut, padded-number, padded-length}
+
+-- registers beside a range are registers
+pub beside_registers : (low high : ℕ) (rs : List ℕ) → AreBeside low high rs → AreRegisters rs
+beside_registers low high [] k = tt
+beside_registers low high (r ∷ rs) (here, more) = (here.1, beside_registers low high rs more)
 
 -- ---- known numbers
 
