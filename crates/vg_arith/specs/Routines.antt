@@ -1,5 +1,5 @@
 -- What it means that a procedure of linear code is the routine of an operator.
-use Rattle.std.specs.Prelude.{◌≡◌, ℕ, suc, ◌-◌, ◌<◌, ◌≤◌, ◌^◌, true, List, [], ◌∷◌, length, Option, Some, None, slice_get}
+use Rattle.std.specs.Prelude.{◌≡◌, ℕ, suc, ◌-◌, ◌<◌, ◌≤◌, ◌^◌, true, List, [], ◌∷◌, length, take, Option, Some, None, slice_get}
 use Rattle.vg_meaning.specs.History.{History}
 use Rattle.vg_meaning.specs.World.{World}
 use Rattle.vg_lin.specs.declared.instr.Operator.{Operator}
@@ -36,6 +36,17 @@ others ShiftLeft w = (256 ^ w - 1) ∷ []
 others ShiftRight w = (256 ^ w - 1) ∷ []
 others op w = []
 
+-- In how many bytes each argument is passed: the operands in four.
+abbrev pub others_widths : Operator → List ℕ
+others_widths Divide = 1 ∷ []
+others_widths Remainder = 1 ∷ []
+others_widths ShiftLeft = 4 ∷ []
+others_widths ShiftRight = 4 ∷ []
+others_widths op = []
+
+abbrev pub passed_widths : Operator → List ℕ
+passed_widths op = 4 ∷ 4 ∷ others_widths op
+
 -- An amount of a shift has four bytes.
 abbrev pub IsAmount : Operator → ℕ → Type 0
 IsAmount ShiftLeft y = y < 2 ^ 32
@@ -66,6 +77,8 @@ routine_of op = None
 pub record IsRoutine (which : ℕ) (m : Procedure) : Type 0 where
   pub gives : (op : Operator) → routine_of op ≡ Some which → IsRoutineOf op m
   pub takes : (op : Operator) (w : ℕ) → routine_of op ≡ Some which → m.params ≡ suc (suc (length (others op w)))
+  pub passes : (op : Operator) → routine_of op ≡ Some which → take m.params m.widths ≡ passed_widths op
+  pub result : m.result ≡ 4
   pub unnamed : m.method ≡ None
   pub short : IsShort m
   pub simple : are_simple m.code ≡ true
