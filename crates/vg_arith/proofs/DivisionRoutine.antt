@@ -158,7 +158,7 @@ module _ (p : Program) (q : ℕ) (has : slice_get p.procedures q ≡ Some divide
 
   -- the end of the routine, which gives this result
   abbrev pub Back : ℕ → Config State → Type 0
-  Back v c = (left : List LocalState) × To c (conf f.proc (suc f.pc) fs (resume f.awaits f.kept (with_locals ram left) v) w)
+  Back v c = (left : List LocalState) × To c (conf f.proc (suc f.pc) fs (resume f.awaits f.kept (with_locals ram left) (low 4 v)) w)
 
   signed_result : (a : Bool) (x y c : ℕ) (r : Option ℕ) (from : Config State) → To from (at 43 x y c r (Some (bit a))) → Back (with_sign a x) from
   signed_result true x y c r from t = (
@@ -207,14 +207,14 @@ module _ (p : Program) (q : ℕ) (has : slice_get p.procedures q ≡ Some divide
       (ap (λ z. at 43 z (magnitude b y) 1 (Some (magnitude a x % magnitude b y)) (Some (bit a))) (low_same _ rest)))))
 
 -- at the width of four bytes
-gives_divide : (x y v : ℕ) → x < 2 ^ 32 → y < 2 ^ 32 → computed Divide 4 x y ≡ Some v → Gives divide (x ∷ y ∷ 0 ∷ []) v
+gives_divide : (x y v : ℕ) → x < 2 ^ 32 → y < 2 ^ 32 → computed Divide 4 x y ≡ Some v → Gives divide (x ∷ y ∷ 0 ∷ []) (low 4 v)
 gives_divide x y v hx hy e p q has f fs ram w =
     let h : (0 < y) × (with_sign (same (is_positive x) (is_positive y)) (magnitude (is_positive x) x / magnitude (is_positive y) y) ≡ v) =
     divides (is_positive x) (is_positive y) x y v hx hy refl refl e in
     subst (λ z. Back p q has f fs ram w z (begins p q has f fs ram w x y 0)) (h.1)
     (gives_quotient p q has f fs ram w (is_positive x) (is_positive y) x y hx hy (h.0) refl refl)
 
-gives_leave : (x y v : ℕ) → x < 2 ^ 32 → y < 2 ^ 32 → computed Remainder 4 x y ≡ Some v → Gives divide (x ∷ y ∷ 1 ∷ []) v
+gives_leave : (x y v : ℕ) → x < 2 ^ 32 → y < 2 ^ 32 → computed Remainder 4 x y ≡ Some v → Gives divide (x ∷ y ∷ 1 ∷ []) (low 4 v)
 gives_leave x y v hx hy e p q has f fs ram w =
     let h : (0 < y) × (with_sign (is_positive x) (magnitude (is_positive x) x % magnitude (is_positive y) y) ≡ v) =
     leaves (is_positive x) (is_positive y) x y v hx hy refl refl e in
@@ -235,9 +235,9 @@ divides_is w x y v hw ha e = given (at_width w (low 4 y) v (int_wrapping_div w32
   where
     given : (v4 : ℕ) × (low w v4 ≡ v) × (computed Divide 4 x y ≡ Some v4) → (z : ℕ) × (low w z ≡ v) × Gives divide (x ∷ y ∷ 0 ∷ []) z
     given (v4, l, g) = (
-      v4,
-      l,
-      gives_low divide (1 ∷ 4 ∷ 1 ∷ []) (0 ∷ []) x y v4 refl (gives_divide (low 4 x) (low 4 y) v4 (small x) (small y)
+      low 4 v4,
+      low_low w v4 hw ∙ l,
+      gives_low divide (1 ∷ 4 ∷ 1 ∷ []) (0 ∷ []) x y (low 4 v4) refl (gives_divide (low 4 x) (low 4 y) v4 (small x) (small y)
           (divide_low x y ∙ g)),
     )
 
@@ -246,8 +246,8 @@ leaves_is w x y v hw ha e = given (at_width w (low 4 y) v (int_rem (signed 4 x) 
   where
     given : (v4 : ℕ) × (low w v4 ≡ v) × (computed Remainder 4 x y ≡ Some v4) → (z : ℕ) × (low w z ≡ v) × Gives divide (x ∷ y ∷ 1 ∷ []) z
     given (v4, l, g) = (
-      v4,
-      l,
-      gives_low divide (1 ∷ 4 ∷ 1 ∷ []) (1 ∷ []) x y v4 refl (gives_leave (low 4 x) (low 4 y) v4 (small x) (small y)
+      low 4 v4,
+      low_low w v4 hw ∙ l,
+      gives_low divide (1 ∷ 4 ∷ 1 ∷ []) (1 ∷ []) x y (low 4 v4) refl (gives_leave (low 4 x) (low 4 y) v4 (small x) (small y)
           (leave_low x y ∙ g)),
     )

@@ -8,7 +8,7 @@ use Rattle.vg_lin.specs.declared.instr.Operand.TheVariants.{Local, Known}
 use Rattle.vg_lin.specs.declared.instr.Operator.{Operator}
 use Rattle.vg_lin.specs.declared.instr.Test.{Test}
 use Rattle.vg_lin.specs.declared.instr.Plain.{Plain as PlainInstr}
-use Rattle.vg_lin.specs.declared.instr.Plain.TheVariants.{Copy, Compute, Product, DivideStep, Load, Store, ReadDevice, WriteDevice, Push, Find, CodeOf, Stop}
+use Rattle.vg_lin.specs.declared.instr.Plain.TheVariants.{Copy, Compute, Product, DivideStep, Load, Store, ReadDevice, WriteDevice, Push, Pop, Find, CodeOf, Stop}
 use Rattle.vg_lin.specs.declared.instr.Instr.{Instr}
 use Rattle.vg_lin.specs.declared.instr.Instr.TheVariants.{Plain, When, Unless, Jump, Call, Return, Idle}
 use Rattle.vg_lin.specs.Program.{Procedure}
@@ -45,7 +45,7 @@ abbrev is_kept : Procedure → ℕ → Instr → Bool
 is_kept m at (Plain p) = is_plain m p && nat_lt (suc at) (length m.code)
 is_kept m at (When t to) = is_test m t && jumps_well m at to
 is_kept m at (Unless t to) = is_test m t && jumps_well m at to
-is_kept m at (Return a) = is_operand m a
+is_kept m at (Return w a) = (w == m.result) && is_operand m a
 is_kept m at _ = false
 
 abbrev are_kept : Procedure → ℕ → List Instr → Bool
@@ -71,6 +71,9 @@ kept_at m (x ∷ xs) at (suc k) i e h =
 
 not_same : (a b : ℕ) → not (a == b) ≡ true → a ≡ b → ⊥
 not_same a b e h = grind arith
+
+same_width : (w n : ℕ) → (w == n) ≡ true → w ≡ n
+same_width w n e = grind arith
 
 a_local : (m : Procedure) (i : ℕ) → is_local m i ≡ true → IsLocal m i
 a_local m i e = grind arith
@@ -113,6 +116,7 @@ a_plain m (Store w a from) e = absurd (grind arith)
 a_plain m (ReadDevice to a) e = absurd (grind arith)
 a_plain m (WriteDevice to a) e = absurd (grind arith)
 a_plain m (Push w a) e = absurd (grind arith)
+a_plain m (Pop w to) e = absurd (grind arith)
 a_plain m (Find d to a) e = absurd (grind arith)
 a_plain m (CodeOf q to) e = absurd (grind arith)
 a_plain m (Stop c) e = absurd (grind arith)
@@ -129,7 +133,7 @@ operands_kept m at (When t to) e = a_test m t (first_of _ _ e)
 operands_kept m at (Unless t to) e = a_test m t (first_of _ _ e)
 operands_kept m at (Jump to) e = absurd (grind arith)
 operands_kept m at (Call c) e = absurd (grind arith)
-operands_kept m at (Return a) e = an_operand m a e
+operands_kept m at (Return w a) e = (same_width w m.result (first_of _ _ e), an_operand m a (second_of _ _ e))
 operands_kept m at Idle e = absurd (grind arith)
 
 below : (a b : ℕ) → nat_lt a b ≡ true → a < b
@@ -145,6 +149,7 @@ plain_waits m at (Store w a from) e h = (h, refl)
 plain_waits m at (ReadDevice to a) e h = (h, refl)
 plain_waits m at (WriteDevice to a) e h = (h, refl)
 plain_waits m at (Push w a) e h = absurd (grind arith)
+plain_waits m at (Pop w to) e h = absurd (grind arith)
 plain_waits m at (Find d to a) e h = (h, refl)
 plain_waits m at (CodeOf q to) e h = (h, refl)
 plain_waits m at (Stop c) e h = tt {0}
@@ -168,16 +173,17 @@ waits_kept m at (When t to) e = branch_waits m at to (second_of _ _ e)
 waits_kept m at (Unless t to) e = branch_waits m at to (second_of _ _ e)
 waits_kept m at (Jump to) e = absurd (grind arith)
 waits_kept m at (Call c) e = absurd (grind arith)
-waits_kept m at (Return a) e = refl
+waits_kept m at (Return w a) e = refl
 waits_kept m at Idle e = absurd (grind arith)
 
 -- a procedure that passes the test keeps it all
-pub sound : (m : Procedure) → length m.widths ≤ 252 → m.params ≤ length m.widths → AllByRecursion IsWidth m.widths → 0 < length m.code
+pub sound : (m : Procedure) → length m.widths ≤ 252 → m.params ≤ length m.widths → m.result ≤ 4 → AllByRecursion IsWidth m.widths → 0 < length m.code
     → are_kept m 0 m.code ≡ true → IsSound m
-sound m few params widths some e =
+sound m few params result widths some e =
     record {
       few = few;
       params = params;
+      result = result;
       widths = widths;
       operands = λ at i h. operands_kept m (0 + at) i (kept_at m m.code 0 at i e h);
       waits = nothing_waits;
@@ -186,31 +192,31 @@ sound m few params widths some e =
     }
 
 pub shift_sound : (op : Operator) → IsSound (shift op)
-shift_sound op = sound (shift op) (omega arith) (omega arith) (a_width 4 refl, (a_width 4 refl, (a_width 4 refl, tt {0}))) (omega arith) refl
+shift_sound op = sound (shift op) (omega arith) (omega arith) (omega arith) (a_width 4 refl, (a_width 4 refl, (a_width 4 refl, tt {0}))) (omega arith) refl
 
 pub shift_sound_as : (op : Operator) (ws : List ℕ) (code : List Instr) → ws ≡ (shift op).widths → code ≡ (shift op).code
-    → IsSound (record { method = None; params = 3; widths = ws; code = code })
+    → IsSound (record { method = None; params = 3; result = 4; widths = ws; code = code })
 shift_sound_as op ws code e h =
-    subst (λ z. IsSound (record { method = None; params = 3; widths = z; code = code })) (sym e)
-    (subst (λ z. IsSound (record { method = None; params = 3; widths = (shift op).widths; code = z })) (sym h) (shift_sound op))
+    subst (λ z. IsSound (record { method = None; params = 3; result = 4; widths = z; code = code })) (sym e)
+    (subst (λ z. IsSound (record { method = None; params = 3; result = 4; widths = (shift op).widths; code = z })) (sym h) (shift_sound op))
 
 pub mul_sound : IsSound mul
 mul_sound =
-    sound mul (omega arith) (omega arith)
+    sound mul (omega arith) (omega arith) (omega arith)
     (a_width 4 refl, (a_width 4 refl, (a_width 4 refl, (a_width 1 refl, (a_width 1 refl, (a_width 4 refl, tt {0})))))) (omega arith) refl
 
 pub mul_sound_as : (ws : List ℕ) (code : List Instr) → ws ≡ mul.widths → code ≡ mul.code
-    → IsSound (record { method = None; params = 2; widths = ws; code = code })
+    → IsSound (record { method = None; params = 2; result = 4; widths = ws; code = code })
 mul_sound_as ws code e h =
-    subst (λ z. IsSound (record { method = None; params = 2; widths = z; code = code })) (sym e)
-    (subst (λ z. IsSound (record { method = None; params = 2; widths = mul.widths; code = z })) (sym h) mul_sound)
+    subst (λ z. IsSound (record { method = None; params = 2; result = 4; widths = z; code = code })) (sym e)
+    (subst (λ z. IsSound (record { method = None; params = 2; result = 4; widths = mul.widths; code = z })) (sym h) mul_sound)
 
 pub divide_sound : IsSound divide
 divide_sound =
-    sound divide (omega arith) (omega arith) (a_width 4 refl, (a_width 4 refl, (a_width 1 refl, (a_width 4 refl, (a_width 1 refl, tt {0}))))) (omega arith) refl
+    sound divide (omega arith) (omega arith) (omega arith) (a_width 4 refl, (a_width 4 refl, (a_width 1 refl, (a_width 4 refl, (a_width 1 refl, tt {0}))))) (omega arith) refl
 
 pub divide_sound_as : (ws : List ℕ) (code : List Instr) → ws ≡ divide.widths → code ≡ divide.code
-    → IsSound (record { method = None; params = 3; widths = ws; code = code })
+    → IsSound (record { method = None; params = 3; result = 4; widths = ws; code = code })
 divide_sound_as ws code e h =
-    subst (λ z. IsSound (record { method = None; params = 3; widths = z; code = code })) (sym e)
-    (subst (λ z. IsSound (record { method = None; params = 3; widths = divide.widths; code = z })) (sym h) divide_sound)
+    subst (λ z. IsSound (record { method = None; params = 3; result = 4; widths = z; code = code })) (sym e)
+    (subst (λ z. IsSound (record { method = None; params = 3; result = 4; widths = divide.widths; code = z })) (sym h) divide_sound)

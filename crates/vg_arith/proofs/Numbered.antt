@@ -1,9 +1,9 @@
 -- Each routine by its number.
-use Rattle.std.specs.Prelude.{ℕ, suc, length, Some}
+use Rattle.std.specs.Prelude.{ℕ, suc, length, take, Some}
 use Rattle.std.proofs.Common.{◌≡◌, refl, arith}
 use Rattle.vg_lin.specs.declared.instr.Operator.{Operator}
 use Rattle.vg_lin.specs.declared.instr.Operator.TheVariants.{Plus, Minus, Times, Divide, Remainder, And, Or, Xor, ShiftLeft, ShiftRight}
-use Rattle.vg_arith.specs.Routines.{IsRoutineOf, IsRoutine, others, routine_of}
+use Rattle.vg_arith.specs.Routines.{IsRoutineOf, IsRoutine, others, passed_widths, routine_of}
 use Rattle.vg_arith.specs.Product.{mul}
 use Rattle.vg_arith.specs.Division.{divide}
 use Rattle.vg_arith.specs.Shifts.{shl, shr}
@@ -33,6 +33,9 @@ mul_routine =
           (λ e. absurd (grind arith));
       takes = λ op w. for_each (λ op. 2 ≡ suc (suc (length (others op w)))) 0 (λ e. refl) (λ e. absurd (grind arith)) (λ e. absurd (grind arith))
           (λ e. absurd (grind arith)) (λ e. absurd (grind arith)) op;
+      passes = for_each (λ op. take mul.params mul.widths ≡ passed_widths op) 0
+          (λ e. refl) (λ e. absurd (grind arith)) (λ e. absurd (grind arith)) (λ e. absurd (grind arith)) (λ e. absurd (grind arith));
+      result = refl;
       unnamed = refl;
       short = record { few = omega arith; onwards = refl };
       simple = refl;
@@ -45,6 +48,9 @@ divide_routine =
           (λ e. absurd (grind arith));
       takes = λ op w. for_each (λ op. 3 ≡ suc (suc (length (others op w)))) 1 (λ e. absurd (grind arith)) (λ e. refl) (λ e. refl)
           (λ e. absurd (grind arith)) (λ e. absurd (grind arith)) op;
+      passes = for_each (λ op. take divide.params divide.widths ≡ passed_widths op) 1
+          (λ e. absurd (grind arith)) (λ e. refl) (λ e. refl) (λ e. absurd (grind arith)) (λ e. absurd (grind arith));
+      result = refl;
       unnamed = refl;
       short = record { few = omega arith; onwards = refl };
       simple = refl;
@@ -57,6 +63,9 @@ shl_routine =
           (λ e. absurd (grind arith));
       takes = λ op w. for_each (λ op. 3 ≡ suc (suc (length (others op w)))) 2 (λ e. absurd (grind arith)) (λ e. absurd (grind arith))
           (λ e. absurd (grind arith)) (λ e. refl) (λ e. absurd (grind arith)) op;
+      passes = for_each (λ op. take shl.params shl.widths ≡ passed_widths op) 2
+          (λ e. absurd (grind arith)) (λ e. absurd (grind arith)) (λ e. absurd (grind arith)) (λ e. refl) (λ e. absurd (grind arith));
+      result = refl;
       unnamed = refl;
       short = record { few = omega arith; onwards = refl };
       simple = refl;
@@ -69,6 +78,9 @@ shr_routine =
           (λ e. absurd (grind arith)) (λ e. shr_is);
       takes = λ op w. for_each (λ op. 3 ≡ suc (suc (length (others op w)))) 3 (λ e. absurd (grind arith)) (λ e. absurd (grind arith))
           (λ e. absurd (grind arith)) (λ e. absurd (grind arith)) (λ e. refl) op;
+      passes = for_each (λ op. take shr.params shr.widths ≡ passed_widths op) 3
+          (λ e. absurd (grind arith)) (λ e. absurd (grind arith)) (λ e. absurd (grind arith)) (λ e. absurd (grind arith)) (λ e. refl);
+      result = refl;
       unnamed = refl;
       short = record { few = omega arith; onwards = refl };
       simple = refl;

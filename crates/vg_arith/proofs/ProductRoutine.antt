@@ -189,11 +189,11 @@ module _ (p : Program) (q : ℕ) (has : slice_get p.procedures q ≡ Some mul) (
           (record { width = 4; value = Some (low 4 x) } ∷ record { width = 4; value = Some (low 4 y) } ∷ record { width = 4; value = Some 0 }
           ∷ record { width = 1; value = None } ∷ record { width = 1; value = None } ∷ record { width = 4; value = None } ∷ [])
 
-  given : (left : List LocalState) × To begins (conf f.proc (suc f.pc) fs (resume f.awaits f.kept (with_locals ram left) (low 4 sum_of_parts)) w)
+  given : (left : List LocalState) × To begins (conf f.proc (suc f.pc) fs (resume f.awaits f.kept (with_locals ram left) (low 4 (low 4 sum_of_parts))) w)
   given = from (all_parts begins opening)
     where
       from : Comes begins 45 sum_of_parts (byte x 24) → (left : List LocalState) × To begins
-          (conf f.proc (suc f.pc) fs (resume f.awaits f.kept (with_locals ram left) (low 4 sum_of_parts)) w)
+          (conf f.proc (suc f.pc) fs (resume f.awaits f.kept (with_locals ram left) (low 4 (low 4 sum_of_parts))) w)
       from here = (
         _,
         leads_then (language p) (codes_in p.procedures) 0 0 begins (at 45 (low 4 sum_of_parts) (byte x 24) here.b here.u) _ here.to
@@ -224,12 +224,15 @@ mul_is w x y v hw ha e = (
     small : (x : ℕ) → low 4 x < 2 ^ 32
     small x = omega arith
 
+    twice : (x : ℕ) → low 4 (low 4 x) ≡ low 4 x
+    twice x = omega arith
+
     gives : (x y : ℕ) → x < 2 ^ 32 → y < 2 ^ 32 → Gives mul (x ∷ y ∷ []) (low 4 (x * y))
     gives x y hx hy p q has f fs ram world =
         subst (λ z. (left : List LocalState) × Leads (language p) (codes_in p.procedures) 0
         (conf q 0 (f ∷ fs) (with_locals ram (begun mul.widths (x ∷ y ∷ []))) world)
         (conf f.proc (suc f.pc) fs (resume f.awaits f.kept (with_locals ram left) z) world))
-        (sym product) (given p q has f fs ram world x y)
+        (twice (sum_of_parts p q has f fs ram world x y) ∙ sym product) (given p q has f fs ram world x y)
       where
         rest : ℕ
         rest =

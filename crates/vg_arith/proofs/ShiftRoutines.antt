@@ -144,7 +144,7 @@ module _ (op : Operator) (sh : ℕ → ℕ) (small : (m : ℕ) → sh m < 2 ^ 32
           (by_stage 5 m2 n2 8 (omega arith) (omega (arith, l2)) (omega (arith, l2)) refl refl refl)
 
   abbrev pub Back : ℕ → Config State → Type 0
-  Back v c = (left : List LocalState) × To c (conf f.proc (suc f.pc) fs (resume f.awaits f.kept (with_locals ram left) v) w)
+  Back v c = (left : List LocalState) × To c (conf f.proc (suc f.pc) fs (resume f.awaits f.kept (with_locals ram left) (low 4 v)) w)
 
   -- the test of the amount, and what is given
   tested : (c : Config State) (n : ℕ) → n < 2 ^ 32 → (b : Bool) → nat_lt n 32 ≡ b → To c (at 1 0 n) → Back (if b then sh n else 0) c
@@ -208,12 +208,12 @@ masked w x h =
 -- a routine of a shift, from what the shift makes of the value
 routine_of : (op : Operator) (w x y : ℕ) (sh : ℕ → ℕ) → IsWidth w → y < 2 ^ 32 → low w x ≡ sh 0 → ((m : ℕ) → sh m < 2 ^ 32)
     → ((m k : ℕ) → k < 32 → computed op 4 (sh m) k ≡ Some (sh (m + k)))
-    → Gives (shift op) (x ∷ y ∷ (256 ^ w - 1) ∷ []) (if nat_lt y 32 then sh y else 0)
+    → Gives (shift op) (x ∷ y ∷ (256 ^ w - 1) ∷ []) (low 4 (if nat_lt y 32 then sh y else 0))
 routine_of op width x y sh hw h start small law p q has f fs ram w =
     subst (λ z. (left : List LocalState) × Leads (language p) (codes_in p.procedures) 0
     (conf q 0 (f ∷ fs) (with_locals ram (record { width = 4; value = Some (low 4 x) } ∷ record { width = 4; value = Some z }
     ∷ record { width = 4; value = Some (low 4 (256 ^ width - 1)) } ∷ [])) w)
-    (conf f.proc (suc f.pc) fs (resume f.awaits f.kept (with_locals ram left) (if nat_lt y 32 then sh y else 0)) w)) (sym (low_same y h))
+    (conf f.proc (suc f.pc) fs (resume f.awaits f.kept (with_locals ram left) (low 4 (if nat_lt y 32 then sh y else 0))) w)) (sym (low_same y h))
     (routine op sh small law p q has f fs ram w (low 4 (256 ^ width - 1)) (low 4 x) y h (masked width x hw ∙ start))
 
 if_below : (n k a b : ℕ) → k < n → (if nat_lt k n then a else b) ≡ a
@@ -298,9 +298,9 @@ shl_is w x y v hw hy e = (_, low_is, routine_of ShiftLeft w x y (λ m. low 4 (lo
     same : low w (low 4 (low w x * 2 ^ y)) ≡ low w (x * 2 ^ y)
     same = low_low w (low w x * 2 ^ y) hw ∙ mul-mod_first x (2 ^ y) (256 ^ w)
 
-    low_is : low w (if nat_lt y 32 then low 4 (low w x * 2 ^ y) else 0) ≡ v
+    low_is : low w (low 4 (if nat_lt y 32 then low 4 (low w x * 2 ^ y) else 0)) ≡ v
     low_is =
-        low_of_if w (low 4 (low w x * 2 ^ y)) (nat_lt y 32) hw
+        low_low w (if nat_lt y 32 then low 4 (low w x * 2 ^ y) else 0) hw ∙ low_of_if w (low 4 (low w x * 2 ^ y)) (nat_lt y 32) hw
         ∙ both_tests w y (low w (low 4 (low w x * 2 ^ y))) (low w (x * 2 ^ y)) hw (λ h. same) (λ h g. same ∙ none h) ∙ some_is _ v e
 
 pub shr_is : IsRoutineOf ShiftRight shr
@@ -322,7 +322,7 @@ shr_is w x y v hw hy e = (_, low_is, routine_of ShiftRight w x y (λ m. low w x 
     within : low w (low w x / 2 ^ y) ≡ low w x / 2 ^ y
     within = mod-eq_of_lt (lt_of_le_of_lt (div-le_self (low w x) (2 ^ y)) (low_below w x hw))
 
-    low_is : low w (if nat_lt y 32 then low w x / 2 ^ y else 0) ≡ v
+    low_is : low w (low 4 (if nat_lt y 32 then low w x / 2 ^ y else 0)) ≡ v
     low_is =
-        low_of_if w (low w x / 2 ^ y) (nat_lt y 32) hw
+        low_low w (if nat_lt y 32 then low w x / 2 ^ y else 0) hw ∙ low_of_if w (low w x / 2 ^ y) (nat_lt y 32) hw
         ∙ both_tests w y (low w (low w x / 2 ^ y)) (low w x / 2 ^ y) hw (λ h. within) (λ h g. within ∙ none h) ∙ some_is _ v e

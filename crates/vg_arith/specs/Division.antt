@@ -37,7 +37,7 @@ of_divisor =
 
 -- The result that is wanted, with its sign.
 abbrev pub of_result : List Instr
-of_result = When (is_zero 2) 43 ∷ Plain (Copy 0 (Local 3)) ∷ When (is_zero 4) 45 ∷ negated 0 ∷ Return (Local 0) ∷ []
+of_result = When (is_zero 2) 43 ∷ Plain (Copy 0 (Local 3)) ∷ When (is_zero 4) 45 ∷ negated 0 ∷ Return 4 (Local 0) ∷ []
 
 -- Between them stand as many steps of the division as the dividend has bits.
 abbrev pub divide : Procedure
@@ -45,6 +45,7 @@ divide =
     record {
       method = None;
       params = 3;
+      result = 4;
       widths = 4 ∷ 4 ∷ 1 ∷ 4 ∷ 1 ∷ [];
       code = of_dividend ++ (of_divisor ++ (replicate 32 divide_step ++ of_result));
     }

@@ -37,11 +37,12 @@ mul =
     record {
       method = None;
       params = 2;
+      result = 4;
       widths = 4 ∷ 4 ∷ 4 ∷ 1 ∷ 1 ∷ 4 ∷ [];
       code =
           Plain (Copy 2 (Known 0))
           ∷ first_byte 0 ∷ part 0 0 ++ (part 8 8 ++ (part 16 16 ++ (part 24 24
           ++ (first_byte 8 ∷ part 0 8 ++ (part 8 16 ++ (part 16 24
           ++ (first_byte 16 ∷ part 0 16 ++ (part 8 24
-          ++ (first_byte 24 ∷ part 0 24 ++ (Return (Local 2) ∷ []))))))))));
+          ++ (first_byte 24 ∷ part 0 24 ++ (Return 4 (Local 2) ∷ []))))))))));
     }

@@ -1,13 +1,12 @@
 -- What it means that a procedure of linear code is the routine of an operator.
-use Rattle.std.specs.Prelude.{◌≡◌, ℕ, suc, ◌-◌, ◌<◌, ◌≤◌, ◌^◌, Bool, true, ◌&&◌, nat_lt, List, [], ◌∷◌, length, Option, Some, None, slice_get}
+use Rattle.std.specs.Prelude.{◌≡◌, ℕ, suc, ◌-◌, ◌<◌, ◌≤◌, ◌^◌, true, List, [], ◌∷◌, length, take, Option, Some, None, slice_get}
 use Rattle.vg_meaning.specs.History.{History}
 use Rattle.vg_meaning.specs.World.{World}
 use Rattle.vg_lin.specs.declared.instr.Operator.{Operator}
 use Rattle.vg_lin.specs.declared.instr.Operator.TheVariants.{Times, Divide, Remainder, ShiftLeft, ShiftRight}
-use Rattle.vg_lin.specs.declared.instr.Instr.{Instr}
-use Rattle.vg_lin.specs.declared.instr.Instr.TheVariants.{When, Unless, Jump}
 use Rattle.vg_lin.specs.Values.{low, computed}
 use Rattle.vg_lin.specs.Sound.{IsWidth}
+use Rattle.vg_lin.specs.Onward.{all_lead_on}
 use Rattle.vg_lin.specs.Program.{Procedure, Program}
 use Rattle.vg_lin.specs.State.{LocalState, State}
 use Rattle.vg_lin.specs.Meaning.{begun, resume, language, codes_in}
@@ -37,6 +36,17 @@ others ShiftLeft w = (256 ^ w - 1) ∷ []
 others ShiftRight w = (256 ^ w - 1) ∷ []
 others op w = []
 
+-- In how many bytes each argument is passed: the operands in four.
+abbrev pub others_widths : Operator → List ℕ
+others_widths Divide = 1 ∷ []
+others_widths Remainder = 1 ∷ []
+others_widths ShiftLeft = 4 ∷ []
+others_widths ShiftRight = 4 ∷ []
+others_widths op = []
+
+abbrev pub passed_widths : Operator → List ℕ
+passed_widths op = 4 ∷ 4 ∷ others_widths op
+
 -- An amount of a shift has four bytes.
 abbrev pub IsAmount : Operator → ℕ → Type 0
 IsAmount ShiftLeft y = y < 2 ^ 32
@@ -48,17 +58,6 @@ IsAmount op y = Unit {0}
 abbrev pub IsRoutineOf : Operator → Procedure → Type 0
 IsRoutineOf op m =
     (w x y v : ℕ) → IsWidth w → IsAmount op y → computed op w x y ≡ Some v → (z : ℕ) × (low w z ≡ v) × Gives m (x ∷ y ∷ others op w) z
-
--- No instruction leads back, where the first of these stands at a place.
-abbrev pub leads_on : (at : ℕ) → Instr → Bool
-leads_on at (When test to) = nat_lt at to
-leads_on at (Unless test to) = nat_lt at to
-leads_on at (Jump to) = nat_lt at to
-leads_on at i = true
-
-abbrev pub all_lead_on : (at : ℕ) → List Instr → Bool
-all_lead_on at [] = true
-all_lead_on at (i ∷ is) = leads_on at i && all_lead_on (suc at) is
 
 -- A routine is small and ends: it has at most six parameters and locals, and no jump back.
 pub record IsShort (m : Procedure) : Type 0 where
@@ -78,6 +77,8 @@ routine_of op = None
 pub record IsRoutine (which : ℕ) (m : Procedure) : Type 0 where
   pub gives : (op : Operator) → routine_of op ≡ Some which → IsRoutineOf op m
   pub takes : (op : Operator) (w : ℕ) → routine_of op ≡ Some which → m.params ≡ suc (suc (length (others op w)))
+  pub passes : (op : Operator) → routine_of op ≡ Some which → take m.params m.widths ≡ passed_widths op
+  pub result : m.result ≡ 4
   pub unnamed : m.method ≡ None
   pub short : IsShort m
   pub simple : are_simple m.code ≡ true

@@ -23,11 +23,12 @@ shift op =
     record {
       method = None;
       params = 3;
+      result = 4;
       widths = 4 ∷ 4 ∷ 4 ∷ [];
       code =
           Plain (Compute (record { operator = And; width = 4; to = 0; left = Local 0; right = Local 2 }))
           ∷ Unless (record { comparison = Below; width = 4; left = Local 1; right = Known 32 }) 18
-          ∷ stage op 2 16 ++ (stage op 5 8 ++ (stage op 8 4 ++ (stage op 11 2 ++ (stage op 14 1 ++ (Return (Local 0) ∷ Return (Known 0) ∷ [])))));
+          ∷ stage op 2 16 ++ (stage op 5 8 ++ (stage op 8 4 ++ (stage op 11 2 ++ (stage op 14 1 ++ (Return 4 (Local 0) ∷ Return 4 (Known 0) ∷ [])))));
     }
 
 abbrev pub shl : Procedure

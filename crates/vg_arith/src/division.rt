@@ -15,7 +15,7 @@ pub fn division_routine(alloc: Global) -> Result<LinProc, NoMemory>
 {
     let code = division_code(alloc)?;
     let widths = division_widths(alloc)?;
-    Ok(LinProc::new(None, 3, widths, code))
+    Ok(LinProc::new(None, 3, 4, widths, code))
 }
 
 fn division_widths(alloc: Global) -> Result<Row<u8>, NoMemory>
@@ -84,7 +84,7 @@ fn push_result(code: &mut Row<Instr>) -> Result<(), NoMemory>
     code.push(Instr::Plain(Plain::Copy(0, Operand::Local(3))))?;
     code.push(Instr::When(zero(4), 45))?;
     code.push(negate(0))?;
-    code.push(Instr::Return(Operand::Local(0)))?;
+    code.push(Instr::Return(4, Operand::Local(0)))?;
     Ok(())
 }
 

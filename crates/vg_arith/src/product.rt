@@ -18,7 +18,7 @@ pub fn product_routine(alloc: Global) -> Result<LinProc, NoMemory>
 {
     let code = product_code(alloc)?;
     let widths = product_widths(alloc)?;
-    Ok(LinProc::new(None, 2, widths, code))
+    Ok(LinProc::new(None, 2, 4, widths, code))
 }
 
 fn product_widths(alloc: Global) -> Result<Row<u8>, NoMemory>
@@ -53,7 +53,7 @@ fn product_code(alloc: Global) -> Result<Row<Instr>, NoMemory>
     push_part(&mut code, 8, 24)?;
     code.push(shift_by(Operator::ShiftRight, 3, 0, 24))?;
     push_part(&mut code, 0, 24)?;
-    code.push(Instr::Return(Operand::Local(2)))?;
+    code.push(Instr::Return(4, Operand::Local(2)))?;
     Ok(code)
 }
 

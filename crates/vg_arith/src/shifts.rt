@@ -20,7 +20,7 @@ pub fn shift_routine(alloc: Global, operator: Operator) -> Result<LinProc, NoMem
     widths.push(4)?;
     widths.push(4)?;
     widths.push(4)?;
-    Ok(LinProc::new(None, 3, widths, code))
+    Ok(LinProc::new(None, 3, 4, widths, code))
 }
 
 fn shift_code(alloc: Global, operator: Operator) -> Result<Row<Instr>, NoMemory>
@@ -40,8 +40,8 @@ fn shift_code(alloc: Global, operator: Operator) -> Result<Row<Instr>, NoMemory>
     push_stage(&mut code, operator, 8, 4)?;
     push_stage(&mut code, operator, 11, 2)?;
     push_stage(&mut code, operator, 14, 1)?;
-    code.push(Instr::Return(Operand::Local(0)))?;
-    code.push(Instr::Return(Operand::Known(0)))?;
+    code.push(Instr::Return(4, Operand::Local(0)))?;
+    code.push(Instr::Return(4, Operand::Known(0)))?;
     Ok(code)
 }
 

@@ -1,15 +1,16 @@
 -- That the code in place of a computation does it. A call of a routine enters it with the operands, the routine gives the result in at
 -- least one step, and the result is cut where the computation is narrow.
-use Rattle.std.specs.Prelude.{ℕ, zero, suc, ◌+◌, ◌-◌, ◌<◌, ◌^◌, Bool, true, false, ◌==◌, ◌&&◌, nat_lt, List, [], ◌∷◌, length}
+use Rattle.std.specs.Prelude.{ℕ, zero, suc, ◌+◌, ◌-◌, ◌<◌, ◌≤◌, ◌^◌, Bool, true, false, ◌==◌, ◌&&◌, nat_lt, List, [], ◌∷◌, length, take}
 use Rattle.std.specs.Prelude.{Option, Some, None, slice_get, if◌then◌else◌}
 use Rattle.std.specs.List.{AllByRecursion}
 use Rattle.std.proofs.Common.{◌≡◌, refl, sym, ap, ◌∙◌, subst, arith}
+use Rattle.std.proofs.Math.Nat.{mod-mod}
 use Rattle.vg_meaning.specs.History.{History}
 use Rattle.vg_meaning.specs.World.{World}
 use Rattle.vg_lin.specs.declared.instr.Operand.{Operand}
 use Rattle.vg_lin.specs.declared.instr.Operand.TheVariants.{Local, Known}
 use Rattle.vg_lin.specs.declared.instr.Operator.{Operator}
-use Rattle.vg_lin.specs.declared.instr.Operator.TheVariants.{Plus, Times}
+use Rattle.vg_lin.specs.declared.instr.Operator.TheVariants.{Plus, Minus, Times, Divide, Remainder, And, Or, Xor, ShiftLeft, ShiftRight}
 use Rattle.vg_lin.specs.declared.instr.Computation.{Computation}
 use Rattle.vg_lin.specs.declared.instr.Plain.TheVariants.{Compute}
 use Rattle.vg_lin.specs.declared.instr.Callee.TheVariants.{Procedure as ByNumber}
@@ -23,14 +24,14 @@ use Rattle.vg_lin.specs.Sound.{IsWidth}
 use Rattle.vg_lin.specs.Program.{Procedure, Program}
 use Rattle.vg_lin.specs.State.{Waiting}
 use Rattle.vg_lin.specs.State.{LocalState, State, value, value_in, using, with_local, sets, computes}
-use Rattle.vg_lin.specs.Meaning.{begun, both_values, same_widths, entry_with, entry_of, enter, operands, values, call_of, name_of, language, codes_in}
+use Rattle.vg_lin.specs.Meaning.{begun, with_value, values_of, same_widths, entry_with, entry_of, enter, operands, values, call_of, name_of, language, codes_in}
 use Rattle.vg_lin.specs.Steps.{Result, Frame, Goes, Entry, Config, open_below, noted, went, calls, performed}
 use Rattle.vg_lin.specs.Follows.{Leads, conf}
 use Rattle.vg_lin.proofs.Followed.{leads_then, leads_step, free}
-use Rattle.vg_arith.specs.Routines.{with_locals, Gives, IsAmount, others, routine_of, IsRoutine}
+use Rattle.vg_arith.specs.Routines.{with_locals, Gives, IsAmount, others, others_widths, passed_widths, routine_of, IsRoutine}
 use Rattle.vg_arith.proofs.ShiftRoutines.{fetch_of, by_width, low_low}
 use Rattle.vg_expand.specs.Expansion.{HasRoutines, IsHeld, Holds, Does}
-use Rattle.vg_expand.specs.Code.{calling, mask, shifting}
+use Rattle.vg_expand.specs.Code.{in_four, dividing, calling, mask, shifting}
 
 -- these instructions stand in code, from a place on
 abbrev pub StandAt : List Instr → ℕ → List Instr → Type 0
@@ -87,6 +88,44 @@ cut_twice w t x hw ht =
 same_number : (n : ℕ) → (n == n) ≡ true
 same_number n = grind arith
 
+-- arguments as they are passed in so many bytes each
+abbrev pub sized : (widths xs : List ℕ) → List Waiting
+sized [] xs = []
+sized (w ∷ ws) [] = []
+sized (w ∷ ws) (x ∷ xs) = record { width = w; value = low w x } ∷ sized ws xs
+
+low_again : (w x : ℕ) → low w (low w x) ≡ low w x
+low_again w x = mod-mod x (256 ^ w)
+
+begun_sized : (ws : List ℕ) (n : ℕ) (xs : List ℕ) → length xs ≤ n → begun ws (values_of (sized (take n ws) xs)) ≡ begun ws xs
+begun_sized [] zero xs h = refl
+begun_sized [] (suc n) xs h = refl
+begun_sized (w ∷ ws) zero [] h = refl
+begun_sized (w ∷ ws) zero (x ∷ xs) h = absurd (omega (arith, h))
+begun_sized (w ∷ ws) (suc n) [] h = refl
+begun_sized (w ∷ ws) (suc n) (x ∷ xs) h =
+    ap (λ v. record { width = w; value = Some v } ∷ begun ws (values_of (sized (take n ws) xs))) (low_again w x)
+    ∙ ap (λ ls. record { width = w; value = Some (low w x) } ∷ ls) (begun_sized ws n xs (omega (arith, h)))
+
+same_sized : (ws : List ℕ) (n : ℕ) (xs : List ℕ) → same_widths ws (sized (take n ws) xs) ≡ true
+same_sized [] zero xs = refl
+same_sized [] (suc n) xs = refl
+same_sized (w ∷ ws) zero xs = refl
+same_sized (w ∷ ws) (suc n) [] = refl
+same_sized (w ∷ ws) (suc n) (x ∷ xs) = ap (λ b. b && same_widths ws (sized (take n ws) xs)) (same_number w) ∙ same_sized ws n xs
+
+others_sized : (op : Operator) (w : ℕ) → length (sized (others_widths op) (others op w)) ≡ length (others op w)
+others_sized Plus w = refl
+others_sized Minus w = refl
+others_sized Times w = refl
+others_sized Divide w = refl
+others_sized Remainder w = refl
+others_sized And w = refl
+others_sized Or w = refl
+others_sized Xor w = refl
+others_sized ShiftLeft w = refl
+others_sized ShiftRight w = refl
+
 -- how many instructions stand behind a call
 abbrev pub cuts : Bool → ℕ
 cuts true = 1
@@ -105,13 +144,14 @@ module _ (first : ℕ) (m : Procedure) (c : Computation) (p : Program) (q : ℕ)
 
   -- the call of a routine
   abbrev pub the_call : ℕ → Registers → Calling
-  the_call r rs = record { callee = ByNumber r; pushed = 0; registers = rs; to = Some c.to }
+  the_call r rs = record { callee = ByNumber r; pushed = 0; registers = rs; to = Some (record { width = 4; local = c.to }) }
 
   -- the routine is entered, and its name is no active call
-  enters : (pc r : ℕ) (rs : Registers) (k : Procedure) (xs : List ℕ) → slice_get p.procedures r ≡ Some k → k.params ≡ length xs → k.method ≡ None
-      → values (operands rs) s ≡ Some xs → slice_get m.code pc ≡ Some (Call (the_call r rs))
+  enters : (pc r : ℕ) (rs : Registers) (k : Procedure) (xs : List ℕ) → slice_get p.procedures r ≡ Some k → k.params ≡ length xs → k.result ≡ 4
+      → length (sized (take k.params k.widths) xs) ≡ length xs → k.method ≡ None
+      → values (operands rs) s ≡ Some (sized (take k.params k.widths) xs) → slice_get m.code pc ≡ Some (Call (the_call r rs))
       → To 1 (at pc s) (conf r 0 (record { proc = q; pc = pc; kept = s; awaits = Result (the_call r rs) } ∷ fs) (with_locals s.ram (begun k.widths xs)) w)
-  enters pc r rs k xs e params unnamed vs f =
+  enters pc r rs k xs e params four all unnamed vs f =
       subst (λ a. To 1 (at pc s) (record (conf r 0 (frame ∷ fs) begins_in w) {
         openings = noted a (open_below (language p) (frame
             ∷ fs)) w.history.at_openings;
@@ -125,20 +165,22 @@ module _ (first : ℕ) (m : Procedure) (c : Computation) (p : Program) (q : ℕ)
       begins_in : State
       begins_in = with_locals s.ram (begun k.widths xs)
 
-      some_if : (a b : Bool) → Option (Entry State)
-      some_if a b = if a && b then Some (record { proc = r; state = begins_in; kept = s }) else None
+      ps : List Waiting
+      ps = sized (take k.params k.widths) xs
 
-      as_many : (length {A = Waiting} [] + length xs == k.params) ≡ true
-      as_many = ap (λ n. n == k.params) (omega arith) ∙ ap (λ n. length xs == n) params ∙ same_number (length xs)
+      some_if : (a b c : Bool) → List LocalState → Option (Entry State)
+      some_if a b c ls = if a && b && c then Some (record { proc = r; state = with_locals s.ram ls; kept = s }) else None
 
-      no_widths : (ws : List ℕ) → same_widths ws [] ≡ true
-      no_widths [] = refl
-      no_widths (a ∷ ws) = refl
+      as_many : (length ps == k.params) ≡ true
+      as_many = ap (λ n. n == k.params) all ∙ ap (λ n. length xs == n) params ∙ same_number (length xs)
 
       entry : enter p (the_call r rs) s ≡ Some (record { proc = r; state = begins_in; kept = s })
       entry =
-          ap (λ z. entry_of r z (the_call r rs) s) e ∙ ap (λ z. entry_with r k [] s z) vs
-          ∙ ap (λ a. some_if a (same_widths k.widths [])) as_many ∙ ap (some_if true) (no_widths k.widths)
+          ap (λ z. entry_of r z (the_call r rs) s) e ∙ ap (λ z. entry_with r k (Some (record { width = 4; local = c.to })) [] s z) vs
+          ∙ ap (λ a. some_if a (same_widths k.widths ps) (4 == k.result) (begun k.widths (values_of ps))) as_many
+          ∙ ap (λ b. some_if true b (4 == k.result) (begun k.widths (values_of ps))) (same_sized k.widths k.params xs)
+          ∙ ap (λ n. some_if true true (4 == n) (begun k.widths (values_of ps))) four
+          ∙ ap (λ ls. some_if true true true ls) (begun_sized k.widths k.params xs (omega (arith, params)))
 
   -- the whole call
   pub record Called (pc v : ℕ) : Type 0 where
@@ -147,7 +189,7 @@ module _ (first : ℕ) (m : Procedure) (c : Computation) (p : Program) (q : ℕ)
     pub by : To 1 (at pc s) (at (suc pc) (sets c.to result s))
 
   called : (pc which x y v : ℕ) (rs : Registers) (op : Operator) → which < 4 → routine_of op ≡ Some which → IsWidth c.width → IsAmount op y
-      → computed op c.width x y ≡ Some v → values (operands rs) s ≡ Some (x ∷ y ∷ others op c.width)
+      → computed op c.width x y ≡ Some v → values (operands rs) s ≡ Some (sized (passed_widths op) (x ∷ y ∷ others op c.width))
       → slice_get m.code pc ≡ Some (Call (the_call (first + which) rs)) → Called pc v
   called pc which x y v rs op hk ro hw ha e vs f = from (routines which hk)
     where
@@ -171,7 +213,9 @@ module _ (first : ℕ) (m : Procedure) (c : Computation) (p : Program) (q : ℕ)
                     result = z;
                     low_is = l;
                     by = leads_then (language p) (codes_in p.procedures) 1 0 (at pc s) _ _
-                        (enters pc (first + which) rs k xs g (is.takes op c.width ro) is.unnamed vs f) t;
+                        (enters pc (first + which) rs k xs g (is.takes op c.width ro) is.result
+                        (ap (λ ws. length (sized ws xs)) (is.passes op ro) ∙ ap (λ n. suc (suc n)) (others_sized op c.width)) is.unnamed
+                        (vs ∙ ap (λ ws. Some (sized ws xs)) (sym (is.passes op ro))) f) t;
                   }
 
   -- the result is cut where the computation is narrow
@@ -219,7 +263,7 @@ length_calling r rs c from = by_test (nat_lt c.width 4)
 -- a call of a routine does the computation, where its registers have the operands and what else the routine takes
 pub calling_does : (first : ℕ) (m : Procedure) (from : ℕ) (c : Computation) (which : ℕ) (rs : Registers) → AllByRecursion IsWidth m.widths → IsWidth c.width
     → c.to < length m.widths → which < 4 → routine_of c.operator ≡ Some which
-    → ((s : State) (x y : ℕ) → value c.left s ≡ Some x → value c.right s ≡ Some y → values (operands rs) s ≡ Some (x ∷ y ∷ others c.operator c.width))
+    → ((s : State) (x y : ℕ) → value c.left s ≡ Some x → value c.right s ≡ Some y → values (operands rs) s ≡ Some (sized (passed_widths c.operator) (x ∷ y ∷ others c.operator c.width)))
     → ((s : State) (y : ℕ) → Holds m.widths s.locals → value c.right s ≡ Some y → IsAmount c.operator y)
     → StandAt m.code from (calling (first + which) rs c) → Does first m from (from + length (calling (first + which) rs c)) c
 calling_does first m from c which rs ws hw to hk ro vs amount (f, g) p q has routines fs s w x y z held e h r =
@@ -244,13 +288,16 @@ kept_does first m from c (f, g) p q has routines fs s w x y z held e h r =
     next from = omega arith
 
 -- the operands in registers
-pub two_values : (a b : Operand) (s : State) (x y : ℕ) → value a s ≡ Some x → value b s ≡ Some y → values (operands (Two a b)) s ≡ Some (x ∷ y ∷ [])
-two_values a b s x y e h = ap (λ v. both_values v (both_values (value b s) (Some []))) e ∙ ap (λ v. both_values (Some x) (both_values v (Some []))) h
+pub two_values : (a b : Operand) (s : State) (x y : ℕ) → value a s ≡ Some x → value b s ≡ Some y
+    → values (operands (Two (in_four a) (in_four b))) s ≡ Some (sized (4 ∷ 4 ∷ []) (x ∷ y ∷ []))
+two_values a b s x y e h =
+    ap (λ v. with_value 4 v (with_value 4 (value b s) (Some []))) e ∙ ap (λ v. with_value 4 (Some x) (with_value 4 v (Some []))) h
 
-three_values : (a b : Operand) (k : ℕ) (s : State) (x y : ℕ) → value a s ≡ Some x → value b s ≡ Some y
-    → values (operands (Three a b (Known k))) s ≡ Some (x ∷ y ∷ k ∷ [])
-three_values a b k s x y e h =
-    ap (λ v. both_values v (both_values (value b s) (Some (k ∷ [])))) e ∙ ap (λ v. both_values (Some x) (both_values v (Some (k ∷ [])))) h
+three_values : (a b : Operand) (width k : ℕ) (s : State) (x y : ℕ) → value a s ≡ Some x → value b s ≡ Some y
+    → values (operands (Three (in_four a) (in_four b) (record { width = width; value = Known k }))) s ≡ Some (sized (4 ∷ 4 ∷ width ∷ []) (x ∷ y ∷ k ∷ []))
+three_values a b width k s x y e h =
+    ap (λ v. with_value 4 v (with_value 4 (value b s) (with_value width (Some k) (Some [])))) e
+    ∙ ap (λ v. with_value 4 (Some x) (with_value 4 v (with_value width (Some k) (Some [])))) h
 
 module _ (first : ℕ) (m : Procedure) (from width to : ℕ) (left right : Operand) (ws : AllByRecursion IsWidth m.widths) (hw : IsWidth width)
     (within : to < length m.widths) where
@@ -258,30 +305,37 @@ module _ (first : ℕ) (m : Procedure) (from width to : ℕ) (left right : Opera
   of op = record { operator = op; width = width; to = to; left = left; right = right }
 
   pub shifting_does : (op : Operator) (which : ℕ) (a : Operand) → a ≡ right → which < 4 → routine_of op ≡ Some which
-      → ((k : ℕ) → others op k ≡ (256 ^ k - 1) ∷ []) → ((y : ℕ) → y < 2 ^ 32 → IsAmount op y)
+      → others_widths op ≡ 4 ∷ [] → ((k : ℕ) → others op k ≡ (256 ^ k - 1) ∷ []) → ((y : ℕ) → y < 2 ^ 32 → IsAmount op y)
       → StandAt m.code from (shifting (first + which) (of op) a) → Does first m from (from + length (shifting (first + which) (of op) a)) (of op)
-  shifting_does op which (Known n) e hk ro ot am st = kept_does first m from (of op) st
-  shifting_does op which (Local i) e hk ro ot am st =
-      calling_does first m from (of op) which (Three left (Local i) (mask width)) ws hw within hk ro
-      (λ s x y g h. three_values left (Local i) _ s x y g (ap (λ b. value b s) e ∙ h)
-      ∙ ap (λ k. Some (x ∷ y ∷ k ∷ [])) (by_width (λ w. (if nat_lt w 4 then 256 ^ w - 1 else 0xFFFFFFFF) ≡ 256 ^ w - 1) width hw refl refl refl refl)
-      ∙ ap (λ more. Some (x ∷ y ∷ more)) (sym (ot width)))
+  shifting_does op which (Known n) e hk ro ow ot am st = kept_does first m from (of op) st
+  shifting_does op which (Local i) e hk ro ow ot am st =
+      calling_does first m from (of op) which (Three (in_four left) (in_four (Local i)) (in_four (mask width))) ws hw within hk ro
+      (λ s x y g h. three_values left (Local i) 4 _ s x y g (ap (λ b. value b s) e ∙ h)
+      ∙ ap (λ k. Some (sized (4 ∷ 4 ∷ 4 ∷ []) (x ∷ y ∷ k ∷ [])))
+      (by_width (λ w. (if nat_lt w 4 then 256 ^ w - 1 else 0xFFFFFFFF) ≡ 256 ^ w - 1) width hw refl refl refl refl)
+      ∙ ap (λ more. Some (sized (4 ∷ 4 ∷ 4 ∷ []) (x ∷ y ∷ more))) (sym (ot width))
+      ∙ ap (λ more. Some (sized (4 ∷ 4 ∷ more) (x ∷ y ∷ others op width))) (sym ow))
       (λ s y held h. am y (local_small m.widths s.locals i y held ws (ap (λ b. value b s) e ∙ h))) st
 
-  pub division_does : (op : Operator) (wanted : ℕ) → routine_of op ≡ Some 1 → ((k : ℕ) → others op k ≡ wanted ∷ []) → ((y : ℕ) → IsAmount op y)
-      → StandAt m.code from (calling (first + 1) (Three left right (Known wanted)) (of op))
-      → Does first m from (from + length (calling (first + 1) (Three left right (Known wanted)) (of op))) (of op)
-  division_does op wanted ro ot am st =
-      calling_does first m from (of op) 1 (Three left right (Known wanted)) ws hw within (omega arith) ro
-      (λ s x y g h. three_values left right wanted s x y g h ∙ ap (λ more. Some (x ∷ y ∷ more)) (sym (ot width))) (λ s y held h. am y) st
+  pub division_does : (op : Operator) (wanted : ℕ) → routine_of op ≡ Some 1 → others_widths op ≡ 1 ∷ [] → ((k : ℕ) → others op k ≡ wanted ∷ [])
+      → ((y : ℕ) → IsAmount op y) → StandAt m.code from (calling (first + 1) (dividing (of op) (Known wanted)) (of op))
+      → Does first m from (from + length (calling (first + 1) (dividing (of op) (Known wanted)) (of op))) (of op)
+  division_does op wanted ro ow ot am st =
+      calling_does first m from (of op) 1 (dividing (of op) (Known wanted)) ws hw within (omega arith) ro
+      (λ s x y g h. three_values left right 1 wanted s x y g h ∙ ap (λ more. Some (sized (4 ∷ 4 ∷ 1 ∷ []) (x ∷ y ∷ more))) (sym (ot width))
+      ∙ ap (λ more. Some (sized (4 ∷ 4 ∷ more) (x ∷ y ∷ others op width))) (sym ow)) (λ s y held h. am y) st
 
-  pub call_of_product : (a b : Operand) → StandAt m.code from (calling first (Two a b) (of Times))
-      → Does first m from (from + length (calling first (Two a b) (of Times))) (record { operator = Times; width = width; to = to; left = a; right = b })
+  pub call_of_product : (a b : Operand) → StandAt m.code from (calling first (Two (in_four a) (in_four b)) (of Times))
+      → Does first m from (from + length (calling first (Two (in_four a) (in_four b)) (of Times)))
+      (record { operator = Times; width = width; to = to; left = a; right = b })
   call_of_product a b st =
-      subst (λ r. StandAt m.code from (calling r (Two a b) (of Times)) → Does first m from (from + length (calling r (Two a b) (of Times)))
+      subst (λ r. StandAt m.code from (calling r rs (of Times)) → Does first m from (from + length (calling r rs (of Times)))
       (record { operator = Times; width = width; to = to; left = a; right = b })) none
-      (calling_does first m from (record { operator = Times; width = width; to = to; left = a; right = b }) 0 (Two a b) ws hw within (omega arith) refl
+      (calling_does first m from (record { operator = Times; width = width; to = to; left = a; right = b }) 0 rs ws hw within (omega arith) refl
       (λ s x y g h. two_values a b s x y g h) (λ s y held h. tt {0})) st
     where
+      rs : Registers
+      rs = Two (in_four a) (in_four b)
+
       none : first + 0 ≡ first
       none = omega arith

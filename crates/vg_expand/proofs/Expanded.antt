@@ -9,7 +9,7 @@ use Rattle.vg_lin.specs.declared.instr.Operator.{Operator}
 use Rattle.vg_lin.specs.declared.instr.Operator.TheVariants.{Plus, Minus, Times, Divide, Remainder, And, Or, Xor, ShiftLeft, ShiftRight}
 use Rattle.vg_lin.specs.declared.instr.Computation.{Computation}
 use Rattle.vg_lin.specs.declared.instr.Plain.{Plain as PlainInstr}
-use Rattle.vg_lin.specs.declared.instr.Plain.TheVariants.{Copy, Compute, Product, DivideStep, Load, Store, ReadDevice, WriteDevice, Push, Find, CodeOf, Stop}
+use Rattle.vg_lin.specs.declared.instr.Plain.TheVariants.{Copy, Compute, Product, DivideStep, Load, Store, ReadDevice, WriteDevice, Push, Pop, Find, CodeOf, Stop}
 use Rattle.vg_lin.specs.declared.instr.Registers.TheVariants.{Two}
 use Rattle.vg_lin.specs.declared.instr.Instr.{Instr}
 use Rattle.vg_lin.specs.declared.instr.Instr.TheVariants.{Plain, When, Unless, Jump, Call, Return, Idle}
@@ -18,7 +18,7 @@ use Rattle.vg_lin.specs.Sound.{AreOperands, Waits, IsSound}
 use Rattle.vg_arith.specs.Simple.{needs_no_routine, is_simple, are_simple}
 use Rattle.vg_expand.specs.Expansion.{Does, PlainStands, StandsFor, Expands}
 use Rattle.vg_expand.specs.Code.{worked_out}
-use Rattle.vg_expand.specs.Code.{Base, cut_to, calling, shifting, is_narrow, narrow_or, product_of, power_of, shifted_by, joined_by, by_difference}
+use Rattle.vg_expand.specs.Code.{Base, in_four, cut_to, calling, shifting, is_narrow, narrow_or, product_of, power_of, shifted_by, joined_by, by_difference}
 use Rattle.vg_expand.specs.Code.{by_sum, is_in, in_two, by_power, by_factor, multiplying, computing, expanded_at, expanded_code, size, place_in}
 use Rattle.vg_expand.specs.Code.{base_of, expanded}
 use Rattle.vg_expand.proofs.Computing.{StandAt}
@@ -57,6 +57,7 @@ module _ (first : ℕ) (m : Procedure) (sound : IsSound m) where
   plain_stands at (ReadDevice to a) e st ok = (st.0, next_is at _ e refl)
   plain_stands at (WriteDevice to a) e st ok = (st.0, next_is at _ e refl)
   plain_stands at (Push w a) e st ok = (st.0, next_is at _ e refl)
+  plain_stands at (Pop w to) e st ok = (st.0, next_is at _ e refl)
   plain_stands at (Find d to a) e st ok = (st.0, next_is at _ e refl)
   plain_stands at (CodeOf q to) e st ok = (st.0, next_is at _ e refl)
   plain_stands at (Stop c) e st ok = (st.0, next_is at _ e refl)
@@ -68,7 +69,7 @@ module _ (first : ℕ) (m : Procedure) (sound : IsSound m) where
   instr_stands at (Unless t to) e st ok ((n, (h, g)), b) = (st.0 ∙ ap (λ z. Some (Unless t z)) (target_is to h), next_is at _ e refl)
   instr_stands at (Jump to) e st ok (n, (h, g)) = st.0 ∙ ap (λ z. Some (Jump z)) (target_is to h)
   instr_stands at (Call c) e st ok w = (st.0, next_is at _ e refl)
-  instr_stands at (Return a) e st ok w = st.0
+  instr_stands at (Return r a) e st ok w = st.0
   instr_stands at Idle e st ok w = (st.0, next_is at _ e refl)
 
   first_place : (is : List Instr) → place_of its_base is 0 ≡ 0
@@ -80,6 +81,7 @@ module _ (first : ℕ) (m : Procedure) (sound : IsSound m) where
       record {
         method = refl;
         params = refl;
+        result = refl;
         widths = refl;
         place = place;
         begins = first_place m.code;
@@ -121,7 +123,7 @@ shifting_simple r width to left (Known n) op e h = both_true (needs_no_routine o
 shifting_simple r width to left (Local i) op e h = cut_simple width to
 
 -- what is said of every form of a product
-pub each_product : (P : List Instr → Type 0) (base : Base) (c : Computation) → ((a b : Operand) → P (calling base.first (Two a b) c))
+pub each_product : (P : List Instr → Type 0) (base : Base) (c : Computation) → ((a b : Operand) → P (calling base.first (Two (in_four a) (in_four b)) c))
     → ((a b : Operand) → P (Plain (Product c.to a b) ∷ cut_to c.width c.to)) → ((v : ℕ) → P (Plain (Copy c.to (Known v)) ∷ []))
     → ((a : Operand) (n : ℕ) → P (shifted_by c a n ∷ [])) → ((a : Operand) (n : ℕ) → P (shifted_by c a n ∷ joined_by Plus c a ∷ []))
     → ((a : Operand) (n : ℕ) → P (shifted_by c a n ∷ joined_by Minus c a ∷ [])) → (left right : Operand) → P (multiplying base c left right)
@@ -185,6 +187,7 @@ at_simple base place (Plain (Store w a from)) = refl
 at_simple base place (Plain (ReadDevice to a)) = refl
 at_simple base place (Plain (WriteDevice to a)) = refl
 at_simple base place (Plain (Push w a)) = refl
+at_simple base place (Plain (Pop w to)) = refl
 at_simple base place (Plain (Find d to a)) = refl
 at_simple base place (Plain (CodeOf q to)) = refl
 at_simple base place (Plain (Stop c)) = refl
@@ -192,7 +195,7 @@ at_simple base place (When t to) = refl
 at_simple base place (Unless t to) = refl
 at_simple base place (Jump to) = refl
 at_simple base place (Call c) = refl
-at_simple base place (Return a) = refl
+at_simple base place (Return w a) = refl
 at_simple base place Idle = refl
 
 pub code_simple : (base : Base) (place : ℕ → ℕ) (is : List Instr) → are_simple (expanded_code base place is) ≡ true
@@ -239,6 +242,7 @@ size_small base (Plain (Store w a from)) = omega arith
 size_small base (Plain (ReadDevice to a)) = omega arith
 size_small base (Plain (WriteDevice to a)) = omega arith
 size_small base (Plain (Push w a)) = omega arith
+size_small base (Plain (Pop w to)) = omega arith
 size_small base (Plain (Find d to a)) = omega arith
 size_small base (Plain (CodeOf q to)) = omega arith
 size_small base (Plain (Stop c)) = omega arith
@@ -246,7 +250,7 @@ size_small base (When t to) = omega arith
 size_small base (Unless t to) = omega arith
 size_small base (Jump to) = omega arith
 size_small base (Call c) = omega arith
-size_small base (Return a) = omega arith
+size_small base (Return w a) = omega arith
 size_small base Idle = omega arith
 
 pub code_small : (base : Base) (place : ℕ → ℕ) (is : List Instr) → length (expanded_code base place is) ≤ 2 * length is

@@ -9,7 +9,7 @@ use Rattle.vg_lin.specs.declared.instr.Operator.{Operator}
 use Rattle.vg_lin.specs.declared.instr.Operator.TheVariants.{Plus, Minus, Times, Divide, Remainder, And, Or, Xor, ShiftLeft, ShiftRight}
 use Rattle.vg_lin.specs.declared.instr.Computation.{Computation}
 use Rattle.vg_lin.specs.declared.instr.Plain.{Plain as PlainInstr}
-use Rattle.vg_lin.specs.declared.instr.Plain.TheVariants.{Copy, Compute, Product, DivideStep, Load, Store, ReadDevice, WriteDevice, Push, Find, CodeOf, Stop}
+use Rattle.vg_lin.specs.declared.instr.Plain.TheVariants.{Copy, Compute, Product, DivideStep, Load, Store, ReadDevice, WriteDevice, Push, Pop, Find, CodeOf, Stop}
 use Rattle.vg_lin.specs.declared.instr.Callee.TheVariants.{Procedure as ByNumber}
 use Rattle.vg_lin.specs.declared.instr.Registers.{Registers}
 use Rattle.vg_lin.specs.declared.instr.Registers.TheVariants.{Two, Three}
@@ -17,10 +17,10 @@ use Rattle.vg_lin.specs.declared.instr.Instr.{Instr}
 use Rattle.vg_lin.specs.declared.instr.Instr.TheVariants.{Plain, When, Unless, Jump, Call, Return, Idle}
 use Rattle.vg_lin.specs.Program.{Procedure}
 use Rattle.vg_lin.specs.Sound.{IsPlain, AreOperands, Waits, IsSound}
-use Rattle.vg_arith.specs.Routines.{leads_on, all_lead_on}
+use Rattle.vg_lin.specs.Onward.{leads_on, all_lead_on}
 use Rattle.vg_arith.proofs.ShiftRoutines.{some_is}
 use Rattle.vg_expand.specs.Flow.{is_routine, calls_in, calls_of}
-use Rattle.vg_expand.specs.Code.{Base, cut_to, calling, mask, shifting, computing, expanded_at, expanded_code, place_in, base_of, expanded}
+use Rattle.vg_expand.specs.Code.{Base, in_four, dividing, cut_to, calling, mask, shifting, computing, expanded_at, expanded_code, place_in, base_of, expanded}
 use Rattle.vg_expand.proofs.Expanded.{each_product}
 use Rattle.vg_expand.proofs.Placed.{place_of, place_in_is}
 use Rattle.vg_expand.proofs.Kept.{Located, located, alone, one_of, IsOfComputation, computing_is, place_grows}
@@ -55,26 +55,26 @@ cut_calls first w to = by_test (nat_lt w 4)
 
 calling_calls : (first k : ℕ) (rs : Registers) (c : Computation) → k < 4 → calls_of first (calling (first + k) rs c) ≡ []
 calling_calls first k rs c h =
-    ap (λ b. (if not b then record { callee = ByNumber (first + k); pushed = 0; registers = rs; to = Some c.to }
+    ap (λ b. (if not b then record { callee = ByNumber (first + k); pushed = 0; registers = rs; to = Some (record { width = 4; local = c.to }) }
     ∷ [] else []) ++ calls_of first (cut_to c.width c.to))
     (a_routine first k h) ∙ cut_calls first c.width c.to
 
 shifting_calls : (first k : ℕ) (c : Computation) (a : Operand) → k < 4 → calls_of first (shifting (first + k) c a) ≡ []
 shifting_calls first k c (Known n) h = refl
-shifting_calls first k c (Local i) h = calling_calls first k (Three c.left (Local i) (mask c.width)) c h
+shifting_calls first k c (Local i) h = calling_calls first k (Three (in_four c.left) (in_four (Local i)) (in_four (mask c.width))) c h
 
 computing_calls : (base : Base) (c : Computation) (op : Operator) → calls_of base.first (computing base c op) ≡ []
 computing_calls base c Plus = refl
 computing_calls base c Minus = refl
 computing_calls base c Times =
-    each_product (λ xs. calls_of base.first xs ≡ []) base c (λ a b. subst (λ r. calls_of base.first (calling r (Two a b) c) ≡ []) (none base.first)
-    (calling_calls base.first 0 (Two a b) c (omega arith))) (λ a b. cut_calls base.first c.width c.to) (λ v. refl) (λ a n. refl) (λ a n. refl) (λ a n. refl)
+    each_product (λ xs. calls_of base.first xs ≡ []) base c (λ a b. subst (λ r. calls_of base.first (calling r (Two (in_four a) (in_four b)) c) ≡ []) (none base.first)
+    (calling_calls base.first 0 (Two (in_four a) (in_four b)) c (omega arith))) (λ a b. cut_calls base.first c.width c.to) (λ v. refl) (λ a n. refl) (λ a n. refl) (λ a n. refl)
     c.left c.right
   where
     none : (n : ℕ) → n + 0 ≡ n
     none n = omega arith
-computing_calls base c Divide = calling_calls base.first 1 (Three c.left c.right (Known 0)) c (omega arith)
-computing_calls base c Remainder = calling_calls base.first 1 (Three c.left c.right (Known 1)) c (omega arith)
+computing_calls base c Divide = calling_calls base.first 1 (dividing c (Known 0)) c (omega arith)
+computing_calls base c Remainder = calling_calls base.first 1 (dividing c (Known 1)) c (omega arith)
 computing_calls base c And = refl
 computing_calls base c Or = refl
 computing_calls base c Xor = refl
@@ -91,6 +91,7 @@ at_calls base place (Plain (Store w a from)) = refl
 at_calls base place (Plain (ReadDevice to a)) = refl
 at_calls base place (Plain (WriteDevice to a)) = refl
 at_calls base place (Plain (Push w a)) = refl
+at_calls base place (Plain (Pop w to)) = refl
 at_calls base place (Plain (Find d to a)) = refl
 at_calls base place (Plain (CodeOf q to)) = refl
 at_calls base place (Plain (Stop c)) = refl
@@ -98,7 +99,7 @@ at_calls base place (When t to) = refl
 at_calls base place (Unless t to) = refl
 at_calls base place (Jump to) = refl
 at_calls base place (Call c) = refl
-at_calls base place (Return a) = refl
+at_calls base place (Return w a) = refl
 at_calls base place Idle = refl
 
 pub code_calls : (base : Base) (place : ℕ → ℕ) (is : List Instr) → calls_of base.first (expanded_code base place is) ≡ calls_of base.first is
@@ -154,7 +155,7 @@ stays m j (When t to) h = absurd h
 stays m j (Unless t to) h = absurd h
 stays m j (Jump to) h = absurd h
 stays m j (Call c) h = refl
-stays m j (Return a) h = refl
+stays m j (Return w a) h = refl
 stays m j Idle h = refl
 
 module _ (first : ℕ) (m : Procedure) (sound : IsSound m) where
@@ -186,6 +187,7 @@ module _ (first : ℕ) (m : Procedure) (sound : IsSound m) where
   plain_leads at k (ReadDevice to a) x h f = alone (λ n y. leads_on (place_of its_base m.code at + n) y ≡ true) (Plain (ReadDevice to a)) k x f refl
   plain_leads at k (WriteDevice to a) x h f = alone (λ n y. leads_on (place_of its_base m.code at + n) y ≡ true) (Plain (WriteDevice to a)) k x f refl
   plain_leads at k (Push w a) x h f = alone (λ n y. leads_on (place_of its_base m.code at + n) y ≡ true) (Plain (Push w a)) k x f refl
+  plain_leads at k (Pop w to) x h f = alone (λ n y. leads_on (place_of its_base m.code at + n) y ≡ true) (Plain (Pop w to)) k x f refl
   plain_leads at k (Find d to a) x h f = alone (λ n y. leads_on (place_of its_base m.code at + n) y ≡ true) (Plain (Find d to a)) k x f refl
   plain_leads at k (CodeOf q to) x h f = alone (λ n y. leads_on (place_of its_base m.code at + n) y ≡ true) (Plain (CodeOf q to)) k x f refl
   plain_leads at k (Stop c) x h f = alone (λ n y. leads_on (place_of its_base m.code at + n) y ≡ true) (Plain (Stop c)) k x f refl
@@ -200,7 +202,7 @@ module _ (first : ℕ) (m : Procedure) (sound : IsSound m) where
   leads at k (Jump to) x h (n, (b, g)) l f =
       alone (λ n y. leads_on (place_of its_base m.code at + n) y ≡ true) (Jump (place_in its_base m.code to)) k x f (target at to b l)
   leads at k (Call c) x h w l f = alone (λ n y. leads_on (place_of its_base m.code at + n) y ≡ true) (Call c) k x f refl
-  leads at k (Return a) x h w l f = alone (λ n y. leads_on (place_of its_base m.code at + n) y ≡ true) (Return a) k x f refl
+  leads at k (Return r a) x h w l f = alone (λ n y. leads_on (place_of its_base m.code at + n) y ≡ true) (Return r a) k x f refl
   leads at k Idle x h w l f = alone (λ n y. leads_on (place_of its_base m.code at + n) y ≡ true) Idle k x f refl
 
   pub code_onwards : all_lead_on 0 m.code ≡ true → all_lead_on 0 (expanded first m).code ≡ true

@@ -1,16 +1,17 @@
 -- That locals keep their widths, and values that the widths hold.
-use Rattle.std.specs.Prelude.{ℕ, zero, suc, ◌+◌, ◌*◌, ◌<◌, ◌^◌, List, [], ◌∷◌, Option, Some, None}
+use Rattle.std.specs.Prelude.{ℕ, zero, suc, ◌+◌, ◌*◌, ◌<◌, ◌^◌, Bool, true, false, ◌==◌, List, [], ◌∷◌, Option, Some, None, if◌then◌else◌}
 use Rattle.std.proofs.Common.{refl, subst, arith}
 use Rattle.std.proofs.Math.Nat.{one-le-pow, mod-lt}
 use Rattle.vg_meaning.specs.Outside.{Outside}
 use Rattle.vg_lin.specs.declared.instr.Memory.TheVariants.{Ram}
 use Rattle.vg_lin.specs.declared.instr.Operand.TheVariants.{Local}
+use Rattle.vg_lin.specs.declared.instr.Target.{Target}
 use Rattle.vg_lin.specs.declared.instr.Plain.{Plain as PlainInstr}
-use Rattle.vg_lin.specs.declared.instr.Plain.TheVariants.{Copy, Compute, Product, DivideStep, Load, Store, ReadDevice, WriteDevice, Push, Find, CodeOf, Stop}
+use Rattle.vg_lin.specs.declared.instr.Plain.TheVariants.{Copy, Compute, Product, DivideStep, Load, Store, ReadDevice, WriteDevice, Push, Pop, Find, CodeOf, Stop}
 use Rattle.vg_lin.specs.Values.{low, computed}
 use Rattle.vg_lin.specs.Steps.{Awaits, Result, Interrupt, Went, Goes, Raises, Lacks, Fails}
 use Rattle.vg_lin.specs.Program.{Program}
-use Rattle.vg_lin.specs.State.{LocalState, State, using, value, with_local, number_at, index_of, loaded, stores, reads_from, plain}
+use Rattle.vg_lin.specs.State.{LocalState, Waiting, State, using, value, sets, with_local, pops_from, number_at, index_of, loaded, stores, reads_from, plain}
 use Rattle.vg_codes.specs.Dispatch.{dispatched}
 use Rattle.vg_lin.specs.Meaning.{with_result}
 use Rattle.vg_lin.specs.Meaning.{begun, resume}
@@ -53,6 +54,14 @@ stores_keep : (ws : List ℕ) (s : State) (o : Outside) (width x : ℕ) (i : Opt
 stores_keep ws s o width x None h = tt {0}
 stores_keep ws s o width x (Some i) h = using_keeps ws (number_at s.ram width i) _ (λ old. h)
 
+pops_keep : (ws : List ℕ) (xs : List Waiting) (width to : ℕ) (s : State) (o : Outside) → Holds ws s.locals → Keeps ws (pops_from xs width to s o)
+pops_keep ws [] width to s o h = tt {0}
+pops_keep ws (x ∷ xs) width to s o h = by_test (x.width == width)
+  where
+    by_test : (b : Bool) → Keeps ws (if b then Goes (sets to x.value (record s { waiting = xs })) o else Fails)
+    by_test true = sets_holds ws s.locals to x.value h
+    by_test false = tt {0}
+
 pub plain_keeps : (p : Program) (i : PlainInstr) (ws : List ℕ) (s : State) (o : Outside) → Holds ws s.locals → Keeps ws (plain p i s o)
 plain_keeps p (Copy to a) ws s o h = using_keeps ws (value a s) _ (λ x. sets_holds ws s.locals to x h)
 plain_keeps p (Compute c) ws s o h =
@@ -70,6 +79,7 @@ plain_keeps p (Store w a from) ws s o h =
 plain_keeps p (ReadDevice to address) ws s o h = reads_keep ws o.reads to address s o h
 plain_keeps p (WriteDevice address a) ws s o h = using_keeps ws (value a s) _ (λ x. h)
 plain_keeps p (Push w a) ws s o h = using_keeps ws (value a s) _ (λ x. h)
+plain_keeps p (Pop w to) ws s o h = pops_keep ws s.waiting w to s o h
 plain_keeps p (Find d to a) ws s o h =
     using_keeps ws (value a s) _ (λ n. using_keeps ws (dispatched p.dispatches d n) _ (λ q. sets_holds ws s.locals to (p.codes.code q) h))
 plain_keeps p (CodeOf q to) ws s o h = sets_holds ws s.locals to (p.codes.code q) h
@@ -79,7 +89,7 @@ plain_keeps p (Stop code) ws s o h = tt {0}
 pub resume_holds : (ws : List ℕ) (a : Awaits) (kept returned : State) (v : ℕ) → Holds ws kept.locals → Holds ws (resume a kept returned v).locals
 resume_holds ws (Result c) kept returned v h = to_some c.to
   where
-    to_some : (to : Option ℕ) → Holds ws (with_result to v (record kept { ram = returned.ram })).locals
-    to_some (Some to) = sets_holds ws kept.locals to v h
+    to_some : (to : Option Target) → Holds ws (with_result to v (record kept { ram = returned.ram })).locals
+    to_some (Some to) = sets_holds ws kept.locals to.local v h
     to_some None = h
 resume_holds ws Interrupt kept returned v h = h

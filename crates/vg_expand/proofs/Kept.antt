@@ -12,14 +12,16 @@ use Rattle.vg_lin.specs.declared.instr.Operator.TheVariants.{Plus, Minus, Times,
 use Rattle.vg_lin.specs.declared.instr.Computation.{Computation}
 use Rattle.vg_lin.specs.declared.instr.Test.{Test}
 use Rattle.vg_lin.specs.declared.instr.Plain.{Plain as PlainInstr}
-use Rattle.vg_lin.specs.declared.instr.Plain.TheVariants.{Copy, Compute, Product, DivideStep, Load, Store, ReadDevice, WriteDevice, Push, Find, CodeOf, Stop}
+use Rattle.vg_lin.specs.declared.instr.Plain.TheVariants.{Copy, Compute, Product, DivideStep, Load, Store, ReadDevice, WriteDevice, Push, Pop, Find, CodeOf, Stop}
+use Rattle.vg_lin.specs.declared.instr.Passed.{Passed}
+use Rattle.vg_lin.specs.declared.instr.Target.{Target}
 use Rattle.vg_lin.specs.declared.instr.Callee.{Callee}
 use Rattle.vg_lin.specs.declared.instr.Callee.TheVariants.{Procedure as ByNumber, Code as ByCode}
 use Rattle.vg_lin.specs.declared.instr.Instr.{Instr}
 use Rattle.vg_lin.specs.declared.instr.Instr.TheVariants.{Plain, When, Unless, Jump, Call, Return, Idle}
 use Rattle.vg_lin.specs.Program.{Procedure}
 use Rattle.vg_lin.specs.Meaning.{operands}
-use Rattle.vg_lin.specs.Sound.{IsWidth, IsLocal, IsOperand, IsTo, IsTest, IsCallee, IsPlain, AreOperands, GoesOn, Jumps, PlainWaits, Waits, IsSound}
+use Rattle.vg_lin.specs.Sound.{IsWidth, IsLocal, IsOperand, IsPassed, IsTo, IsTest, IsCallee, IsPlain, AreOperands, GoesOn, Jumps, PlainWaits, Waits, IsSound}
 use Rattle.vg_arith.proofs.ShiftRoutines.{some_is}
 use Rattle.vg_expand.specs.Code.{Base, cut_to, shifting, multiplying, computing, expanded_at, expanded_code, size, place_in}
 use Rattle.vg_expand.specs.Code.{is_narrow, narrow_or, product_of, power_of, by_difference, by_sum, is_in, in_two, by_power, by_factor, base_of, expanded}
@@ -107,6 +109,7 @@ size_some base (Plain (Store w a from)) = omega arith
 size_some base (Plain (ReadDevice to a)) = omega arith
 size_some base (Plain (WriteDevice to a)) = omega arith
 size_some base (Plain (Push w a)) = omega arith
+size_some base (Plain (Pop w to)) = omega arith
 size_some base (Plain (Find d to a)) = omega arith
 size_some base (Plain (CodeOf q to)) = omega arith
 size_some base (Plain (Stop c)) = omega arith
@@ -114,7 +117,7 @@ size_some base (When t to) = omega arith
 size_some base (Unless t to) = omega arith
 size_some base (Jump to) = omega arith
 size_some base (Call c) = omega arith
-size_some base (Return a) = omega arith
+size_some base (Return w a) = omega arith
 size_some base Idle = omega arith
 
 place_end : (base : Base) (place : ℕ → ℕ) (is : List Instr) (at : ℕ) (i : Instr) → slice_get is at ≡ Some i
@@ -192,19 +195,20 @@ plain_now first m (Store w a from) (h, f, g) = (h, operand_now first m a.index f
 plain_now first m (ReadDevice to a) h = h
 plain_now first m (WriteDevice to a) h = operand_now first m a h
 plain_now first m (Push w a) (h, g) = (h, operand_now first m a g)
+plain_now first m (Pop w to) h = h
 plain_now first m (Find d to a) (h, g) = (h, operand_now first m a g)
 plain_now first m (CodeOf q to) h = h
 plain_now first m (Stop c) h = h
 
-all_now : (first : ℕ) (m : Procedure) (xs : List Operand) → AllByRecursion (IsOperand m) xs → AllByRecursion (IsOperand (expanded first m)) xs
+all_now : (first : ℕ) (m : Procedure) (xs : List Passed) → AllByRecursion (IsPassed m) xs → AllByRecursion (IsPassed (expanded first m)) xs
 all_now first m [] h = tt {0}
-all_now first m (x ∷ xs) (h, g) = (operand_now first m x h, all_now first m xs g)
+all_now first m (x ∷ xs) ((w, h), g) = ((w, operand_now first m x.value h), all_now first m xs g)
 
 callee_now : (first : ℕ) (m : Procedure) (c : Callee) → IsCallee m c → IsCallee (expanded first m) c
 callee_now first m (ByNumber q) h = h
 callee_now first m (ByCode a) h = operand_now first m a h
 
-to_now : (first : ℕ) (m : Procedure) (to : Option ℕ) → IsTo m to → IsTo (expanded first m) to
+to_now : (first : ℕ) (m : Procedure) (to : Option Target) → IsTo m to → IsTo (expanded first m) to
 to_now first m (Some to) h = h
 to_now first m None h = h
 
@@ -232,6 +236,15 @@ module _ (first : ℕ) (m : Procedure) (width to : ℕ) (left right : Operand) (
       by_test true = ((hw, ht, ht, tt {0}), tt {0})
       by_test false = tt {0}
 
+  four : IsWidth 4
+  four = (omega arith, omega arith)
+
+  one : IsWidth 1
+  one = (omega arith, omega arith)
+
+  small : 4 ≤ 4
+  small = omega arith
+
   l' : IsOperand n left
   l' = operand_now first m left hl
 
@@ -246,14 +259,14 @@ module _ (first : ℕ) (m : Procedure) (width to : ℕ) (left right : Operand) (
     where
       by_test : (t : Bool) → AllByRecursion (IsOfComputation n) (narrow_or t first (of Times) a b)
       by_test true = ((ht, ha, hb), cut_is)
-      by_test false = ((refl, (tt {0}, (ha, (hb, tt {0})), ht)), cut_is)
+      by_test false = ((refl, (tt {0}, ((four, ha), ((four, hb), tt {0})), (small, ht))), cut_is)
 
   itself : (op : Operator) → AllByRecursion (IsOfComputation n) (Plain (Compute (of op)) ∷ [])
   itself op = ((hw, ht, l', r'), tt {0})
 
   shifting_is : (r : ℕ) (op : Operator) (a : Operand) → a ≡ right → AllByRecursion (IsOfComputation n) (shifting r (of op) a)
   shifting_is r op (Known k) e = itself op
-  shifting_is r op (Local i) e = ((refl, (tt {0}, (l', (subst (IsOperand n) (sym e) r', (tt {0}, tt {0}))), ht)), cut_is)
+  shifting_is r op (Local i) e = ((refl, (tt {0}, ((four, l'), ((four, subst (IsOperand n) (sym e) r'), ((four, tt {0}), tt {0}))), (small, ht))), cut_is)
 
   -- every form of a product has the two operands, or one of them twice
   factor_is : (a : Operand) (k : ℕ) → IsOperand n a → (t : Bool) → AllByRecursion (IsOfComputation n) (by_factor its_base (of Times) a k t)
@@ -286,8 +299,8 @@ module _ (first : ℕ) (m : Procedure) (width to : ℕ) (left right : Operand) (
   computing_is Plus = itself Plus
   computing_is Minus = itself Minus
   computing_is Times = multiplying_is left right l' r'
-  computing_is Divide = ((refl, (tt {0}, (l', (r', (tt {0}, tt {0}))), ht)), cut_is)
-  computing_is Remainder = ((refl, (tt {0}, (l', (r', (tt {0}, tt {0}))), ht)), cut_is)
+  computing_is Divide = ((refl, (tt {0}, ((four, l'), ((four, r'), ((one, tt {0}), tt {0}))), (small, ht))), cut_is)
+  computing_is Remainder = ((refl, (tt {0}, ((four, l'), ((four, r'), ((one, tt {0}), tt {0}))), (small, ht))), cut_is)
   computing_is And = itself And
   computing_is Or = itself Or
   computing_is Xor = itself Xor
@@ -309,6 +322,7 @@ operands_of m (Plain (Store w a from)) h = absurd h
 operands_of m (Plain (ReadDevice to a)) h = absurd h
 operands_of m (Plain (WriteDevice to a)) h = absurd h
 operands_of m (Plain (Push w a)) h = absurd h
+operands_of m (Plain (Pop w to)) h = absurd h
 operands_of m (Plain (Find d to a)) h = absurd h
 operands_of m (Plain (CodeOf q to)) h = absurd h
 operands_of m (Plain (Stop c)) h = absurd h
@@ -316,7 +330,7 @@ operands_of m (When t to) h = absurd h
 operands_of m (Unless t to) h = absurd h
 operands_of m (Jump to) h = absurd h
 operands_of m (Call c) (e, h) = h
-operands_of m (Return a) h = absurd h
+operands_of m (Return w a) h = absurd h
 operands_of m Idle h = absurd h
 
 waits_of : (m : Procedure) (ws : ℕ → List ℕ) (j : ℕ) (x : Instr) → IsOfComputation m x → GoesOn m ws (suc j) (ws j) → Waits m ws j x
@@ -329,6 +343,7 @@ waits_of m ws j (Plain (Store w a from)) h g = absurd h
 waits_of m ws j (Plain (ReadDevice to a)) h g = absurd h
 waits_of m ws j (Plain (WriteDevice to a)) h g = absurd h
 waits_of m ws j (Plain (Push w a)) h g = absurd h
+waits_of m ws j (Plain (Pop w to)) h g = absurd h
 waits_of m ws j (Plain (Find d to a)) h g = absurd h
 waits_of m ws j (Plain (CodeOf q to)) h g = absurd h
 waits_of m ws j (Plain (Stop c)) h g = absurd h
@@ -337,7 +352,7 @@ waits_of m ws j (Unless t to) h g = absurd h
 waits_of m ws j (Jump to) h g = absurd h
 waits_of m ws j (Call c) (e, h) g =
     subst (λ k. (k ≤ length (ws j)) × GoesOn m ws (suc j) (drop k (ws j))) (sym e) (omega arith, g)
-waits_of m ws j (Return a) h g = absurd h
+waits_of m ws j (Return w a) h g = absurd h
 waits_of m ws j Idle h g = absurd h
 
 -- ---- the whole procedure
@@ -454,6 +469,7 @@ module _ (first : ℕ) (m : Procedure) (sound : IsSound m) where
   plain_kept at (ReadDevice to a) e g h = goes_next at _ _ e g (subst (GoesOn m ws (suc at)) (sym (here at _ e)) h)
   plain_kept at (WriteDevice to a) e g h = goes_next at _ _ e g (subst (GoesOn m ws (suc at)) (sym (here at _ e)) h)
   plain_kept at (Push w a) e g h = goes_next at _ _ e g (subst (λ l. GoesOn m ws (suc at) (w ∷ l)) (sym (here at _ e)) h)
+  plain_kept at (Pop w to) e g (rest, s, h) = (rest, here at _ e ∙ s, goes_next at _ _ e g h)
   plain_kept at (Find d to a) e g h = goes_next at _ _ e g (subst (GoesOn m ws (suc at)) (sym (here at _ e)) h)
   plain_kept at (CodeOf q to) e g h = goes_next at _ _ e g (subst (GoesOn m ws (suc at)) (sym (here at _ e)) h)
   plain_kept at (Stop c) e g h = tt {0}
@@ -506,6 +522,7 @@ module _ (first : ℕ) (m : Procedure) (sound : IsSound m) where
         (WriteDevice to a) e refl g,
   )
   plain_owes at k (Push w a) x e h g f = alone (λ n. Owes (place at + n)) _ k x f (plain_now first m (Push w a) h, plain_kept at (Push w a) e refl g)
+  plain_owes at k (Pop w to) x e h g f = alone (λ n. Owes (place at + n)) _ k x f (plain_now first m (Pop w to) h, plain_kept at (Pop w to) e refl g)
   plain_owes at k (Find d to a) x e h g f = alone (λ n. Owes (place at + n)) _ k x f (plain_now first m (Find d to a) h, plain_kept at (Find d to a) e refl g)
   plain_owes at k (CodeOf q to) x e h g f = alone (λ n. Owes (place at + n)) _ k x f (plain_now first m (CodeOf q to) h, plain_kept at (CodeOf q to) e refl g)
   plain_owes at k (Stop c) x e h g f = alone (λ n. Owes (place at + n)) _ k x f (plain_now first m (Stop c) h, plain_kept at (Stop c) e refl g)
@@ -541,7 +558,7 @@ module _ (first : ℕ) (m : Procedure) (sound : IsSound m) where
           goes_next at _ _ e refl (subst (λ z. GoesOn m ws (suc at) (drop c.pushed z)) (sym (here at _ e)) g),
         ),
       )
-  owes at k (Return a) x e h g f = alone (λ n. Owes (place at + n)) _ k x f (operand_now first m a h, here at _ e ∙ g)
+  owes at k (Return w a) x e (r, h) g f = alone (λ n. Owes (place at + n)) _ k x f ((r, operand_now first m a h), here at _ e ∙ g)
   owes at k Idle x e h g f =
       alone (λ n. Owes (place at + n)) _ k x f (tt {0}, goes_next at _ _ e refl (subst (GoesOn m ws (suc at)) (sym (here at _ e)) g))
 
@@ -561,6 +578,7 @@ module _ (first : ℕ) (m : Procedure) (sound : IsSound m) where
       record {
         few = sound.few;
         params = sound.params;
+        result = sound.result;
         widths = sound.widths;
         operands = λ j x e. (each j x e).0;
         waits = new_waits;

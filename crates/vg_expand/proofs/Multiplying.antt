@@ -346,12 +346,12 @@ module _ (first : ℕ) (m : Procedure) (from width to : ℕ) (left right : Opera
   computing_does Plus st = kept_does first m from (of Plus left right) st
   computing_does Minus st = kept_does first m from (of Minus left right) st
   computing_does Times st = multiplying_does left right st
-  computing_does Divide st = division_does first m from width to left right ws hw within Divide 0 refl (λ k. refl) (λ y. tt {0}) st
-  computing_does Remainder st = division_does first m from width to left right ws hw within Remainder 1 refl (λ k. refl) (λ y. tt {0}) st
+  computing_does Divide st = division_does first m from width to left right ws hw within Divide 0 refl refl (λ k. refl) (λ y. tt {0}) st
+  computing_does Remainder st = division_does first m from width to left right ws hw within Remainder 1 refl refl (λ k. refl) (λ y. tt {0}) st
   computing_does And st = kept_does first m from (of And left right) st
   computing_does Or st = kept_does first m from (of Or left right) st
   computing_does Xor st = kept_does first m from (of Xor left right) st
   computing_does ShiftLeft st =
-      shifting_does first m from width to left right ws hw within ShiftLeft 2 right refl (omega arith) refl (λ k. refl) (λ y h. h) st
+      shifting_does first m from width to left right ws hw within ShiftLeft 2 right refl (omega arith) refl refl (λ k. refl) (λ y h. h) st
   computing_does ShiftRight st =
-      shifting_does first m from width to left right ws hw within ShiftRight 3 right refl (omega arith) refl (λ k. refl) (λ y h. h) st
+      shifting_does first m from width to left right ws hw within ShiftRight 3 right refl (omega arith) refl refl (λ k. refl) (λ y h. h) st

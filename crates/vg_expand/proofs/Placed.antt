@@ -3,7 +3,7 @@
 use Rattle.std.specs.Prelude.{ℕ, zero, suc, ◌+◌, ◌<◌, List, [], ◌∷◌, ◌++◌, length, Some}
 use Rattle.std.specs.Prelude.{slice_get, get_or}
 use Rattle.std.proofs.Common.{◌≡◌, refl, ap, ◌∙◌, subst, arith}
-use Rattle.vg_lin.specs.declared.instr.Plain.TheVariants.{Copy, Compute, Product, DivideStep, Load, Store, ReadDevice, WriteDevice, Push, Find, CodeOf, Stop}
+use Rattle.vg_lin.specs.declared.instr.Plain.TheVariants.{Copy, Compute, Product, DivideStep, Load, Store, ReadDevice, WriteDevice, Push, Pop, Find, CodeOf, Stop}
 use Rattle.vg_lin.specs.declared.instr.Instr.{Instr}
 use Rattle.vg_lin.specs.declared.instr.Instr.TheVariants.{Plain, When, Unless, Jump, Call, Return, Idle}
 use Rattle.vg_arith.proofs.ShiftRoutines.{some_is}
@@ -22,6 +22,7 @@ size_is base place (Plain (Store w a from)) = refl
 size_is base place (Plain (ReadDevice to a)) = refl
 size_is base place (Plain (WriteDevice to a)) = refl
 size_is base place (Plain (Push w a)) = refl
+size_is base place (Plain (Pop w to)) = refl
 size_is base place (Plain (Find d to a)) = refl
 size_is base place (Plain (CodeOf q to)) = refl
 size_is base place (Plain (Stop c)) = refl
@@ -29,7 +30,7 @@ size_is base place (When t to) = refl
 size_is base place (Unless t to) = refl
 size_is base place (Jump to) = refl
 size_is base place (Call c) = refl
-size_is base place (Return a) = refl
+size_is base place (Return w a) = refl
 size_is base place Idle = refl
 
 -- ---- places

@@ -11,10 +11,11 @@ use Rattle.vg_meaning.specs.Answer.{End, Stops, Wants, Done, Wrong}
 use Rattle.vg_lin.specs.declared.instr.Operand.{Operand}
 use Rattle.vg_lin.specs.declared.instr.Computation.{Computation}
 use Rattle.vg_lin.specs.declared.instr.Plain.{Plain as PlainInstr}
-use Rattle.vg_lin.specs.declared.instr.Plain.TheVariants.{Copy, Compute, Product, DivideStep, Load, Store, ReadDevice, WriteDevice, Push, Find, CodeOf, Stop}
+use Rattle.vg_lin.specs.declared.instr.Plain.TheVariants.{Copy, Compute, Product, DivideStep, Load, Store, ReadDevice, WriteDevice, Push, Pop, Find, CodeOf, Stop}
 use Rattle.vg_lin.specs.declared.instr.Callee.{Callee}
 use Rattle.vg_lin.specs.declared.instr.Callee.TheVariants.{Procedure as ByNumber, Code as ByCode}
 use Rattle.vg_lin.specs.declared.instr.Memory.TheVariants.{Ram, Flash}
+use Rattle.vg_lin.specs.declared.instr.Target.{Target}
 use Rattle.vg_lin.specs.declared.instr.Call.{Call as Calling}
 use Rattle.vg_lin.specs.declared.instr.Instr.{Instr}
 use Rattle.vg_lin.specs.declared.instr.Instr.TheVariants.{Plain, When, Unless, Jump, Call, Return, Idle}
@@ -23,7 +24,7 @@ use Rattle.vg_lin.specs.Sound.{IsSound}
 use Rattle.vg_lin.specs.Program.{Procedure, Program}
 use Rattle.vg_lin.specs.State.{LocalState, Waiting, State, value, using, sets, computes, plain, holds}
 use Rattle.vg_lin.specs.Meaning.{with_code}
-use Rattle.vg_lin.specs.Meaning.{begun, called, entry_with, entry_of, entry_at, values, values_of, operands, same_widths, result}
+use Rattle.vg_lin.specs.Meaning.{begun, called, entry_with, entry_of, entry_at, values, values_of, operands, same_widths, gives_to, result}
 use Rattle.vg_lin.specs.Meaning.{resume, wake, widths_of, call_of, name_of, language, codes_in, at_start}
 use Rattle.vg_lin.specs.Steps.{stepped}
 use Rattle.vg_lin.specs.Steps.{Awaits, Result, Interrupt, Frame, Went, Goes, Raises, Lacks, Fails, Entry, Config, with_named, open_below, noted}
@@ -51,35 +52,36 @@ entry_if : (ws : List ℕ) (r : ℕ) (s : State) (b : Bool) (o : Option (Entry S
 entry_if ws r s true o h = h
 entry_if ws r s false o h = tt {0}
 
-entry_with_enters : (r : ℕ) (m : Procedure) (pushed : List Waiting) (s kept : State) (o : Option (List ℕ)) → kept.locals ≡ s.locals
-    → EntersAt m.widths r s (entry_with r m pushed kept o)
-entry_with_enters r m pushed s kept None h = tt {0}
-entry_with_enters r m pushed s kept (Some xs) h =
-    entry_if m.widths r s ((length pushed + length xs == m.params) && same_widths m.widths pushed) _
-    (record { proc = refl; holds = begun_holds m.widths (values_of pushed ++ xs); kept = h })
+entry_with_enters : (r : ℕ) (m : Procedure) (to : Option Target) (pushed : List Waiting) (s kept : State) (o : Option (List Waiting))
+    → kept.locals ≡ s.locals → EntersAt m.widths r s (entry_with r m to pushed kept o)
+entry_with_enters r m to pushed s kept None h = tt {0}
+entry_with_enters r m to pushed s kept (Some xs) h =
+    entry_if m.widths r s ((length (pushed ++ xs) == m.params) && same_widths m.widths (pushed ++ xs) && gives_to m.result to) _
+    (record { proc = refl; holds = begun_holds m.widths (values_of (pushed ++ xs)); kept = h })
 
 entry_enters : (r : ℕ) (m : Procedure) (c : Calling) (s : State) → EntersAt m.widths r s (entry_of r (Some m) c s)
 entry_enters r m c s =
     entry_if m.widths r s (length (take c.pushed s.waiting) == c.pushed) _
-    (entry_with_enters r m (reverse (take c.pushed s.waiting)) s (record s { waiting = drop c.pushed s.waiting }) (values (operands c.registers) s) refl)
+    (entry_with_enters r m c.to (reverse (take c.pushed s.waiting)) s (record s { waiting = drop c.pushed s.waiting }) (values (operands c.registers) s) refl)
 
 -- procedures with the same locals have the same entries
-entry_with_same : (r : ℕ) (m n : Procedure) (pushed : List Waiting) (kept : State) (o : Option (List ℕ)) → n.params ≡ m.params → n.widths ≡ m.widths
-    → entry_with r n pushed kept o ≡ entry_with r m pushed kept o
-entry_with_same r m n pushed kept None e h = refl
-entry_with_same r m n pushed kept (Some xs) e h = ap (λ a. by_parts a n.widths) e ∙ ap (λ ws. by_parts m.params ws) h
+entry_with_same : (r : ℕ) (m n : Procedure) (to : Option Target) (pushed : List Waiting) (kept : State) (o : Option (List Waiting))
+    → n.params ≡ m.params → n.result ≡ m.result → n.widths ≡ m.widths → entry_with r n to pushed kept o ≡ entry_with r m to pushed kept o
+entry_with_same r m n to pushed kept None e f h = refl
+entry_with_same r m n to pushed kept (Some xs) e f h =
+    ap (λ a. by_parts a n.result n.widths) e ∙ ap (λ b. by_parts m.params b n.widths) f ∙ ap (λ ws. by_parts m.params m.result ws) h
   where
-    by_parts : ℕ → List ℕ → Option (Entry State)
-    by_parts a ws =
-        if (length pushed + length xs == a) && same_widths ws pushed
-        then Some (record { proc = r; state = record { locals = begun ws (values_of pushed ++ xs); waiting = []; ram = kept.ram }; kept = kept })
+    by_parts : (params result : ℕ) → List ℕ → Option (Entry State)
+    by_parts a b ws =
+        if (length (pushed ++ xs) == a) && same_widths ws (pushed ++ xs) && gives_to b to
+        then Some (record { proc = r; state = record { locals = begun ws (values_of (pushed ++ xs)); waiting = []; ram = kept.ram }; kept = kept })
         else None
 
-entry_same : (r : ℕ) (m n : Procedure) (c : Calling) (s : State) → n.params ≡ m.params → n.widths ≡ m.widths
+entry_same : (r : ℕ) (m n : Procedure) (c : Calling) (s : State) → n.params ≡ m.params → n.result ≡ m.result → n.widths ≡ m.widths
     → entry_of r (Some n) c s ≡ entry_of r (Some m) c s
-entry_same r m n c s e h =
+entry_same r m n c s e f h =
     ap (λ o. if length (take c.pushed s.waiting) == c.pushed then o else None)
-    (entry_with_same r m n (reverse (take c.pushed s.waiting)) (record s { waiting = drop c.pushed s.waiting }) (values (operands c.registers) s) e h)
+    (entry_with_same r m n c.to (reverse (take c.pushed s.waiting)) (record s { waiting = drop c.pushed s.waiting }) (values (operands c.registers) s) e f h)
 
 pub within : {A : Type 0} (xs : List A) (k : ℕ) → k < length xs → (x : A) × (slice_get xs k ≡ Some x)
 within [] k h = absurd (omega arith)
@@ -103,6 +105,7 @@ module _ (first : ℕ) (p : Program) (ms : List Procedure) (all : AllExpand firs
   plain_same (ReadDevice to address) s o = refl
   plain_same (WriteDevice address a) s o = refl
   plain_same (Push w a) s o = refl
+  plain_same (Pop w to) s o = refl
   plain_same (Find d to a) s o = refl
   plain_same (CodeOf q to) s o = refl
   plain_same (Stop code) s o = refl
@@ -293,15 +296,16 @@ module _ (first : ℕ) (p : Program) (ms : List Procedure) (all : AllExpand firs
                 → Stepped d (calls (language p) c i (entry_of r (Some m) i s))
             with_expanded (so, (n, k, en)) =
                 by_entry r m n h k so en (entry_of r (Some m) i s) (entry_enters r m i s)
-                (subst (λ z. To d (calls (language new) d i z)) (ap (λ z. entry_of r z i s) k ∙ entry_same r m n i s en.params en.widths) t)
+                (subst (λ z. To d (calls (language new) d i z)) (ap (λ z. entry_of r z i s) k ∙ entry_same r m n i s en.params en.result en.widths) t)
         by_procedure r None h t = fails refl
 
         by_callee : (k : Option ℕ) → To d (calls (language new) d i (entry_at new k i s)) → Stepped d (calls (language p) c i (entry_at p k i s))
         by_callee (Some r) t = by_procedure r (slice_get p.procedures r) refl t
         by_callee None t = fails refl
 
-    return : (a : Operand) → slice_get now.code (ex.place pc) ≡ Some (Return a) → Stepped d (performed (language p) c (Some (Return a)))
-    return a e = by_value (result a s) (one (Return a) e)
+    return : (width : ℕ) (a : Operand) → slice_get now.code (ex.place pc) ≡ Some (Return width a)
+        → Stepped d (performed (language p) c (Some (Return width a)))
+    return width a e = by_value (result width a s) (one (Return width a) e)
       where
         to_caller : (v : ℕ) (hs ks : List (Frame State)) → FramesStand hs ks → To d (goes_back (language new) d ks v)
             → Stepped d (goes_back (language p) c hs v)
@@ -347,6 +351,7 @@ module _ (first : ℕ) (p : Program) (ms : List Procedure) (all : AllExpand firs
     plain_step (ReadDevice to address) k = kept_plain (ReadDevice to address) k
     plain_step (WriteDevice address a) k = kept_plain (WriteDevice address a) k
     plain_step (Push w a) k = kept_plain (Push w a) k
+    plain_step (Pop w to) k = kept_plain (Pop w to) k
     plain_step (Find e to a) k = kept_plain (Find e to a) k
     plain_step (CodeOf q to) k = kept_plain (CodeOf q to) k
     plain_step (Stop code) k = kept_plain (Stop code) k
@@ -357,7 +362,7 @@ module _ (first : ℕ) (p : Program) (ms : List Procedure) (all : AllExpand firs
     by_instr (Unless t to) (e, g) = by_test false to (holds t s) g (one (Unless t (ex.place to)) e)
     by_instr (Jump to) e = goes_to to (ex.place to) s o refl held (one (Jump (ex.place to)) e)
     by_instr (Call i) k = call i k
-    by_instr (Return a) e = return a e
+    by_instr (Return width a) e = return width a e
     by_instr Idle k = idle k
 
     by_fetch : (i : Option Instr) → slice_get old.code pc ≡ i → Stepped d (performed (language p) c i)

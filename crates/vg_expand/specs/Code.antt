@@ -10,6 +10,7 @@ use Rattle.vg_lin.specs.declared.instr.Computation.{Computation}
 use Rattle.vg_lin.specs.declared.instr.Plain.{Plain as PlainInstr}
 use Rattle.vg_lin.specs.declared.instr.Plain.TheVariants.{Copy, Compute, Product}
 use Rattle.vg_lin.specs.declared.instr.Callee.TheVariants.{Procedure as ByNumber}
+use Rattle.vg_lin.specs.declared.instr.Passed.{Passed}
 use Rattle.vg_lin.specs.declared.instr.Registers.{Registers}
 use Rattle.vg_lin.specs.declared.instr.Registers.TheVariants.{Two, Three}
 use Rattle.vg_lin.specs.declared.instr.Instr.{Instr}
@@ -27,18 +28,29 @@ pub record Base : Type 0 where
 abbrev pub cut_to : (width to : ℕ) → List Instr
 cut_to w to = if nat_lt w 4 then Plain (Compute (record { operator = Plus; width = w; to = to; left = Local to; right = Known 0 })) ∷ [] else []
 
+-- An operand as an argument of a routine.
+abbrev pub in_four : Operand → Passed
+in_four a = record { width = 4; value = a }
+
+abbrev pub in_one : Operand → Passed
+in_one a = record { width = 1; value = a }
+
 -- A call of a routine in place of a computation.
 abbrev pub calling : (routine : ℕ) → Registers → Computation → List Instr
-calling q rs c = Call (record { callee = ByNumber q; pushed = 0; registers = rs; to = Some c.to }) ∷ cut_to c.width c.to
+calling q rs c = Call (record { callee = ByNumber q; pushed = 0; registers = rs; to = Some (record { width = 4; local = c.to }) }) ∷ cut_to c.width c.to
 
 -- The bits of a width.
 abbrev pub mask : (width : ℕ) → Operand
 mask w = Known (if nat_lt w 4 then 256 ^ w - 1 else 0xFFFFFFFF)
 
+-- Of the results of a division the quotient is wanted by 0, the remainder by 1.
+abbrev pub dividing : Computation → (wanted : Operand) → Registers
+dividing c wanted = Three (in_four c.left) (in_four c.right) (in_one wanted)
+
 -- A shift by an amount that is not known is a call.
 abbrev pub shifting : (routine : ℕ) → Computation → (amount : Operand) → List Instr
 shifting q c (Known n) = Plain (Compute c) ∷ []
-shifting q c (Local i) = calling q (Three c.left (Local i) (mask c.width)) c
+shifting q c (Local i) = calling q (Three (in_four c.left) (in_four (Local i)) (in_four (mask c.width))) c
 
 -- ---- products
 
@@ -49,7 +61,7 @@ is_narrow ws (Known v) = nat_lt v 256
 
 abbrev pub narrow_or : (narrow : Bool) → (routine : ℕ) → Computation → (left right : Operand) → List Instr
 narrow_or true q c a b = Plain (Product c.to a b) ∷ cut_to c.width c.to
-narrow_or false q c a b = calling q (Two a b) c
+narrow_or false q c a b = calling q (Two (in_four a) (in_four b)) c
 
 -- The product of two bytes is one instruction.
 abbrev pub product_of : Base → Computation → (left right : Operand) → List Instr
@@ -109,8 +121,8 @@ multiplying base c (Local i) (Local j) = product_of base c (Local i) (Local j)
 
 abbrev pub computing : Base → Computation → Operator → List Instr
 computing base c Times = multiplying base c c.left c.right
-computing base c Divide = calling (base.first + 1) (Three c.left c.right (Known 0)) c
-computing base c Remainder = calling (base.first + 1) (Three c.left c.right (Known 1)) c
+computing base c Divide = calling (base.first + 1) (dividing c (Known 0)) c
+computing base c Remainder = calling (base.first + 1) (dividing c (Known 1)) c
 computing base c ShiftLeft = shifting (base.first + 2) c c.right
 computing base c ShiftRight = shifting (base.first + 3) c c.right
 computing base c op = Plain (Compute c) ∷ []

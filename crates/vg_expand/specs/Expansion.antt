@@ -57,13 +57,14 @@ StandsFor first m place at (When t to) = Kept m place at (When t (place to))
 StandsFor first m place at (Unless t to) = Kept m place at (Unless t (place to))
 StandsFor first m place at (Jump to) = slice_get m.code (place at) ≡ Some (Jump (place to))
 StandsFor first m place at (Call c) = Kept m place at (Call c)
-StandsFor first m place at (Return a) = slice_get m.code (place at) ≡ Some (Return a)
+StandsFor first m place at (Return w a) = slice_get m.code (place at) ≡ Some (Return w a)
 StandsFor first m place at Idle = Kept m place at Idle
 
 -- The second procedure is the first one with its arithmetic as calls of routines. It has the same locals.
 pub record Expands (first : ℕ) (old new : Procedure) : Type 0 where
   pub method : new.method ≡ old.method
   pub params : new.params ≡ old.params
+  pub result : new.result ≡ old.result
   pub widths : new.widths ≡ old.widths
   pub place : ℕ → ℕ
   pub begins : place 0 ≡ 0

@@ -2,3 +2,4 @@ pub mod Expansion
 pub mod Runs
 pub mod Flow
 pub mod Code
+pub mod Refusals

@@ -1,13 +1,14 @@
 // The code in place of one instruction.
 ghost use Rattle.std.specs.Prelude.{◌≡◌, ◌<◌, ◌++◌, [], ◌∷◌, get_or, OnOk};
 ghost use Rattle.vg_lin.specs.declared.instr.Operand.TheVariants.{Known as IsKnown};
-ghost use Rattle.vg_lin.specs.declared.instr.Registers.TheVariants.{Three};
-ghost use Rattle.vg_expand.specs.Code.{cut_to, calling, mask as mask_of, shifting, computing, plain_at, expanded_at};
+ghost use Rattle.vg_expand.specs.Code.{in_four as argument, dividing, cut_to, calling, mask as mask_of, shifting, computing, plain_at, expanded_at};
 
 use crate::places::place_at;
 use crate::products::push_product;
 use vg_base::{NoMemory, Row};
-use vg_lin::{Call, Callee, Computation, Instr, Operand, Operator, Plain, Registers};
+use vg_lin::{
+    Call, Callee, Computation, Instr, Operand, Operator, Passed, Plain, Registers, Target,
+};
 
 /// Puts what stands for an instruction behind the code, where the first routine has this number and locals have these widths.
 pub fn push_instr(
@@ -26,7 +27,7 @@ pub fn push_instr(
         Instr::Unless(test, to) => code.push(Instr::Unless(test, place_at(places, to))),
         Instr::Jump(to) => code.push(Instr::Jump(place_at(places, to))),
         Instr::Call(call) => code.push(Instr::Call(call)),
-        Instr::Return(value) => code.push(Instr::Return(value)),
+        Instr::Return(width, value) => code.push(Instr::Return(width, value)),
         Instr::Idle => code.push(Instr::Idle),
     }
 }
@@ -72,12 +73,19 @@ fn push_division(
     c: Computation,
     wanted: u32,
 ) -> Result<(), NoMemory>
-    ensures { OnOk result (code.new ≡ code.old ++ calling routine (Three c.left c.right (IsKnown wanted)) c) }
+    ensures { OnOk result (code.new ≡ code.old ++ calling routine (dividing c (IsKnown wanted)) c) }
 {
     push_call(
         code,
         routine,
-        Registers::Three(c.left, c.right, Operand::Known(wanted)),
+        Registers::Three(
+            in_four(c.left),
+            in_four(c.right),
+            Passed {
+                width: 1,
+                value: Operand::Known(wanted),
+            },
+        ),
         c,
     )
 }
@@ -90,10 +98,17 @@ fn push_shift(code: &mut Row<Instr>, routine: u16, c: Computation) -> Result<(),
         Operand::Local(_) => push_call(
             code,
             routine,
-            Registers::Three(c.left, c.right, mask(c.width)),
+            Registers::Three(in_four(c.left), in_four(c.right), in_four(mask(c.width))),
             c,
         ),
     }
+}
+
+/// An operand as an argument of a routine.
+pub fn in_four(value: Operand) -> Passed
+    ensures { result ≡ argument value }
+{
+    Passed { width: 4, value }
 }
 
 // The bits of a width.
@@ -127,7 +142,10 @@ pub fn push_call(
         callee: Callee::Procedure(routine),
         pushed: 0,
         registers,
-        to: Some(c.to),
+        to: Some(Target {
+            width: 4,
+            local: c.to,
+        }),
     }))?;
     push_cut(code, c.width, c.to)
 }

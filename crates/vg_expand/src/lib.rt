@@ -6,5 +6,7 @@ mod places;
 pub mod procedure;
 mod products;
 pub mod runs;
+mod too_long;
 
 pub use procedure::expand;
+pub use too_long::TooLong;

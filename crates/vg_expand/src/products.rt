@@ -3,7 +3,7 @@ ghost use Rattle.std.specs.Prelude.{◌≡◌, ◌<◌, ◌+◌, ◌*◌, ◌++�
 ghost use Rattle.vg_expand.specs.Code.{is_narrow as narrow, worked_out, product_of, power_of as power_in, shifted_by, joined_by, is_in as stands_in};
 ghost use Rattle.vg_expand.specs.Code.{by_difference, in_two, by_power, by_factor, multiplying};
 
-use crate::calls::{push_call, push_cut};
+use crate::calls::{in_four, push_call, push_cut};
 use vg_base::{NoMemory, Row};
 use vg_lin::{Computation, Instr, Operand, Operator, Plain, Registers};
 
@@ -146,7 +146,7 @@ fn push_any(
         code.push(Instr::Plain(Plain::Product(c.to, a, b)))?;
         push_cut(code, c.width, c.to)
     } else {
-        push_call(code, first, Registers::Two(a, b), c)
+        push_call(code, first, Registers::Two(in_four(a), in_four(b)), c)
     }
 }
 

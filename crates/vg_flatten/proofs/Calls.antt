@@ -28,6 +28,7 @@ use Rattle.vg_lin.specs.declared.instr.Operator.{Operator as LinOperator}
 use Rattle.vg_lin.specs.declared.instr.Operator.TheVariants.{Times as Product}
 use Rattle.vg_lin.specs.declared.instr.Plain.TheVariants.{Compute}
 use Rattle.vg_lin.specs.declared.instr.Memory.{Memory}
+use Rattle.vg_lin.specs.declared.instr.Passed.{Passed}
 use Rattle.vg_lin.specs.declared.instr.Callee.{Callee}
 use Rattle.vg_lin.specs.declared.instr.Callee.TheVariants.{Procedure as ByNumber, Code as ByCode}
 use Rattle.vg_lin.specs.declared.instr.Call.{Call as Calling}
@@ -40,6 +41,8 @@ use Rattle.vg_flatten_shapes.specs.declared.open.Truth.{Truth}
 use Rattle.vg_flatten_shapes.specs.declared.open.Truth.TheVariants.{Holds}
 use Rattle.vg_flatten_shapes.specs.declared.layout.Place.{Place}
 use Rattle.vg_flatten_shapes.specs.declared.layout.Layout.{Layout}
+use Rattle.vg_flatten_shapes.specs.declared.layout.Passing.{Passing}
+use Rattle.vg_flatten_shapes.specs.declared.layout.Width.{Width}
 use Rattle.vg_flatten_shapes.specs.declared.room.Room.{Room}
 use Rattle.vg_flatten_shapes.specs.Shapes.{Shape, only, empty, is_empty, is_free, same_operand, same_homes, Taken, taken, temp}
 use Rattle.vg_flatten_shapes.specs.Blocks.{Block, Skip, One, CallTo, TakeInterrupt, GiveBack, BreakOut, GoOn, Both, Choice, Repeat, stop_where}
@@ -51,7 +54,7 @@ use Rattle.vg_flatten_values.specs.Values.{divided, masked, shifted_left, shifte
 use Rattle.vg_flatten_places.specs.Places.{is_width, fetched, fetched_from, load_one, load_of, length_of, places_in, memory_of, multiplied}
 use Rattle.vg_flatten_places.specs.Places.{store_one, store_of, is_place, load_item, store_item}
 use Rattle.vg_flatten_steps.specs.Locals.{at_local, set_local, forgotten, written}
-use Rattle.vg_flatten_steps.specs.Calls.{with_taken, called, called_on, called_for, called_by as called_by', called_value, bound_for}
+use Rattle.vg_flatten_steps.specs.Calls.{in_widths, with_taken, passing_of, with_receiver, resulting, called, called_on, called_for, called_by as called_by', called_value, bound_for}
 use Rattle.vg_flatten_steps.specs.Objects.{load_nothing, store_nothing, is_one_of, cast_to}
 use Rattle.vg_flatten_steps.specs.Steps.{stepped}
 use Rattle.vg_flatten_control.specs.Flat.{landed_as, landed, joined, chosen, where_empty, repeated, repeated_test, repeated_body, repeated_next}
@@ -96,7 +99,7 @@ block_calls (Choice t a b) = block_calls a ++ block_calls b
 block_calls (Repeat p t body next) = block_calls p ++ (block_calls body ++ block_calls next)
 block_calls b = []
 
-pushes_call : (pushed : List Operand) (c : Calling) → open_in (call_code pushed c) ≡ callee_of c.callee ∷ []
+pushes_call : (pushed : List Passed) (c : Calling) → open_in (call_code pushed c) ≡ callee_of c.callee ∷ []
 pushes_call [] c = refl
 pushes_call (a ∷ more) c = pushes_call more c
 
@@ -105,7 +108,7 @@ block_has Skip at = refl
 block_has (One p) at = refl
 block_has (CallTo pushed c) at = pushes_call pushed c
 block_has TakeInterrupt at = refl
-block_has (GiveBack a) at = refl
+block_has (GiveBack w a) at = refl
 block_has BreakOut at = refl
 block_has GoOn at = refl
 block_has (Both a b) at =
@@ -282,8 +285,16 @@ module _ (lay : Layout) (r : Room) where
   calls_taken xs (Some t) go h = h t.args t.rest
   calls_taken xs None go h = tt
 
+  calls_resulting : (q : ℕ) (o : Option Width) (xs : List Passed) (rest : List Operand) → HasCalls (Named q ∷ []) (resulting r (ByNumber q) o xs rest)
+  calls_resulting q (Some w) xs rest = calls_temp (Named q ∷ []) (temp r rest) _ (λ to. refl)
+  calls_resulting q None xs rest = refl
+
   calls_called : (q count : ℕ) (hs : List Operand) → HasCalls (Named q ∷ []) (called lay r q count hs)
-  calls_called q count hs = calls_taken (Named q ∷ []) (taken count hs) _ (λ xs rest. calls_temp (Named q ∷ []) (temp r rest) _ (λ to. refl))
+  calls_called q count hs =
+      calls_taken (Named q ∷ []) (taken count hs) _ (λ xs rest. calls_resulting q p.result (in_widths p.widths (with_receiver p.receives xs)) rest)
+    where
+      p : Passing
+      p = passing_of (slice_get lay.passing q)
 
   calls_on : (d code : ℕ) (xs rest : List Operand) → HasCalls (Found ∷ []) (called_on r d code xs rest)
   calls_on d code [] rest = tt
@@ -465,7 +476,7 @@ module _ (lay : Layout) (r : Room) where
       by_test None = tt
       by_test (Some t) = calls_where (xs ++ (ys ++ zs)) (only t.homes) (repeated_body p t.truth y z) (by_body t.truth y hy)
 
-  quiet_given : (hs : List Operand) → Quiet (given_back hs)
+  quiet_given : (hs : List Operand) → Quiet (given_back r hs)
   quiet_given [] = tt
   quiet_given (a ∷ []) = refl
   quiet_given (a ∷ b ∷ hs) = tt

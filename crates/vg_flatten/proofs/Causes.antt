@@ -13,17 +13,18 @@ use Rattle.vg_flatten_shapes.specs.Shapes.{empty}
 use Rattle.vg_flatten_shapes.specs.Made.{Made, Gives, Refused}
 use Rattle.vg_flatten_control.specs.Flat.{flat}
 use Rattle.vg_flatten.specs.Closing.{AllSet}
-use Rattle.vg_flatten.specs.Flattened.{receivers, own_widths}
+use Rattle.vg_flatten.specs.Flattened.{receivers, own_widths, result_width}
 use Rattle.vg_flatten.specs.Sealing.{IsNotTaken, WholeFails, IsWhole}
 use Rattle.vg_flatten.specs.Refusals.{temps_for, room_for, made_of, IsNotTakenAs, IsCause}
 
 module _ (lay : Layout) (m : Procedure) (r : Room) (receiver : r.receiver ≡ receivers m.receives) (locals : r.locals ≡ length (own_widths m))
-    (temps : r.temps ≡ temps_for r.locals) where
+    (temps : r.temps ≡ temps_for r.locals) (given : r.result ≡ result_width m) where
   room_is : r ≡ room_for m
   room_is =
-      ap (λ z. record { receiver = r.receiver; locals = r.locals; temps = z }) temps
-      ∙ ap (λ z. record { receiver = r.receiver; locals = z; temps = temps_for z }) locals
-      ∙ ap (λ z. record { receiver = z; locals = length (own_widths m); temps = temps_for (length (own_widths m)) }) receiver
+      ap (λ z. record { receiver = r.receiver; locals = r.locals; temps = z; result = r.result }) temps
+      ∙ ap (λ z. record { receiver = r.receiver; locals = z; temps = temps_for z; result = r.result }) locals
+      ∙ ap (λ z. record { receiver = z; locals = length (own_widths m); temps = temps_for (length (own_widths m)); result = r.result }) receiver
+      ∙ ap (λ z. record { receiver = receivers m.receives; locals = length (own_widths m); temps = temps_for (length (own_widths m)); result = z }) given
 
   made_is : flat lay r m.body empty ≡ made_of lay m
   made_is = ap (λ z. flat lay z m.body empty) room_is

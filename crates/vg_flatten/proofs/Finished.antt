@@ -23,7 +23,7 @@ use Rattle.vg_flatten_shapes.specs.Made.{Made, Gives, Refused}
 use Rattle.vg_flatten_control.specs.Flat.{flat}
 use Rattle.vg_flatten.specs.Closing.{AllSet}
 use Rattle.vg_flatten_shapes.specs.Blocks.{set_in}
-use Rattle.vg_flatten.specs.Flattened.{zeroes, zero_list, receivers, own_widths, own_params, widened, all_widths, whole, IsFlat}
+use Rattle.vg_flatten.specs.Flattened.{zeroes, zero_list, receivers, own_widths, own_params, widened, all_widths, result_width, whole, IsFlat}
 use Rattle.vg_flatten_shapes.specs.Laying.{IsPiece, Fails}
 use Rattle.vg_flatten_shapes.specs.Blocks.{block_size}
 use Rattle.vg_flatten_shapes.proofs.Sizes.{block_long}
@@ -73,13 +73,13 @@ zero_on code all f n i lt h =
 -- the instructions of a whole procedure, of its parts
 pub whole_laid : (m : FirmProcedure) (made : Made) (body : Piece) (first rest code : List Open) (at : ℕ)
     → first ≡ zero_list (length m.widths - m.params) (own_params m)
-    → at ≡ 0 + length first → IsPiece body at made → is_empty body.homes ≡ true → rest ≡ body.code ++ Set (Return (Known 0)) ∷ [] → code ≡ first ++ rest
+    → at ≡ 0 + length first → IsPiece body at made → is_empty body.homes ≡ true → rest ≡ body.code ++ Set (Return (result_width m) (Known 0)) ∷ [] → code ≡ first ++ rest
     → IsWhole code made m
 whole_laid m (Refused why) body first rest code at hf ha hp he hr hc = absurd hp
 whole_laid m (Gives b s) body first rest code at hf ha hp he hr hc = (
   ap is_empty (sym hp.1) ∙ he,
   hc ∙ ap (λ z. z ++ rest) zs ∙ ap (λ z. open_code (zeroes (length m.widths - m.params) (own_params m)) 0 ++ z) (hr
-      ∙ ap (λ z. z ++ Set (Return (Known 0)) ∷ []) (hp.0 ∙ ap (open_code b) place)),
+      ∙ ap (λ z. z ++ Set (Return (result_width m) (Known 0)) ∷ []) (hp.0 ∙ ap (open_code b) place)),
 )
   where
     zs : first ≡ open_code (zeroes (length m.widths - m.params) (own_params m)) 0
@@ -129,15 +129,16 @@ fails_lays m go s first at res e r is hf ep h =
     whole_err res e (go empty) m r (whole_fails m (go empty) first at e hf ep (subst (λ z. Fails e at (go z)) is h))
 
 module _ (lay : Layout) (m : FirmProcedure) (r : Room) (receiver : r.receiver ≡ receivers m.receives) (locals : r.locals ≡ length (own_widths m))
-    (few : r.locals + r.temps ≤ 252) (hp : m.params ≤ length m.widths)
-    (hw : AllByRecursion IsWidth m.widths) (open' : List Open) (code : List Instr) (widths : List ℕ) (is : IsWhole open' (flat lay r m.body empty) m)
+    (given : r.result ≡ result_width m) (few : r.locals + r.temps ≤ 252) (hp : m.params ≤ length m.widths)
+    (hw : AllByRecursion IsWidth m.widths) (hr : m.result ≤ 4) (open' : List Open) (code : List Instr) (widths : List ℕ) (is : IsWhole open' (flat lay r m.body empty) m)
     (sealed : code ≡ map (set_in 0 0) open') (set : AllSet open') (ws : widths ≡ all_widths m ++ replicate r.temps 4) where
   abbrev pub procedure : Procedure
-  procedure = record { method = Some m.method; params = own_params m; widths = widths; code = code }
+  procedure = record { method = Some m.method; params = own_params m; result = result_width m; widths = widths; code = code }
 
-  block_in : (b : Block) (s : Shape) → flat lay r m.body empty ≡ Gives b s → BlockIn (Unit {0}) (length (own_widths m) + r.temps) b
+  block_in : (b : Block) (s : Shape) → flat lay r m.body empty ≡ Gives b s → BlockIn (Unit {0}) (result_width m) (length (own_widths m) + r.temps) b
   block_in b s e =
-      subst (λ z. BlockIn (Unit {0}) (z + r.temps) b) locals (subst (λ z. MadeIn (Unit {0}) (r.locals + r.temps) z) e (in_flat (Unit {0}) lay r m.body empty (λ l. tt) (tt, tt))).0
+      subst (λ w. BlockIn (Unit {0}) w (length (own_widths m) + r.temps) b) given
+      (subst (λ z. BlockIn (Unit {0}) r.result (z + r.temps) b) locals (subst (λ z. MadeIn (Unit {0}) r.result (r.locals + r.temps) z) e (in_flat (Unit {0}) lay r m.body empty (λ l. tt) (tt, tt))).0)
 
   code_is : (b : Block) → open' ≡ open_code (whole m b) 0 → code ≡ map (set_in 0 0) (open_code (whole m b) 0)
   code_is b e = sealed ∙ ap (map (set_in 0 0)) e
@@ -145,8 +146,8 @@ module _ (lay : Layout) (m : FirmProcedure) (r : Room) (receiver : r.receiver �
   sound_by : (x : Made) → flat lay r m.body empty ≡ x → IsWhole open' x m → IsSound procedure
   sound_by (Refused why) e h = absurd h
   sound_by (Gives b s) e h =
-      subst (λ z. IsSound (record { method = Some m.method; params = own_params m; widths = z; code = code })) (sym ws)
-      (whole_sound m b r.temps (Some m.method) code hp hw (omega (arith, few, locals)) (block_in b s e) (subst AllSet h.1 set) (code_is b h.1))
+      subst (λ z. IsSound (record { method = Some m.method; params = own_params m; result = result_width m; widths = z; code = code })) (sym ws)
+      (whole_sound m b r.temps (Some m.method) code hp hw hr (omega (arith, few, locals)) (block_in b s e) (subst AllSet h.1 set) (code_is b h.1))
 
   pub procedure_sound : IsSound procedure
   procedure_sound = sound_by (flat lay r m.body empty) refl is
@@ -162,8 +163,10 @@ module _ (lay : Layout) (m : FirmProcedure) (r : Room) (receiver : r.receiver �
         done = h.0;
         receiver = receiver;
         locals = locals;
+        given = given;
         method = refl;
         parameters = refl;
+        result = refl;
         widths = ws;
         code = code_is b h.1;
       }
@@ -176,9 +179,13 @@ module _ (lay : Layout) (m : FirmProcedure) (r : Room) (receiver : r.receiver �
   onward_by (Gives b s) e h none =
       let own = own_long m.receives m.widths in
       ap (all_lead_on 0) (code_is b h.1)
-      ∙ leads_onward (r.locals + r.temps) (whole m b) (
-        in_zeroes ⊥ (r.locals + r.temps) (length m.widths - m.params) (own_params m) (omega (arith, hp, locals, own)),
-        ((subst (λ z. MadeIn ⊥ (r.locals + r.temps) z) e (in_flat ⊥ lay r m.body empty (λ l. not_both (sym none ∙ l)) (tt, tt))).0, tt),
+      ∙ leads_onward (result_width m) (r.locals + r.temps) (whole m b) (
+        in_zeroes ⊥ (result_width m) (r.locals + r.temps) (length m.widths - m.params) (own_params m) (omega (arith, hp, locals, own)),
+        (
+          subst (λ w. BlockIn ⊥ w (r.locals + r.temps) b) given
+              (subst (λ z. MadeIn ⊥ r.result (r.locals + r.temps) z) e (in_flat ⊥ lay r m.body empty (λ l. not_both (sym none ∙ l)) (tt, tt))).0,
+          (refl, tt),
+        ),
       ) (subst AllSet h.1 set)
     where
       not_both : false ≡ true → ⊥

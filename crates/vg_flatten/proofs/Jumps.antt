@@ -5,7 +5,8 @@ use Rattle.std.proofs.Common.{◌≡◌, ◌≢◌, refl, sym, ap, ◌∙◌, su
 use Rattle.std.proofs.lemmas.List.{length-append, length-map, append_assoc}
 use Rattle.vg_lin.specs.declared.instr.Operand.{Operand}
 use Rattle.vg_lin.specs.declared.instr.Plain.{Plain as PlainInstr}
-use Rattle.vg_lin.specs.declared.instr.Plain.TheVariants.{Copy, Compute, Product, DivideStep, Load, Store, ReadDevice, WriteDevice, Push, Find, CodeOf, Stop}
+use Rattle.vg_lin.specs.declared.instr.Plain.TheVariants.{Copy, Compute, Product, DivideStep, Load, Store, ReadDevice, WriteDevice, Push, Pop, Find, CodeOf, Stop}
+use Rattle.vg_lin.specs.declared.instr.Passed.{Passed}
 use Rattle.vg_lin.specs.declared.instr.Call.{Call as Calling}
 use Rattle.vg_lin.specs.declared.instr.Instr.TheVariants.{Plain, When, Unless, Jump, Call}
 use Rattle.vg_flatten_shapes.specs.declared.open.Truth.{Truth}
@@ -54,7 +55,7 @@ abbrev pub AllWithin : (ℕ → List ℕ) → (high : ℕ) → List Open → (at
 AllWithin w high [] at = Unit {0}
 AllWithin w high (o ∷ os) at = JumpsWithin w high at o × AllWithin w high os (suc at)
 
-module _ (L : Type 0) (size : ℕ) (W : ℕ → List ℕ) (high : ℕ) where
+module _ (L : Type 0) (given size : ℕ) (W : ℕ → List ℕ) (high : ℕ) where
   -- ---- marks
 
   marks_at : (os : List Open) (a b : ℕ) → a ≡ b → Marks W os a → Marks W os b
@@ -93,6 +94,7 @@ module _ (L : Type 0) (size : ℕ) (W : ℕ → List ℕ) (high : ℕ) where
   plain_behind (ReadDevice to a) xs h = refl
   plain_behind (WriteDevice a b) xs h = refl
   plain_behind (Push w a) xs h = absurd h
+  plain_behind (Pop w to) xs h = absurd h
   plain_behind (Find d to a) xs h = refl
   plain_behind (CodeOf q to) xs h = refl
   plain_behind (Stop c) xs h = refl
@@ -107,17 +109,18 @@ module _ (L : Type 0) (size : ℕ) (W : ℕ → List ℕ) (high : ℕ) where
   plain_within (ReadDevice to a) at h e = e
   plain_within (WriteDevice a b) at h e = e
   plain_within (Push w a) at h e = tt
+  plain_within (Pop w to) at h e = absurd h
   plain_within (Find d to a) at h e = e
   plain_within (CodeOf q to) at h e = e
   plain_within (Stop c) at h e = e
 
   -- the pushes of a call
-  call_end : (pushed : List Operand) (c : Calling) (at : ℕ) → Marks W (call_code pushed c) at → W (at + length (call_code pushed c)) ≡ []
+  call_end : (pushed : List Passed) (c : Calling) (at : ℕ) → Marks W (call_code pushed c) at → W (at + length (call_code pushed c)) ≡ []
   call_end [] c at h = none_at (suc at) (at + 1) (omega arith) h.0
   call_end (a ∷ more) c at h =
       none_at (suc at + length (call_code more c)) (at + suc (length (call_code more c))) (omega arith) (call_end more c (suc at) h.1)
 
-  call_within : (pushed : List Operand) (c : Calling) (at n : ℕ) → length (W at) ≡ n → n + length pushed ≡ c.pushed → Marks W (call_code pushed c) at
+  call_within : (pushed : List Passed) (c : Calling) (at n : ℕ) → length (W at) ≡ n → n + length pushed ≡ c.pushed → Marks W (call_code pushed c) at
       → AllWithin W high (call_code pushed c) at
   call_within [] c at n l e h = (l ∙ omega (arith, e), tt)
   call_within (a ∷ more) c at n l e h =
@@ -142,12 +145,12 @@ module _ (L : Type 0) (size : ℕ) (W : ℕ → List ℕ) (high : ℕ) where
       j : Marks W (Set (Jump end) ∷ bs) (suc at + length as')
       j = marks_back as' (Set (Jump end) ∷ bs) (suc at) k.1
 
-  pub ends : (b : Block) (at : ℕ) → BlockIn L size b → W at ≡ [] → Marks W (open_code b at) at → W (at + length (open_code b at)) ≡ []
+  pub ends : (b : Block) (at : ℕ) → BlockIn L given size b → W at ≡ [] → Marks W (open_code b at) at → W (at + length (open_code b at)) ≡ []
   ends Skip at h e k = none_at at (at + 0) (omega arith) e
   ends (One p) at h e k = none_at (suc at) (at + 1) (omega arith) (k.0 ∙ plain_behind p (W at) h)
   ends (CallTo pushed c) at h e k = call_end pushed c at k
   ends TakeInterrupt at h e k = none_at (suc at) (at + 1) (omega arith) k.0
-  ends (GiveBack a) at h e k = none_at (suc at) (at + 1) (omega arith) k.0
+  ends (GiveBack r a) at h e k = none_at (suc at) (at + 1) (omega arith) k.0
   ends BreakOut at h e k = none_at (suc at) (at + 1) (omega arith) k.0
   ends GoOn at h e k = none_at (suc at) (at + 1) (omega arith) k.0
   ends (Both a b) at h e k =
@@ -280,13 +283,13 @@ module _ (L : Type 0) (size : ℕ) (W : ℕ → List ℕ) (high : ℕ) where
       ends_a : W (suc at + length as') ≡ []
       ends_a = none_at (at + 1 + length as') (suc at + length as') (omega arith) (ea e1 ka)
 
-  pub within : (b : Block) (at : ℕ) → BlockIn L size b → W at ≡ [] → Marks W (open_code b at) at → at + length (open_code b at) ≤ high
+  pub within : (b : Block) (at : ℕ) → BlockIn L given size b → W at ≡ [] → Marks W (open_code b at) at → at + length (open_code b at) ≤ high
       → AllWithin W high (open_code b at) at
   within Skip at i e k h = tt
   within (One p) at i e k h = (plain_within p at i e, tt)
   within (CallTo pushed c) at i e k h = call_within pushed c at 0 (ap length e) (let n = i.0 in omega (arith, n)) k
   within TakeInterrupt at i e k h = (e, tt)
-  within (GiveBack a) at i e k h = (e, tt)
+  within (GiveBack r a) at i e k h = (e, tt)
   within BreakOut at i e k h = (e, tt)
   within GoOn at i e k h = (e, tt)
   within (Both a b) at i e k h =

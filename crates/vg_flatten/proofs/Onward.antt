@@ -1,7 +1,7 @@
 -- That code without a loop has no jump back: each jump of a block without one leads on.
 use Rattle.std.specs.Prelude.{ℕ, suc, ◌+◌, ◌<◌, true, ◌&&◌, nat_lt, List, [], ◌∷◌, ◌++◌, length, map}
 use Rattle.std.proofs.Common.{◌≡◌, refl, ap, ◌∙◌, subst, arith}
-use Rattle.vg_lin.specs.declared.instr.Operand.{Operand}
+use Rattle.vg_lin.specs.declared.instr.Passed.{Passed}
 use Rattle.vg_lin.specs.declared.instr.Call.{Call as Calling}
 use Rattle.vg_lin.specs.declared.instr.Instr.TheVariants.{Jump}
 use Rattle.vg_lin.specs.Onward.{leads_on, all_lead_on}
@@ -53,26 +53,26 @@ both_ways t at as' bs ha hb = (
 one_way : (t : Truth) (at : ℕ) (as' : List Open) → AllOn as' (at + 1) → AllOn (alone t at as') at
 one_way t at as' ha = (on_branch t at (at + 1 + length as') (omega arith), on_at as' (at + 1) (suc at) (omega arith) ha)
 
-on_call : (pushed : List Operand) (c : Calling) (at : ℕ) → AllOn (call_code pushed c) at
+on_call : (pushed : List Passed) (c : Calling) (at : ℕ) → AllOn (call_code pushed c) at
 on_call [] c at = (refl, tt)
 on_call (a ∷ more) c at = (refl, on_call more c (suc at))
 
-on_block : (size : ℕ) (b : Block) (at : ℕ) → BlockIn ⊥ size b → AllOn (open_code b at) at
-on_block size Skip at h = tt
-on_block size (One p) at h = (refl, tt)
-on_block size (CallTo pushed c) at h = on_call pushed c at
-on_block size TakeInterrupt at h = (refl, tt)
-on_block size (GiveBack a) at h = (refl, tt)
-on_block size BreakOut at h = (tt, tt)
-on_block size GoOn at h = (tt, tt)
-on_block size (Both a b) at h =
-    on_both (open_code a at) (open_code b (at + length (open_code a at))) at (on_block size a at h.0) (on_block size b (at + length (open_code a at)) h.1)
-on_block size (Choice t a b) at h =
+on_block : (given size : ℕ) (b : Block) (at : ℕ) → BlockIn ⊥ given size b → AllOn (open_code b at) at
+on_block given size Skip at h = tt
+on_block given size (One p) at h = (refl, tt)
+on_block given size (CallTo pushed c) at h = on_call pushed c at
+on_block given size TakeInterrupt at h = (refl, tt)
+on_block given size (GiveBack w a) at h = (refl, tt)
+on_block given size BreakOut at h = (tt, tt)
+on_block given size GoOn at h = (tt, tt)
+on_block given size (Both a b) at h =
+    on_both (open_code a at) (open_code b (at + length (open_code a at))) at (on_block given size a at h.0) (on_block given size b (at + length (open_code a at)) h.1)
+on_block given size (Choice t a b) at h =
     choice_cases (λ z. AllOn z at) t at (open_code a (at + 1)) (open_code b (at + 1 + length (open_code a (at + 1)) + 1))
-    (λ e. one_way t at (open_code a (at + 1)) (on_block size a (at + 1) h.1))
-    (both_ways t at (open_code a (at + 1)) (open_code b (at + 1 + length (open_code a (at + 1)) + 1)) (on_block size a (at + 1) h.1)
-    (on_block size b (at + 1 + length (open_code a (at + 1)) + 1) h.2))
-on_block size (Repeat p t body next) at h = absurd h.4
+    (λ e. one_way t at (open_code a (at + 1)) (on_block given size a (at + 1) h.1))
+    (both_ways t at (open_code a (at + 1)) (open_code b (at + 1 + length (open_code a (at + 1)) + 1)) (on_block given size a (at + 1) h.1)
+    (on_block given size b (at + 1 + length (open_code a (at + 1)) + 1) h.2))
+on_block given size (Repeat p t body next) at h = absurd h.4
 
 on_list : (x y : ℕ) (os : List Open) (at : ℕ) → AllSet os → AllOn os at → all_lead_on at (map (set_in x y) os) ≡ true
 on_list x y [] at s h = refl
@@ -80,5 +80,5 @@ on_list x y (Set i ∷ os) at s h = ap (λ z. z && all_lead_on (suc at) (map (se
 on_list x y (Break ∷ os) at s h = absurd s.0
 on_list x y (Continue ∷ os) at s h = absurd s.0
 
-pub leads_onward : (size : ℕ) (b : Block) → BlockIn ⊥ size b → AllSet (open_code b 0) → all_lead_on 0 (map (set_in 0 0) (open_code b 0)) ≡ true
-leads_onward size b h s = on_list 0 0 (open_code b 0) 0 s (on_block size b 0 h)
+pub leads_onward : (given size : ℕ) (b : Block) → BlockIn ⊥ given size b → AllSet (open_code b 0) → all_lead_on 0 (map (set_in 0 0) (open_code b 0)) ≡ true
+leads_onward given size b h s = on_list 0 0 (open_code b 0) 0 s (on_block given size b 0 h)

@@ -24,6 +24,8 @@ use Rattle.vg_lin.specs.declared.instr.Operator.{Operator as LinOperator}
 use Rattle.vg_lin.specs.declared.instr.Operator.TheVariants.{Times as Product}
 use Rattle.vg_lin.specs.declared.instr.Plain.TheVariants.{Compute}
 use Rattle.vg_lin.specs.declared.instr.Memory.{Memory}
+use Rattle.vg_lin.specs.declared.instr.Passed.{Passed}
+use Rattle.vg_lin.specs.declared.instr.Target.{Target}
 use Rattle.vg_lin.specs.declared.instr.Callee.{Callee}
 use Rattle.vg_lin.specs.declared.instr.Callee.TheVariants.{Procedure as ByNumber, Code as ByCode}
 use Rattle.vg_lin.specs.declared.instr.Call.{Call as Calling}
@@ -36,6 +38,9 @@ use Rattle.vg_flatten_shapes.specs.declared.open.Truth.{Truth}
 use Rattle.vg_flatten_shapes.specs.declared.open.Truth.TheVariants.{Holds}
 use Rattle.vg_flatten_shapes.specs.declared.layout.Place.{Place}
 use Rattle.vg_flatten_shapes.specs.declared.layout.Layout.{Layout}
+use Rattle.vg_flatten_shapes.specs.declared.layout.Passing.{Passing}
+use Rattle.vg_flatten_shapes.specs.declared.layout.Width.{Width}
+use Rattle.vg_flatten_shapes.specs.Widths.{bytes_of as bytes_of_width}
 use Rattle.vg_flatten_shapes.specs.declared.room.Room.{Room}
 use Rattle.vg_flatten_shapes.specs.Shapes.{Shape, only, empty, is_empty, is_free, same_operand, same_homes, taken, temp}
 use Rattle.vg_flatten_shapes.specs.Blocks.{Block, Skip, One, CallTo, TakeInterrupt, GiveBack, BreakOut, GoOn, Both, Choice, Repeat, stop_where}
@@ -47,7 +52,7 @@ use Rattle.vg_flatten_values.specs.Values.{divided, masked, shifted_left, shifte
 use Rattle.vg_flatten_places.specs.Places.{is_width, fetched, fetched_from, load_one, load_of, length_of, places_in, memory_of, multiplied}
 use Rattle.vg_flatten_places.specs.Places.{store_one, store_of, is_place, load_item, store_item}
 use Rattle.vg_flatten_steps.specs.Locals.{at_local, set_local, forgotten, written}
-use Rattle.vg_flatten_steps.specs.Calls.{passing, is_received, with_receiver, with_taken, called, called_on, called_for, called_by, called_value, bound_for}
+use Rattle.vg_flatten_steps.specs.Calls.{in_widths, passing, passing_of, with_receiver, with_taken, resulting, called, passing_four, called_on, called_for, called_by, called_value, bound_for}
 use Rattle.vg_flatten_steps.specs.Objects.{load_nothing, store_nothing, is_one_of, cast_to}
 use Rattle.vg_flatten_steps.specs.Steps.{stepped}
 use Rattle.vg_flatten_control.specs.Flat.{landed_as, landed, joined, chosen, where_empty, repeated, repeated_test, repeated_body, repeated_next}
@@ -188,29 +193,46 @@ module _ (lay : Layout) (r : Room) where
       by_count true e = h (reverse (take count hs)) (drop count hs) (long e)
       by_count false e = tt
 
-  passing_few : (callee : Callee) (to : ℕ) (xs : List Operand) → block_size (passing callee to xs) ≤ length xs + 1
+  passing_few : (callee : Callee) (to : Option Target) (xs : List Passed) → block_size (passing callee to xs) ≤ length xs + 1
   passing_few callee to xs = let l = length-take-le (length xs - 4) xs (omega arith) in omega (arith, l)
+
+  widths_long : (ws : List Width) (xs : List Operand) → length (in_widths ws xs) ≡ length xs
+  widths_long [] [] = refl
+  widths_long (w ∷ ws) [] = refl
+  widths_long [] (a ∷ xs) = ap suc (widths_long [] xs)
+  widths_long (w ∷ ws) (a ∷ xs) = ap suc (widths_long ws xs)
+
+  four_few : (callee : Callee) (to : ℕ) (xs : List Operand) → block_size (passing_four callee to xs) ≤ length xs + 1
+  four_few callee to xs =
+      let p = passing_few callee (Some (record { width = 4; local = to })) (in_widths [] xs) in let l = widths_long [] xs in omega (arith, p, l)
 
   receiver_few : (b : Bool) (xs : List Operand) → length (with_receiver b xs) ≤ length xs + 1
   receiver_few true xs = omega arith
   receiver_few false xs = omega arith
 
+  small_resulting : (n : ℕ) (callee : Callee) (o : Option Width) (xs : List Passed) (rest : List Operand) → length xs + 1 ≤ n
+      → Small n (resulting r callee o xs rest)
+  small_resulting n callee (Some w) xs rest le = small_temp n (temp r rest) _ (λ to. let p = passing_few callee (Some (record { width = bytes_of_width w; local = to })) xs in omega (arith, p, le))
+  small_resulting n callee None xs rest le = let p = passing_few callee None xs in omega (arith, p, le)
+
   small_called : (q count : ℕ) (hs : List Operand) → Small (12 + count) (called lay r q count hs)
   small_called q count hs =
-      small_taken (12 + count) count hs _ (λ xs rest le. small_temp (12 + count) (temp r rest) _ (λ to.
-      let p = passing_few (ByNumber q) to (with_receiver (is_received (slice_get lay.receives q)) xs) in
-      let w = receiver_few (is_received (slice_get lay.receives q)) xs in
-      omega (arith, p, w, le)))
+      small_taken (12 + count) count hs _ (λ xs rest le. small_resulting (12 + count) (ByNumber q) p.result
+      (in_widths p.widths (with_receiver p.receives xs)) rest
+      (let w = receiver_few p.receives xs in let l = widths_long p.widths (with_receiver p.receives xs) in omega (arith, w, l, le)))
+    where
+      p : Passing
+      p = passing_of (slice_get lay.passing q)
 
   small_on : (d code n : ℕ) (xs rest : List Operand) → length xs ≤ n + 1 → Small (12 + n) (called_on r d code xs rest)
   small_on d code n [] rest le = tt
   small_on d code n (a ∷ xs) rest le =
-      small_temp (12 + n) (temp r rest) _ (λ to. let p = passing_few (ByCode (Local code)) to (a ∷ xs) in omega (arith, p, le))
+      small_temp (12 + n) (temp r rest) _ (λ to. let p = four_few (ByCode (Local code)) to (a ∷ xs) in omega (arith, p, le))
 
   small_by : (receiver n : ℕ) (xs rest : List Operand) → length xs ≤ n + 1 → Small (12 + n) (called_by r receiver xs rest)
   small_by receiver n [] rest le = tt
   small_by receiver n (a ∷ xs) rest le =
-      small_temp (12 + n) (temp r rest) _ (λ to. let p = passing_few (ByCode a) to (Local receiver ∷ xs) in omega (arith, p, le))
+      small_temp (12 + n) (temp r rest) _ (λ to. let p = four_few (ByCode a) to (Local receiver ∷ xs) in omega (arith, p, le))
 
   small_bound_for : (d : ℕ) (hs : List Operand) → Small 12 (bound_for r d hs)
   small_bound_for d [] = tt
@@ -383,7 +405,7 @@ module _ (lay : Layout) (r : Room) where
       by_test None = tt
       by_test (Some t) = small_where (2 + n + m + k) (only t.homes) (repeated_body p t.truth y z) (by_body t.truth y hy)
 
-  small_given : (hs : List Operand) → Small 1 (given_back hs)
+  small_given : (hs : List Operand) → Small 1 (given_back r hs)
   small_given [] = tt
   small_given (a ∷ []) = omega arith
   small_given (a ∷ b ∷ hs) = tt

@@ -21,6 +21,8 @@ use Rattle.vg_lin.specs.declared.instr.Comparison.TheVariants.{Below, Same}
 use Rattle.vg_lin.specs.declared.instr.Test.{Test}
 use Rattle.vg_lin.specs.declared.instr.Plain.{Plain as PlainInstr}
 use Rattle.vg_lin.specs.declared.instr.Plain.TheVariants.{Copy, Compute, Load as LoadsBytes, Store as StoresBytes, ReadDevice as ReadsDevice, WriteDevice as WritesDevice, Find, CodeOf, Stop}
+use Rattle.vg_lin.specs.declared.instr.Passed.{Passed}
+use Rattle.vg_lin.specs.declared.instr.Target.{Target}
 use Rattle.vg_lin.specs.declared.instr.Callee.{Callee}
 use Rattle.vg_lin.specs.declared.instr.Callee.TheVariants.{Procedure as ByNumber, Code as ByCode}
 use Rattle.vg_lin.specs.Meaning.{operands}
@@ -36,7 +38,8 @@ use Rattle.vg_flatten_values.specs.Values.{computing, comparing, by_order, test_
 use Rattle.vg_flatten_values.specs.Values.{computed, operated, operated_as, bytes_of, bytes_for, cut_bits, cut, applied, concatenated}
 use Rattle.vg_flatten_steps.specs.Locals.{put_number, at_local, get_receiver, put_in_local, set_local, forgotten}
 use Rattle.vg_flatten_steps.specs.Locals.{written}
-use Rattle.vg_flatten_steps.specs.Calls.{registers_of, passing, with_taken, is_received, with_receiver, called, called_on, called_for, called_by, called_value, bound_for}
+use Rattle.vg_flatten_steps.specs.Calls.{in_widths, registers_of, passing, with_taken, passing_of, with_receiver, resulting, called, passing_four}
+use Rattle.vg_flatten_steps.specs.Calls.{called_on, called_for, called_by, called_value, bound_for}
 use Rattle.vg_flatten_steps.specs.Steps.{stepped}
 use Rattle.vg_flatten_control.specs.Flat.{landed_as, landed, joined, chosen, repeated, repeated_test}
 use Rattle.vg_flatten.specs.Loops.{has_loop}
@@ -48,6 +51,10 @@ use Rattle.vg_flatten_places.specs.Places.{distance, fetched_from, load_placed, 
 use Rattle.vg_flatten_places.specs.declared.elements.Reach.{Reach}
 use Rattle.vg_firm.specs.declared.step.Elements.{Elements}
 use Rattle.vg_flatten_shapes.specs.declared.layout.Place.{Place}
+use Rattle.vg_flatten_shapes.specs.declared.layout.Passing.{Passing}
+use Rattle.vg_flatten_shapes.specs.declared.layout.Width.{Width}
+use Rattle.vg_flatten_shapes.specs.declared.layout.Width.TheVariants.{One as OneByte, Two as TwoBytes, Three as ThreeBytes, Four as FourBytes}
+use Rattle.vg_flatten_shapes.specs.Widths.{bytes_of as bytes_of_width}
 use Rattle.vg_lin.specs.declared.instr.Memory.{Memory}
 use Rattle.vg_lin.specs.declared.instr.Memory.TheVariants.{Flash}
 use Rattle.vg_flatten_shapes.proofs.Temps.{some_is, none_is_not, temp_is}
@@ -86,31 +93,37 @@ IsPlainIn size (CodeOf q to) = to < size
 IsPlainIn size (Stop code) = Unit {0}
 IsPlainIn size _ = ⊥
 
-abbrev pub IsToIn : (size : ℕ) → Option ℕ → Type 0
-IsToIn size (Some to) = to < size
+abbrev pub IsToIn : (size : ℕ) → Option Target → Type 0
+IsToIn size (Some to) = (to.width ≤ 4) × (to.local < size)
 IsToIn size None = Unit {0}
 
 abbrev pub IsCalleeIn : (size : ℕ) → Callee → Type 0
 IsCalleeIn size (ByNumber q) = Unit {0}
 IsCalleeIn size (ByCode a) = IsIn size a
 
--- L is what must hold where there is a loop.
-abbrev pub BlockIn : (L : Type 0) → (size : ℕ) → Block → Type 0
-BlockIn L size (One p) = IsPlainIn size p
-BlockIn L size (CallTo pushed c) = (c.pushed ≡ length pushed) × AreIn size pushed × IsCalleeIn size c.callee × AreIn size (operands c.registers) × IsToIn size c.to
-BlockIn L size (GiveBack a) = IsIn size a
-BlockIn L size (Both a b) = BlockIn L size a × BlockIn L size b
-BlockIn L size (Choice t a b) = IsTruthIn size t × BlockIn L size a × BlockIn L size b
-BlockIn L size (Repeat p t a b) = IsTruthIn size t × BlockIn L size p × BlockIn L size a × BlockIn L size b × L
-BlockIn L size _ = Unit {0}
+-- Arguments of one to four bytes each.
+abbrev pub ArePassedIn : (size : ℕ) → List Passed → Type 0
+ArePassedIn size [] = Unit {0}
+ArePassedIn size (a ∷ more) = ((1 ≤ a.width) × (a.width ≤ 4) × IsIn size a.value) × ArePassedIn size more
+
+-- L is what must hold where there is a loop. What is given back has so many bytes.
+abbrev pub BlockIn : (L : Type 0) → (given size : ℕ) → Block → Type 0
+BlockIn L given size (One p) = IsPlainIn size p
+BlockIn L given size (CallTo pushed c) =
+    (c.pushed ≡ length pushed) × ArePassedIn size pushed × IsCalleeIn size c.callee × ArePassedIn size (operands c.registers) × IsToIn size c.to
+BlockIn L given size (GiveBack w a) = (w ≡ given) × IsIn size a
+BlockIn L given size (Both a b) = BlockIn L given size a × BlockIn L given size b
+BlockIn L given size (Choice t a b) = IsTruthIn size t × BlockIn L given size a × BlockIn L given size b
+BlockIn L given size (Repeat p t a b) = IsTruthIn size t × BlockIn L given size p × BlockIn L given size a × BlockIn L given size b × L
+BlockIn L given size _ = Unit {0}
 
 abbrev pub ShapeIn : (size : ℕ) → Shape → Type 0
 ShapeIn size s = AreIn size s.homes × MayBeIn size s.truth
 
 -- What was made is in range, and so is the shape behind it.
-abbrev pub MadeIn : (L : Type 0) → (size : ℕ) → Made → Type 0
-MadeIn L size (Gives b s) = BlockIn L size b × ShapeIn size s
-MadeIn L size (Refused why) = Unit {0}
+abbrev pub MadeIn : (L : Type 0) → (given size : ℕ) → Made → Type 0
+MadeIn L given size (Gives b s) = BlockIn L given size b × ShapeIn size s
+MadeIn L given size (Refused why) = Unit {0}
 
 -- ---- what was made is in range
 
@@ -124,35 +137,35 @@ module _ (L : Type 0) (lay : Layout) (r : Room) where
       let lt = (temp_is r hs to e).1 in
       omega (arith, is, lt)
 
-  in_behind : (a : Block) (made : Made) → BlockIn L size a → MadeIn L size made → MadeIn L size (behind a made)
+  in_behind : (a : Block) (made : Made) → BlockIn L r.result size a → MadeIn L r.result size made → MadeIn L r.result size (behind a made)
   in_behind a (Gives b s) ha hm = ((ha, hm.0), hm.1)
   in_behind a (Refused why) ha hm = tt
 
-  in_after : (made : Made) (more : Shape → Made) → MadeIn L size made → ((s : Shape) → ShapeIn size s → MadeIn L size (more s))
-      → MadeIn L size (after made more)
+  in_after : (made : Made) (more : Shape → Made) → MadeIn L r.result size made → ((s : Shape) → ShapeIn size s → MadeIn L r.result size (more s))
+      → MadeIn L r.result size (after made more)
   in_after (Gives a s) more hm h = in_behind a (more s) hm.0 (h s hm.1)
   in_after (Refused why) more hm h = tt
 
-  in_by_temp : (hs : List Operand) (go : ℕ → Made) → ((to : ℕ) → to < size → MadeIn L size (go to)) → MadeIn L size (by_temp (temp r hs) go)
+  in_by_temp : (hs : List Operand) (go : ℕ → Made) → ((to : ℕ) → to < size → MadeIn L r.result size (go to)) → MadeIn L r.result size (by_temp (temp r hs) go)
   in_by_temp hs go h = by_room (temp r hs) refl
     where
-      by_room : (o : Option ℕ) → temp r hs ≡ o → MadeIn L size (by_temp o go)
+      by_room : (o : Option ℕ) → temp r hs ≡ o → MadeIn L r.result size (by_temp o go)
       by_room (Some to) e = h to (temp_in hs to e)
       by_room None e = tt
 
-  in_settled : (s : Shape) → ShapeIn size s → MadeIn L size (settled r s)
+  in_settled : (s : Shape) → ShapeIn size s → MadeIn L r.result size (settled r s)
   in_settled s h = by_truth s.truth h.1
     where
-      by_truth : (o : Option Truth) → MayBeIn size o → MadeIn L size (settled_as r o s.homes)
+      by_truth : (o : Option Truth) → MayBeIn size o → MadeIn L r.result size (settled_as r o s.homes)
       by_truth None t = (tt, (h.0, tt))
       by_truth (Some x) t = in_by_temp s.homes _ (λ to lt. ((t, (lt, tt), (lt, tt)), ((lt, h.0), tt)))
 
-  in_if : (b : Bool) (x y : Made) → MadeIn L size x → MadeIn L size y → MadeIn L size (if b then x else y)
+  in_if : (b : Bool) (x y : Made) → MadeIn L r.result size x → MadeIn L r.result size y → MadeIn L r.result size (if b then x else y)
   in_if true x y hx hy = hx
   in_if false x y hx hy = hy
 
   in_computed : (op : LinOperator) (width : ℕ) (x y : Operand) (hs : List Operand) → 1 ≤ width → width ≤ 4 → IsIn size x → IsIn size y → AreIn size hs
-      → MadeIn L size (computed r op width x y hs)
+      → MadeIn L r.result size (computed r op width x y hs)
   in_computed op width x y hs low high hx hy h = in_by_temp hs _ (λ to lt. ((low, high, lt, hx, hy), ((lt, h), tt)))
 
   in_test : (x y : Operand) → IsIn size x → IsIn size y → (c : _) → IsTestIn size (test_of c x y)
@@ -179,21 +192,21 @@ module _ (L : Type 0) (lay : Layout) (r : Room) where
 
   -- ---- divisions and shifts
 
-  in_stop : (code : ℕ) (t : Truth) → IsTruthIn size t → BlockIn L size (stop_where code t)
+  in_stop : (code : ℕ) (t : Truth) → IsTruthIn size t → BlockIn L r.result size (stop_where code t)
   in_stop code t h = (h, tt, tt)
 
-  in_divisor : (y : Operand) → IsIn size y → BlockIn L size (divisor_checked y)
+  in_divisor : (y : Operand) → IsIn size y → BlockIn L r.result size (divisor_checked y)
   in_divisor y hy = by_zero (may_be_zero y)
     where
-      by_zero : (b : Bool) → BlockIn L size (if b then stop_where 3 (Holds (is_zero y)) else Skip)
+      by_zero : (b : Bool) → BlockIn L r.result size (if b then stop_where 3 (Holds (is_zero y)) else Skip)
       by_zero true = in_stop 3 (Holds (is_zero y)) (in_test y (Known 0) hy tt Same)
       by_zero false = tt
 
-  in_divided : (op : LinOperator) (x y : Operand) (hs : List Operand) → IsIn size x → IsIn size y → AreIn size hs → MadeIn L size (divided r op x y hs)
+  in_divided : (op : LinOperator) (x y : Operand) (hs : List Operand) → IsIn size x → IsIn size y → AreIn size hs → MadeIn L r.result size (divided r op x y hs)
   in_divided op x y hs hx hy h = in_by_temp hs _ (λ to lt. ((in_divisor y hy, (omega arith, omega arith, lt, hx, hy)), ((lt, h), tt)))
 
   in_masked : (bits : ℕ) (x y : Operand) (hs : List Operand) → IsIn size x → IsIn size y → AreIn size hs → (o : Option ℕ) → bytes_around bits ≡ o
-      → MadeIn L size (masked r bits o x y hs)
+      → MadeIn L r.result size (masked r bits o x y hs)
   in_masked bits x y hs hx hy h None e = (tt, ((tt, h), tt))
   in_masked bits x y hs hx hy h (Some width) e =
       in_by_temp hs _ (λ to lt. (((above bits width e, below bits width e, lt, hx, hy), (above bits width e, below bits width e, lt, lt, tt)), ((lt, h), tt)))
@@ -205,7 +218,7 @@ module _ (L : Type 0) (lay : Layout) (r : Room) where
       below n v e1 = grind arith
 
   in_shifted_left : (bits : ℕ) (x y : Operand) (hs : List Operand) → IsIn size x → IsIn size y → AreIn size hs → (o : Option ℕ) → bytes_of bits ≡ o
-      → MadeIn L size (shifted_left r bits o x y hs)
+      → MadeIn L r.result size (shifted_left r bits o x y hs)
   in_shifted_left bits x y hs hx hy h None e = in_masked bits x y hs hx hy h (bytes_around bits) refl
   in_shifted_left bits x y hs hx hy h (Some width) e = in_computed ShiftsLeft width x y hs (above bits width e) (below bits width e) hx hy h
     where
@@ -221,16 +234,16 @@ module _ (L : Type 0) (lay : Layout) (r : Room) where
   for_high : (bits : ℕ) → bytes_for bits ≤ 4
   for_high bits = grind arith
 
-  in_shifted_right : (bits : ℕ) (x y : Operand) (hs : List Operand) → IsIn size x → IsIn size y → AreIn size hs → MadeIn L size (shifted_right r bits x y hs)
+  in_shifted_right : (bits : ℕ) (x y : Operand) (hs : List Operand) → IsIn size x → IsIn size y → AreIn size hs → MadeIn L r.result size (shifted_right r bits x y hs)
   in_shifted_right bits x (Known n) hs hx hy h =
       in_if (nat_lt n bits) _ _ (in_computed ShiftsRight (bytes_for bits) x (Known n) hs (for_low bits) (for_high bits) hx hy h) (tt, ((tt, h), tt))
   in_shifted_right bits x (Local i) hs hx hy h = in_computed ShiftsRight (bytes_for bits) x (Local i) hs (for_low bits) (for_high bits) hx hy h
 
-  in_concatenated : (bits : ℕ) (x y : Operand) (hs : List Operand) → IsIn size x → IsIn size y → AreIn size hs → MadeIn L size (concatenated r bits x y hs)
+  in_concatenated : (bits : ℕ) (x y : Operand) (hs : List Operand) → IsIn size x → IsIn size y → AreIn size hs → MadeIn L r.result size (concatenated r bits x y hs)
   in_concatenated bits x y hs hx hy h =
       in_by_temp hs _ (λ to lt. (((omega arith, omega arith, lt, hx, tt), (omega arith, omega arith, lt, lt, hy)), ((lt, h), tt)))
 
-  in_combined : (op : Operator) (x y : Operand) (hs : List Operand) → IsIn size x → IsIn size y → AreIn size hs → MadeIn L size (combined r op x y hs)
+  in_combined : (op : Operator) (x y : Operand) (hs : List Operand) → IsIn size x → IsIn size y → AreIn size hs → MadeIn L r.result size (combined r op x y hs)
   in_combined Divide x y hs hx hy h = in_divided Quotient x y hs hx hy h
   in_combined Remainder x y hs hx hy h = in_divided Rest x y hs hx hy h
   in_combined (ShiftLeft bits) x y hs hx hy h = in_shifted_left bits x y hs hx hy h (bytes_of bits) refl
@@ -249,18 +262,18 @@ module _ (L : Type 0) (lay : Layout) (r : Room) where
   in_combined Xor x y hs hx hy h = (tt, ((tt, h), tt))
   in_combined (Concat k) x y hs hx hy h = in_concatenated k x y hs hx hy h
 
-  in_operated : (op : Operator) (hs : List Operand) → AreIn size hs → MadeIn L size (operated r op hs)
+  in_operated : (op : Operator) (hs : List Operand) → AreIn size hs → MadeIn L r.result size (operated r op hs)
   in_operated op [] h = tt
   in_operated op (y ∷ []) h = tt
   in_operated op (y ∷ x ∷ hs) h = by_kind (computing op) (comparing op x y) (in_comparing op x y h.1.0 h.0)
     where
-      by_kind : (o : Option LinOperator) (t : Option Truth) → MayBeIn size t → MadeIn L size (operated_as r op o t x y hs)
+      by_kind : (o : Option LinOperator) (t : Option Truth) → MayBeIn size t → MadeIn L r.result size (operated_as r op o t x y hs)
       by_kind (Some lop) t ht = in_computed lop 4 x y hs (omega arith) (omega arith) h.1.0 h.0 h.1.1
       by_kind None (Some t) ht = (tt, (h.1.1, ht))
       by_kind None None ht = in_combined op x y hs h.1.0 h.0 h.1.1
 
   in_cut_bits : (bits : ℕ) (h : Operand) (hs : List Operand) → IsIn size h → AreIn size hs → (o : Option ℕ) → bytes_around bits ≡ o
-      → MadeIn L size (cut_bits r bits o h hs)
+      → MadeIn L r.result size (cut_bits r bits o h hs)
   in_cut_bits bits h hs hh hhs None e = (tt, ((hh, hhs), tt))
   in_cut_bits bits h hs hh hhs (Some width) e = in_computed Both' width h (Known (2 ^ bits - 1)) hs (above bits width e) (below bits width e) hh tt hhs
     where
@@ -270,7 +283,7 @@ module _ (L : Type 0) (lay : Layout) (r : Room) where
       below : (n v : ℕ) → bytes_around n ≡ Some v → v ≤ 4
       below n v e1 = grind arith
 
-  in_cut : (bits : ℕ) (h : Operand) (hs : List Operand) → IsIn size h → AreIn size hs → (o : Option ℕ) → bytes_of bits ≡ o → MadeIn L size (cut r bits o h hs)
+  in_cut : (bits : ℕ) (h : Operand) (hs : List Operand) → IsIn size h → AreIn size hs → (o : Option ℕ) → bytes_of bits ≡ o → MadeIn L r.result size (cut r bits o h hs)
   in_cut bits h hs hh hhs None e = in_cut_bits bits h hs hh hhs (bytes_around bits) refl
   in_cut bits h hs hh hhs (Some width) e = in_computed Sum width h (Known 0) hs (above bits width e) (below bits width e) hh tt hhs
     where
@@ -280,7 +293,7 @@ module _ (L : Type 0) (lay : Layout) (r : Room) where
       below : (n v : ℕ) → bytes_of n ≡ Some v → v ≤ 4
       below n v e1 = grind arith
 
-  in_applied : (op : Prefix) (hs : List Operand) → AreIn size hs → MadeIn L size (applied r op hs)
+  in_applied : (op : Prefix) (hs : List Operand) → AreIn size hs → MadeIn L r.result size (applied r op hs)
   in_applied Not [] h = tt
   in_applied Negative [] h = tt
   in_applied (Cut bits) [] h = tt
@@ -292,29 +305,29 @@ module _ (L : Type 0) (lay : Layout) (r : Room) where
       in_if (nat_le bits 32) _ _
       (in_computed Difference (bytes_for bits) (Known (2 ^ bits - 1)) a hs (for_low bits) (for_high bits) tt h.0 h.1) (tt, ((tt, h.1), tt))
 
-  in_at_local : (j : ℕ) (hs : List Operand) → AreIn size hs → MadeIn L size (at_local r j hs)
+  in_at_local : (j : ℕ) (hs : List Operand) → AreIn size hs → MadeIn L r.result size (at_local r j hs)
   in_at_local j hs h = by_size (nat_lt j r.locals) refl
     where
-      by_size : (b : Bool) → nat_lt j r.locals ≡ b → MadeIn L size (if b then Gives Skip (only (Local j ∷ hs)) else Refused NotTaken)
+      by_size : (b : Bool) → nat_lt j r.locals ≡ b → MadeIn L r.result size (if b then Gives Skip (only (Local j ∷ hs)) else Refused NotTaken)
       by_size true e = let lt : j < r.locals = grind arith in (tt, ((omega (arith, lt), h), tt))
       by_size false e = tt
 
-  in_receiver : (hs : List Operand) → AreIn size hs → MadeIn L size (get_receiver r hs)
+  in_receiver : (hs : List Operand) → AreIn size hs → MadeIn L r.result size (get_receiver r hs)
   in_receiver hs h = in_if (r.receiver == 0) _ _ (tt, ((tt, h), tt)) (in_at_local 0 hs h)
 
-  in_put : (j : ℕ) (a : Operand) (hs : List Operand) → IsIn size a → AreIn size hs → MadeIn L size (put_in_local r j a hs)
+  in_put : (j : ℕ) (a : Operand) (hs : List Operand) → IsIn size a → AreIn size hs → MadeIn L r.result size (put_in_local r j a hs)
   in_put j a hs ha h = by_size (nat_lt j r.locals) (is_free j (reverse hs)) refl
     where
-      by_size : (b c : Bool) → nat_lt j r.locals ≡ b → MadeIn L size (if b && c then Gives (One (Copy j a)) (only hs) else Refused NotTaken)
+      by_size : (b c : Bool) → nat_lt j r.locals ≡ b → MadeIn L r.result size (if b && c then Gives (One (Copy j a)) (only hs) else Refused NotTaken)
       by_size true true e = let lt : j < r.locals = grind arith in ((omega (arith, lt), ha), (h, tt))
       by_size true false e = tt
       by_size false c e = tt
 
-  in_set : (i : ℕ) (hs : List Operand) → AreIn size hs → MadeIn L size (set_local r i hs)
+  in_set : (i : ℕ) (hs : List Operand) → AreIn size hs → MadeIn L r.result size (set_local r i hs)
   in_set i [] h = tt
   in_set i (a ∷ hs) h = in_put (r.receiver + i) a hs h.0 h.1
 
-  in_number : (v : ℕ) (hs : List Operand) → AreIn size hs → MadeIn L size (put_number v hs)
+  in_number : (v : ℕ) (hs : List Operand) → AreIn size hs → MadeIn L r.result size (put_number v hs)
   in_number v hs h = in_if (nat_lt v (2 ^ 32)) (Gives Skip (only (Known v ∷ hs))) (Refused NotTaken) (tt, ((tt, h), tt)) tt
 
   -- ---- calls
@@ -337,7 +350,17 @@ module _ (L : Type 0) (lay : Layout) (r : Room) where
   reverse_in [] h = tt
   reverse_in (x ∷ xs) h = subst (AreIn size) (sym (reverse-append (x ∷ []) xs)) (both_in (reverse xs) (x ∷ []) (reverse_in xs h.1) (h.0, tt))
 
-  registers_in : (xs : List Operand) → AreIn size xs → AreIn size (operands (registers_of xs))
+  passed_take : (n : ℕ) (xs : List Passed) → ArePassedIn size xs → ArePassedIn size (take n xs)
+  passed_take zero xs h = tt
+  passed_take (suc n) [] h = tt
+  passed_take (suc n) (a ∷ xs) h = (h.0, passed_take n xs h.1)
+
+  passed_drop : (n : ℕ) (xs : List Passed) → ArePassedIn size xs → ArePassedIn size (drop n xs)
+  passed_drop zero xs h = h
+  passed_drop (suc n) [] h = tt
+  passed_drop (suc n) (a ∷ xs) h = passed_drop n xs h.1
+
+  registers_in : (xs : List Passed) → ArePassedIn size xs → ArePassedIn size (operands (registers_of xs))
   registers_in [] h = tt
   registers_in (a ∷ []) h = h
   registers_in (a ∷ b ∷ []) h = h
@@ -345,20 +368,38 @@ module _ (L : Type 0) (lay : Layout) (r : Room) where
   registers_in (a ∷ b ∷ c ∷ d ∷ []) h = h
   registers_in (a ∷ b ∷ c ∷ d ∷ e ∷ xs) h = tt
 
-  in_passing : (callee : Callee) (to : ℕ) (xs : List Operand) → IsCalleeIn size callee → to < size → AreIn size xs → BlockIn L size (passing callee to xs)
+  in_bytes : (w : Width) → (1 ≤ bytes_of_width w) × (bytes_of_width w ≤ 4)
+  in_bytes OneByte = (omega arith, omega arith)
+  in_bytes TwoBytes = (omega arith, omega arith)
+  in_bytes ThreeBytes = (omega arith, omega arith)
+  in_bytes FourBytes = (omega arith, omega arith)
+
+  in_all_widths : (ws : List Width) (xs : List Operand) → AreIn size xs → ArePassedIn size (in_widths ws xs)
+  in_all_widths [] [] h = tt
+  in_all_widths (w ∷ ws) [] h = tt
+  in_all_widths [] (a ∷ xs) h = ((omega arith, omega arith, h.0), in_all_widths [] xs h.1)
+  in_all_widths (w ∷ ws) (a ∷ xs) h = (((in_bytes w).0, (in_bytes w).1, h.0), in_all_widths ws xs h.1)
+
+  in_passing : (callee : Callee) (to : Option Target) (xs : List Passed) → IsCalleeIn size callee → IsToIn size to → ArePassedIn size xs
+      → BlockIn L r.result size (passing callee to xs)
   in_passing callee to xs hc lt h = (
     sym (length-take-le (length xs - 4) xs (omega arith)),
-    take_in (length xs - 4) xs h,
+    passed_take (length xs - 4) xs h,
     hc,
-    registers_in (drop (length xs - 4) xs) (drop_in (length xs - 4) xs h),
+    registers_in (drop (length xs - 4) xs) (passed_drop (length xs - 4) xs h),
     lt,
   )
 
+  in_passing_four : (callee : Callee) (to : ℕ) (xs : List Operand) → IsCalleeIn size callee → to < size → AreIn size xs
+      → BlockIn L r.result size (passing_four callee to xs)
+  in_passing_four callee to xs hc lt h =
+      in_passing callee (Some (record { width = 4; local = to })) (in_widths [] xs) hc (omega arith, lt) (in_all_widths [] xs h)
+
   in_taken : (count : ℕ) (hs : List Operand) (go : List Operand → List Operand → Made) → AreIn size hs
-      → ((xs rest : List Operand) → AreIn size xs → AreIn size rest → MadeIn L size (go xs rest)) → MadeIn L size (with_taken (taken count hs) go)
+      → ((xs rest : List Operand) → AreIn size xs → AreIn size rest → MadeIn L r.result size (go xs rest)) → MadeIn L r.result size (with_taken (taken count hs) go)
   in_taken count hs go h hg = by_count (nat_le count (length hs))
     where
-      by_count : (b : Bool) → MadeIn L size (with_taken (if b then Some (record { args = reverse (take count hs); rest = drop count hs }) else None) go)
+      by_count : (b : Bool) → MadeIn L r.result size (with_taken (if b then Some (record { args = reverse (take count hs); rest = drop count hs }) else None) go)
       by_count true = hg (reverse (take count hs)) (drop count hs) (reverse_in (take count hs) (take_in count hs h)) (drop_in count hs h)
       by_count false = tt
 
@@ -366,40 +407,46 @@ module _ (L : Type 0) (lay : Layout) (r : Room) where
   in_with_receiver true xs h = (tt, h)
   in_with_receiver false xs h = h
 
-  in_called : (q count : ℕ) (hs : List Operand) → AreIn size hs → MadeIn L size (called lay r q count hs)
-  in_called q count hs h =
-      in_taken count hs _ h (λ xs rest hx hr. in_by_temp rest _ (λ to lt. (
-        in_passing (ByNumber q) to (with_receiver (is_received (slice_get lay.receives q)) xs) tt lt
-            (in_with_receiver (is_received (slice_get lay.receives q)) xs hx),
-        ((lt, hr), tt),
-      )))
+  in_resulting : (callee : Callee) (o : Option Width) (xs : List Passed) (rest : List Operand) → IsCalleeIn size callee → ArePassedIn size xs
+      → AreIn size rest → MadeIn L r.result size (resulting r callee o xs rest)
+  in_resulting callee (Some w) xs rest hc hx hr =
+      in_by_temp rest _ (λ to lt. (in_passing callee (Some (record { width = bytes_of_width w; local = to })) xs hc ((in_bytes w).1, lt) hx, ((lt, hr), tt)))
+  in_resulting callee None xs rest hc hx hr = (in_passing callee None xs hc tt hx, ((tt, hr), tt))
 
-  in_called_on : (d code : ℕ) → code < size → (xs rest : List Operand) → AreIn size xs → AreIn size rest → MadeIn L size (called_on r d code xs rest)
+  in_called : (q count : ℕ) (hs : List Operand) → AreIn size hs → MadeIn L r.result size (called lay r q count hs)
+  in_called q count hs h =
+      in_taken count hs _ h (λ xs rest hx hr. in_resulting (ByNumber q) p.result (in_widths p.widths (with_receiver p.receives xs)) rest tt
+      (in_all_widths p.widths (with_receiver p.receives xs) (in_with_receiver p.receives xs hx)) hr)
+    where
+      p : Passing
+      p = passing_of (slice_get lay.passing q)
+
+  in_called_on : (d code : ℕ) → code < size → (xs rest : List Operand) → AreIn size xs → AreIn size rest → MadeIn L r.result size (called_on r d code xs rest)
   in_called_on d code lc [] rest hx hr = tt
   in_called_on d code lc (a ∷ xs) rest hx hr =
       in_by_temp rest _ (λ to lt. (
-        (in_stop 1 (Holds (is_zero a)) (in_test a (Known 0) hx.0 tt Same), ((lc, hx.0), in_passing (ByCode (Local code)) to (a ∷ xs) lc lt hx)),
+        (in_stop 1 (Holds (is_zero a)) (in_test a (Known 0) hx.0 tt Same), ((lc, hx.0), in_passing_four (ByCode (Local code)) to (a ∷ xs) lc lt hx)),
         ((lt, hr), tt),
       ))
 
-  in_called_for : (d count : ℕ) (hs : List Operand) → AreIn size hs → MadeIn L size (called_for r d count hs)
+  in_called_for : (d count : ℕ) (hs : List Operand) → AreIn size hs → MadeIn L r.result size (called_for r d count hs)
   in_called_for d count hs h = in_by_temp hs _ (λ code lc. in_taken (count + 1) hs _ h (in_called_on d code lc))
 
-  in_called_by : (receiver : ℕ) → receiver < size → (xs rest : List Operand) → AreIn size xs → AreIn size rest → MadeIn L size (called_by r receiver xs rest)
+  in_called_by : (receiver : ℕ) → receiver < size → (xs rest : List Operand) → AreIn size xs → AreIn size rest → MadeIn L r.result size (called_by r receiver xs rest)
   in_called_by receiver lr [] rest hx hr = tt
   in_called_by receiver lr (a ∷ xs) rest hx hr =
       in_by_temp rest _ (λ to lt. (
         (
           in_stop 1 (Holds (is_zero a)) (in_test a (Known 0) hx.0 tt Same),
-          ((omega arith, omega arith, lr, hx.0, tt), in_passing (ByCode a) to (Local receiver ∷ xs) hx.0 lt (lr, hx.1)),
+          ((omega arith, omega arith, lr, hx.0, tt), in_passing_four (ByCode a) to (Local receiver ∷ xs) hx.0 lt (lr, hx.1)),
         ),
         ((lt, hr), tt),
       ))
 
-  in_called_value : (count : ℕ) (hs : List Operand) → AreIn size hs → MadeIn L size (called_value r count hs)
+  in_called_value : (count : ℕ) (hs : List Operand) → AreIn size hs → MadeIn L r.result size (called_value r count hs)
   in_called_value count hs h = in_by_temp hs _ (λ receiver lr. in_taken (count + 1) hs _ h (in_called_by receiver lr))
 
-  in_bound_for : (d : ℕ) (hs : List Operand) → AreIn size hs → MadeIn L size (bound_for r d hs)
+  in_bound_for : (d : ℕ) (hs : List Operand) → AreIn size hs → MadeIn L r.result size (bound_for r d hs)
   in_bound_for d [] h = tt
   in_bound_for d (a ∷ hs) h =
       in_by_temp hs _ (λ to lt. in_by_temp (a ∷ hs) _ (λ above la. (
@@ -410,30 +457,30 @@ module _ (L : Type 0) (lay : Layout) (r : Room) where
         ((lt, h.1), tt),
       )))
 
-  in_forgotten : (hs : List Operand) → AreIn size hs → MadeIn L size (forgotten hs)
+  in_forgotten : (hs : List Operand) → AreIn size hs → MadeIn L r.result size (forgotten hs)
   in_forgotten [] h = tt
   in_forgotten (a ∷ hs) h = (tt, (h.1, tt))
 
-  in_written : (address : ℕ) (hs : List Operand) → AreIn size hs → MadeIn L size (written address hs)
+  in_written : (address : ℕ) (hs : List Operand) → AreIn size hs → MadeIn L r.result size (written address hs)
   in_written address [] h = tt
   in_written address (a ∷ hs) h = (h.0, (h.1, tt))
 
-  in_load_nothing : (hs : List Operand) → AreIn size hs → MadeIn L size (load_nothing hs)
+  in_load_nothing : (hs : List Operand) → AreIn size hs → MadeIn L r.result size (load_nothing hs)
   in_load_nothing [] h = tt
   in_load_nothing (a ∷ hs) h = (in_stop 1 (Holds (is_zero a)) (in_test a (Known 0) h.0 tt Same), ((tt, h.1), tt))
 
-  in_store_nothing : (hs : List Operand) → AreIn size hs → MadeIn L size (store_nothing hs)
+  in_store_nothing : (hs : List Operand) → AreIn size hs → MadeIn L r.result size (store_nothing hs)
   in_store_nothing [] h = tt
   in_store_nothing (v ∷ []) h = tt
   in_store_nothing (v ∷ a ∷ hs) h = (in_stop 1 (Holds (is_zero a)) (in_test a (Known 0) h.1.0 tt Same), (h.1.1, tt))
 
-  in_one_of : (first count : ℕ) (hs : List Operand) → AreIn size hs → MadeIn L size (is_one_of r first count hs)
+  in_one_of : (first count : ℕ) (hs : List Operand) → AreIn size hs → MadeIn L r.result size (is_one_of r first count hs)
   in_one_of first count [] h = tt
   in_one_of first count (a ∷ hs) h =
       in_if (nat_lt (first + count) (2 ^ 32)) _ _
       (in_by_temp hs _ (λ to lt. ((omega arith, omega arith, lt, h.0, tt), (h.1, in_test (Local to) (Known count) lt tt Below)))) tt
 
-  in_cast : (first count : ℕ) (hs : List Operand) → AreIn size hs → MadeIn L size (cast_to r first count hs)
+  in_cast : (first count : ℕ) (hs : List Operand) → AreIn size hs → MadeIn L r.result size (cast_to r first count hs)
   in_cast first count [] h = tt
   in_cast first count (a ∷ hs) h =
       in_if (nat_lt (first + count) (2 ^ 32)) _ _
@@ -448,10 +495,10 @@ module _ (L : Type 0) (lay : Layout) (r : Room) where
 
   -- ---- columns and tables
 
-  in_multiplied : (to by : ℕ) (h : Operand) → to < size → IsIn size h → BlockIn L size (multiplied to by h)
+  in_multiplied : (to by : ℕ) (h : Operand) → to < size → IsIn size h → BlockIn L r.result size (multiplied to by h)
   in_multiplied to by h lt hh = by_one (by == 1)
     where
-      by_one : (b : Bool) → BlockIn L size (if b then Skip else One (Compute (record { operator = Product; width = 2; to = to; left = h; right = Known by })))
+      by_one : (b : Bool) → BlockIn L r.result size (if b then Skip else One (Compute (record { operator = Product; width = 2; to = to; left = h; right = Known by })))
       by_one true = tt
       by_one false = (omega arith, omega arith, lt, hh, tt)
 
@@ -463,7 +510,7 @@ module _ (L : Type 0) (lay : Layout) (r : Room) where
       by_one false = lt
 
   in_fetched : (memory : Memory) (width by base : ℕ) (h : Operand) (hs : List Operand) → 1 ≤ width → width ≤ 4 → IsIn size h → AreIn size hs
-      → MadeIn L size (fetched r memory width by base h hs)
+      → MadeIn L r.result size (fetched r memory width by base h hs)
   in_fetched memory width by base h hs low high hh hhs =
       in_by_temp hs _ (λ to lt. (
         (
@@ -479,12 +526,12 @@ module _ (L : Type 0) (lay : Layout) (r : Room) where
   width_high : (w : ℕ) → is_width w ≡ true → w ≤ 4
   width_high w e = grind arith
 
-  in_load_one : (memory : Memory) (o : Option Place) (hs : List Operand) → AreIn size hs → MadeIn L size (load_one r memory o hs)
+  in_load_one : (memory : Memory) (o : Option Place) (hs : List Operand) → AreIn size hs → MadeIn L r.result size (load_one r memory o hs)
   in_load_one memory None hs h = tt
   in_load_one memory (Some place) hs h = by_width (is_width place.width) refl
     where
       by_width : (b : Bool) → is_width place.width ≡ b
-          → MadeIn L size (if b then by_temp (temp r hs) (λ to. Gives (One (load_from memory place.width to place.address (Known 0))) (only (Local to ∷ hs)))
+          → MadeIn L r.result size (if b then by_temp (temp r hs) (λ to. Gives (One (load_from memory place.width to place.address (Known 0))) (only (Local to ∷ hs)))
           else Refused NotTaken)
       by_width true e = in_by_temp hs _ (λ to lt. ((width_low place.width e, width_high place.width e, lt, tt), ((lt, h), tt)))
       by_width false e = tt
@@ -493,7 +540,7 @@ module _ (L : Type 0) (lay : Layout) (r : Room) where
   in_distance to first h lt hh = (omega arith, omega arith, lt, hh, tt)
 
   in_fetched_from : (memory : Memory) (width first base : ℕ) (h : Operand) (hs : List Operand) → 1 ≤ width → width ≤ 4 → IsIn size h → AreIn size hs
-      → MadeIn L size (fetched_from r memory width first base h hs)
+      → MadeIn L r.result size (fetched_from r memory width first base h hs)
   in_fetched_from memory width first base h hs low high hh hhs =
       in_by_temp hs _ (λ to lt. (
         (
@@ -504,41 +551,41 @@ module _ (L : Type 0) (lay : Layout) (r : Room) where
       ))
 
   in_load_placed : (memory : Memory) (width first address : ℕ) (h : Operand) (hs : List Operand) → 1 ≤ width → width ≤ 4 → IsIn size h → AreIn size hs
-      → MadeIn L size (load_placed r memory width first address h hs)
+      → MadeIn L r.result size (load_placed r memory width first address h hs)
   in_load_placed memory width first address h hs low high hh hhs =
       in_if (nat_le (width * first) address) _ _ (in_fetched memory width width (address - width * first) h hs low high hh hhs)
       (in_fetched_from memory width first address h hs low high hh hhs)
 
-  in_load_of : (memory : Memory) (first : ℕ) (o : Option Place) (hs : List Operand) → AreIn size hs → MadeIn L size (load_of r memory first o hs)
+  in_load_of : (memory : Memory) (first : ℕ) (o : Option Place) (hs : List Operand) → AreIn size hs → MadeIn L r.result size (load_of r memory first o hs)
   in_load_of memory first None hs h = tt
   in_load_of memory first (Some place) [] h = tt
   in_load_of memory first (Some place) (a ∷ hs) h = by_width (is_width place.width) refl
     where
       by_width : (b : Bool) → is_width place.width ≡ b
-          → MadeIn L size (if b then load_placed r memory place.width first place.address a hs else Refused NotTaken)
+          → MadeIn L r.result size (if b then load_placed r memory place.width first place.address a hs else Refused NotTaken)
       by_width true e = in_load_placed memory place.width first place.address a hs (width_low place.width e) (width_high place.width e) h.0 h.1
       by_width false e = tt
 
-  in_length_of : (o : Option ℕ) (hs : List Operand) → AreIn size hs → MadeIn L size (length_of r o hs)
+  in_length_of : (o : Option ℕ) (hs : List Operand) → AreIn size hs → MadeIn L r.result size (length_of r o hs)
   in_length_of None hs h = tt
   in_length_of (Some table) [] h = tt
   in_length_of (Some table) (a ∷ hs) h =
       in_if (nat_le 2 table) (fetched r Flash 2 4 (table - 2) a hs) (Refused NotTaken) (in_fetched Flash 2 4 (table - 2) a hs (omega arith)
       (omega arith) h.0 h.1) tt
 
-  in_store_one : (width : ℕ) (o : Option Place) (hs : List Operand) → AreIn size hs → MadeIn L size (store_one width o hs)
+  in_store_one : (width : ℕ) (o : Option Place) (hs : List Operand) → AreIn size hs → MadeIn L r.result size (store_one width o hs)
   in_store_one width None hs h = tt
   in_store_one width (Some place) [] h = tt
   in_store_one width (Some place) (v ∷ hs) h = by_width (is_width width) (width == place.width) refl
     where
       by_width : (b c : Bool) → is_width width ≡ b
-          → MadeIn L size (if b && c then Gives (One (store_at width place.address (Known 0) v)) (only hs) else Refused NotTaken)
+          → MadeIn L r.result size (if b && c then Gives (One (store_at width place.address (Known 0) v)) (only hs) else Refused NotTaken)
       by_width true true e = ((width_low width e, width_high width e, tt, h.0), (h.1, tt))
       by_width true false e = tt
       by_width false c e = tt
 
   in_put_of : (width base : ℕ) (v a : Operand) (hs : List Operand) → 1 ≤ width → width ≤ 4 → IsIn size v → IsIn size a → AreIn size hs
-      → MadeIn L size (put_of r width base v a hs)
+      → MadeIn L r.result size (put_of r width base v a hs)
   in_put_of width base v a hs low high hv ha h =
       in_by_temp (v ∷ a ∷ hs) _ (λ to lt. (
         (
@@ -549,7 +596,7 @@ module _ (L : Type 0) (lay : Layout) (r : Room) where
       ))
 
   in_put_from : (width first base : ℕ) (v a : Operand) (hs : List Operand) → 1 ≤ width → width ≤ 4 → IsIn size v → IsIn size a → AreIn size hs
-      → MadeIn L size (put_from r width first base v a hs)
+      → MadeIn L r.result size (put_from r width first base v a hs)
   in_put_from width first base v a hs low high hv ha h =
       in_by_temp (v ∷ a ∷ hs) _ (λ to lt. (
         (
@@ -560,19 +607,19 @@ module _ (L : Type 0) (lay : Layout) (r : Room) where
       ))
 
   in_store_placed : (width first address : ℕ) (v a : Operand) (hs : List Operand) → 1 ≤ width → width ≤ 4 → IsIn size v → IsIn size a → AreIn size hs
-      → MadeIn L size (store_placed r width first address v a hs)
+      → MadeIn L r.result size (store_placed r width first address v a hs)
   in_store_placed width first address v a hs low high hv ha h =
       in_if (nat_le (width * first) address) _ _ (in_put_of width (address - width * first) v a hs low high hv ha h)
       (in_put_from width first address v a hs low high hv ha h)
 
-  in_store_of : (first width : ℕ) (o : Option Place) (hs : List Operand) → AreIn size hs → MadeIn L size (store_of r first width o hs)
+  in_store_of : (first width : ℕ) (o : Option Place) (hs : List Operand) → AreIn size hs → MadeIn L r.result size (store_of r first width o hs)
   in_store_of first width None hs h = tt
   in_store_of first width (Some place) [] h = tt
   in_store_of first width (Some place) (v ∷ []) h = tt
   in_store_of first width (Some place) (v ∷ a ∷ hs) h = by_width (is_width width) (width == place.width) refl
     where
       by_width : (b c : Bool) → is_width width ≡ b
-          → MadeIn L size (if b && c then store_placed r width first place.address v a hs else Refused NotTaken)
+          → MadeIn L r.result size (if b && c then store_placed r width first place.address v a hs else Refused NotTaken)
       by_width true true e = in_store_placed width first place.address v a hs (width_low width e) (width_high width e) h.0 h.1.0 h.1.1
       by_width true false e = tt
       by_width false c e = tt
@@ -583,7 +630,7 @@ module _ (L : Type 0) (lay : Layout) (r : Room) where
   in_timed to by h lt hh = (omega arith, omega arith, lt, hh, tt)
 
   in_element : (x : Reach) (last : PlainInstr) → x.first < size → x.second < size → IsIn size x.home → IsIn size x.index → IsPlainIn size last
-      → BlockIn L size (element_of x last)
+      → BlockIn L r.result size (element_of x last)
   in_element x last l1 l2 hh hi hl = (
     in_stop 1 (Holds (is_zero x.home)) (in_test x.home (Known 0) hh tt Same),
     (
@@ -598,14 +645,14 @@ module _ (L : Type 0) (lay : Layout) (r : Room) where
     ),
   )
 
-  in_load_item : (e : Elements) (o : Option Place) (u : Option ℕ) (hs : List Operand) → AreIn size hs → MadeIn L size (load_item r e o u hs)
+  in_load_item : (e : Elements) (o : Option Place) (u : Option ℕ) (hs : List Operand) → AreIn size hs → MadeIn L r.result size (load_item r e o u hs)
   in_load_item e None u hs h = tt
   in_load_item e (Some place) None hs h = tt
   in_load_item e (Some place) (Some table) [] h = tt
   in_load_item e (Some place) (Some table) (i ∷ []) h = tt
   in_load_item e (Some place) (Some table) (i ∷ a ∷ hs) h = by_width (is_width e.width) (is_place e place) (nat_le 4 table) refl
     where
-      made : is_width e.width ≡ true → MadeIn L size (load_element r e table a i hs)
+      made : is_width e.width ≡ true → MadeIn L r.result size (load_element r e table a i hs)
       made is =
           in_by_temp hs _ (λ to l0. in_by_temp (i ∷ a ∷ hs) _ (λ first l1. in_by_temp (Local first ∷ i ∷ a ∷ hs) _ (λ second l2. (
             in_element (record { first = first; second = second; table = table; width = e.width; home = a; index = i })
@@ -613,13 +660,13 @@ module _ (L : Type 0) (lay : Layout) (r : Room) where
             ((l0, h.1.1), tt),
           ))))
 
-      by_width : (b c d : Bool) → is_width e.width ≡ b → MadeIn L size (if b && c && d then load_element r e table a i hs else Refused NotTaken)
+      by_width : (b c d : Bool) → is_width e.width ≡ b → MadeIn L r.result size (if b && c && d then load_element r e table a i hs else Refused NotTaken)
       by_width true true true is = made is
       by_width true true false is = tt
       by_width true false d is = tt
       by_width false c d is = tt
 
-  in_store_item : (e : Elements) (o : Option Place) (u : Option ℕ) (hs : List Operand) → AreIn size hs → MadeIn L size (store_item r e o u hs)
+  in_store_item : (e : Elements) (o : Option Place) (u : Option ℕ) (hs : List Operand) → AreIn size hs → MadeIn L r.result size (store_item r e o u hs)
   in_store_item e None u hs h = tt
   in_store_item e (Some place) None hs h = tt
   in_store_item e (Some place) (Some table) [] h = tt
@@ -627,7 +674,7 @@ module _ (L : Type 0) (lay : Layout) (r : Room) where
   in_store_item e (Some place) (Some table) (v ∷ i ∷ []) h = tt
   in_store_item e (Some place) (Some table) (v ∷ i ∷ a ∷ hs) h = by_width (is_width e.width) (is_place e place) (nat_le 4 table) refl
     where
-      made : is_width e.width ≡ true → MadeIn L size (store_element r e.width table v a i hs)
+      made : is_width e.width ≡ true → MadeIn L r.result size (store_element r e.width table v a i hs)
       made is =
           in_by_temp (v ∷ i ∷ a ∷ hs) _ (λ first l1. in_by_temp (Local first ∷ v ∷ i ∷ a ∷ hs) _ (λ second l2. (
             in_element (record { first = first; second = second; table = table; width = e.width; home = a; index = i })
@@ -636,13 +683,13 @@ module _ (L : Type 0) (lay : Layout) (r : Room) where
           )))
 
       by_width : (b c d : Bool) → is_width e.width ≡ b
-          → MadeIn L size (if b && c && d then store_element r e.width table v a i hs else Refused NotTaken)
+          → MadeIn L r.result size (if b && c && d then store_element r e.width table v a i hs else Refused NotTaken)
       by_width true true true is = made is
       by_width true true false is = tt
       by_width true false d is = tt
       by_width false c d is = tt
 
-  in_stepped : (q : Step) (hs : List Operand) → AreIn size hs → MadeIn L size (stepped lay r q hs)
+  in_stepped : (q : Step) (hs : List Operand) → AreIn size hs → MadeIn L r.result size (stepped lay r q hs)
   in_stepped (Number v) hs h = in_number v hs h
   in_stepped (GetLocal i) hs h = in_at_local (r.receiver + i) hs h
   in_stepped (SetLocal i) hs h = in_set i hs h
@@ -672,15 +719,15 @@ module _ (L : Type 0) (lay : Layout) (r : Room) where
 
   -- ---- choices and loops
 
-  in_landed_as : (hs : List Operand) → AreIn size hs → MadeIn L size (landed_as r hs)
+  in_landed_as : (hs : List Operand) → AreIn size hs → MadeIn L r.result size (landed_as r hs)
   in_landed_as [] h = (tt, (tt, tt))
   in_landed_as (a ∷ hs) h = in_by_temp hs _ (λ to lt. in_if (same_operand (Local to) a) (Gives Skip (only (a ∷ hs))) (Gives (One (Copy to a)) (only
       (Local to ∷ hs))) (tt, (h, tt)) ((lt, h.0), ((lt, h.1), tt)))
 
-  in_landed : (made : Made) → MadeIn L size made → MadeIn L size (landed r made)
+  in_landed : (made : Made) → MadeIn L r.result size made → MadeIn L r.result size (landed r made)
   in_landed made h = in_after made _ h (λ s hs. in_after (settled r s) _ (in_settled s hs) (λ s1 h1. in_landed_as s1.homes h1.0))
 
-  in_joined : (t : Truth) (x y : Made) → IsTruthIn size t → MadeIn L size x → MadeIn L size y → MadeIn L size (joined t x y)
+  in_joined : (t : Truth) (x y : Made) → IsTruthIn size t → MadeIn L r.result size x → MadeIn L r.result size y → MadeIn L r.result size (joined t x y)
   in_joined t (Refused why) y ht hx hy = tt
   in_joined t (Gives a s) (Refused why) ht hx hy = tt
   in_joined t (Gives a s) (Gives b s1) ht hx hy = in_if (same_homes (reverse s.homes) (reverse s1.homes)) (Gives (Choice t a b) s) (Refused NotTaken)
@@ -696,40 +743,40 @@ module _ (L : Type 0) (lay : Layout) (r : Room) where
       by_shape None (a ∷ hs) h1 e1 = subst (λ z. IsTruthIn size z.truth × AreIn size z.homes) (some_is _ t e1) (in_test a (Known 0) h1.0.0 tt Same, h1.0.1)
       by_shape None [] h1 e1 = none_is_not t e1
 
-  in_chosen : (s : Shape) (x y : Shape → Made) → ShapeIn size s → ((z : Shape) → ShapeIn size z → MadeIn L size (x z)) → ((z : Shape) → ShapeIn size z
-      → MadeIn L size (y z))
-      → MadeIn L size (chosen r (tested s) x y)
+  in_chosen : (s : Shape) (x y : Shape → Made) → ShapeIn size s → ((z : Shape) → ShapeIn size z → MadeIn L r.result size (x z)) → ((z : Shape) → ShapeIn size z
+      → MadeIn L r.result size (y z))
+      → MadeIn L r.result size (chosen r (tested s) x y)
   in_chosen s x y h hx hy = by_test (tested s) refl
     where
-      by_test : (o : Option Tested) → tested s ≡ o → MadeIn L size (chosen r o x y)
+      by_test : (o : Option Tested) → tested s ≡ o → MadeIn L r.result size (chosen r o x y)
       by_test None e = tt
       by_test (Some t) e =
           let ht = in_tested s t h e in
           in_joined t.truth (landed r (x (only t.homes))) (landed r (y (only t.homes))) ht.0 (in_landed _ (hx (only t.homes) (ht.1, tt)))
           (in_landed _ (hy (only t.homes) (ht.1, tt)))
 
-  in_next : L → (p : Block) (t : Truth) (b : Block) (z : Made) → BlockIn L size p → IsTruthIn size t → BlockIn L size b → MadeIn L size z
-      → MadeIn L size (repeated_next p t b z)
+  in_next : L → (p : Block) (t : Truth) (b : Block) (z : Made) → BlockIn L r.result size p → IsTruthIn size t → BlockIn L r.result size b → MadeIn L r.result size z
+      → MadeIn L r.result size (repeated_next p t b z)
   in_next l p t b (Refused why) hp ht hb hz = tt
   in_next l p t b (Gives n s) hp ht hb hz = in_if (is_empty s) (Gives (Repeat p t b n) empty) (Refused NotTaken) ((ht, hp, hb, hz.0, l), (tt, tt)) tt
 
-  in_body : L → (p : Block) (t : Truth) (y z : Made) → BlockIn L size p → IsTruthIn size t → MadeIn L size y → MadeIn L size z
-      → MadeIn L size (repeated_body p t y z)
+  in_body : L → (p : Block) (t : Truth) (y z : Made) → BlockIn L r.result size p → IsTruthIn size t → MadeIn L r.result size y → MadeIn L r.result size z
+      → MadeIn L r.result size (repeated_body p t y z)
   in_body l p t (Refused why) z hp ht hy hz = tt
   in_body l p t (Gives b s) z hp ht hy hz = in_if (is_empty s) (repeated_next p t b z) (Refused NotTaken) (in_next l p t b z hp ht hy.0 hz) tt
 
-  in_repeated : L → (x y z : Made) → MadeIn L size x → MadeIn L size y → MadeIn L size z → MadeIn L size (repeated x y z)
+  in_repeated : L → (x y z : Made) → MadeIn L r.result size x → MadeIn L r.result size y → MadeIn L r.result size z → MadeIn L r.result size (repeated x y z)
   in_repeated l (Refused why) y z hx hy hz = tt
   in_repeated l (Gives p s) y z hx hy hz = by_test (tested s) refl
     where
-      by_test : (o : Option Tested) → tested s ≡ o → MadeIn L size (repeated_test p o y z)
+      by_test : (o : Option Tested) → tested s ≡ o → MadeIn L r.result size (repeated_test p o y z)
       by_test None e = tt
       by_test (Some t) e = in_if (is_empty (only t.homes)) (repeated_body p t.truth y z) (Refused NotTaken) (in_body l p t.truth y z hx.0
           (in_tested s t hx.1 e).0 hy hz) tt
 
-  in_given_back : (hs : List Operand) → AreIn size hs → MadeIn L size (given_back hs)
+  in_given_back : (hs : List Operand) → AreIn size hs → MadeIn L r.result size (given_back r hs)
   in_given_back [] h = tt
-  in_given_back (a ∷ []) h = (h.0, (tt, tt))
+  in_given_back (a ∷ []) h = ((refl, h.0), (tt, tt))
   in_given_back (a ∷ b ∷ hs) h = tt
 
   first_of : (x y : Bool) → ((x || y) ≡ true → L) → x ≡ true → L
@@ -743,7 +790,7 @@ module _ (L : Type 0) (lay : Layout) (r : Room) where
   rest_of true y h e = h refl
   rest_of false y h e = h e
 
-  pub in_flat : (c : Code Step) (s : Shape) → (has_loop c ≡ true → L) → ShapeIn size s → MadeIn L size (flat lay r c s)
+  pub in_flat : (c : Code Step) (s : Shape) → (has_loop c ≡ true → L) → ShapeIn size s → MadeIn L r.result size (flat lay r c s)
   in_flat Nothing s l h = (tt, h)
   in_flat (Then a b) s l h =
       in_after (flat lay r a s) (flat lay r b) (in_flat a s (first_of (has_loop a) (has_loop b) l) h)

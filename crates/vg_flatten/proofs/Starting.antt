@@ -4,13 +4,13 @@ use Rattle.std.proofs.Common.{◌≡◌, ◌≢◌, refl, sym, subst, arith}
 use Rattle.vg_lin.specs.declared.instr.Instr.{Instr}
 use Rattle.std.specs.List.{AllByRecursion}
 use Rattle.vg_lin.specs.Meaning.{operands}
-use Rattle.vg_lin.specs.Sound.{IsOperand, AreOperands, Waits, IsSound}
+use Rattle.vg_lin.specs.Sound.{IsPassed, AreOperands, Waits, IsSound}
 use Rattle.vg_flatten.specs.Flattened.{main_args, start_of}
 use Rattle.vg_flatten_shapes.proofs.Temps.{some_is, none_is_not}
 
 module _ (main : ℕ) (receives : Bool) where
-  args : (b : Bool) → AllByRecursion (IsOperand (start_of main receives)) (operands (main_args b))
-  args true = (tt, tt)
+  args : (b : Bool) → AllByRecursion (IsPassed (start_of main receives)) (operands (main_args b))
+  args true = (((omega arith, omega arith), tt), tt)
   args false = tt
 
   operands_in : (at : ℕ) (i : Instr) → slice_get (start_of main receives).code at ≡ Some i → AreOperands (start_of main receives) i
@@ -32,6 +32,7 @@ module _ (main : ℕ) (receives : Bool) where
       record {
         few = omega arith;
         params = omega arith;
+        result = omega arith;
         widths = tt;
         operands = operands_in;
         waits = λ z. [];
@@ -41,7 +42,7 @@ module _ (main : ℕ) (receives : Bool) where
 
 -- The same of parts that are equal.
 pub start_as : (main : ℕ) (receives : Bool) (ws : List ℕ) (code : List Instr) → ws ≡ [] → code ≡ (start_of main receives).code
-    → IsSound (record { method = None; params = 0; widths = ws; code = code })
+    → IsSound (record { method = None; params = 0; result = 0; widths = ws; code = code })
 start_as main receives ws code e h =
-    subst (λ z. IsSound (record { method = None; params = 0; widths = z; code = code })) (sym e)
-    (subst (λ z. IsSound (record { method = None; params = 0; widths = []; code = z })) (sym h) (start_sound main receives))
+    subst (λ z. IsSound (record { method = None; params = 0; result = 0; widths = z; code = code })) (sym e)
+    (subst (λ z. IsSound (record { method = None; params = 0; result = 0; widths = []; code = z })) (sym h) (start_sound main receives))

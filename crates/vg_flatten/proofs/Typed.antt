@@ -28,6 +28,9 @@ use Rattle.vg_flatten_shapes.specs.declared.fault.Fault.{Fault}
 use Rattle.vg_flatten_shapes.specs.declared.fault.Fault.TheVariants.{NotTaken, TooHigh, TooLong}
 use Rattle.vg_base.specs.declared.refusal.Refusal.{Refusal}
 use Rattle.vg_base.specs.declared.refusal.Refusal.TheVariants.{Fault as Faulty, NoMemory as OutOfMemory}
+use Rattle.vg_lin.specs.declared.instr.Passed.{Passed}
+use Rattle.vg_lin.specs.declared.instr.Callee.{Callee}
+use Rattle.vg_lin.specs.declared.instr.Callee.TheVariants.{Procedure as ByNumber}
 use Rattle.vg_lin.specs.declared.instr.Call.{Call as Calling}
 use Rattle.vg_lin.specs.declared.instr.Instr.TheVariants.{Jump}
 use Rattle.vg_firm.specs.Program.{Procedure}
@@ -39,6 +42,8 @@ use Rattle.vg_flatten_shapes.specs.declared.open.Open.TheVariants.{Set, Break as
 use Rattle.vg_flatten_shapes.proofs.Choices.{choice_cases}
 use Rattle.vg_flatten_shapes.specs.declared.layout.Place.{Place}
 use Rattle.vg_flatten_shapes.specs.declared.layout.Layout.{Layout}
+use Rattle.vg_flatten_shapes.specs.declared.layout.Passing.{Passing}
+use Rattle.vg_flatten_shapes.specs.declared.layout.Width.{Width}
 use Rattle.vg_flatten_shapes.specs.declared.room.Room.{Room}
 use Rattle.vg_flatten_shapes.specs.Shapes.{Shape, only, empty, is_empty, is_none, is_free, same_operand, same_homes, taken, temp}
 use Rattle.vg_flatten_shapes.specs.Blocks.{Block, Skip, One, CallTo, TakeInterrupt, GiveBack, BreakOut, GoOn, Both, Choice, Repeat, stop_where}
@@ -49,7 +54,7 @@ use Rattle.vg_flatten_values.specs.Values.{divided, masked, shifted_left, shifte
 use Rattle.vg_flatten_places.specs.Places.{is_width, fetched, fetched_from, load_one, load_of, length_of, places_in, memory_of, multiplied}
 use Rattle.vg_flatten_places.specs.Places.{store_one, store_of, is_place, load_item, store_item}
 use Rattle.vg_flatten_steps.specs.Locals.{at_local, get_receiver, put_in_local, set_local, forgotten, written}
-use Rattle.vg_flatten_steps.specs.Calls.{with_taken, called, called_on, called_for, called_by, called_value, bound_for}
+use Rattle.vg_flatten_steps.specs.Calls.{in_widths, with_taken, passing_of, with_receiver, resulting, called, called_on, called_for, called_by, called_value, bound_for}
 use Rattle.vg_flatten_steps.specs.Objects.{load_nothing, store_nothing, is_one_of, cast_to}
 use Rattle.vg_flatten_steps.specs.Steps.{stepped}
 use Rattle.vg_flatten_control.specs.Flat.{landed_as, landed, joined, chosen, repeated, repeated_test, given_back, flat}
@@ -300,14 +305,23 @@ module _ (lay : Layout) (r : Room) (looped : Bool) (under : List Operand) where
 
   -- ---- calls
 
+  fine_resulting : (callee : Callee) (o : Option Width) (xs : List Passed) (back : List Operand) (n y : ℕ) → length back ≡ n → y ≡ 1 + n
+      → length (back ++ under) < r.temps → Fine looped under y (resulting r callee o xs (back ++ under))
+  fine_resulting callee (Some w) xs back n y e g h =
+      with_temp r (Fine looped under y) (back ++ under) _ h (λ to. (tt, puts under back (Local to) n y e g))
+  fine_resulting callee None xs back n y e g h = (tt, puts under back (Known 0) n y e g)
+
   fine_called : (q count : ℕ) (own : List Operand) (n y : ℕ) → length own ≡ count + n → y ≡ 1 + n → length under + (count + n) + 2 ≤ r.temps
       → Fine looped under y (called lay r q count (own ++ under))
   fine_called q count own n y e g room =
       split_of (λ z. Fine looped under y (called lay r q count (z ++ under))) own count n e (λ front back ef eb.
       subst (λ z. Fine looped under y (called lay r q count z)) (sym (append_assoc front back under))
       (with_front (Fine looped under y) count front (back ++ under) _ ef
-      (with_temp r (Fine looped under y) (back ++ under) _ (short back eb) (λ to. (tt, puts under back (Local to) n y eb g)))))
+      (fine_resulting (ByNumber q) p.result (in_widths p.widths (with_receiver p.receives (reverse front))) back n y eb g (short back eb))))
     where
+      p : Passing
+      p = passing_of (slice_get lay.passing q)
+
       short : (back : List Operand) → length back ≡ n → length (back ++ under) < r.temps
       short back eb = let l = length-append back under in omega (arith, eb, l, room)
 
@@ -675,10 +689,10 @@ repeated_fine looped (Gives p s) (Gives b s1) (Gives n s2) hx hy hz =
     (by_if (Fine looped [] 0) (is_empty s1) _ _ (empty_is s1 hy.1)
     (by_if (Fine looped [] 0) (is_empty s2) _ _ (empty_is s2 hz.1) ((hx.0, hz.0), nothing [] 0 refl))))
 
-given_fine : (looped : Bool) (hs : List Operand) → length hs ≡ 1 → Fine looped [] 0 (given_back hs)
-given_fine looped [] e = absurd (omega (arith, e))
-given_fine looped (h ∷ []) e = (tt, nothing [] 0 refl)
-given_fine looped (h ∷ i ∷ hs) e = absurd (omega (arith, e))
+given_fine : (r : Room) (looped : Bool) (hs : List Operand) → length hs ≡ 1 → Fine looped [] 0 (given_back r hs)
+given_fine r looped [] e = absurd (omega (arith, e))
+given_fine r looped (h ∷ []) e = (tt, nothing [] 0 refl)
+given_fine r looped (h ∷ i ∷ hs) e = absurd (omega (arith, e))
 
 -- ---- code
 
@@ -764,9 +778,9 @@ module _ (lay : Layout) (r : Room) (k : Knows) (same : k.layout ≡ lay) (inside
       by_if (Fine looped under y) (is_empty s) _ _ (nothing_waits under x s w e) (l, subst (λ q. Waits under q empty) (sym ey) (nothing under x e))
   fine_flat Return looped under s x y (e, ex, ey) w =
       after_settled r looped (Fine looped under y) (fine_behind looped under y) under x s _ w (omega (arith, e, ex, some)) (λ s1 w1.
-      subst (λ q. Fine looped q y (given_back s1.homes)) (sym (nil_is under e))
-      (subst (λ q. Fine looped [] q (given_back s1.homes)) (sym ey)
-      (given_fine looped s1.homes (let l = ap length w1.homes ∙ length-append w1.own under in let c = w1.count in omega (arith, l, c, e, ex)))))
+      subst (λ q. Fine looped q y (given_back r s1.homes)) (sym (nil_is under e))
+      (subst (λ q. Fine looped [] q (given_back r s1.homes)) (sym ey)
+      (given_fine r looped s1.homes (let l = ap length w1.homes ∙ length-append w1.own under in let c = w1.count in omega (arith, l, c, e, ex)))))
 
 -- ---- no jump out of a loop is left
 
@@ -780,7 +794,7 @@ all_closed u v (Set i ∷ os) = (tt, all_closed u v os)
 all_closed u v (Breaking ∷ os) = (tt, all_closed u v os)
 all_closed u v (Continuing ∷ os) = (tt, all_closed u v os)
 
-all_call : (pushed : List Operand) (c : Calling) → AllSet (call_code pushed c)
+all_call : (pushed : List Passed) (c : Calling) → AllSet (call_code pushed c)
 all_call [] c = (tt, tt)
 all_call (a ∷ more) c = (tt, all_call more c)
 
@@ -789,7 +803,7 @@ stays_set Skip at h = tt
 stays_set (One p) at h = (tt, tt)
 stays_set (CallTo pushed c) at h = all_call pushed c
 stays_set TakeInterrupt at h = (tt, tt)
-stays_set (GiveBack a) at h = (tt, tt)
+stays_set (GiveBack w a) at h = (tt, tt)
 stays_set BreakOut at h = absurd (not_true h)
 stays_set GoOn at h = absurd (not_true h)
 stays_set (Both a b) at h = all_both (open_code a at) _ (stays_set a at h.0) (stays_set b _ h.1)

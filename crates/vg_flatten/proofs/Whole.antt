@@ -1,5 +1,5 @@
 -- That a flattened procedure keeps what every procedure of linear code keeps.
-use Rattle.std.specs.Prelude.{ℕ, zero, suc, ◌+◌, ◌-◌, ◌<◌, ◌≤◌, Bool, true, false, List, [], ◌∷◌, ◌++◌, length, drop, map, replicate, Option, Some, None, slice_get}
+use Rattle.std.specs.Prelude.{ℕ, zero, suc, ◌+◌, ◌-◌, ◌<◌, ◌≤◌, Bool, true, false, List, [], ◌∷◌, ◌++◌, length, drop, map, replicate, Option, Some, None, slice_get, if◌then◌else◌}
 use Rattle.std.specs.List.{AllByRecursion}
 use Rattle.std.proofs.Common.{◌≡◌, ◌⊎◌, inl, inr, refl, sym, ap, ◌∙◌, subst, arith}
 use Rattle.std.proofs.lemmas.List.{length-append, length-map, length-replicate}
@@ -10,7 +10,9 @@ use Rattle.vg_lin.specs.declared.instr.Operand.{Operand}
 use Rattle.vg_lin.specs.declared.instr.Operand.TheVariants.{Local, Known}
 use Rattle.vg_lin.specs.declared.instr.Test.{Test}
 use Rattle.vg_lin.specs.declared.instr.Plain.{Plain as PlainInstr}
-use Rattle.vg_lin.specs.declared.instr.Plain.TheVariants.{Copy, Compute, Product, DivideStep, Load, Store, ReadDevice, WriteDevice, Push, Find, CodeOf, Stop}
+use Rattle.vg_lin.specs.declared.instr.Plain.TheVariants.{Copy, Compute, Product, DivideStep, Load, Store, ReadDevice, WriteDevice, Push, Pop, Find, CodeOf, Stop}
+use Rattle.vg_lin.specs.declared.instr.Passed.{Passed}
+use Rattle.vg_lin.specs.declared.instr.Target.{Target}
 use Rattle.vg_lin.specs.declared.instr.Call.{Call as Calling}
 use Rattle.vg_lin.specs.declared.instr.Callee.{Callee}
 use Rattle.vg_lin.specs.declared.instr.Callee.TheVariants.{Procedure as ByNumber, Code as ByCode}
@@ -18,7 +20,7 @@ use Rattle.vg_lin.specs.declared.instr.Instr.{Instr}
 use Rattle.vg_lin.specs.declared.instr.Instr.TheVariants.{Plain, When, Unless, Jump, Call, Return, Idle}
 use Rattle.vg_lin.specs.Meaning.{operands}
 use Rattle.vg_lin.specs.Program.{Procedure}
-use Rattle.vg_lin.specs.Sound.{IsWidth, IsOperand, IsTest, IsTo, IsCallee, IsPlain, AreOperands, PlainWaits, Waits, IsSound}
+use Rattle.vg_lin.specs.Sound.{IsWidth, IsOperand, IsPassed, IsTest, IsTo, IsCallee, IsPlain, AreOperands, PlainWaits, Waits, IsSound}
 use Rattle.vg_flatten_shapes.specs.declared.open.Truth.{Truth}
 use Rattle.vg_flatten_shapes.specs.declared.open.Truth.TheVariants.{Holds, Fails}
 use Rattle.vg_flatten_shapes.specs.declared.open.Open.{Open}
@@ -27,42 +29,43 @@ use Rattle.vg_flatten_shapes.proofs.Choices.{choice_cases}
 use Rattle.vg_flatten_shapes.specs.Blocks.{Block, Skip, One, CallTo, TakeInterrupt, GiveBack, BreakOut, GoOn, Both, Choice, Repeat, branch, closed, call_code, open_code}
 use Rattle.vg_flatten.specs.Closing.{AllSet}
 use Rattle.vg_flatten_shapes.specs.Blocks.{set_in}
-use Rattle.vg_flatten.specs.Flattened.{zeroes, receivers, with_receiver_width, own_widths, own_params, widened, all_widths, whole}
-use Rattle.vg_flatten.proofs.Sound.{IsIn, AreIn, IsTestIn, IsTruthIn, IsPlainIn, IsToIn, IsCalleeIn, BlockIn}
+use Rattle.vg_flatten.specs.Flattened.{zeroes, receivers, with_receiver_width, own_widths, own_params, widened, wide_params, all_widths, result_width, whole}
+use Rattle.vg_flatten.proofs.Sound.{IsIn, ArePassedIn, IsTestIn, IsTruthIn, IsPlainIn, IsToIn, IsCalleeIn, BlockIn}
 use Rattle.vg_flatten.proofs.Jumps.{behind_plain, behind, Marks, PlainWithin, JumpsWithin, AllWithin, marks_front, ends, within, within_both}
 use Rattle.vg_flatten_shapes.proofs.Temps.{some_is, none_is_not}
 
 -- ---- operands of a list of instructions
 
--- A push is one of four bytes.
+-- A push is one of one to four bytes.
 abbrev pub PlainOrPush : (size : ℕ) → PlainInstr → Type 0
-PlainOrPush size (Push w a) = (w ≡ 4) × IsIn size a
+PlainOrPush size (Push w a) = (1 ≤ w) × (w ≤ 4) × IsIn size a
 PlainOrPush size p = IsPlainIn size p
 
-abbrev pub InstrIn : (size : ℕ) → Open → Type 0
-InstrIn size (Set (Plain p)) = PlainOrPush size p
-InstrIn size (Set (When t to)) = IsTestIn size t
-InstrIn size (Set (Unless t to)) = IsTestIn size t
-InstrIn size (Set (Call c)) = IsCalleeIn size c.callee × AreIn size (operands c.registers) × IsToIn size c.to
-InstrIn size (Set (Return a)) = IsIn size a
-InstrIn size _ = Unit {0}
+-- What is given back has so many bytes.
+abbrev pub InstrIn : (given size : ℕ) → Open → Type 0
+InstrIn given size (Set (Plain p)) = PlainOrPush size p
+InstrIn given size (Set (When t to)) = IsTestIn size t
+InstrIn given size (Set (Unless t to)) = IsTestIn size t
+InstrIn given size (Set (Call c)) = IsCalleeIn size c.callee × ArePassedIn size (operands c.registers) × IsToIn size c.to
+InstrIn given size (Set (Return w a)) = (w ≡ given) × IsIn size a
+InstrIn given size _ = Unit {0}
 
-abbrev pub AllIn : (size : ℕ) → List Open → Type 0
-AllIn size [] = Unit {0}
-AllIn size (o ∷ os) = InstrIn size o × AllIn size os
+abbrev pub AllIn : (given size : ℕ) → List Open → Type 0
+AllIn given size [] = Unit {0}
+AllIn given size (o ∷ os) = InstrIn given size o × AllIn given size os
 
-module _ (L : Type 0) (size : ℕ) where
-  in_both : (os qs : List Open) → AllIn size os → AllIn size qs → AllIn size (os ++ qs)
+module _ (L : Type 0) (given size : ℕ) where
+  in_both : (os qs : List Open) → AllIn given size os → AllIn given size qs → AllIn given size (os ++ qs)
   in_both [] qs h g = g
   in_both (o ∷ os) qs h g = (h.0, in_both os qs h.1 g)
 
-  in_closed : (u v : ℕ) (os : List Open) → AllIn size os → AllIn size (map (closed u v) os)
+  in_closed : (u v : ℕ) (os : List Open) → AllIn given size os → AllIn given size (map (closed u v) os)
   in_closed u v [] h = tt
   in_closed u v (Set i ∷ os) h = (h.0, in_closed u v os h.1)
   in_closed u v (Break ∷ os) h = (tt, in_closed u v os h.1)
   in_closed u v (Continue ∷ os) h = (tt, in_closed u v os h.1)
 
-  in_branch : (t : Truth) (to : ℕ) → IsTruthIn size t → InstrIn size (Set (branch t to))
+  in_branch : (t : Truth) (to : ℕ) → IsTruthIn size t → InstrIn given size (Set (branch t to))
   in_branch (Holds t) to h = h
   in_branch (Fails t) to h = h
 
@@ -76,26 +79,27 @@ module _ (L : Type 0) (size : ℕ) where
   plain_or_push (ReadDevice to a) h = h
   plain_or_push (WriteDevice a b) h = h
   plain_or_push (Push w a) h = absurd h
+  plain_or_push (Pop w to) h = absurd h
   plain_or_push (Find d to a) h = h
   plain_or_push (CodeOf q to) h = h
   plain_or_push (Stop c) h = h
 
-  in_call : (pushed : List Operand) (c : Calling) → AreIn size pushed → IsCalleeIn size c.callee → AreIn size (operands c.registers) → IsToIn size c.to
-      → AllIn size (call_code pushed c)
+  in_call : (pushed : List Passed) (c : Calling) → ArePassedIn size pushed → IsCalleeIn size c.callee → ArePassedIn size (operands c.registers)
+      → IsToIn size c.to → AllIn given size (call_code pushed c)
   in_call [] c h hc hr ht = ((hc, hr, ht), tt)
-  in_call (a ∷ more) c h hc hr ht = ((refl, h.0), in_call more c h.1 hc hr ht)
+  in_call (a ∷ more) c h hc hr ht = (h.0, in_call more c h.1 hc hr ht)
 
-  pub in_code : (b : Block) (at : ℕ) → BlockIn L size b → AllIn size (open_code b at)
+  pub in_code : (b : Block) (at : ℕ) → BlockIn L given size b → AllIn given size (open_code b at)
   in_code Skip at h = tt
   in_code (One p) at h = (plain_or_push p h, tt)
   in_code (CallTo pushed c) at h = in_call pushed c h.1 h.2 h.3 h.4
   in_code TakeInterrupt at h = (tt, tt)
-  in_code (GiveBack a) at h = (h, tt)
+  in_code (GiveBack w a) at h = (h, tt)
   in_code BreakOut at h = (tt, tt)
   in_code GoOn at h = (tt, tt)
   in_code (Both a b) at h = in_both (open_code a at) _ (in_code a at h.0) (in_code b _ h.1)
   in_code (Choice t a b) at h =
-      choice_cases (AllIn size) t at (open_code a (at + 1)) (open_code b (at + 1 + length (open_code a (at + 1)) + 1))
+      choice_cases (AllIn given size) t at (open_code a (at + 1)) (open_code b (at + 1 + length (open_code a (at + 1)) + 1))
       (λ e. (in_branch t _ h.0, in_code a (at + 1) h.1))
       (in_branch t _ h.0, in_both (open_code a (at + 1)) _ (in_code a (at + 1) h.1) (tt, in_code b _ h.2))
   in_code (Repeat p t body next) at h =
@@ -129,9 +133,9 @@ module _ (L : Type 0) (size : ℕ) where
       behind_test : List Open
       behind_test = Set (branch t e) ∷ (map (closed e n) ys ++ behind_body)
 
-pub in_zeroes : (L : Type 0) (size c i : ℕ) → i + c ≤ size → BlockIn L size (zeroes c i)
-in_zeroes L size zero i h = tt
-in_zeroes L size (suc c) i h = ((omega (arith, h), tt), in_zeroes L size c (suc i) (omega (arith, h)))
+pub in_zeroes : (L : Type 0) (given size c i : ℕ) → i + c ≤ size → BlockIn L given size (zeroes c i)
+in_zeroes L given size zero i h = tt
+in_zeroes L given size (suc c) i h = ((omega (arith, h), tt), in_zeroes L given size c (suc i) (omega (arith, h)))
 
 -- ---- what waits at each place
 
@@ -153,10 +157,10 @@ marks_all os = marks_from (waits_in [] os) [] os 0 (λ j. ap (waits_in [] os) (o
 
 -- ---- by place
 
-in_at : (size : ℕ) (os : List Open) (j : ℕ) (o : Open) → AllIn size os → slice_get os j ≡ Some o → InstrIn size o
-in_at size [] j o h e = none_is_not o e
-in_at size (q ∷ os) zero o h e = subst (λ z. InstrIn size z) (some_is q o e) h.0
-in_at size (q ∷ os) (suc j) o h e = in_at size os j o h.1 e
+in_at : (given size : ℕ) (os : List Open) (j : ℕ) (o : Open) → AllIn given size os → slice_get os j ≡ Some o → InstrIn given size o
+in_at given size [] j o h e = none_is_not o e
+in_at given size (q ∷ os) zero o h e = subst (λ z. InstrIn given size z) (some_is q o e) h.0
+in_at given size (q ∷ os) (suc j) o h e = in_at given size os j o h.1 e
 
 within_at : (w : ℕ → List ℕ) (high : ℕ) (os : List Open) (at j : ℕ) (o : Open) → AllWithin w high os at → slice_get os j ≡ Some o
     → JumpsWithin w high (at + j) o
@@ -218,14 +222,14 @@ module _ (p : Procedure) where
   operand_in (Local i) h = h
   operand_in (Known v) h = tt
 
-  operands_in : (hs : List Operand) → AreIn (length p.widths) hs → AllByRecursion (IsOperand p) hs
-  operands_in [] h = tt
-  operands_in (a ∷ hs) h = (operand_in a h.0, operands_in hs h.1)
+  passed_in : (xs : List Passed) → ArePassedIn (length p.widths) xs → AllByRecursion (IsPassed p) xs
+  passed_in [] h = tt
+  passed_in (a ∷ xs) h = (((h.0.0, h.0.1), operand_in a.value h.0.2), passed_in xs h.1)
 
   test_in : (t : Test) → IsTestIn (length p.widths) t → IsTest p t
   test_in t h = ((h.0, h.1), operand_in t.left h.2, operand_in t.right h.3)
 
-  to_in : (o : Option ℕ) → IsToIn (length p.widths) o → IsTo p o
+  to_in : (o : Option Target) → IsToIn (length p.widths) o → IsTo p o
   to_in (Some to) h = h
   to_in None h = tt
 
@@ -242,31 +246,32 @@ module _ (p : Procedure) where
   plain_in (DivideStep a b c) h = absurd h
   plain_in (Load m w to a) h = ((h.0, h.1), h.2, operand_in a.index h.3)
   plain_in (Store w a from) h = ((h.0, h.1), operand_in a.index h.2, operand_in from h.3)
-  plain_in (Push w a) h = let e = h.0 in ((omega (arith, e), omega (arith, e)), operand_in a h.1)
+  plain_in (Push w a) h = ((h.0, h.1), operand_in a h.2)
+  plain_in (Pop w to) h = absurd h
   plain_in (Find d to a) h = (h.0, operand_in a h.1)
   plain_in (CodeOf q to) h = h
   plain_in (Stop code) h = tt
 
-  instr_in : (i : Instr) → InstrIn (length p.widths) (Set i) → AreOperands p i
+  instr_in : (i : Instr) → InstrIn p.result (length p.widths) (Set i) → AreOperands p i
   instr_in (Plain i) h = plain_in i h
   instr_in (When t to) h = test_in t h
   instr_in (Unless t to) h = test_in t h
   instr_in (Jump to) h = tt
-  instr_in (Call c) h = (callee_in c.callee h.0, operands_in (operands c.registers) h.1, to_in c.to h.2)
-  instr_in (Return a) h = operand_in a h
+  instr_in (Call c) h = (callee_in c.callee h.0, passed_in (operands c.registers) h.1, to_in c.to h.2)
+  instr_in (Return w a) h = (h.0, operand_in a h.1)
   instr_in Idle h = tt
 
   abbrev IsReturn : Instr → Type 0
-  IsReturn (Return a) = Unit {0}
+  IsReturn (Return w a) = Unit {0}
   IsReturn i = ⊥
 
-  next : (i : Instr) (at : ℕ) → (IsReturn i → ⊥) → (suc at < length p.code) ⊎ (Return (Known 0) ≡ i) → suc at < length p.code
+  next : (i : Instr) (at : ℕ) → (IsReturn i → ⊥) → (suc at < length p.code) ⊎ (Return p.result (Known 0) ≡ i) → suc at < length p.code
   next i at no' (inl lt) = lt
   next i at no' (inr e) = absurd (no' (subst IsReturn e tt))
 
   -- where the next instruction is, and what waits there
   plain_waits : (w : ℕ → List ℕ) (i : PlainInstr) (at : ℕ) → PlainOrPush (length p.widths) i → PlainWithin w at i
-      → w (suc at) ≡ behind_plain i (w at) → (suc at < length p.code) ⊎ (Return (Known 0) ≡ Plain i) → PlainWaits p w at i
+      → w (suc at) ≡ behind_plain i (w at) → (suc at < length p.code) ⊎ (Return p.result (Known 0) ≡ Plain i) → PlainWaits p w at i
   plain_waits w (Copy to a) at h f k n = (next (Plain (Copy to a)) at (λ e. e) n, k ∙ sym f)
   plain_waits w (Compute c) at h f k n = (next (Plain (Compute c)) at (λ e. e) n, k ∙ sym f)
   plain_waits w (ReadDevice to address) at h f k n = (next (Plain (ReadDevice to address)) at (λ e. e) n, k ∙ sym f)
@@ -276,12 +281,13 @@ module _ (p : Procedure) where
   plain_waits w (Load m v to a) at h f k n = (next (Plain (Load m v to a)) at (λ e. e) n, k ∙ sym f)
   plain_waits w (Store v a from) at h f k n = (next (Plain (Store v a from)) at (λ e. e) n, k ∙ sym f)
   plain_waits w (Push v a) at h f k n = (next (Plain (Push v a)) at (λ e. e) n, k)
+  plain_waits w (Pop v to) at h f k n = absurd h
   plain_waits w (Find d to a) at h f k n = (next (Plain (Find d to a)) at (λ e. e) n, k ∙ sym f)
   plain_waits w (CodeOf q to) at h f k n = (next (Plain (CodeOf q to)) at (λ e. e) n, k ∙ sym f)
   plain_waits w (Stop code) at h f k n = tt
 
-  waits_for : (w : ℕ → List ℕ) (i : Instr) (at : ℕ) → InstrIn (length p.widths) (Set i) → (high : ℕ) → high < length p.code → JumpsWithin w high at (Set i)
-      → w (suc at) ≡ behind (Set i) (w at) → (suc at < length p.code) ⊎ (Return (Known 0) ≡ i) → Waits p w at i
+  waits_for : (w : ℕ → List ℕ) (i : Instr) (at : ℕ) → InstrIn p.result (length p.widths) (Set i) → (high : ℕ) → high < length p.code → JumpsWithin w high at (Set i)
+      → w (suc at) ≡ behind (Set i) (w at) → (suc at < length p.code) ⊎ (Return p.result (Known 0) ≡ i) → Waits p w at i
   waits_for w (Plain i) at h high hl f k n = plain_waits w i at h f k n
   waits_for w (When t to) at h high hl f k n =
       let le = f.0.1 in ((f.0.0, (omega (arith, le, hl), f.0.2 ∙ sym f.1)), (next (When t to) at (λ e. e) n, k ∙ sym f.1))
@@ -290,29 +296,35 @@ module _ (p : Procedure) where
   waits_for w (Jump to) at h high hl f k n = let le = f.0.1 in (f.0.0, (omega (arith, le, hl), f.0.2 ∙ sym f.1))
   waits_for w (Call c) at h high hl f k n =
       (omega (arith, f), (next (Call c) at (λ e. e) n, k ∙ sym (drop-length (w at)) ∙ ap (λ z. drop z (w at)) f))
-  waits_for w (Return a) at h high hl f k n = f
+  waits_for w (Return r a) at h high hl f k n = f
   waits_for w Idle at h high hl f k n = (next Idle at (λ e. e) n, k ∙ sym f)
 
 -- A flattened procedure, of a block in range.
 pub whole_sound : (m : FirmProcedure) (b : Block) (temps : ℕ) (method : Option ℕ) (code : List Instr) → m.params ≤ length m.widths
-    → AllByRecursion IsWidth m.widths → length (own_widths m) + temps ≤ 252 → BlockIn (Unit {0}) (length (own_widths m) + temps) b
+    → AllByRecursion IsWidth m.widths → m.result ≤ 4 → length (own_widths m) + temps ≤ 252
+    → BlockIn (Unit {0}) (result_width m) (length (own_widths m) + temps) b
     → AllSet (open_code (whole m b) 0) → code ≡ map (set_in 0 0) (open_code (whole m b) 0)
-    → IsSound (record { method = method; params = own_params m; widths = all_widths m ++ replicate temps 4; code = code })
-whole_sound m b temps method code hp hw few hb set is =
+    → IsSound (record { method = method; params = own_params m; result = result_width m; widths = all_widths m ++ replicate temps 4; code = code })
+whole_sound m b temps method code hp hw hr few hb set is =
     record {
       few = omega (arith, few, size_is);
       params = omega (arith, hp, size_is, own);
-      widths = with_temps (all_widths m) temps (widened_widths (own_params m - 4) (own_widths m) (receiver_widths m.receives m.widths hw));
+      result = small m.receives;
+      widths = with_temps (all_widths m) temps (widened_widths (wide_params m) (own_widths m) (receiver_widths m.receives m.widths hw));
       operands = λ at i e. instr_in p i (instr_at at i e);
       waits = w;
       begins = (omega (arith, code_is), refl);
       goes_on = λ at i e. waits_for p w i at (instr_at at i e) (length front) (omega (arith, code_is)) (jumps_at at i e)
           (subst (λ z. w (suc z) ≡ behind (Set i) (w z)) (omega arith) (marks_at w os 0 at (Set i) marks (place at i e)))
-          (behind_it at i (before_last front (Set (Return (Known 0))) (Set i) at (place at i e)));
+          (behind_it at i (before_last front (Set (Return (result_width m) (Known 0))) (Set i) at (place at i e)));
     }
   where
     p : Procedure
-    p = record { method = method; params = own_params m; widths = all_widths m ++ replicate temps 4; code = code }
+    p = record { method = method; params = own_params m; result = result_width m; widths = all_widths m ++ replicate temps 4; code = code }
+
+    small : (b : Bool) → (if b then 4 else m.result) ≤ 4
+    small true = omega arith
+    small false = hr
 
     own : length (own_widths m) ≡ receivers m.receives + length m.widths
     own = own_long m.receives m.widths
@@ -320,7 +332,7 @@ whole_sound m b temps method code hp hw few hb set is =
     size_is : length (all_widths m ++ replicate temps 4) ≡ length (own_widths m) + temps
     size_is =
         length-append (all_widths m) (replicate temps 4) ∙ ap (λ z. length (all_widths m) + z) (length-replicate temps 4)
-        ∙ ap (λ z. z + temps) (widened_long (own_params m - 4) (own_widths m))
+        ∙ ap (λ z. z + temps) (widened_long (wide_params m) (own_widths m))
 
     zs : List Open
     zs = open_code (zeroes (length m.widths - m.params) (own_params m)) 0
@@ -332,7 +344,7 @@ whole_sound m b temps method code hp hw few hb set is =
     front = zs ++ bs
 
     last : Open
-    last = Set (Return (Known 0))
+    last = Set (Return (result_width m) (Known 0))
 
     os : List Open
     os = front ++ last ∷ []
@@ -349,39 +361,40 @@ whole_sound m b temps method code hp hw few hb set is =
     code_is : length code ≡ length front + 1
     code_is = ap length is ∙ length-map (open_code (whole m b) 0) (set_in 0 0) ∙ ap length shape ∙ length-append front (last ∷ [])
 
-    zeroes_in : BlockIn (Unit {0}) (length (own_widths m) + temps) (zeroes (length m.widths - m.params) (own_params m))
-    zeroes_in = in_zeroes (Unit {0}) (length (own_widths m) + temps) (length m.widths - m.params) (own_params m) (omega (arith, hp, own))
+    zeroes_in : BlockIn (Unit {0}) (result_width m) (length (own_widths m) + temps) (zeroes (length m.widths - m.params) (own_params m))
+    zeroes_in = in_zeroes (Unit {0}) (result_width m) (length (own_widths m) + temps) (length m.widths - m.params) (own_params m) (omega (arith, hp, own))
 
-    block_in : BlockIn (Unit {0}) (length p.widths) (whole m b)
-    block_in = subst (λ z. BlockIn (Unit {0}) z (whole m b)) (sym size_is) (zeroes_in, (hb, tt))
+    block_in : BlockIn (Unit {0}) (result_width m) (length p.widths) (whole m b)
+    block_in = subst (λ z. BlockIn (Unit {0}) (result_width m) z (whole m b)) (sym size_is) (zeroes_in, (hb, (refl, tt)))
 
     place : (at : ℕ) (i : Instr) → slice_get code at ≡ Some i → slice_get (front ++ last ∷ []) at ≡ Some (Set i)
     place at i e =
         set_at 0 0 (front ++ last ∷ []) at i (subst AllSet shape set) (sym (ap (λ z. slice_get z at) (is ∙ ap (map (set_in 0 0)) shape)) ∙ e)
 
-    instr_at : (at : ℕ) (i : Instr) → slice_get code at ≡ Some i → InstrIn (length p.widths) (Set i)
+    instr_at : (at : ℕ) (i : Instr) → slice_get code at ≡ Some i → InstrIn (result_width m) (length p.widths) (Set i)
     instr_at at i e =
-        in_at (length p.widths) (front ++ last ∷ []) at (Set i) (subst (AllIn (length p.widths)) shape (in_code (Unit {0}) (length p.widths) (whole m b) 0 block_in))
+        in_at (result_width m) (length p.widths) (front ++ last ∷ []) at (Set i)
+        (subst (AllIn (result_width m) (length p.widths)) shape (in_code (Unit {0}) (result_width m) (length p.widths) (whole m b) 0 block_in))
         (place at i e)
 
     jumps : AllWithin w (length front) (front ++ last ∷ []) 0
     jumps =
-        within_both (Unit {0}) (length (own_widths m) + temps) w (length front) front (last ∷ []) 0
-        (within (Unit {0}) (length (own_widths m) + temps) w (length front) body 0 (zeroes_in, hb) refl body_marks (omega arith)) (none_last, tt)
+        within_both (Unit {0}) (result_width m) (length (own_widths m) + temps) w (length front) front (last ∷ []) 0
+        (within (Unit {0}) (result_width m) (length (own_widths m) + temps) w (length front) body 0 (zeroes_in, hb) refl body_marks (omega arith)) (none_last, tt)
       where
         body : Block
         body = Both (zeroes (length m.widths - m.params) (own_params m)) b
 
         body_marks : Marks w front 0
-        body_marks = marks_front (Unit {0}) (length (own_widths m) + temps) w (length front) front (last ∷ []) 0 marks
+        body_marks = marks_front (Unit {0}) (result_width m) (length (own_widths m) + temps) w (length front) front (last ∷ []) 0 marks
 
         none_last : w (0 + length front) ≡ []
-        none_last = ends (Unit {0}) (length (own_widths m) + temps) w (length front) body 0 (zeroes_in, hb) refl body_marks
+        none_last = ends (Unit {0}) (result_width m) (length (own_widths m) + temps) w (length front) body 0 (zeroes_in, hb) refl body_marks
 
     jumps_at : (at : ℕ) (i : Instr) → slice_get code at ≡ Some i → JumpsWithin w (length front) at (Set i)
     jumps_at at i e = subst (λ z. JumpsWithin w (length front) z (Set i)) (omega arith) (within_at w (length front) (front ++ last ∷ []) 0 at (Set i) jumps
         (place at i e))
 
-    behind_it : (at : ℕ) (i : Instr) → (at < length front) ⊎ (last ≡ Set i) → (suc at < length code) ⊎ (Return (Known 0) ≡ i)
+    behind_it : (at : ℕ) (i : Instr) → (at < length front) ⊎ (last ≡ Set i) → (suc at < length code) ⊎ (Return (result_width m) (Known 0) ≡ i)
     behind_it at i (inl lt) = inl (omega (arith, lt, code_is))
     behind_it at i (inr e) = inr (ap (set_in 0 0) e)

@@ -1,5 +1,5 @@
 -- What it means that a procedure of linear code is a packed one, flattened.
-use Rattle.std.specs.Prelude.{◌≡◌, ℕ, zero, suc, ◌+◌, ◌-◌, ◌≤◌, Bool, true, false, List, [], ◌∷◌, ◌++◌, length, map, replicate, Some, None, slice_get}
+use Rattle.std.specs.Prelude.{◌≡◌, ℕ, zero, suc, ◌+◌, ◌-◌, ◌≤◌, Bool, true, false, List, [], ◌∷◌, ◌++◌, length, map, replicate, take, Some, None, slice_get, if◌then◌else◌}
 use Rattle.vg_firm.specs.Program.{Procedure as FirmProcedure, Program as FirmProgram}
 use Rattle.vg_codes.specs.Codes.{Codes, AreCodes}
 use Rattle.vg_lin.specs.declared.instr.Operand.TheVariants.{Known}
@@ -13,6 +13,9 @@ use Rattle.vg_lin.specs.Program.{Procedure, Program}
 use Rattle.vg_flatten_shapes.specs.declared.open.Open.{Open}
 use Rattle.vg_flatten_shapes.specs.declared.open.Open.TheVariants.{Set}
 use Rattle.vg_flatten_shapes.specs.declared.layout.Layout.{Layout}
+use Rattle.vg_flatten_shapes.specs.declared.layout.Passing.{Passing}
+use Rattle.vg_flatten_shapes.specs.Widths.{all_bytes, result_bytes}
+use Rattle.vg_flatten_steps.specs.Calls.{passing_of}
 use Rattle.vg_flatten_shapes.specs.declared.room.Room.{Room}
 use Rattle.vg_flatten_shapes.specs.Shapes.{Shape, empty, is_empty}
 use Rattle.vg_flatten_shapes.specs.Blocks.{Block, Skip, One, GiveBack, Both, open_code}
@@ -43,18 +46,26 @@ own_widths m = with_receiver_width m.receives m.widths
 abbrev pub own_params : FirmProcedure → ℕ
 own_params m = receivers m.receives + m.params
 
--- The parameters before the last four are pushed, four bytes each.
+-- So many of the first widths are four bytes.
 abbrev pub widened : (count : ℕ) → List ℕ → List ℕ
 widened zero ws = ws
 widened (suc n) [] = []
 widened (suc n) (w ∷ ws) = 4 ∷ widened n ws
 
+-- A procedure that gets a receiver may be one that is found in the run: each of its parameters has four bytes, and so has its result.
+-- Those of all others have the bytes that they need.
+abbrev pub wide_params : FirmProcedure → ℕ
+wide_params m = if m.receives then own_params m else 0
+
 abbrev pub all_widths : FirmProcedure → List ℕ
-all_widths m = widened (own_params m - 4) (own_widths m)
+all_widths m = widened (wide_params m) (own_widths m)
+
+abbrev pub result_width : FirmProcedure → ℕ
+result_width m = if m.receives then 4 else m.result
 
 -- A procedure's block: the locals that are no parameters are 0 at first, and the end of the body gives 0 back.
 abbrev pub whole : FirmProcedure → Block → Block
-whole m b = Both (zeroes (length m.widths - m.params) (own_params m)) (Both b (GiveBack (Known 0)))
+whole m b = Both (zeroes (length m.widths - m.params) (own_params m)) (Both b (GiveBack (result_width m) (Known 0)))
 
 -- The procedure of linear code is the flattened one.
 pub record IsFlat (lay : Layout) (m : FirmProcedure) (p : Procedure) : Type 0 where
@@ -65,14 +76,16 @@ pub record IsFlat (lay : Layout) (m : FirmProcedure) (p : Procedure) : Type 0 wh
   pub done : is_empty shape ≡ true
   pub receiver : room.receiver ≡ receivers m.receives
   pub locals : room.locals ≡ length (own_widths m)
+  pub given : room.result ≡ result_width m
   pub method : p.method ≡ Some m.method
   pub parameters : p.params ≡ own_params m
+  pub result : p.result ≡ result_width m
   pub widths : p.widths ≡ all_widths m ++ replicate room.temps 4
   pub code : p.code ≡ map (set_in 0 0) (open_code (whole m block) 0)
 
 -- Main is called, and on no receiver where it gets one.
 abbrev pub main_args : Bool → Registers
-main_args true = One' (Known 0)
+main_args true = One' (record { width = 4; value = Known 0 })
 main_args false = Empty
 
 abbrev pub calls_main : (main : ℕ) → (receives : Bool) → Call
@@ -80,7 +93,7 @@ calls_main main receives = record { callee = ByNumber main; pushed = 0; register
 
 -- The procedure with which a run begins calls main, and then idles for ever.
 abbrev pub start_of : (main : ℕ) → (receives : Bool) → Procedure
-start_of main receives = record { method = None; params = 0; widths = []; code = Calls (calls_main main receives) ∷ Idle ∷ Jump 1 ∷ [] }
+start_of main receives = record { method = None; params = 0; result = 0; widths = []; code = Calls (calls_main main receives) ∷ Idle ∷ Jump 1 ∷ [] }
 
 -- What every packed procedure has: few widths, none above four bytes.
 pub record IsFit (m : FirmProcedure) : Type 0 where
@@ -88,11 +101,17 @@ pub record IsFit (m : FirmProcedure) : Type 0 where
   pub widths : (i w : ℕ) → slice_get m.widths i ≡ Some w → w ≤ 4
   pub result : m.result ≤ 4
 
+-- A procedure is called so: on a receiver where it gets one, and in the widths that its parameters and its result have.
+pub record IsPassing (m : FirmProcedure) (p : Passing) : Type 0 where
+  pub receives : p.receives ≡ m.receives
+  pub widths : all_bytes p.widths ≡ take (own_params m) (all_widths m)
+  pub result : result_bytes p.result ≡ result_width m
+
 -- The program of linear code is the packed one, flattened, with a start behind its procedures and its columns at their places.
 pub record AreFlat (k : Codes) (lay : Layout) (f : FirmProgram) (p : Program) : Type 0 where
   pub flats : (q : ℕ) (m : FirmProcedure) → slice_get f.procedures q ≡ Some m
       → (lp : Procedure) × (slice_get p.procedures q ≡ Some lp) × IsFit m × IsFlat lay m lp
-  pub receives : (q : ℕ) (m : FirmProcedure) → slice_get f.procedures q ≡ Some m → slice_get lay.receives q ≡ Some m.receives
+  pub passing : (q : ℕ) (m : FirmProcedure) → slice_get f.procedures q ≡ Some m → IsPassing m (passing_of (slice_get lay.passing q))
   pub codes : p.codes ≡ k
   pub numbers : AreCodes (length f.procedures) k
   pub dispatches : p.dispatches ≡ f.dispatches

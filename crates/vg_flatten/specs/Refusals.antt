@@ -13,14 +13,15 @@ use Rattle.vg_flatten_shapes.specs.Blocks.{open_code, block_size}
 use Rattle.vg_flatten_shapes.specs.Made.{Made, Gives, Refused}
 use Rattle.vg_flatten_control.specs.Flat.{flat}
 use Rattle.vg_flatten.specs.Closing.{AllSet}
-use Rattle.vg_flatten.specs.Flattened.{receivers, own_widths, whole}
+use Rattle.vg_flatten.specs.Flattened.{receivers, own_widths, result_width, whole}
 
 -- As many temporaries as there is room for beside the locals.
 abbrev pub temps_for : (locals : ℕ) → ℕ
 temps_for n = 252 - n
 
 abbrev pub room_for : Procedure → Room
-room_for m = record { receiver = receivers m.receives; locals = length (own_widths m); temps = temps_for (length (own_widths m)) }
+room_for m =
+    record { receiver = receivers m.receives; locals = length (own_widths m); temps = temps_for (length (own_widths m)); result = result_width m }
 
 -- What is made of its body.
 abbrev pub made_of : Layout → Procedure → Made

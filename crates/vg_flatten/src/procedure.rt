@@ -1,10 +1,10 @@
 // Procedures, flattened.
-ghost use Rattle.std.specs.Prelude.{◌↔◌, ◌≡◌, ◌+◌, ◌-◌, ◌≤◌, ◌++◌, ◌∷◌, [], true, false, map, length, nat_le, replicate, IfOk, IfSome, OnOk, IsTrue, Some, None};
+ghost use Rattle.std.specs.Prelude.{if◌then◌else◌, ◌↔◌, ◌≡◌, ◌+◌, ◌-◌, ◌≤◌, ◌++◌, ◌∷◌, [], true, false, map, length, nat_le, replicate, IfOk, IfSome, OnOk, IsTrue, Some, None};
 ghost use Rattle.std.specs.List.{AllByRecursion};
 ghost use Rattle.vg_firm.specs.Held.{procedure_of, code_of};
 ghost use Rattle.vg_lin.specs.Sound.{IsWidth};
 ghost use Rattle.vg_flatten_shapes.specs.Blocks.{Block, open_code};
-ghost use Rattle.vg_flatten.specs.Flattened.{IsFlat, zero_list, receivers, own_widths, own_params, with_receiver_width, widened, all_widths};
+ghost use Rattle.vg_flatten.specs.Flattened.{IsFlat, zero_list, receivers, own_widths, own_params, with_receiver_width, widened, all_widths, result_width};
 ghost use Rattle.vg_flatten.specs.Flattened.{main_args, whole, start_of};
 ghost use Rattle.vg_flatten_shapes.specs.Blocks.{set_in};
 ghost use Rattle.vg_flatten.specs.Sealing.{Seals, Wholes};
@@ -23,7 +23,7 @@ use vg_base::{NoMemory, Refusal, Row};
 use vg_firm::Procedure;
 use vg_flatten_control::flat::flat;
 use vg_flatten_shapes::{Fault, Homes, Layout, Open, Room, append, place_behind};
-use vg_lin::{Call, Callee, Instr, LinProc, Operand, Plain, Registers};
+use vg_lin::{Call, Callee, Instr, LinProc, Operand, Passed, Plain, Registers};
 
 /// The procedure with which a run begins: it calls main, and then idles for ever. Main may get a receiver, which it does not use.
 pub fn start(alloc: Global, main: u16, receives: bool) -> Result<LinProc, NoMemory>
@@ -38,14 +38,17 @@ pub fn start(alloc: Global, main: u16, receives: bool) -> Result<LinProc, NoMemo
     }))?;
     code.push(Instr::Idle)?;
     code.push(Instr::Jump(1))?;
-    Ok(LinProc::new(None, 0, Row::new(alloc), code))
+    Ok(LinProc::new(None, 0, 0, Row::new(alloc), code))
 }
 
 fn main_args(receives: bool) -> Registers
     ensures { result ≡ main_args receives }
 {
     if receives {
-        Registers::One(Operand::Known(0))
+        Registers::One(Passed {
+            width: 4,
+            value: Operand::Known(0),
+        })
     } else {
         Registers::Empty
     }
@@ -88,6 +91,7 @@ fn whole_code(
     requires room { room.locals + room.temps ≤ 252 }
     requires receiver { room.receiver ≡ receivers procedure.now.receives }
     requires locals { room.locals ≡ length (own_widths (procedure_of procedure.now)) }
+    requires given { room.result ≡ result_width (procedure_of procedure.now) }
     requires params { procedure.now.params ≤ length procedure.now.widths }
     ensures { Wholes result (flat layout.now room (code_of procedure.now.body) empty) (procedure_of procedure.now) }
 {
@@ -99,7 +103,7 @@ fn whole_code(
         return Err(Refusal::Fault(Fault::NotTaken));
     }
     let mut rest = body.code;
-    rest.push(Open::Set(Instr::Return(Operand::Known(0))))?;
+    rest.push(Open::Set(Instr::Return(room.result, Operand::Known(0))))?;
     Ok(append(first, rest.as_slice())?)
 }
 
@@ -108,6 +112,24 @@ fn receivers(receives: bool) -> u8
     ensures { result ≡ receivers receives }
 {
     if receives { 1 } else { 0 }
+}
+
+/// How many of the parameters have four bytes: all of a procedure that gets a receiver.
+fn wide_params(receives: bool, params: u8) -> u8
+    ensures { result ≡ (if receives then params else 0) }
+{
+    if receives { params } else { 0 }
+}
+
+/// How many bytes a result has: four of a procedure that gets a receiver.
+fn result_width(procedure: &Procedure) -> u8
+    ensures { result ≡ result_width (procedure_of procedure.now) }
+{
+    if procedure.receives {
+        4
+    } else {
+        procedure.result
+    }
 }
 
 /// The widths with that of a receiver before them.
@@ -164,6 +186,7 @@ pub fn flatten(
 ) -> Result<LinProc, Refusal<Fault>>
     requires params { procedure.now.params ≤ length procedure.now.widths }
     requires widths { AllByRecursion IsWidth procedure.now.widths }
+    requires given { procedure.now.result ≤ 4 }
     ensures flat { IfOk result (λ p. IsFlat layout.now (procedure_of procedure.now) p) }
     ensures onward { IfOk result (λ p. has_loop (code_of procedure.now.body) ≡ false → all_lead_on 0 p.code ≡ true) }
     ensures refusal { IsRefusedFor result layout.now (procedure_of procedure.now) }
@@ -182,6 +205,7 @@ fn flattened(
 ) -> Result<LinProc, Refusal<Fault>>
     requires params { procedure.now.params ≤ length procedure.now.widths }
     requires widths { AllByRecursion IsWidth procedure.now.widths }
+    requires given { procedure.now.result ≤ 4 }
     ensures flat { IfOk result (λ p. IsFlat layout.now (procedure_of procedure.now) p) }
     ensures onward { IfOk result (λ p. has_loop (code_of procedure.now.body) ≡ false → all_lead_on 0 p.code ≡ true) }
     ensures few { IfOk result (λ p. length p.widths ≤ 252) }
@@ -193,34 +217,43 @@ fn flattened(
         return Err(Refusal::Fault(Fault::TooHigh));
     }
     let most = temps_beside(count as u8);
-    match with_fewest(alloc, layout, procedure, own.as_slice(), most) {
+    match with_fewest(alloc, layout, procedure, own.as_slice(), 0, most, None) {
         Some(made) => Ok(made),
         None => flattened_with(alloc, layout, procedure, own.as_slice(), most),
     }
 }
 
-/// The procedure with as few temporaries as it can do with, where they are fewer than these: no local is there for nothing.
+/// The procedure with as few temporaries as it can do with, from so many on and fewer than so many, so that no local is there for nothing;
+/// or the best so far. The number is found by halves.
 fn with_fewest(
     alloc: Global,
     layout: &Layout,
     procedure: &Procedure,
     own: &[u8],
-    most: u8,
+    low: u8,
+    high: u8,
+    best: Option<LinProc>,
 ) -> Option<LinProc>
     requires params { procedure.now.params ≤ length procedure.now.widths }
     requires widths { AllByRecursion IsWidth procedure.now.widths }
+    requires given { procedure.now.result ≤ 4 }
     requires own { own.now ≡ own_widths (procedure_of procedure.now) }
-    requires room { length own.now + most ≤ 252 }
+    requires room { length own.now + high ≤ 252 }
+    requires flat { IfSome best (λ p. IsFlat layout.now (procedure_of procedure.now) p) }
+    requires onward { IfSome best (λ p. has_loop (code_of procedure.now.body) ≡ false → all_lead_on 0 p.code ≡ true) }
+    requires few { IfSome best (λ p. length p.widths ≤ 252) }
     ensures flat { IfSome result (λ p. IsFlat layout.now (procedure_of procedure.now) p) }
     ensures onward { IfSome result (λ p. has_loop (code_of procedure.now.body) ≡ false → all_lead_on 0 p.code ≡ true) }
     ensures few { IfSome result (λ p. length p.widths ≤ 252) }
 {
-    for temps in 0..most {
-        if let Ok(made) = flattened_with(alloc, layout, procedure, own, temps) {
-            return Some(made);
-        }
+    if low >= high {
+        return best;
     }
-    None
+    let middle = low + (high - low) / 2;
+    match flattened_with(alloc, layout, procedure, own, middle) {
+        Ok(made) => with_fewest(alloc, layout, procedure, own, low, middle, Some(made)),
+        Err(_) => with_fewest(alloc, layout, procedure, own, middle + 1, high, best),
+    }
 }
 
 /// The procedure with so many temporaries behind its own locals.
@@ -233,6 +266,7 @@ fn flattened_with(
 ) -> Result<LinProc, Refusal<Fault>>
     requires params { procedure.now.params ≤ length procedure.now.widths }
     requires widths { AllByRecursion IsWidth procedure.now.widths }
+    requires given { procedure.now.result ≤ 4 }
     requires own { own.now ≡ own_widths (procedure_of procedure.now) }
     requires room { length own.now + temps ≤ 252 }
     ensures flat { IfOk result (λ p. IsFlat layout.now (procedure_of procedure.now) p) }
@@ -243,17 +277,19 @@ fn flattened_with(
     let receiver = receivers(procedure.receives);
     let count = own.len();
     let locals = count as u8;
+    let given = result_width(procedure);
     let room = Room {
         receiver,
         locals,
         temps,
+        result: given,
     };
     let code = whole_code(alloc, layout, room, procedure)?;
     let instrs = sealed(alloc, code.as_slice())?;
     let params = receiver + procedure.params;
-    let pushed = params.saturating_sub(4);
-    let widths = with_temps(widened(alloc, pushed, own)?, temps)?;
-    let made = LinProc::new(Some(procedure.method), params, widths, instrs);
+    let wide = wide_params(procedure.receives, params);
+    let widths = with_temps(widened(alloc, wide, own)?, temps)?;
+    let made = LinProc::new(Some(procedure.method), params, given, widths, instrs);
     made.keeps();
     Ok(made)
 }

@@ -57,9 +57,9 @@ repeated (Refused why) body next = Refused why
 
 -- ---- the end of a body
 
-abbrev pub given_back : List Operand → Made
-given_back (h ∷ []) = Gives (GiveBack h) empty
-given_back _ = Refused NotTaken
+abbrev pub given_back : Room → List Operand → Made
+given_back r (h ∷ []) = Gives (GiveBack r.result h) empty
+given_back r _ = Refused NotTaken
 
 -- ---- code
 
@@ -71,4 +71,4 @@ flat lay r (If a b) s = chosen r (tested s) (flat lay r a) (flat lay r b)
 flat lay r (Loop c body next) s = where_empty s (repeated (flat lay r c empty) (flat lay r body empty) (flat lay r next empty))
 flat lay r Break s = where_empty s (Gives BreakOut empty)
 flat lay r Continue s = where_empty s (Gives GoOn empty)
-flat lay r Return s = after (settled r s) (λ s1. given_back s1.homes)
+flat lay r Return s = after (settled r s) (λ s1. given_back r s1.homes)

@@ -141,16 +141,16 @@ fn closed(jump: Open, end: u16, again: u16) -> Open
 }
 
 /// The end of a body gives a value back.
-fn give_back(alloc: Global, at: u16, homes: Homes) -> Result<Piece, Refusal<Fault>>
+fn give_back(alloc: Global, room: Room, at: u16, homes: Homes) -> Result<Piece, Refusal<Fault>>
     requires { homes.truth ≡ None }
-    ensures { Lays result at (given_back homes.homes) }
+    ensures { Lays result at (given_back room homes.homes) }
 {
     let mut homes = homes;
     match homes.pop() {
         None => Err(Refusal::Fault(Fault::NotTaken)),
         Some(home) => {
             if homes.is_empty() {
-                return Ok(one(alloc, Open::Set(Instr::Return(home)), homes)?);
+                return Ok(one(alloc, Open::Set(Instr::Return(room.result, home)), homes)?);
             }
             Err(Refusal::Fault(Fault::NotTaken))
         }
@@ -255,7 +255,7 @@ pub fn flat(
         Code::Return => {
             let first = settle(alloc, room, at, homes)?;
             let rest_at = place_behind(at, first.code.len())?;
-            let rest = give_back(alloc, rest_at, first.homes)?;
+            let rest = give_back(alloc, room, rest_at, first.homes)?;
             Ok(behind(first.code, rest)?)
         }
     }

@@ -1,5 +1,5 @@
 -- The two forms of a choice's code, with a second way and without, and that a block without code has none at any place.
-use Rattle.std.specs.Prelude.{ℕ, zero, suc, ◌+◌, ◌==◌, Bool, true, false, List, [], ◌∷◌, ◌++◌, length, map, if◌then◌else◌}
+use Rattle.std.specs.Prelude.{ℕ, ◌+◌, ◌==◌, Bool, true, false, List, [], ◌∷◌, ◌++◌, length, if◌then◌else◌}
 use Rattle.std.proofs.Common.{◌≡◌, refl, sym, ap, ◌∙◌, subst, arith}
 use Rattle.vg_lin.specs.declared.instr.Instr.TheVariants.{Jump}
 use Rattle.vg_flatten_shapes.specs.declared.open.Truth.{Truth}
@@ -43,7 +43,7 @@ nothing_anywhere (One p) u v e = not_nil _ [] e
 nothing_anywhere (CallTo [] c) u v e = not_nil _ [] e
 nothing_anywhere (CallTo (a ∷ more) c) u v e = not_nil _ (call_code more c) e
 nothing_anywhere TakeInterrupt u v e = not_nil _ [] e
-nothing_anywhere (GiveBack a) u v e = not_nil _ [] e
+nothing_anywhere (GiveBack width a) u v e = not_nil _ [] e
 nothing_anywhere BreakOut u v e = not_nil _ [] e
 nothing_anywhere GoOn u v e = not_nil _ [] e
 nothing_anywhere (Both a b) u v e =

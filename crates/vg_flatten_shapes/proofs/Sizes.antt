@@ -1,8 +1,8 @@
 -- That a block has at most as many instructions as its size says, and that what leads to the last places is long.
 use Rattle.std.specs.Prelude.{ℕ, ◌+◌, ◌<◌, ◌≤◌, List, [], ◌∷◌, ◌++◌, length, map}
-use Rattle.std.proofs.Common.{◌≡◌, arith}
+use Rattle.std.proofs.Common.{arith}
 use Rattle.std.proofs.lemmas.List.{length-append, length-map}
-use Rattle.vg_lin.specs.declared.instr.Operand.{Operand}
+use Rattle.vg_lin.specs.declared.instr.Passed.{Passed}
 use Rattle.vg_lin.specs.declared.instr.Call.{Call as Calling}
 use Rattle.vg_lin.specs.declared.instr.Instr.TheVariants.{Jump}
 use Rattle.vg_flatten_shapes.specs.declared.open.Open.{Open}
@@ -18,7 +18,7 @@ pub late : (at : ℕ) (m : Made) → 65519 < at → IsLong at m
 late at (Gives b s) h = omega (arith, h)
 late at (Refused why) h = tt
 
-call_long : (pushed : List Operand) (c : Calling) → length (call_code pushed c) ≤ length pushed + 1
+call_long : (pushed : List Passed) (c : Calling) → length (call_code pushed c) ≤ length pushed + 1
 call_long [] c = omega arith
 call_long (a ∷ more) c = let h = call_long more c in omega (arith, h)
 
@@ -27,7 +27,7 @@ block_long Skip at = omega arith
 block_long (One p) at = omega arith
 block_long (CallTo pushed c) at = call_long pushed c
 block_long TakeInterrupt at = omega arith
-block_long (GiveBack a) at = omega arith
+block_long (GiveBack width a) at = omega arith
 block_long BreakOut at = omega arith
 block_long GoOn at = omega arith
 block_long (Both a b) at =

@@ -1,9 +1,10 @@
 -- Blocks: structured code over the instructions of linear code. Each stands for structured code, and has its instructions from a place on.
-use Rattle.std.specs.Prelude.{ℕ, suc, ◌+◌, ◌==◌, List, [], ◌∷◌, ◌++◌, length, map, if◌then◌else◌}
+use Rattle.std.specs.Prelude.{ℕ, ◌+◌, ◌==◌, List, [], ◌∷◌, ◌++◌, length, map, if◌then◌else◌}
 use Rattle.vg_meaning.specs.Code.{Code, Nothing, Then, Do, If, Loop, Break as Breaking, Continue as Continuing, Return as Returning}
 use Rattle.vg_lin.specs.declared.instr.Operand.{Operand}
 use Rattle.vg_lin.specs.declared.instr.Plain.{Plain as PlainInstr}
 use Rattle.vg_lin.specs.declared.instr.Plain.TheVariants.{Push, Stop}
+use Rattle.vg_lin.specs.declared.instr.Passed.{Passed}
 use Rattle.vg_lin.specs.declared.instr.Call.{Call as Calling}
 use Rattle.vg_lin.specs.declared.instr.Instr.{Instr}
 use Rattle.vg_lin.specs.declared.instr.Instr.TheVariants.{Plain, When, Unless, Jump, Call, Return, Idle}
@@ -16,9 +17,9 @@ use Rattle.vg_flatten_shapes.specs.declared.open.Open.TheVariants.{Set, Break, C
 pub data Block : Type 0 where
   Skip : Block
   One : (p : PlainInstr) → Block
-  CallTo : (pushed : List Operand) (c : Calling) → Block
+  CallTo : (pushed : List Passed) (c : Calling) → Block
   TakeInterrupt : Block
-  GiveBack : (a : Operand) → Block
+  GiveBack : (width : ℕ) (a : Operand) → Block
   BreakOut : Block
   GoOn : Block
   Both : (first rest : Block) → Block
@@ -36,17 +37,17 @@ abbrev pub picked : Truth → Code Step
 picked (Holds t) = Do (Pick t)
 picked (Fails t) = Then (Do (Pick t)) (Do Flip)
 
--- Values are pushed one by one, four bytes of each, and then something is done.
-abbrev pub pushing : List Operand → Code Step → Code Step
+-- Values are pushed one by one, so many bytes of each, and then something is done.
+abbrev pub pushing : List Passed → Code Step → Code Step
 pushing [] c = c
-pushing (a ∷ more) c = Then (Do (Here (Push 4 a))) (pushing more c)
+pushing (a ∷ more) c = Then (Do (Here (Push a.width a.value))) (pushing more c)
 
 abbrev pub structured : Block → Code Step
 structured Skip = Nothing
 structured (One p) = Do (Here p)
 structured (CallTo pushed c) = pushing pushed (Do (To c))
 structured TakeInterrupt = Do Rest
-structured (GiveBack a) = Then (Do (Give a)) Returning
+structured (GiveBack width a) = Then (Do (Give width a)) Returning
 structured BreakOut = Breaking
 structured GoOn = Continuing
 structured (Both a b) = Then (structured a) (structured b)
@@ -80,16 +81,16 @@ loop_code t at x y z =
     (map (closed (at + length x + 1 + length y + length z + 1) (at + length x + 1 + length y)) y ++ (z ++ (Set (Jump at) ∷ []))))
 
 -- The pushes of a call, and the call behind them.
-abbrev pub call_code : List Operand → Calling → List Open
+abbrev pub call_code : List Passed → Calling → List Open
 call_code [] c = Set (Call c) ∷ []
-call_code (a ∷ more) c = Set (Plain (Push 4 a)) ∷ call_code more c
+call_code (a ∷ more) c = Set (Plain (Push a.width a.value)) ∷ call_code more c
 
 abbrev pub open_code : Block → (at : ℕ) → List Open
 open_code Skip at = []
 open_code (One p) at = Set (Plain p) ∷ []
 open_code (CallTo pushed c) at = call_code pushed c
 open_code TakeInterrupt at = Set Idle ∷ []
-open_code (GiveBack a) at = Set (Return a) ∷ []
+open_code (GiveBack width a) at = Set (Return width a) ∷ []
 open_code BreakOut at = Break ∷ []
 open_code GoOn at = Continue ∷ []
 open_code (Both a b) at = open_code a at ++ open_code b (at + length (open_code a at))

@@ -1,4 +1,5 @@
 pub mod Shapes
+pub mod Widths
 pub mod Popped
 pub mod Blocks
 pub mod Made

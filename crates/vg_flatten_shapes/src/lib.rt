@@ -11,7 +11,7 @@ pub mod shape;
 
 pub use choosing::{branch, choice, stop_where};
 pub use fault::Fault;
-pub use layout::{Layout, Place};
+pub use layout::{Layout, Passing, Place, Width};
 pub use open::{Open, Truth};
 pub use piece::{Piece, append, behind, nothing, one, place_behind};
 pub use room::Room;

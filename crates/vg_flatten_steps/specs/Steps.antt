@@ -1,5 +1,5 @@
 -- What each step becomes, from where values wait.
-use Rattle.std.specs.Prelude.{List, [], slice_get}
+use Rattle.std.specs.Prelude.{List, slice_get}
 use Rattle.vg_firm.specs.declared.step.Step.{Step}
 use Rattle.vg_firm.specs.declared.step.Step.TheVariants.{Number, This, Local, SetLocal, Forget, Operate, Apply, ReadDevice, WriteDevice}
 use Rattle.vg_firm.specs.declared.step.Step.TheVariants.{Load as LoadOne, Store as StoreOne, LoadAt, StoreAt, LoadItem, StoreItem, Length, LoadNothing, StoreNothing, IsWithin, StopUnlessWithin, Bind, BindFor, Call, CallFor, CallValue, Idle}

@@ -1,4 +1,7 @@
-use Rattle.std.proofs.Common.{◌++◌, ◌+◌, ◌-◌, arith, subst, sym, ap, ◌∙◌}
+use Rattle.std.proofs.Common.{◌++◌, ◌+◌, ◌-◌, [], ◌∷◌, arith, subst, sym, ap, ◌∙◌}
+use Rattle.vg_lin.specs.declared.instr.Operand.TheVariants.{Known}
+use Rattle.vg_lin.specs.declared.instr.Instr.TheVariants.{Return}
+use Rattle.vg_flatten_shapes.specs.declared.open.Open.TheVariants.{Set}
 use Rattle.vg_firm.specs.Held.{code_of, procedure_of}
 use Rattle.vg_flatten_shapes.specs.Shapes.{empty}
 use Rattle.vg_flatten_control.specs.Flat.{flat}
@@ -22,7 +25,8 @@ returns c =
     (c.in_ok-at.ensures ∙ ap (λ z. 0 + z) c.len.ensures)
     (subst (λ z. IsPiece c.in_ok-body.body c.in_ok-at.at (flat c.args.layout.now c.args.room
     (code_of c.args.procedure.now.body) z)) c.new.ensures c.in_ok-body.ensures)
-    (sym c.is_empty.ensures ∙ c.if-not-is_empty.false) c.in_ok-push.ensures.ok
+    (sym c.is_empty.ensures ∙ c.if-not-is_empty.false)
+    (c.in_ok-push.ensures.ok ∙ ap (λ w. c.in_ok-body.body.code ++ Set (Return w (Known 0)) ∷ []) c.requires.given)
     (c.in_ok-append.ensures ∙ ap (λ z. c.in_ok-first.first ++ z) c.as_slice.ensures)
 
 pub returns-in_err-at : goal.returns-in_err-at

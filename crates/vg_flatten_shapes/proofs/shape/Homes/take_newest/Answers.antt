@@ -1,4 +1,4 @@
-use Rattle.std.proofs.Common.{◌≡◌, ◌-◌, ◌≤◌, ◌∙◌, ap, sym, subst, arith, length, take, drop, reverse, Some}
+use Rattle.std.proofs.Common.{◌-◌, ◌∙◌, ap, sym, arith, length, take, reverse}
 use Rattle.vg_flatten_shapes.specs.Shapes.{taken}
 use Rattle.vg_flatten_shapes.proofs.Taking.{taken_cut}
 use Rattle.vg_flatten_shapes.proofs.shape.Homes.take_newest.Goals as goal
