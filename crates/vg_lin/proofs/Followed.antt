@@ -280,13 +280,13 @@ module _ {S : Type 0} (l : Language S) (procs : List (List Instr)) where
       (leaving l m f fs x y) (next s2 w2) _ (omega arith) (hn s2 w2 o2)
       (λ s3 w3 o3. follows_turns m at u v to x y f fs condition inside next hc hb hn n s3 w3 o3)))
 
-  follows_return : (m at x y : ℕ) (f : Frame S) (fs : List (Frame S)) (a : Operand) (g : Goal) → fetch procs m at ≡ Some (Return a)
+  follows_return : (m at x y : ℕ) (f : Frame S) (fs : List (Frame S)) (r : ℕ) (a : Operand) (g : Goal) → fetch procs m at ≡ Some (Return r a)
       → (s : Deciding S) (w : World History) → Opened l m (f ∷ fs) w
-      → (z : Option ℕ) → l.value a s.state ≡ z → In m f fs (conf m at (f ∷ fs) s.state w) w.clock g x y
+      → (z : Option ℕ) → l.value r a s.state ≡ z → In m f fs (conf m at (f ∷ fs) s.state w) w.clock g x y
       (and_then (with_found z (λ v s1 w1. Gives (record s1 { result = v }) w1) s w) (λ s1 w1. Ends Returns s1 w1))
-  follows_return m at x y f fs a g h s w o (Some v) e =
-      (0, omega arith, o, free m at (f ∷ fs) s.state w (Return a) (back l f fs (record s { result = v }) w) h (ap (returns l (conf m at (f ∷ fs) s.state w)) e))
-  follows_return m at x y f fs a g h s w o None e = λ legal. absurd legal
+  follows_return m at x y f fs r a g h s w o (Some v) e =
+      (0, omega arith, o, free m at (f ∷ fs) s.state w (Return r a) (back l f fs (record s { result = v }) w) h (ap (returns l (conf m at (f ∷ fs) s.state w)) e))
+  follows_return m at x y f fs r a g h s w o None e = λ legal. absurd legal
 
   follows_call : (go : Caller S) → FollowsCalls l procs go → (m at : ℕ) (fs : List (Frame S)) (leave : Leave' S) (c : Calling)
       → fetch procs m at ≡ Some (Call c) → (s : Deciding S) (w : World History) → Opened l m fs w
@@ -370,7 +370,7 @@ module _ {S : Type 0} (l : Language S) (procs : List (List Instr)) where
       (follows_code go hgo m to v u f fs inside (Next v) hb) (follows_code go hgo m x y v f fs next (Next at) hn) w.clock s w o
   follows_code go hgo m x y at f fs _ _ break' s w o = (0, omega arith, o, leads_here _)
   follows_code go hgo m x y at f fs _ _ continue' s w o = (0, omega arith, o, leads_here _)
-  follows_code go hgo m x y at f fs _ g (return {a = a} h) s w o = follows_return m at x y f fs a g h s w o (l.value a s.state) refl
+  follows_code go hgo m x y at f fs _ g (return {width = r} {a = a} h) s w o = follows_return m at x y f fs r a g h s w o (l.value r a s.state) refl
   follows_code go hgo m x y at f fs c (Next to) (before {mid = mid} h k) s w o =
       follows_after 0 1 w.clock w.clock _ (conf m mid (f ∷ fs) s.state w) _ 0 0 (arriving m (f ∷ fs) (Next to)) (leaving l m f fs x y) _ (omega arith)
       (omega arith) (omega arith)

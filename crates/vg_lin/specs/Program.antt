@@ -4,10 +4,11 @@ use Rattle.vg_codes.specs.declared.case.Case.{Case}
 use Rattle.vg_codes.specs.Codes.{Codes}
 use Rattle.vg_lin.specs.declared.instr.Instr.{Instr}
 
--- A procedure: the widths of its locals in bytes, of which the first are its parameters; and its code.
+-- A procedure: the widths of its locals in bytes, of which the first are its parameters; how many bytes its result has; and its code.
 pub record Procedure : Type 0 where
   pub method : Option ℕ  -- the method that it is, by its number in the order of the text
   pub params : ℕ
+  pub result : ℕ
   pub widths : List ℕ
   pub code : List Instr
 

@@ -1,12 +1,14 @@
--- What every procedure of linear code keeps: few locals, operands in range, the widths of what waits at each place, and no jump to
--- itself.
+-- What every procedure of linear code keeps: few locals, operands in range, results of one width, the widths of what waits at each place,
+-- and no jump to itself.
 use Rattle.std.specs.Prelude.{◌≡◌, ◌≢◌, ℕ, suc, ◌≤◌, ◌<◌, List, [], ◌∷◌, length, drop, Option, Some, None, slice_get}
 use Rattle.std.specs.List.{AllByRecursion}
 use Rattle.vg_lin.specs.declared.instr.Operand.{Operand}
 use Rattle.vg_lin.specs.declared.instr.Operand.TheVariants.{Local, Known}
 use Rattle.vg_lin.specs.declared.instr.Test.{Test}
 use Rattle.vg_lin.specs.declared.instr.Plain.{Plain as PlainInstr}
-use Rattle.vg_lin.specs.declared.instr.Plain.TheVariants.{Copy, Compute, Product, DivideStep, Load, Store, ReadDevice, WriteDevice, Push, Find, CodeOf, Stop}
+use Rattle.vg_lin.specs.declared.instr.Plain.TheVariants.{Copy, Compute, Product, DivideStep, Load, Store, ReadDevice, WriteDevice, Push, Pop, Find, CodeOf, Stop}
+use Rattle.vg_lin.specs.declared.instr.Passed.{Passed}
+use Rattle.vg_lin.specs.declared.instr.Target.{Target}
 use Rattle.vg_lin.specs.declared.instr.Callee.{Callee}
 use Rattle.vg_lin.specs.declared.instr.Callee.TheVariants.{Procedure as ByNumber, Code as ByCode}
 use Rattle.vg_lin.specs.declared.instr.Instr.{Instr}
@@ -27,8 +29,11 @@ abbrev pub IsOperand : Procedure → Operand → Type 0
 IsOperand p (Local i) = IsLocal p i
 IsOperand p (Known v) = Unit {0}
 
-abbrev pub IsTo : Procedure → Option ℕ → Type 0
-IsTo p (Some to) = IsLocal p to
+abbrev pub IsPassed : Procedure → Passed → Type 0
+IsPassed p a = IsWidth a.width × IsOperand p a.value
+
+abbrev pub IsTo : Procedure → Option Target → Type 0
+IsTo p (Some to) = (to.width ≤ 4) × IsLocal p to.local
 IsTo p None = Unit {0}
 
 abbrev pub IsTest : Procedure → Test → Type 0
@@ -48,6 +53,7 @@ IsPlain p (Store w a from) = IsWidth w × IsOperand p a.index × IsOperand p fro
 IsPlain p (ReadDevice to address) = IsLocal p to
 IsPlain p (WriteDevice address a) = IsOperand p a
 IsPlain p (Push w a) = IsWidth w × IsOperand p a
+IsPlain p (Pop w to) = IsWidth w × IsLocal p to
 IsPlain p (Find dispatch to a) = IsLocal p to × IsOperand p a
 IsPlain p (CodeOf q to) = IsLocal p to
 IsPlain p (Stop code) = Unit {0}
@@ -57,8 +63,8 @@ AreOperands p (Plain i) = IsPlain p i
 AreOperands p (When t to) = IsTest p t
 AreOperands p (Unless t to) = IsTest p t
 AreOperands p (Jump to) = Unit {0}
-AreOperands p (Call c) = IsCallee p c.callee × AllByRecursion (IsOperand p) (operands c.registers) × IsTo p c.to
-AreOperands p (Return a) = IsOperand p a
+AreOperands p (Call c) = IsCallee p c.callee × AllByRecursion (IsPassed p) (operands c.registers) × IsTo p c.to
+AreOperands p (Return w a) = (w ≡ p.result) × IsOperand p a
 AreOperands p Idle = Unit {0}
 
 -- ---- what waits
@@ -73,6 +79,7 @@ Jumps p waits at to widths = (to ≢ at) × GoesOn p waits to widths
 
 abbrev pub PlainWaits : Procedure → (waits : ℕ → List ℕ) → (at : ℕ) → PlainInstr → Type 0
 PlainWaits p waits at (Push w a) = GoesOn p waits (suc at) (w ∷ waits at)
+PlainWaits p waits at (Pop w to) = (rest : List ℕ) × (waits at ≡ w ∷ rest) × GoesOn p waits (suc at) rest
 PlainWaits p waits at (Stop code) = Unit {0}
 PlainWaits p waits at i = GoesOn p waits (suc at) (waits at)
 
@@ -83,12 +90,13 @@ Waits p waits at (When t to) = Jumps p waits at to (waits at) × GoesOn p waits 
 Waits p waits at (Unless t to) = Jumps p waits at to (waits at) × GoesOn p waits (suc at) (waits at)
 Waits p waits at (Jump to) = Jumps p waits at to (waits at)
 Waits p waits at (Call c) = (c.pushed ≤ length (waits at)) × GoesOn p waits (suc at) (drop c.pushed (waits at))
-Waits p waits at (Return a) = waits at ≡ []
+Waits p waits at (Return w a) = waits at ≡ []
 Waits p waits at Idle = GoesOn p waits (suc at) (waits at)
 
 pub record IsSound (p : Procedure) : Type 0 where
   pub few : length p.widths ≤ 252
   pub params : p.params ≤ length p.widths
+  pub result : p.result ≤ 4
   pub widths : AllByRecursion IsWidth p.widths
   pub operands : (at : ℕ) (i : Instr) → slice_get p.code at ≡ Some i → AreOperands p i
   pub waits : ℕ → List ℕ

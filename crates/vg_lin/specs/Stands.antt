@@ -45,7 +45,7 @@ pub data Stands (fetch : ℕ → Option Instr) : (break' continue' : ℕ) → Co
       → Stands fetch x y (Loop c body next) at (Next to)
   break' : {x y : ℕ} {goal : Goal} → Stands fetch x y Break x goal
   continue' : {x y : ℕ} {goal : Goal} → Stands fetch x y Continue y goal
-  return : {x y at : ℕ} {a : Operand} {goal : Goal} → fetch at ≡ Some (Return a) → Stands fetch x y (Then (Do (Give a)) Returning) at goal
+  return : {x y at width : ℕ} {a : Operand} {goal : Goal} → fetch at ≡ Some (Return width a) → Stands fetch x y (Then (Do (Give width a)) Returning) at goal
   -- a jump before the code, or behind it
   before : {x y at mid : ℕ} {c : Code Step} {goal : Goal} → fetch at ≡ Some (Jump mid) → Stands fetch x y c mid (at_ease goal) → Stands fetch x y c at goal
   behind : {x y at mid to : ℕ} {c : Code Step} → Stands fetch x y c at (Next mid) → fetch mid ≡ Some (Jump to) → Stands fetch x y c at (Next to)

@@ -1,5 +1,5 @@
 -- What a procedure of linear code has in hand, and what a plain instruction does to it.
-use Rattle.std.specs.Prelude.{ℕ, zero, suc, ◌+◌, ◌-◌, ◌*◌, ◌/◌, ◌%◌, Bool, nat_lt, List, [], ◌∷◌, Option, Some, None}
+use Rattle.std.specs.Prelude.{ℕ, zero, suc, ◌+◌, ◌-◌, ◌*◌, ◌/◌, ◌%◌, Bool, ◌==◌, nat_lt, List, [], ◌∷◌, Option, Some, None}
 use Rattle.std.specs.Prelude.{slice_get, slice_set, if◌then◌else◌}
 use Rattle.vg_meaning.specs.declared.event.Event.TheVariants.{Read, Write}
 use Rattle.vg_meaning.specs.Outside.{Outside, with_event}
@@ -11,7 +11,7 @@ use Rattle.vg_lin.specs.declared.instr.Memory.{Memory}
 use Rattle.vg_lin.specs.declared.instr.Memory.TheVariants.{Ram, Flash}
 use Rattle.vg_lin.specs.declared.instr.Computation.{Computation}
 use Rattle.vg_lin.specs.declared.instr.Plain.{Plain}
-use Rattle.vg_lin.specs.declared.instr.Plain.TheVariants.{Copy, Compute, Product, DivideStep, Load, Store, ReadDevice, WriteDevice, Push, Find, CodeOf, Stop}
+use Rattle.vg_lin.specs.declared.instr.Plain.TheVariants.{Copy, Compute, Product, DivideStep, Load, Store, ReadDevice, WriteDevice, Push, Pop, Find, CodeOf, Stop}
 use Rattle.vg_lin.specs.Steps.{Went, Goes, Raises, Lacks, Fails}
 use Rattle.vg_lin.specs.Values.{low, computed, compared, next_remainder, next_dividend}
 use Rattle.vg_lin.specs.Program.{Program}
@@ -92,6 +92,16 @@ abbrev pub stores : State → Outside → (width x : ℕ) → Option ℕ → Wen
 stores s o w x None = Fails
 stores s o w x (Some i) = using (number_at s.ram w i) (λ old. Goes (record s { ram = with_number s.ram w i x }) o)
 
+-- ---- what waits
+
+abbrev pub pushes : (width x : ℕ) → State → State
+pushes w x s = record s { waiting = record { width = w; value = low w x } ∷ s.waiting }
+
+-- The newest value that waits goes to a local. It has the width that is named.
+abbrev pub pops_from : List Waiting → (width to : ℕ) → State → Outside → Went State
+pops_from [] w to s o = Fails
+pops_from (x ∷ xs) w to s o = if x.width == w then Goes (sets to x.value (record s { waiting = xs })) o else Fails
+
 -- ---- plain instructions
 
 abbrev pub computes : Computation → State → Outside → (x y : ℕ) → Went State
@@ -116,7 +126,8 @@ plain p (Store w a from) s o =
 plain p (ReadDevice to address) s o = reads_from o.reads to address s o
 plain p (WriteDevice address a) s o = using (value a s) (λ x. Goes s (with_event o (Write address (low 1 x))))
 plain p (Push w a) s o =
-    using (value a s) (λ x. Goes (record s { waiting = record { width = w; value = low w x } ∷ s.waiting }) o)
+    using (value a s) (λ x. Goes (pushes w x s) o)
+plain p (Pop w to) s o = pops_from s.waiting w to s o
 plain p (Find dispatch to a) s o =
     using (value a s) (λ n. using (dispatched p.dispatches dispatch n) (λ q. Goes (sets to (p.codes.code q) s) o))
 plain p (CodeOf q to) s o = Goes (sets to (p.codes.code q) s) o

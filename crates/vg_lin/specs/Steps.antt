@@ -40,7 +40,7 @@ pub record Entry (S : Type 0) : Type 0 where
 pub record Language (S : Type 0) : Type 0 where
   pub plain : PlainInstr → S → Outside → Went S
   pub holds : Test → S → Option Bool  -- none where an operand has no value
-  pub value : Operand → S → Option ℕ  -- of what a procedure returns
+  pub value : (width : ℕ) → Operand → S → Option ℕ  -- of what a procedure returns
   pub enter : Calling → S → Option (Entry S)
   pub resume : Awaits → (kept returned : S) → ℕ → S  -- the caller's state behind the call, with the result
   pub handler : ℕ → Option ℕ  -- the procedure that handles an interrupt
@@ -134,7 +134,7 @@ performed l c (Some (When test to)) = branched c true to (l.holds test c.state)
 performed l c (Some (Unless test to)) = branched c false to (l.holds test c.state)
 performed l c (Some (Jump to)) = record c { pc = to }
 performed l c (Some (Call call)) = calls l c call (l.enter call c.state)
-performed l c (Some (Return a)) = returns l c (l.value a c.state)
+performed l c (Some (Return w a)) = returns l c (l.value w a c.state)
 performed l c (Some Idle) = takes c c.outside.interrupts
 performed l c None = ends c Wrong
 

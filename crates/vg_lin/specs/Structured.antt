@@ -17,7 +17,7 @@ pub data Step : Type 0 where
   Pick : (test : Test) → Step  -- the truth value that a test gives
   Decide : (b : Bool) → Step  -- a truth value that is known
   Flip : Step  -- the other truth value
-  Give : (a : Operand) → Step  -- the result of the procedure
+  Give : (width : ℕ) (a : Operand) → Step  -- the result of the procedure
   To : (call : Call) → Step
   Rest : Step  -- takes an interrupt, or ends the run
 
@@ -72,7 +72,7 @@ step l call (Here p) s w = lifted (l.plain p s.state w.outside) s w
 step l call (Pick test) s w = with_found (l.holds test s.state) with_truth s w
 step l call (Decide b) s w = with_truth b s w
 step l call Flip s w = with_found s.truth (λ b. with_truth (not b)) s w
-step l call (Give a) s w = with_found (l.value a s.state) (λ v s1 w1. Gives (record s1 { result = v }) w1) s w
+step l call (Give width a) s w = with_found (l.value width a s.state) (λ v s1 w1. Gives (record s1 { result = v }) w1) s w
 step l call (To c) s w = with_found (l.enter c s.state) (entered l call c) s w
 step l call Rest s w = take_interrupt (λ vector. handle l call (l.handler vector)) s w
 

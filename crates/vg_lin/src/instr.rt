@@ -97,6 +97,8 @@ pub enum Plain {
     WriteDevice(u8, Operand),
     /// So many low bytes of a value wait for a call.
     Push(u8, Operand),
+    /// The newest value that waits, which has so many bytes, goes to a local and waits no more.
+    Pop(u8, u8),
     /// The code number of the procedure that a dispatch has for the number of an object goes to a local.
     Find(u16, u8, Operand),
     /// The code number of the procedure with this number goes to a local.
@@ -114,14 +116,28 @@ pub enum Callee {
     Code(Operand),
 }
 
+/// An argument that goes in registers: so many low bytes of a value, as many as the parameter has that it becomes.
+#[derive(Clone, Copy)]
+pub struct Passed {
+    pub width: u8,
+    pub value: Operand,
+}
+
 /// The last arguments of a call, which go in registers.
 #[derive(Clone, Copy)]
 pub enum Registers {
     Empty,
-    One(Operand),
-    Two(Operand, Operand),
-    Three(Operand, Operand, Operand),
-    Four(Operand, Operand, Operand, Operand),
+    One(Passed),
+    Two(Passed, Passed),
+    Three(Passed, Passed, Passed),
+    Four(Passed, Passed, Passed, Passed),
+}
+
+/// Where a result goes: how many bytes it has, as many as the procedure that is called gives back, and the local that gets them.
+#[derive(Clone, Copy)]
+pub struct Target {
+    pub width: u8,
+    pub local: u8,
 }
 
 /// A call: the newest values that wait are its first arguments, so many as it says, in the order in which they were pushed.
@@ -130,8 +146,8 @@ pub struct Call {
     pub callee: Callee,
     pub pushed: u8,
     pub registers: Registers,
-    /// The local that gets the result.
-    pub to: Option<u8>,
+    /// The local that gets the result, where it is not dropped.
+    pub to: Option<Target>,
 }
 
 /// An instruction. A place is an index in the procedure's list of instructions.
@@ -144,8 +160,8 @@ pub enum Instr {
     Unless(Test, u16),
     Jump(u16),
     Call(Call),
-    /// Ends the procedure with this result.
-    Return(Operand),
+    /// Ends the procedure; so many low bytes of a value are its result.
+    Return(u8, Operand),
     /// Takes the next interrupt and calls its handler, or ends the run where none is left.
     Idle,
 }

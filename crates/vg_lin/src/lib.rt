@@ -6,7 +6,7 @@ pub mod instr;
 pub mod procedure;
 
 pub use instr::{
-    Address, Call, Callee, Comparison, Computation, Instr, Memory, Operand, Operator, Plain,
-    Registers, Test,
+    Address, Call, Callee, Comparison, Computation, Instr, Memory, Operand, Operator, Passed,
+    Plain, Registers, Target, Test,
 };
 pub use procedure::LinProc;

@@ -7,11 +7,12 @@ use crate::instr::Instr;
 use std::marker::Model;
 use vg_base::Row;
 
-/// A procedure of linear code: at most 252 locals, operands in range, and no jump to itself.
+/// A procedure of linear code: at most 252 locals, operands in range, results of one width, and no jump to itself.
 #[derive(Drop)]
 pub struct LinProc {
     method: Option<u16>,
     params: u8,
+    result_width: u8,
     widths: Row<u8>,
     code: Row<Instr>,
 }
@@ -19,22 +20,29 @@ pub struct LinProc {
 impl Model for LinProc {
     ghost Value = { Procedure };
 
-    ghost view = { λ p. record { method = p.method; params = p.params; widths = p.widths; code = p.code } };
+    ghost view = { λ p. record { method = p.method; params = p.params; result = p.result_width; widths = p.widths; code = p.code } };
 
-    ghost invariant = { λ p. IsSound (record { method = p.method; params = p.params; widths = p.widths; code = p.code }) };
+    ghost invariant = { λ p. IsSound (record { method = p.method; params = p.params; result = p.result_width; widths = p.widths; code = p.code }) };
 }
 
 impl LinProc {
-    /// The procedure with these locals, of which the first ones are its parameters, and this code.
+    /// The procedure with these locals, of which the first ones are its parameters, with a result of so many bytes, and this code.
     ///
     /// A width counts the bytes of a local. The method is its number in the order of the text, where the procedure is one.
-    pub fn new(method: Option<u16>, params: u8, widths: Row<u8>, code: Row<Instr>) -> Self
-        requires { IsSound (record { method = method; params = params; widths = widths; code = code }) }
-        ensures { result ≡ record { method = method; params = params; widths = widths; code = code } }
+    pub fn new(
+        method: Option<u16>,
+        params: u8,
+        result_width: u8,
+        widths: Row<u8>,
+        code: Row<Instr>,
+    ) -> Self
+        requires { IsSound (record { method = method; params = params; result = result_width; widths = widths; code = code }) }
+        ensures { result ≡ record { method = method; params = params; result = result_width; widths = widths; code = code } }
     {
         LinProc {
             method,
             params,
+            result_width,
             widths,
             code,
         }
@@ -52,6 +60,13 @@ impl LinProc {
         ensures { result ≡ self.now.params }
     {
         self.params
+    }
+
+    /// How many bytes its result has: at most four.
+    pub fn result_width(&self) -> u8
+        ensures { result ≡ self.now.result }
+    {
+        self.result_width
     }
 
     /// The widths of the locals in bytes.
