@@ -1,11 +1,11 @@
 -- The code by which a procedure leads to another place: jumps, branches, and calls.
-use Rattle.std.specs.Prelude.{ℕ, Bool, true, false, not, ◌&&◌, nat_lt, List, [], ◌∷◌, ◌++◌}
+use Rattle.std.specs.Prelude.{ℕ, ◌+◌, Bool, true, false, not, ◌&&◌, nat_lt, List, [], ◌∷◌, ◌++◌}
 use Rattle.avr_instr.specs.declared.instr.Instr.{Instr}
 use Rattle.avr_instr.specs.declared.instr.Instr.TheVariants.{Jmp, Movw, Rjmp}
 use Rattle.avr_isa.specs.Standing.{widths}
 use Rattle.vg_lin.specs.declared.instr.Callee.{Callee}
 use Rattle.vg_lin.specs.declared.instr.Callee.TheVariants.{Procedure as ByNumber, Code as ByCode}
-use Rattle.vg_lin.specs.declared.instr.Operand.{Operand}
+use Rattle.vg_lin.specs.declared.instr.Passed.{Passed}
 use Rattle.vg_frames.specs.Layouts.{Layout}
 use Rattle.vg_spots.specs.Held.{brings}
 use Rattle.vg_templates.specs.Plain.{pushes_value}
@@ -30,11 +30,14 @@ abbrev pub branch_code : (bit : ℕ) (wanted : Bool) → Turn → List Instr
 branch_code bit wanted (Direct k) = near_branch bit wanted k
 branch_code bit wanted (Past h) = near_branch bit (not wanted) (widths (jump_code h)) ++ jump_code h
 
--- the last arguments of a call are pushed behind the others, with these widths
-abbrev pub passes : Layout → (argument_widths : List ℕ) → List Operand → List Instr
-passes l [] as' = []
-passes l (w ∷ ws) [] = []
-passes l (w ∷ ws) (a ∷ as') = pushes_value l w a ++ passes l ws as'
+-- the last arguments of a call, which linear code passes in registers, are pushed behind the others; and how many bytes they take
+abbrev pub passes : Layout → List Passed → List Instr
+passes l [] = []
+passes l (a ∷ as') = pushes_value l a.width a.value ++ passes l as'
+
+abbrev pub passed_bytes : List Passed → ℕ
+passed_bytes [] = 0
+passed_bytes (a ∷ as') = a.width + passed_bytes as'
 
 -- a code number comes into Z
 abbrev pub aims : Layout → Callee → List Instr

@@ -1,5 +1,5 @@
 -- The code for each instruction of linear code, once it is known where all code stands.
-use Rattle.std.specs.Prelude.{ℕ, ◌+◌, true, false, List, [], ◌∷◌, ◌++◌, take, drop, map}
+use Rattle.std.specs.Prelude.{ℕ, ◌+◌, true, false, List, [], ◌∷◌, ◌++◌, take, drop}
 use Rattle.avr_instr.specs.declared.instr.Instr.{Instr as Avr}
 use Rattle.avr_instr.specs.declared.instr.Instr.TheVariants.{Call as CallAt}
 use Rattle.vg_lin.specs.declared.instr.Call.{Call as Calling}
@@ -12,7 +12,7 @@ use Rattle.vg_frames.specs.Frames.{Places}
 use Rattle.vg_branches.specs.Branches.{tests, told_by}
 use Rattle.vg_calls.specs.Calls.{Way, call_code, sum_of}
 use Rattle.vg_returns.specs.Returns.{returns_value, behind_call}
-use Rattle.vg_instr_code.specs.Flow.{Hop, jump_code, Turn, branch_code, passes, aims, way_of, drops_at_once}
+use Rattle.vg_instr_code.specs.Flow.{Hop, jump_code, Turn, branch_code, passes, passed_bytes, aims, way_of, drops_at_once}
 use Rattle.vg_instr_code.specs.Plains.{plain_template}
 
 -- Where the code of a program stands, and how its instructions lead to one another. Places are word addresses.
@@ -26,16 +26,12 @@ pub record Links : Type 0 where
   pub call : (proc pc : ℕ) → Way
   pub idle : ℕ  -- where the piece stands in which the program waits for interrupts
 
--- the widths of the arguments that linear code passes in registers, in bytes
-abbrev pub passed_widths : Calling → List ℕ
-passed_widths c = map (λ a. 4) (operands c.registers)
-
--- a call up to the instruction that calls, this one, and what follows it
+-- a call up to the instruction that calls; how many bytes of arguments it has, where values of these widths wait; and what follows it
 abbrev pub call_front : Layout → Calling → List Avr
-call_front l c = passes l (passed_widths c) (operands c.registers) ++ aims l c.callee
+call_front l c = passes l (operands c.registers) ++ aims l c.callee
 
 abbrev pub call_bytes : (waits : List ℕ) → Calling → ℕ
-call_bytes ws c = sum_of (take c.pushed ws) + sum_of (passed_widths c)
+call_bytes ws c = sum_of (take c.pushed ws) + passed_bytes (operands c.registers)
 
 abbrev pub call_back : Layout → (waits : List ℕ) → Calling → List Avr
 call_back l ws c = behind_call l (drops_at_once l (drop c.pushed ws) (call_bytes ws c)) (call_bytes ws c) c.to
@@ -49,5 +45,5 @@ template x p m pc (Jump to) = jump_code (x.jump m pc)
 template x p m pc (Call c) =
     call_front (x.places.layouts m) c
     ++ call_code (way_of c.callee (x.call m pc)) ∷ call_back (x.places.layouts m) (x.waits m pc) c
-template x p m pc (Return a) = returns_value (x.places.layouts m) a 4
+template x p m pc (Return w a) = returns_value (x.places.layouts m) a w
 template x p m pc Idle = CallAt x.idle ∷ []

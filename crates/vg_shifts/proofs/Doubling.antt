@@ -72,7 +72,7 @@ record Halved (d n : ℕ) (old new : Regs) : Type 0 where
   pub halved : 2 * number new d n + carried new ≡ number old d n
   pub others : (r : ℕ) → (r < d) ⊎ (d + n ≤ r) → new.of r ≡ old.of r
 
-bit_number : (a : ℕ) → number_of (a % 2 == 1) ≡ a % 2
+pub bit_number : (a : ℕ) → number_of (a % 2 == 1) ≡ a % 2
 bit_number a = test (a % 2 == 1) refl
   where
     test : (k : Bool) → (a % 2 == 1) ≡ k → number_of k ≡ a % 2
