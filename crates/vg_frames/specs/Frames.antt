@@ -1,6 +1,7 @@
 -- How the procedures that wait lie on the stack: each by the registers as it will find them.
 use Rattle.std.specs.Prelude.{ℕ, zero, suc, ◌≡◌, ◌+◌, ◌/◌, ◌%◌, ◌<◌, Bool, true, false, not, ◌&&◌, ◌==◌, List, [], ◌∷◌, ◌++◌, length, map, take, drop}
 use Rattle.std.specs.Prelude.{Option, Some, None, slice_get}
+use Rattle.vg_lin.specs.declared.instr.Target.{Target}
 use Rattle.vg_lin.specs.Steps.{Awaits, Result, Interrupt, Frame}
 use Rattle.vg_lin.specs.State.{LocalState, Waiting, State, value_in}
 use Rattle.avr_view.specs.Registers.{Regs, pair, put}
@@ -82,8 +83,8 @@ back_to i (Result call) callee m pc = i.behind m pc
 back_to i Interrupt callee m pc = i.stub_end callee
 
 -- the local that a result goes to has no value to keep
-abbrev pub gets : Option ℕ → ℕ → Bool
-gets (Some to) k = k == to
+abbrev pub gets : Option Target → ℕ → Bool
+gets (Some to) k = k == to.local
 gets None k = false
 
 abbrev pub awaits_local : Awaits → ℕ → Bool

@@ -21,7 +21,7 @@ use Rattle.vg_interrupts.specs.Idle.{IsIdle, IsHandled, entered, Back}
 
 module _ (e : Run) (deep : Type 0) (i : Places) (idle : ℕ) (is : IsIdle e i idle) where
   -- the view where an interrupt was taken
-  abbrev taken : (place : ℕ) → View → (k : ℕ) (ks : List ℕ) → View
+  abbrev pub taken : (place : ℕ) → View → (k : ℕ) (ks : List ℕ) → View
   taken place v k ks =
       record v { stack = word_bytes (idle + 2) ++ (word_bytes (place + 2) ++ v.stack); out = entered v.out k ks }
 
@@ -36,7 +36,7 @@ module _ (e : Run) (deep : Type 0) (i : Places) (idle : ℕ) (is : IsIdle e i id
       (λ t b. ends_idle e deep idle _ t b is.stands.0 is.stands.1.0 (omega arith) is.sleeps none))
 
   -- the next one is taken
-  goes_taken : (place k : ℕ) (ks : List ℕ) (v : View) (s : State) → StandsAt e.flash place (Call idle) → place + 2 < 65536
+  pub goes_taken : (place k : ℕ) (ks : List ℕ) (v : View) (s : State) → StandsAt e.flash place (Call idle) → place + 2 < 65536
       → v.out.interrupts ≡ k ∷ ks → Front e (entered v.out k ks) → (0x1100 < e.floor + length v.stack + 4 → deep) → At e place v s
       → Goes e deep 1 s (At e (2 * k) (taken place v k ks))
   goes_taken place k ks v s call room some front full a =
@@ -49,7 +49,7 @@ module _ (e : Run) (deep : Type 0) (i : Places) (idle : ℕ) (is : IsIdle e i id
       (λ h. full (omega arith))))
 
   -- RETI leads by the CLI and the RET behind the call of the piece
-  goes_out : (pc place : ℕ) (below : List ℕ) (v : View) (s : State) → StandsAt e.flash pc Reti
+  pub goes_out : (pc place : ℕ) (below : List ℕ) (v : View) (s : State) → StandsAt e.flash pc Reti
       → v.stack ≡ word_bytes (idle + 2) ++ (word_bytes (place + 2) ++ below) → At e pc v s → Goes e deep 3 s (At e (place + 2) (record v { stack = below }))
   goes_out pc place below v s reti cut a =
       let u : View = record v { stack = word_bytes (place + 2) ++ below } in
@@ -73,28 +73,25 @@ module _ (e : Run) (deep : Type 0) (i : Places) (idle : ℕ) (is : IsIdle e i id
       (λ t b. goes_out (2 * k) place v.stack (taken place v k ks) t reti refl b))
 
   module _ (ok : (m : ℕ) → IsLayout (i.layouts m)) where
-    -- one with a handler leads behind the prologue of it
-    pub goes_handling : (place k q at entry m pc : ℕ) (ks : List ℕ) (kept : LinState) (frames : List (Frame LinState)) (wait own under : List ℕ) (v : View)
-        (s : State) → IsHandled e i k q at entry → StandsAt e.flash place (Call idle) → place + 2 < 65536 → i.behind m pc ≡ place + 2
-        → AllStandAt e.flash entry (prologue (i.layouts q)) → entry + widths (prologue (i.layouts q)) < 65536 → v.stack ≡ wait ++ (own ++ under)
-        → Points (i.layouts m) own under v.regs → Waits kept.waiting wait → Fits (i.layouts m) (needed (i.layouts m) Interrupt pc) kept.locals own v.regs
-        → Callers i frames m own under v.regs → v.out.interrupts ≡ k ∷ ks → Front e (entered v.out k ks)
-        → (0x1100 < e.floor + length v.stack + 6 + length (i.layouts q).saved + (i.layouts q).slots → deep) → At e place v s
-        → Goes e deep 1 s (Begun e i q (record { proc = m; pc = pc; kept = kept; awaits = Interrupt }) frames [] (entry + widths (prologue (i.layouts q)))
-        (record v { out = entered v.out k ks }))
-    goes_handling place k q at entry m pc ks kept frames wait own under v s stub call room behind code low cut points waits fits more some front full a =
+    -- from the slot of one with a handler the run leads behind the prologue of it
+    pub goes_from_slot : (place k q at entry m pc : ℕ) (kept : LinState) (frames : List (Frame LinState)) (wait own under : List ℕ) (v : View)
+        (s : State) → IsHandled e i k q at entry → i.behind m pc ≡ place + 2 → AllStandAt e.flash entry (prologue (i.layouts q))
+        → entry + widths (prologue (i.layouts q)) < 65536 → v.stack ≡ wait ++ (own ++ under) → Points (i.layouts m) own under v.regs
+        → Waits kept.waiting wait → Fits (i.layouts m) (needed (i.layouts m) Interrupt pc) kept.locals own v.regs → Callers i frames m own under v.regs
+        → (0x1100 < e.floor + length v.stack + 6 + length (i.layouts q).saved + (i.layouts q).slots → deep)
+        → At e (2 * k) (record v { stack = word_bytes (idle + 2) ++ (word_bytes (place + 2) ++ v.stack) }) s
+        → Goes e deep 2 s (Begun e i q (record { proc = m; pc = pc; kept = kept; awaits = Interrupt }) frames [] (entry + widths (prologue (i.layouts q))) v)
+    goes_from_slot place k q at entry m pc kept frames wait own under v s stub behind code low cut points waits fits more full b =
         let f : Frame LinState = record { proc = m; pc = pc; kept = kept; awaits = Interrupt } in
-        let goal = Begun e i q f frames [] (entry + widths (prologue (i.layouts q))) (record v { out = entered v.out k ks }) in
-        let u = taken place v k ks in
+        let goal = Begun e i q f frames [] (entry + widths (prologue (i.layouts q))) v in
+        let u : View = record v { stack = word_bytes (idle + 2) ++ (word_bytes (place + 2) ++ v.stack) } in
         let l = i.layouts q in
         let small = stub.room in
         let where_is : word_bytes (idle + 2) ++ (word_bytes (place + 2) ++ v.stack) ≡ between i Interrupt m pc ++ (wait ++ (own ++ under)) =
         ap (λ n. word_bytes n ++ (word_bytes (place + 2) ++ v.stack)) (sym is.woken)
         ∙ ap (λ n. word_bytes i.woken ++ (word_bytes n ++ v.stack)) (sym behind)
         ∙ ap (λ x. word_bytes i.woken ++ (word_bytes (i.behind m pc) ++ x)) cut in
-        goes_fewer e deep (1 + (1 + 1)) 1 s goal (omega arith)
-        (goes_then e deep 1 (1 + 1) s (At e (2 * k) u) goal (goes_taken place k ks v s call room some front (λ h. full (omega arith)) a)
-        (λ t b. goes_then e deep 1 1 t (At e at u) goal (goes_jmp e deep (2 * k) u t b at stub.slot stub.away)
+        goes_then e deep 1 1 s (At e at u) goal (goes_jmp e deep (2 * k) u s b at stub.slot stub.away)
         (λ r c. goes_wider e deep 1 r (Begun e i q f frames [] (entry + widths (prologue l)) u) goal
         (λ w n. record {
           slots = n.slots;
@@ -107,7 +104,23 @@ module _ (e : Run) (deep : Type 0) (i : Places) (idle : ℕ) (is : IsIdle e i id
           at = n.at;
         })
         (goes_begin e deep i ok q at entry f frames [] wait own under u r stub.stands.0 (omega arith) stub.ends code low where_is points waits fits more
-        (λ h. full (omega arith)) c))))
+        (λ h. full (omega arith)) c))
+
+    -- one with a handler leads behind the prologue of it
+    pub goes_handling : (place k q at entry m pc : ℕ) (ks : List ℕ) (kept : LinState) (frames : List (Frame LinState)) (wait own under : List ℕ) (v : View)
+        (s : State) → IsHandled e i k q at entry → StandsAt e.flash place (Call idle) → place + 2 < 65536 → i.behind m pc ≡ place + 2
+        → AllStandAt e.flash entry (prologue (i.layouts q)) → entry + widths (prologue (i.layouts q)) < 65536 → v.stack ≡ wait ++ (own ++ under)
+        → Points (i.layouts m) own under v.regs → Waits kept.waiting wait → Fits (i.layouts m) (needed (i.layouts m) Interrupt pc) kept.locals own v.regs
+        → Callers i frames m own under v.regs → v.out.interrupts ≡ k ∷ ks → Front e (entered v.out k ks)
+        → (0x1100 < e.floor + length v.stack + 6 + length (i.layouts q).saved + (i.layouts q).slots → deep) → At e place v s
+        → Goes e deep 1 s (Begun e i q (record { proc = m; pc = pc; kept = kept; awaits = Interrupt }) frames [] (entry + widths (prologue (i.layouts q)))
+        (record v { out = entered v.out k ks }))
+    goes_handling place k q at entry m pc ks kept frames wait own under v s stub call room behind code low cut points waits fits more some front full a =
+        let f : Frame LinState = record { proc = m; pc = pc; kept = kept; awaits = Interrupt } in
+        let goal = Begun e i q f frames [] (entry + widths (prologue (i.layouts q))) (record v { out = entered v.out k ks }) in
+        goes_fewer e deep (1 + 2) 1 s goal (omega arith)
+        (goes_then e deep 1 2 s (At e (2 * k) (taken place v k ks)) goal (goes_taken place k ks v s call room some front (λ h. full (omega arith)) a)
+        (λ t b. goes_from_slot place k q at entry m pc kept frames wait own under (record v { out = entered v.out k ks }) t stub behind code low cut points waits fits more full b))
 
     -- and behind it the procedure goes on
     pub goes_back : (q place : ℕ) (f : Frame LinState) (frames : List (Frame LinState)) (old : View) (s : State) → f.awaits ≡ Interrupt

@@ -13,7 +13,7 @@ use Rattle.vg_lin.specs.declared.instr.Operand.TheVariants.{Local, Known}
 use Rattle.vg_lin.specs.declared.instr.Operator.{Operator}
 use Rattle.vg_lin.specs.declared.instr.Operator.TheVariants.{Plus, Minus, Times, Divide, Remainder, And, Or, Xor, ShiftLeft, ShiftRight}
 use Rattle.vg_lin.specs.declared.instr.Plain.{Plain}
-use Rattle.vg_lin.specs.declared.instr.Plain.TheVariants.{Copy, Compute, Product, DivideStep, Load, Store, ReadDevice, WriteDevice, Push as PushValue, Find, CodeOf, Stop}
+use Rattle.vg_lin.specs.declared.instr.Plain.TheVariants.{Copy, Compute, Product, DivideStep, Load, Store, ReadDevice, WriteDevice, Push as PushValue, Pop, Find, CodeOf, Stop}
 use Rattle.vg_frames.specs.Spots.{Spot, InFrame, InRegisters}
 use Rattle.vg_frames.specs.Layouts.{Layout, IsLayout, IsSpot, width_of}
 use Rattle.vg_frames.specs.Linkage.{pushes}
@@ -283,4 +283,5 @@ module _ (l : Layout) (ok : IsLayout l) (live behind : ℕ → Bool) where
   plain_code-fine codes (Product to a b) can = tt
   plain_code-fine codes (DivideStep r d a) can = tt
   plain_code-fine codes (Find dispatch to a) can = tt
+  plain_code-fine codes (Pop w to) can = tt
   plain_code-fine codes (Stop code) can = tt

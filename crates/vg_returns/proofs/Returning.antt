@@ -8,16 +8,18 @@ use Rattle.avr_isa.specs.Standing.{widths, AllStandAt}
 use Rattle.avr_isa.proofs.Standing.{front_stands, back_stands, widths-append}
 use Rattle.vg_lin.specs.declared.instr.Call.{Call}
 use Rattle.vg_lin.specs.declared.instr.Operand.{Operand}
+use Rattle.vg_lin.specs.declared.instr.Target.{Target}
 use Rattle.vg_lin.specs.Steps.{Result, Frame}
 use Rattle.vg_lin.specs.State.{State, value, sets}
 use Rattle.vg_lin.specs.Meaning.{with_result}
+use Rattle.vg_lin.specs.Values.{low}
 use Rattle.avr_view.specs.Registers.{Regs, pair, put}
 use Rattle.avr_view.specs.Run.{Run, Goes}
 use Rattle.avr_view.specs.View.{View, At}
 use Rattle.avr_view.proofs.Going.{goes_then, goes_fewer, goes_wider}
 use Rattle.avr_view.proofs.StackSteps.{goes_pop, goes_raise}
 use Rattle.vg_frames.specs.Spots.{number}
-use Rattle.vg_frames.specs.Layouts.{IsLayout, IsReliable, width_of}
+use Rattle.vg_frames.specs.Layouts.{IsLayout, IsReliable}
 use Rattle.vg_frames.specs.Linkage.{epilogue, sp_is_y}
 use Rattle.vg_frames.specs.Frames.{Waits, Places, needed, gets, Stacked}
 use Rattle.vg_frames.specs.Calls.{Resumed}
@@ -25,13 +27,11 @@ use Rattle.vg_frames.proofs.Calling.{goes_resume}
 use Rattle.vg_frames.proofs.Numbers.{put_other}
 use Rattle.vg_spots.specs.Pieces.{Sees, Takes}
 use Rattle.vg_spots.specs.Held.{Held, IsReady, IsSet, brings, gives, Brought, Given}
-use Rattle.vg_spots.proofs.Composing.{takes_none, takes_then, takes_next, takes_wider, takes_bytes}
+use Rattle.vg_spots.proofs.Composing.{takes_none, takes_then, takes_next, takes_wider}
 use Rattle.vg_spots.proofs.Holding.{takes_brings, takes_gives, held_scratch}
-use Rattle.vg_templates.specs.Operands.{least}
 use Rattle.vg_templates.specs.Outcomes.{Lies}
-use Rattle.vg_templates.proofs.Bytes.{cut_twice, number_low, least_is}
 use Rattle.vg_templates.proofs.Computing.{number_kept}
-use Rattle.vg_templates.proofs.Storing.{sets-same, held_fewer}
+use Rattle.vg_templates.proofs.Storing.{held_fewer}
 use Rattle.vg_returns.specs.Returns.{returns_value, pops_away, drops, takes_result, behind_call, CanLand, CanDrop, Returned}
 
 not_reliable : (d : ℕ) → (d < 2) ⊎ ((18 ≤ d) × (d < 28)) → IsReliable d → ⊥
@@ -138,9 +138,9 @@ module _ (i : Places) (ok : (m : ℕ) → IsLayout (i.layouts m)) (e : Run) (dee
   and_not true true e f = absurd (let clash : true ≡ false = f in cc)
   and_not false b e f = absurd (let clash : false ≡ true = e in cc)
 
-  takes_results : (m : ℕ) (behind : ℕ → Bool) (s : State) (to : Option ℕ) (frames : List (Frame State)) (n x : ℕ) (v : View) → n ≤ 4
+  takes_results : (m : ℕ) (behind : ℕ → Bool) (s : State) (to : Option Target) (frames : List (Frame State)) (n x : ℕ) (v : View) → n ≤ 4
       → CanLand (i.layouts m) behind n to → number v.regs 22 n ≡ x % 256 ^ n → Held i m (λ k. behind k && not (gets to k)) s frames v
-      → Takes e deep v (takes_result (i.layouts m) to) (Lies i m behind (with_result to x s) frames v.out)
+      → Takes e deep v (takes_result (i.layouts m) to) (Lies i m behind (with_result to (low n x) s) frames v.out)
   takes_results m behind s None frames n x v small can result k =
       takes_none e deep v (Lies i m behind s frames v.out)
       (record {
@@ -149,29 +149,19 @@ module _ (i : Places) (ok : (m : ℕ) → IsLayout (i.layouts m)) (e : Run) (dee
       })
   takes_results m behind s (Some to) frames n x v small can result k =
       let l = i.layouts m in
-      let w = width_of l to in
       let before = λ (j : ℕ). behind j && not (gets (Some to) j) in
-      let goal = Lies i m behind (sets to x s) frames v.out in
-      let set : IsSet l before behind to =
+      let goal = Lies i m behind (sets to.local (low n x) s) frames v.out in
+      let set : IsSet l before behind to.local =
       record {
         there = can.there;
-        others = λ j alive other. (and_not (behind j) (j == to) alive (let ne : (j == to) ≡ false = grind (arith, other) in ne), can.apart j alive other);
+        others = λ j alive other. (and_not (behind j) (j == to.local) alive (let ne : (j == to.local) ≡ false = grind (arith, other) in ne), can.apart j alive other);
       } in
-      let narrow = can.narrow in
-      takes_bytes e deep v (gives l to 22 w) goal
-      (λ bytes. takes_wider e deep v (gives l to 22 w) (Given i m behind (sets to (number v.regs 22 w) s) frames v) goal
+      let wide = can.width in
+      takes_wider e deep v (gives l to.local 22 to.width) (Given i m behind (sets to.local (number v.regs 22 to.width) s) frames v) goal
       (λ u g.
-      let lesser : least n w ≡ w = least_of n w narrow in
-      let low_bytes : number v.regs 22 w ≡ number v.regs 22 n % 256 ^ w =
-      subst (λ c. number v.regs 22 c ≡ number v.regs 22 n % 256 ^ c) lesser (number_low v.regs 22 n w (λ y lo hi. bytes y (omega arith))) in
-      let same : sets to (number v.regs 22 w) s ≡ sets to x s =
-      sets-same l s to (number v.regs 22 w) x k.stacked.fits.widths
-      (ap (λ y. y % 256 ^ w) (low_bytes ∙ ap (λ y. y % 256 ^ w) result ∙ cut_twice x w n narrow) ∙ cut_twice x w w (omega arith)) in
-      record { held = subst (λ y. Held i m behind y frames u) same g.held; out = g.out })
-      (takes_gives i ok m frames e deep before behind s to 22 w v set (omega arith) (omega arith) k))
-    where
-      least_of : (a b : ℕ) → b ≤ a → least a b ≡ b
-      least_of a b h = elim (least_is a b) [ inl p ↦ omega (arith, p.0, p.1, h) | inr p ↦ p.0 ]
+      let same : number v.regs 22 to.width ≡ low n x = ap (number v.regs 22) wide ∙ result in
+      record { held = subst (λ y. Held i m behind (sets to.local y s) frames u) same g.held; out = g.out })
+      (takes_gives i ok m frames e deep before behind s to.local 22 to.width v set (omega arith) (omega (arith, wide, small)) k)
 
   -- ---- where a procedure has returned, its caller goes on
 
@@ -203,14 +193,14 @@ module _ (i : Places) (ok : (m : ℕ) → IsLayout (i.layouts m)) (e : Run) (dee
       → (let is = behind_call (i.layouts m) at_once (i.layouts q).pushed call.to in
       AllStandAt e.flash (i.behind m pc) is → i.behind m pc + widths is < 65536
       → Returned e i q (record { proc = m; pc = pc; kept = kept; awaits = Result call }) frames n x ram o s
-      → Goes e deep 0 s (Sees e (Lies i m ((i.layouts m).live (suc pc)) (with_result call.to x (record kept { ram = ram })) frames o)
+      → Goes e deep 0 s (Sees e (Lies i m ((i.layouts m).live (suc pc)) (with_result call.to (low n x) (record kept { ram = ram })) frames o)
       (i.behind m pc + widths is)))
   goes_on q m pc kept call frames n x ram o at_once s small can land stand room back =
       let f : Frame State = record { proc = m; pc = pc; kept = kept; awaits = Result call } in
       let l = i.layouts m in
       let is = behind_call l at_once (i.layouts q).pushed call.to in
       let after : State = record kept { ram = ram } in
-      let goal = Lies i m (l.live (suc pc)) (with_result call.to x after) frames o in
+      let goal = Lies i m (l.live (suc pc)) (with_result call.to (low n x) after) frames o in
       let r = back.resumed in
       let u : View = record back.exit { regs = r.regs; stack = r.args ++ r.rest } in
       let one : r.regs.of 1 ≡ 0 = r.scratch 1 (not_reliable 1 (inl (omega arith))) ∙ back.r1 in
@@ -220,7 +210,7 @@ module _ (i : Places) (ok : (m : ℕ) → IsLayout (i.layouts m)) (e : Run) (dee
       takes_then e deep u (drops at_once (i.layouts q).pushed) (takes_result l call.to) (Dropped f frames n x ram o) goal
       (subst (λ c. Takes e deep u (drops at_once c) (Dropped f frames n x ram o)) r.long
       (takes_drops m pc kept call frames n x ram r.args r.rest o at_once u small can refl r.stacked one result back.columns back.out))
-      (λ t d. takes_wider e deep t (takes_result l call.to) (Lies i m (l.live (suc pc)) (with_result call.to x after) frames t.out) goal
+      (λ t d. takes_wider e deep t (takes_result l call.to) (Lies i m (l.live (suc pc)) (with_result call.to (low n x) after) frames t.out) goal
       (λ y z. record { held = z.held; out = z.out ∙ d.out })
       (takes_results m (l.live (suc pc)) after call.to frames n x t small land d.result d.held)) in
       goes_fewer e deep (length is) 0 s (Sees e goal (i.behind m pc + widths is)) (omega arith) (piece (i.behind m pc) s stand room r.at)

@@ -5,6 +5,7 @@ use Rattle.avr_instr.specs.declared.instr.Instr.{Instr}
 use Rattle.avr_instr.specs.declared.instr.Instr.TheVariants.{Pop}
 use Rattle.avr_isa.specs.Machine.{State as MachineState}
 use Rattle.vg_lin.specs.declared.instr.Operand.{Operand}
+use Rattle.vg_lin.specs.declared.instr.Target.{Target}
 use Rattle.vg_lin.specs.Steps.{Frame}
 use Rattle.vg_lin.specs.State.{State}
 use Rattle.avr_view.specs.Run.{Run}
@@ -30,20 +31,20 @@ drops true n = sp_is_y
 drops false n = pops_away n
 
 -- and a result goes to its local
-abbrev pub takes_result : Layout → Option ℕ → List Instr
+abbrev pub takes_result : Layout → Option Target → List Instr
 takes_result l None = []
-takes_result l (Some to) = gives l to 22 (width_of l to)
+takes_result l (Some to) = gives l to.local 22 to.width
 
-abbrev pub behind_call : Layout → (at_once : Bool) (bytes : ℕ) → Option ℕ → List Instr
+abbrev pub behind_call : Layout → (at_once : Bool) (bytes : ℕ) → Option Target → List Instr
 behind_call l b n to = drops b n ++ takes_result l to
 
--- A result of so many bytes can go to a local that is no wider, and that shares no byte with the locals that are live then.
-pub record IsTarget (l : Layout) (behind : ℕ → Bool) (count to : ℕ) : Type 0 where
-  pub there : to < length l.widths
-  pub narrow : width_of l to ≤ count
-  pub apart : (k : ℕ) → behind k ≡ true → k ≢ to → Apart (l.spots to) (width_of l to) (l.spots k) (width_of l k)
+-- A result of so many bytes can go to a local that shares no byte with the others that are live then.
+pub record IsTarget (l : Layout) (behind : ℕ → Bool) (count : ℕ) (to : Target) : Type 0 where
+  pub width : to.width ≡ count
+  pub there : to.local < length l.widths
+  pub apart : (k : ℕ) → behind k ≡ true → k ≢ to.local → Apart (l.spots to.local) (width_of l to.local) (l.spots k) (width_of l k)
 
-abbrev pub CanLand : Layout → (behind : ℕ → Bool) → (count : ℕ) → Option ℕ → Type 0
+abbrev pub CanLand : Layout → (behind : ℕ → Bool) → (count : ℕ) → Option Target → Type 0
 CanLand l behind n None = Unit {0}
 CanLand l behind n (Some to) = IsTarget l behind n to
 

@@ -8,6 +8,7 @@ ghost use Rattle.vg_lin.specs.declared.instr.Operand.{Operand};
 ghost use Rattle.vg_lin.specs.Steps.{Result, Frame};
 ghost use Rattle.vg_lin.specs.State.{State, value};
 ghost use Rattle.vg_lin.specs.Meaning.{with_result};
+ghost use Rattle.vg_lin.specs.Values.{low};
 ghost use Rattle.avr_view.specs.Run.{Run, Goes};
 ghost use Rattle.avr_view.specs.View.{View, At};
 ghost use Rattle.vg_frames.specs.Layouts.{IsLayout};
@@ -31,6 +32,6 @@ pub fn results_come_back()
         → (let is = behind_call (i.layouts m) at_once (i.layouts q).pushed call.to in
         AllStandAt e.flash (i.behind m pc) is → i.behind m pc + widths is < 65536
         → Returned e i q (record { proc = m; pc = pc; kept = kept; awaits = Result call }) frames count x ram o s
-        → Goes e ⊥ 0 s (Sees e (Lies i m ((i.layouts m).live (suc pc)) (with_result call.to x (record kept { ram = ram })) frames o)
+        → Goes e ⊥ 0 s (Sees e (Lies i m ((i.layouts m).live (suc pc)) (with_result call.to (low count x) (record kept { ram = ram })) frames o)
         (i.behind m pc + widths is))) }
 {}

@@ -133,12 +133,17 @@ module _ (i : Places) (ok : (m : ℕ) → IsLayout (i.layouts m)) (m : ℕ) (fra
                     r1 = kept.registers 1 (omega arith) ∙ one (l.spots to) w x spot ∙ k.r1;
                     ram = ap (λ (y : View). y.static) kept.same ∙ k.ram;
                   };
+              scratch = λ d from below'. kept.registers d (omega arith) ∙ past (l.spots to) w x spot d from;
               out = ap (λ (y : View). y.out) kept.same;
             }
           where
             below : (d : ℕ) → IsReliable d → d < 30
             below d (inl h) = let top' = h.1 in omega arith
             below d (inr h) = h.1
+
+            past : (p : Spot) (w x : ℕ) → IsSpot (i.layouts m) p w → (d : ℕ) → 18 ≤ d → (registers_with p w v.regs x).of d ≡ v.regs.of d
+            past (InFrame at) w x h d from = refl
+            past (InRegisters f) w x h d from = let top' = h.1 in put_number-beside v.regs f w x d (inr (omega arith))
 
             one : (p : Spot) (w x : ℕ) → IsSpot (i.layouts m) p w → (registers_with p w v.regs x).of 1 ≡ v.regs.of 1
             one (InFrame at) w x h = refl

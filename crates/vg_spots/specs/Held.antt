@@ -1,6 +1,6 @@
 -- How a procedure of linear code lies in what the code sees, between two of its instructions; and what code makes of it that reads an operand or
 -- sets a local.
-use Rattle.std.specs.Prelude.{ℕ, ◌≡◌, ◌≢◌, ◌<◌, Bool, true, List, length}
+use Rattle.std.specs.Prelude.{ℕ, ◌≡◌, ◌≢◌, ◌<◌, ◌≤◌, Bool, true, List, length}
 use Rattle.avr_instr.specs.declared.instr.Instr.{Instr}
 use Rattle.vg_lin.specs.declared.instr.Operand.{Operand}
 use Rattle.vg_lin.specs.declared.instr.Operand.TheVariants.{Local, Known}
@@ -43,7 +43,8 @@ pub record Brought (i : Places) (m : ℕ) (live : ℕ → Bool) (s : State) (fra
   pub held : Held i m live s frames new
   pub fetched : Fetched d count value old new
 
--- the procedure lies there in a state, and nothing was shown
+-- the procedure lies there in a state, scratch registers from r18 to r27 are as they were, and nothing was shown
 pub record Given (i : Places) (m : ℕ) (live : ℕ → Bool) (s : State) (frames : List (Frame State)) (old new : View) : Type 0 where
   pub held : Held i m live s frames new
+  pub scratch : (x : ℕ) → 18 ≤ x → x < 28 → new.regs.of x ≡ old.regs.of x
   pub out : new.out ≡ old.out

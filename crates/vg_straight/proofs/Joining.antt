@@ -5,7 +5,7 @@ use Rattle.vg_meaning.specs.Outside.{Outside, with_event}
 use Rattle.vg_lin.specs.declared.instr.Memory.TheVariants.{Ram, Flash}
 use Rattle.vg_lin.specs.declared.instr.Operand.TheVariants.{Known}
 use Rattle.vg_lin.specs.declared.instr.Plain.{Plain}
-use Rattle.vg_lin.specs.declared.instr.Plain.TheVariants.{Copy, Compute, Product, DivideStep, Load, Store, ReadDevice, WriteDevice, Push, Find, CodeOf, Stop}
+use Rattle.vg_lin.specs.declared.instr.Plain.TheVariants.{Copy, Compute, Product, DivideStep, Load, Store, ReadDevice, WriteDevice, Push, Pop, Find, CodeOf, Stop}
 use Rattle.vg_lin.specs.Program.{Program}
 use Rattle.vg_lin.specs.Steps.{Frame, Went, Goes as GoesOn, Lacks, Fails}
 use Rattle.vg_lin.specs.State.{State, value, using, sets, index_of, loaded, stores, number_at, with_number, reads_from, plain}
@@ -130,4 +130,5 @@ module _ (i : Places) (ok : (m : ℕ) → IsLayout (i.layouts m)) (m : ℕ) (fra
           ended behind (ReadDevice to address) v (sets to x s) s' o o' is
           (takes_reads_device i ok m frames e deep live behind s to address x xs v can.1 can.0 left (subst (Front e) (sym (same_outside (sets to x s) s' o o' is)) front) k)
   takes_plain_code live behind (Find dispatch to a) s s' o' v made can front full k = absurd can
+  takes_plain_code live behind (Pop w to) s s' o' v made can front full k = absurd can
   takes_plain_code live behind (Stop code) s s' o' v made can front full k = absurd can

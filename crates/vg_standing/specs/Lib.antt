@@ -1,0 +1,4 @@
+pub mod Covered
+pub mod Stands
+pub mod Related
+pub mod Depth
