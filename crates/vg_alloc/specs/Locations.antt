@@ -1,0 +1,47 @@
+-- Locations, and the layout that they stand for.
+use Rattle.std.specs.Prelude.{ℕ, ◌+◌, ◌≤◌, Bool, List, length, nat_lt, Option, Some, None, slice_get}
+use Rattle.vg_frames.specs.Spots.{Spot as Place, InFrame, InRegisters}
+use Rattle.vg_frames.specs.Layouts.{Layout}
+use Rattle.vg_alloc.specs.declared.spot.Spot.{Spot}
+use Rattle.vg_alloc.specs.declared.spot.Spot.TheVariants.{Frame, Registers}
+
+-- What a procedure keeps where, in numbers: the widths of its locals and a spot for each of them, and of its frame the bytes of the slots, the
+-- saved registers, whether Y is the frame pointer, and the bytes of the arguments that are pushed.
+pub record Located : Type 0 where
+  pub widths : List ℕ
+  pub spots : List Spot
+  pub slots : ℕ
+  pub saved : List ℕ
+  pub pointed : Bool
+  pub pushed : ℕ
+
+abbrev pub located : (widths : List ℕ) → List Spot → (slots : ℕ) → (saved : List ℕ) → (pointed : Bool) → (pushed : ℕ) → Located
+located ws spots slots saved pointed pushed =
+    record { widths = ws; spots = spots; slots = slots; saved = saved; pointed = pointed; pushed = pushed }
+
+abbrev pub place : Spot → Place
+place (Frame at) = InFrame at
+place (Registers first) = InRegisters first
+
+-- behind the last local there is none: the byte behind the slots stands for its place
+abbrev pub place_in : (slots : ℕ) → Option Spot → Place
+place_in slots (Some s) = place s
+place_in slots None = InFrame slots
+
+-- Each local counts as live everywhere.
+abbrev pub layout : Located → Layout
+layout l =
+    record {
+      widths = l.widths;
+      spots = λ k. place_in l.slots (slice_get l.spots k);
+      slots = l.slots;
+      saved = l.saved;
+      pointed = l.pointed;
+      pushed = l.pushed;
+      live = λ at k. nat_lt k (length l.widths);
+    }
+
+-- A spot in registers is within those that outlive calls, from r2 to r17.
+abbrev pub IsWithin : Spot → (width : ℕ) → Type 0
+IsWithin (Frame at) w = Unit {0}
+IsWithin (Registers r) w = (2 ≤ r) × (r + w ≤ 18)

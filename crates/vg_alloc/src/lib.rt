@@ -1,0 +1,12 @@
+//! Locations: what a procedure of linear code keeps where, its frame and the spots of its locals, and that such a layout is sound.
+#![tactic(auto)]
+
+pub mod framing;
+pub mod locations;
+pub mod premises;
+pub mod spot;
+
+pub use framing::frames;
+pub use locations::Locations;
+pub use premises::{frames_are_counted, frames_serve_templates};
+pub use spot::Spot;

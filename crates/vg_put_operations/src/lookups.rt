@@ -1,0 +1,115 @@
+// Reads of tables in flash, and dispatches.
+ghost use Rattle.std.specs.Prelude.{◌≡◌, ◌≤◌, ◌<◌, ◌+◌, ◌++◌, OnOk, length};
+ghost use Rattle.vg_instr_code.specs.Lookups.{points_z, loads_z, loads_table, tries_case, tries_cases, finds_procedure};
+ghost use Rattle.vg_alloc.specs.Locations.{layout};
+ghost use Rattle.vg_put_values.specs.Within.{IsThere};
+ghost use Rattle.vg_put_operations.specs.Coded.{code_from};
+
+use avr_instr::{FlagBit, Instr, NearOffset, RegisterBesideZ, RegisterPair, UpperRegister};
+use vg_alloc::Locations;
+use vg_base::{NoMemory, Row};
+use vg_codes::Case;
+use vg_lin::{Address, Operand};
+use vg_put_chains::{put_known, put_takes_known};
+use vg_put_values::{put_brings, put_gives};
+
+// Z becomes the address. A base is not 0, so that it can be taken away as 65,536 less it.
+fn put_points_z(
+    code: &mut Row<Instr>,
+    locations: &Locations,
+    address: Address,
+) -> Result<(), NoMemory>
+    requires base { 0 < address.base }
+    requires index { IsThere (layout locations.now) address.index }
+    ensures { OnOk result (code.new ≡ code.old ++ points_z (layout locations.now) address.base address.index) }
+{
+    match address.index {
+        Operand::Known(x) => put_known(code, 30, 2, u64::from(address.base) + u64::from(x)),
+        Operand::Local(_) => {
+            let less = 65535 - address.base + 1;
+            put_brings(code, locations, address.index, 26, 2)?;
+            code.push(Instr::Movw(RegisterPair::new(30), RegisterPair::new(26)))?;
+            code.push(Instr::Subi(UpperRegister::new(30), (less % 256) as u8))?;
+            code.push(Instr::Sbci(UpperRegister::new(31), (less / 256) as u8))
+        }
+    }
+}
+
+fn put_loads_z(code: &mut Row<Instr>, d: u8, count: u8) -> Result<(), NoMemory>
+    requires { d + count ≤ 30 }
+    ensures { OnOk result (code.new ≡ code.old ++ loads_z d count) }
+{
+    if count == 0 {
+        return Ok(());
+    }
+    code.push(Instr::LpmZPlus(RegisterBesideZ::new(d)))?;
+    put_loads_z(code, d + 1, count - 1)
+}
+
+/// So many bytes of a table in flash go to a local.
+pub fn put_loads_table(
+    code: &mut Row<Instr>,
+    locations: &Locations,
+    width: u8,
+    to: u8,
+    address: Address,
+) -> Result<(), NoMemory>
+    requires narrow { width ≤ 4 }
+    requires there { to < length locations.now.widths }
+    requires base { 0 < address.base }
+    requires index { IsThere (layout locations.now) address.index }
+    ensures { OnOk result (code.new ≡ code.old ++ loads_table (layout locations.now) width to address.base address.index) }
+{
+    put_points_z(code, locations, address)?;
+    put_loads_z(code, 22, width)?;
+    put_gives(code, locations, to, 22, width)
+}
+
+/// The code number of a procedure, in a list of those of all procedures; 0 for a number that no procedure has.
+pub fn code_of(codes: &[u16], procedure: u16) -> u16
+    ensures { result ≡ code_from codes.now procedure }
+{
+    let place = usize::from(procedure);
+    if place < codes.len() { codes[place] } else { 0 }
+}
+
+fn put_tries_case(code: &mut Row<Instr>, codes: &[u16], case: Case) -> Result<(), NoMemory>
+    ensures { OnOk result (code.new ≡ code.old ++ tries_case (code_from codes.now) case) }
+{
+    code.push(Instr::Movw(RegisterPair::new(26), RegisterPair::new(24)))?;
+    put_takes_known(code, 26, 2, u64::from(case.first))?;
+    put_takes_known(code, 26, 2, u64::from(case.count))?;
+    code.push(Instr::Brbc(FlagBit::new(0), NearOffset::new(2)))?;
+    put_known(code, 22, 2, u64::from(code_of(codes, case.procedure)))
+}
+
+fn put_tries_cases(code: &mut Row<Instr>, codes: &[u16], cases: &[Case]) -> Result<(), NoMemory>
+    ensures { OnOk result (code.new ≡ code.old ++ tries_cases (code_from codes.now) cases.now) }
+{
+    match cases {
+        [] => Ok(()),
+        [last] => put_known(code, 22, 2, u64::from(code_of(codes, last.procedure))),
+        [first, rest @ ..] => {
+            put_tries_cases(code, codes, rest)?;
+            put_tries_case(code, codes, *first)
+        }
+    }
+}
+
+/// The code number of the procedure that a dispatch has for the number of an object goes to a local.
+pub fn put_finds_procedure(
+    code: &mut Row<Instr>,
+    locations: &Locations,
+    codes: &[u16],
+    cases: &[Case],
+    to: u8,
+    operand: Operand,
+) -> Result<(), NoMemory>
+    requires there { to < length locations.now.widths }
+    requires operand { IsThere (layout locations.now) operand }
+    ensures { OnOk result (code.new ≡ code.old ++ finds_procedure (layout locations.now) (code_from codes.now) cases.now to operand) }
+{
+    put_brings(code, locations, operand, 24, 2)?;
+    put_tries_cases(code, codes, cases)?;
+    put_gives(code, locations, to, 22, 2)
+}

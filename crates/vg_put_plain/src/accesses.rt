@@ -1,0 +1,93 @@
+// Loads and stores of columns in RAM.
+ghost use Rattle.std.specs.Prelude.{◌≡◌, ◌≤◌, ◌<◌, ◌+◌, ◌++◌, OnOk, length};
+ghost use Rattle.vg_accesses.specs.Accesses.{points_x, loads_x, stores_x, loads_column, stores_column};
+ghost use Rattle.vg_alloc.specs.Locations.{layout};
+ghost use Rattle.vg_put_values.specs.Within.{IsThere};
+
+use avr_instr::{Instr, RegisterBesideX, UpperRegister};
+use vg_alloc::Locations;
+use vg_base::{NoMemory, Row};
+use vg_lin::{Address, Operand};
+use vg_put_chains::put_known;
+use vg_put_values::{put_brings, put_gives};
+
+// X becomes the address. A base is not 0, so that it can be taken away as 65,536 less it.
+fn put_points_x(
+    code: &mut Row<Instr>,
+    locations: &Locations,
+    address: Address,
+) -> Result<(), NoMemory>
+    requires base { 0 < address.base }
+    requires index { IsThere (layout locations.now) address.index }
+    ensures { OnOk result (code.new ≡ code.old ++ points_x (layout locations.now) address.base address.index) }
+{
+    match address.index {
+        Operand::Known(x) => put_known(code, 26, 2, u64::from(address.base) + u64::from(x)),
+        Operand::Local(_) => {
+            let less = 65535 - address.base + 1;
+            put_brings(code, locations, address.index, 26, 2)?;
+            code.push(Instr::Subi(UpperRegister::new(26), (less % 256) as u8))?;
+            code.push(Instr::Sbci(UpperRegister::new(27), (less / 256) as u8))
+        }
+    }
+}
+
+fn put_loads_x(code: &mut Row<Instr>, d: u8, count: u8) -> Result<(), NoMemory>
+    requires { d + count ≤ 26 }
+    ensures { OnOk result (code.new ≡ code.old ++ loads_x d count) }
+{
+    if count == 0 {
+        return Ok(());
+    }
+    code.push(Instr::LdXPlus(RegisterBesideX::new(d)))?;
+    put_loads_x(code, d + 1, count - 1)
+}
+
+fn put_stores_x(code: &mut Row<Instr>, r: u8, count: u8) -> Result<(), NoMemory>
+    requires { r + count ≤ 26 }
+    ensures { OnOk result (code.new ≡ code.old ++ stores_x r count) }
+{
+    if count == 0 {
+        return Ok(());
+    }
+    code.push(Instr::StXPlus(RegisterBesideX::new(r)))?;
+    put_stores_x(code, r + 1, count - 1)
+}
+
+/// So many bytes of a column go to a local.
+pub fn put_loads_column(
+    code: &mut Row<Instr>,
+    locations: &Locations,
+    width: u8,
+    to: u8,
+    address: Address,
+) -> Result<(), NoMemory>
+    requires narrow { width ≤ 4 }
+    requires there { to < length locations.now.widths }
+    requires base { 0 < address.base }
+    requires index { IsThere (layout locations.now) address.index }
+    ensures { OnOk result (code.new ≡ code.old ++ loads_column (layout locations.now) width to address.base address.index) }
+{
+    put_points_x(code, locations, address)?;
+    put_loads_x(code, 22, width)?;
+    put_gives(code, locations, to, 22, width)
+}
+
+/// So many low bytes of a value go to a column.
+pub fn put_stores_column(
+    code: &mut Row<Instr>,
+    locations: &Locations,
+    width: u8,
+    address: Address,
+    from: Operand,
+) -> Result<(), NoMemory>
+    requires narrow { width ≤ 4 }
+    requires base { 0 < address.base }
+    requires index { IsThere (layout locations.now) address.index }
+    requires value { IsThere (layout locations.now) from }
+    ensures { OnOk result (code.new ≡ code.old ++ stores_column (layout locations.now) width address.base address.index from) }
+{
+    put_points_x(code, locations, address)?;
+    put_brings(code, locations, from, 22, width)?;
+    put_stores_x(code, 22, width)
+}

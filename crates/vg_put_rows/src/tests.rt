@@ -1,0 +1,233 @@
+ghost use Rattle.std.specs.Prelude.{◌≡◌};
+
+use crate::sample::sample_locations;
+use avr_instr::{FlagBit, Instr, NearOffset, encode};
+use std::alloc::Global;
+use vg_base::{NoMemory, Row};
+use vg_codes::Case;
+use vg_lin::{Address, Comparison, Computation, Operand, Operator, Test};
+use vg_put_flow::{Hop, Turn, put_branch, put_prologue, put_returns_value, put_tests};
+use vg_put_operations::{put_finds_procedure, put_loads_table, put_multiplies, put_shifts_left};
+use vg_put_plain::{
+    put_computes, put_copies, put_loads_column, put_pushes_value, put_stops, put_writes_device,
+};
+
+// The words that spell instructions, one behind the other.
+fn words(alloc: Global, code: &[Instr]) -> Result<Row<u16>, NoMemory> {
+    let mut words = Row::new(alloc);
+    for instr in code {
+        let (first, second) = encode(*instr);
+        words.push(first)?;
+        match second {
+            Some(word) => words.push(word)?,
+            None => {}
+        }
+    }
+    Ok(words)
+}
+
+// Whether code is spelled by these words.
+fn is_spelled(alloc: Global, code: &Result<Row<Instr>, NoMemory>, expected: &[u16]) -> bool {
+    match code {
+        Ok(code) => match words(alloc, code.as_slice()) {
+            Ok(words) => words.as_slice() == expected,
+            Err(_) => false,
+        },
+        Err(_) => false,
+    }
+}
+
+fn entered(alloc: Global) -> Result<Row<Instr>, NoMemory> {
+    let locations = sample_locations(alloc)?;
+    let mut code = Row::new(alloc);
+    put_prologue(&mut code, &locations)?;
+    put_copies(&mut code, &locations, 1, Operand::Local(0))?;
+    put_returns_value(&mut code, &locations, Operand::Local(1), 1)?;
+    Ok(code)
+}
+
+// Y is saved and becomes the frame pointer; the low byte of the parameter goes to the other local, which is returned.
+#[test]
+fn a_procedure_enters_and_returns(rt: HostRuntime) {
+    let alloc = rt.alloc();
+    let code = entered(alloc);
+    let expected = [
+        0x93DF, 0x93CF, 0xB7CD, 0xB7DE, 0x9721, 0xBFDE, 0xBFCD, // prologue
+        0x816E, 0x8369, // LDD r22, Y+6; STD Y+1, r22
+        0x8169, 0x9621, 0xBFDE, 0xBFCD, 0x91CF, 0x91DF, 0x9508, // LDD r22, Y+1; epilogue
+    ];
+    let holds = is_spelled(alloc, &code, &expected);
+    assert!(rt; holds);
+}
+
+fn computed(alloc: Global) -> Result<Row<Instr>, NoMemory> {
+    let locations = sample_locations(alloc)?;
+    let mut code = Row::new(alloc);
+    let sum = Computation {
+        operator: Operator::Plus,
+        width: 1,
+        to: 1,
+        left: Operand::Local(1),
+        right: Operand::Known(3),
+    };
+    put_computes(alloc, &mut code, &locations, sum)?;
+    put_pushes_value(alloc, &mut code, &locations, 2, Operand::Local(0))?;
+    put_writes_device(alloc, &mut code, &locations, 0x38, Operand::Local(1))?;
+    put_stops(&mut code, 2)?;
+    Ok(code)
+}
+
+// A sum with a known number, a value that waits, a write to PORTB, and a stop.
+#[test]
+fn plain_instructions_are_put(rt: HostRuntime) {
+    let alloc = rt.alloc();
+    let code = computed(alloc);
+    let expected = [
+        0x8169, 0x5F6D, 0x8369, // LDD r22, Y+1; SUBI r22, 0xFD; STD Y+1, r22
+        0x816E, 0x817F, 0x937F, 0x936F, // LDD r22, Y+6; LDD r23, Y+7; PUSH r23; PUSH r22
+        0x8169, 0xBB68, // LDD r22, Y+1; OUT 0x18, r22
+        0xE082, 0xCFFF, // LDI r24, 2; RJMP to itself
+    ];
+    let holds = is_spelled(alloc, &code, &expected);
+    assert!(rt; holds);
+}
+
+fn reached(alloc: Global) -> Result<Row<Instr>, NoMemory> {
+    let locations = sample_locations(alloc)?;
+    let mut code = Row::new(alloc);
+    let column = Address {
+        base: 0x100,
+        index: Operand::Local(0),
+    };
+    let table = Address {
+        base: 0x8C,
+        index: Operand::Known(4),
+    };
+    put_loads_column(&mut code, &locations, 1, 1, column)?;
+    put_loads_table(&mut code, &locations, 2, 0, table)?;
+    Ok(code)
+}
+
+// A load of a column in RAM, at an index that a local has, and one of a table in flash, at a known one.
+#[test]
+fn columns_and_tables_are_reached(rt: HostRuntime) {
+    let alloc = rt.alloc();
+    let code = reached(alloc);
+    let expected = [
+        0x81AE, 0x81BF, 0x50A0, 0x4FBF, // LDD r26, Y+6; LDD r27, Y+7; SUBI r26, 0; SBCI r27, 0xFF
+        0x916D, 0x8369, // LD r22, X+; STD Y+1, r22
+        0xE9E0, 0xE0F0, 0x9165, 0x9175, // LDI r30, 0x90; LDI r31, 0; LPM r22, Z+; LPM r23, Z+
+        0x836E, 0x837F, // STD Y+6, r22; STD Y+7, r23
+    ];
+    let holds = is_spelled(alloc, &code, &expected);
+    assert!(rt; holds);
+}
+
+fn branched(alloc: Global) -> Result<Row<Instr>, NoMemory> {
+    let locations = sample_locations(alloc)?;
+    let mut code = Row::new(alloc);
+    let test = Test {
+        comparison: Comparison::Same,
+        width: 2,
+        left: Operand::Local(0),
+        right: Operand::Known(0),
+    };
+    put_tests(alloc, &mut code, &locations, test)?;
+    put_branch(
+        &mut code,
+        FlagBit::new(1),
+        true,
+        Turn::Direct(NearOffset::new(5)),
+    )?;
+    put_branch(
+        &mut code,
+        FlagBit::new(1),
+        true,
+        Turn::Past(Hop::Far(0x1234)),
+    )?;
+    Ok(code)
+}
+
+// A comparison with zero, and the branches that are taken where both are the same, near by and to any address.
+#[test]
+fn branches_are_put(rt: HostRuntime) {
+    let alloc = rt.alloc();
+    let code = branched(alloc);
+    let expected = [
+        0x816E, 0x817F, 0x1561, 0x0571, // LDD r22, Y+6; LDD r23, Y+7; CP r22, r1; CPC r23, r1
+        0xF029, // BREQ by 5 words
+        0xF411, 0x940C, 0x1234, // BRNE by 2 words; JMP 0x1234
+    ];
+    let holds = is_spelled(alloc, &code, &expected);
+    assert!(rt; holds);
+}
+
+fn operated(alloc: Global) -> Result<Row<Instr>, NoMemory> {
+    let locations = sample_locations(alloc)?;
+    let mut code = Row::new(alloc);
+    put_shifts_left(&mut code, &locations, 1, 1, Operand::Local(1), 3)?;
+    put_multiplies(
+        alloc,
+        &mut code,
+        &locations,
+        0,
+        Operand::Local(1),
+        Operand::Known(5),
+    )?;
+    Ok(code)
+}
+
+// A shift by three bits, and a product of two bytes.
+#[test]
+fn shifts_and_products_are_put(rt: HostRuntime) {
+    let alloc = rt.alloc();
+    let code = operated(alloc);
+    let expected = [
+        0x8169, 0x0F66, 0x0F66, 0x0F66, 0x8369, // LDD r22, Y+1; ADD r22, r22, three times; STD Y+1, r22
+        0x8129, 0xE065, 0x9F26, 0x01B0, 0x2411, // LDD r18, Y+1; LDI r22, 5; MUL r18, r22; MOVW r22, r0; EOR r1, r1
+        0x836E, 0x837F, // STD Y+6, r22; STD Y+7, r23
+    ];
+    let holds = is_spelled(alloc, &code, &expected);
+    assert!(rt; holds);
+}
+
+fn dispatched(alloc: Global) -> Result<Row<Instr>, NoMemory> {
+    let locations = sample_locations(alloc)?;
+    let mut code = Row::new(alloc);
+    let cases = [
+        Case {
+            first: 1,
+            count: 2,
+            procedure: 0,
+        },
+        Case {
+            first: 3,
+            count: 1,
+            procedure: 1,
+        },
+    ];
+    put_finds_procedure(
+        &mut code,
+        &locations,
+        &[0x0123, 0x0456],
+        &cases,
+        0,
+        Operand::Local(0),
+    )?;
+    Ok(code)
+}
+
+// A dispatch of two cases: the code number of the last one comes first, and that of the other overwrites it.
+#[test]
+fn dispatches_are_put(rt: HostRuntime) {
+    let alloc = rt.alloc();
+    let code = dispatched(alloc);
+    let expected = [
+        0x818E, 0x819F, 0xE566, 0xE074, // LDD r24, Y+6; LDD r25, Y+7; LDI r22, 0x56; LDI r23, 0x04
+        0x01DC, 0x50A1, 0x40B0, 0x50A2, 0x40B0, // MOVW r26, r24; SUBI r26, 1; SBCI r27, 0; SUBI r26, 2; SBCI r27, 0
+        0xF410, 0xE263, 0xE071, // BRCC by 2 words; LDI r22, 0x23; LDI r23, 0x01
+        0x836E, 0x837F, // STD Y+6, r22; STD Y+7, r23
+    ];
+    let holds = is_spelled(alloc, &code, &expected);
+    assert!(rt; holds);
+}

@@ -1,0 +1,10 @@
+//! Values put: the instructions that bring operands of linear code into registers and numbers to locals, behind the code so far.
+#![tactic(auto)]
+
+pub mod finding;
+pub mod operands;
+pub mod registers;
+
+pub use finding::{found_in, put_finds};
+pub use operands::{put_brings, put_gives};
+pub use registers::least;
