@@ -1,5 +1,5 @@
 -- What the flash of an image holds.
-use Rattle.std.specs.Prelude.{ℕ, zero, suc, ◌+◌, ◌/◌, ◌%◌, List, [], ◌∷◌, ◌++◌, length, replicate, Option, Some, None}
+use Rattle.std.specs.Prelude.{ℕ, zero, suc, ◌+◌, ◌/◌, ◌%◌, List, [], ◌∷◌, ◌++◌, length, replicate, Option, Some, None, slice_get}
 use Rattle.std.specs.List.{flat_map}
 use Rattle.avr_instr.specs.declared.instr.Instr.{Instr}
 use Rattle.avr_instr.specs.declared.instr.Instr.TheVariants.{Jmp, Reti}
@@ -41,3 +41,15 @@ flash_of p = flat_map instr_bytes (vectors p) ++ (p.tables ++ (filler p.tables +
 -- how many words of flash it takes
 abbrev pub words_of : Parts → ℕ
 words_of p = code_start p.tables + widths p.code
+
+-- An option of an option, as one.
+abbrev pub flattened : Option (Option ℕ) → Option ℕ
+flattened (Some o) = o
+flattened None = None
+
+-- the parts of which code makes an image: the slot of each vector by its number, of which the first counts for nothing
+abbrev pub slot_in : List (Option ℕ) → ℕ → Option ℕ
+slot_in slots k = flattened (slice_get slots k)
+
+abbrev pub parts : List (Option ℕ) → (tables : List ℕ) → List Instr → Parts
+parts slots tables code = record { slots = slot_in slots; tables = tables; code = code }
