@@ -1,0 +1,7 @@
+use Rattle.std.proofs.Common.{◌≡◌, ◌++◌, take}
+use Rattle.std.specs.List.{flat_map}
+use Rattle.avr_isa.specs.Standing.{instr_bytes}
+use Rattle.vg_image.proofs.emitting.put_code.Given as goal
+
+abbrev pub invariant-loop-instr : goal.invariant-loop-instr
+invariant-loop-instr l = l.flash.items ≡ l.fn.flash.items ++ flat_map instr_bytes (take l.instr-index l.code)
