@@ -1,4 +1,0 @@
-//! The first frame: from the code of reset to where the first procedure of linear code begins.
-#![tactic(auto)]
-
-pub mod framing;
