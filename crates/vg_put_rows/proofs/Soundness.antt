@@ -27,6 +27,7 @@ sample_sound =
     record {
       few = omega arith;
       params = omega arith;
+      result = omega arith;
       widths = ((omega arith, omega arith), ((omega arith, omega arith), tt {0}));
       operands = operands;
       waits = waits;
@@ -35,7 +36,7 @@ sample_sound =
     }
 
 pub sound_as : (ws : List ℕ) (code : List Instr) → ws ≡ sample.widths → code ≡ sample.code
-    → IsSound (record { method = None; params = 1; widths = ws; code = code })
+    → IsSound (record { method = None; params = 1; result = 0; widths = ws; code = code })
 sound_as ws code e h =
-    subst (λ z. IsSound (record { method = None; params = 1; widths = z; code = code })) (sym e)
-    (subst (λ z. IsSound (record { method = None; params = 1; widths = sample.widths; code = z })) (sym h) sample_sound)
+    subst (λ z. IsSound (record { method = None; params = 1; result = 0; widths = z; code = code })) (sym e)
+    (subst (λ z. IsSound (record { method = None; params = 1; result = 0; widths = sample.widths; code = z })) (sym h) sample_sound)

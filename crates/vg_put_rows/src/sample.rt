@@ -13,7 +13,7 @@ pub fn sample_procedure(alloc: Global) -> Result<LinProc, NoMemory>
 {
     let widths = sample_widths(alloc)?;
     let code = sample_code(alloc)?;
-    Ok(LinProc::new(None, 1, widths, code))
+    Ok(LinProc::new(None, 1, 0, widths, code))
 }
 
 fn sample_widths(alloc: Global) -> Result<Row<u8>, NoMemory>
