@@ -44,6 +44,10 @@ has_last : (ms : List ℕ) (c : ℕ) → is_in ms c ≡ true → both_same (last
 has_last [] c e = false_true e
 has_last (m ∷ ms) c e = let z : (last_from m ms == last_from m ms) ≡ true = grind arith in z
 
+-- a class is of one hierarchy with those above it, and with what else is below them
+pub below_one : (p : Tables) → WellFormed p → (d c : ℕ) → is_below p d c ≡ true → one_hierarchy p d c ≡ true
+below_one p formed d c b = ap (both_same (top p d)) (sym (formed.one_top d c b)) ∙ has_last (above_in (slice_get p.classes d)) c b
+
 one_of : (p : Tables) → WellFormed p → (d e c : ℕ) → is_below p d c ≡ true → is_below p e c ≡ true → one_hierarchy p d e ≡ true
 one_of p formed d e c bd be =
     ap (both_same (top p d)) (formed.one_top e c be ∙ sym (formed.one_top d c bd)) ∙ has_last (above_in (slice_get p.classes d)) c bd
@@ -59,7 +63,7 @@ both true true e = (refl, refl)
 both true false e = false_true e
 both false b e = false_true e
 
-from_within : (f c n : ℕ) → is_within f c n ≡ true → (f ≤ n) × (n < f + c)
+pub from_within : (f c n : ℕ) → is_within f c n ≡ true → (f ≤ n) × (n < f + c)
 from_within f c n e =
     let h = both (nat_le f n) (nat_lt n (f + c)) e in (let x = h.0 in grind (arith, x), let y = h.1 in grind (arith, y))
 
