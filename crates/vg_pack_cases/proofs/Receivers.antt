@@ -1,16 +1,16 @@
 -- Which procedures get a receiver.
-use Rattle.std.proofs.Common.{◌≡◌, refl, ap, ◌∙◌, arith, ℕ, zero, suc, ◌+◌, ◌<◌, Bool, true, false, List, [], ◌∷◌, length, Option, Some, None, slice_get}
-use Rattle.std.proofs.lemmas.Option.{slice_get_within}
+use Rattle.std.proofs.Common.{◌≡◌, refl, ap, ◌∙◌, arith, ℕ, zero, suc, ◌+◌, ◌<◌, Bool, true, List, [], ◌∷◌, length, Some, slice_get}
 use Rattle.vg_core.specs.declared.program.Method.{Method}
 use Rattle.vg_core.specs.declared.program.Owner.{Owner}
 use Rattle.vg_core.specs.declared.program.Owner.TheVariants.{InClass, InComponent}
 use Rattle.vg_pack_code.specs.Plans.{holds}
 use Rattle.vg_pack_calls.specs.Receivers.{gets, receivers_from}
 
-at : (ys : List Method) (m : ℕ) → m < length ys → (y : Method) × (slice_get ys m ≡ Some y)
-at [] m lt = absurd (omega (arith, lt))
-at (y ∷ ys) zero lt = (y, refl)
-at (y ∷ ys) (suc m) lt = at ys m (omega (arith, lt))
+-- what stands at a place of a list
+pub slot_there : {A : Type 0} (xs : List A) (i : ℕ) → i < length xs → (x : A) × (slice_get xs i ≡ Some x)
+slot_there [] i lt = absurd (omega (arith, lt))
+slot_there (x ∷ xs) zero lt = (x, refl)
+slot_there (x ∷ xs) (suc i) lt = slot_there xs i (omega (arith, lt))
 
 module _ (bindable : List Bool) where
   gets_at : (at : ℕ) (ys : List Method) (m : ℕ) (y : Method) → slice_get ys m ≡ Some y
@@ -28,15 +28,6 @@ module _ (bindable : List Bool) where
   held m (InClass c) h = refl
   held m (InComponent k) h = let z : m + 0 ≡ m = omega arith in ap (λ i. holds (slice_get bindable i)) z ∙ h
 
-  is_there : (m : ℕ) → holds (slice_get bindable m) ≡ true → m < length bindable
-  is_there m h = by (slice_get bindable m) refl h
-    where
-      by : (o : Option Bool) → slice_get bindable m ≡ o → holds o ≡ true → m < length bindable
-      by None e q = absurd (let clash : false ≡ true = q in cc)
-      by (Some b) e q = slice_get_within bindable m b e
-
-  pub of_bindable : (ys : List Method) (m : ℕ) → length bindable ≡ length ys → holds (slice_get bindable m) ≡ true
+  pub of_bindable : (ys : List Method) (m : ℕ) → m < length ys → holds (slice_get bindable m) ≡ true
       → holds (slice_get (receivers_from bindable 0 ys) m) ≡ true
-  of_bindable ys m same h =
-      let lt = is_there m h in
-      let y = at ys m (omega (arith, lt, same)) in gets_at 0 ys m y.0 y.1 ∙ held m y.0.owner h
+  of_bindable ys m lt h = let y = slot_there ys m lt in gets_at 0 ys m y.0 y.1 ∙ held m y.0.owner h

@@ -1,5 +1,5 @@
 // The laws of dispatches and procedures.
-ghost use Rattle.std.specs.Prelude.{◌≡◌, ℕ, Bool, true, List, [], length, map, get_or, Option, Some, slice_get};
+ghost use Rattle.std.specs.Prelude.{◌≡◌, ◌<◌, ℕ, Bool, true, List, [], length, map, get_or, Option, Some, slice_get};
 ghost use Rattle.vg_codes.specs.Dispatch.{dispatched};
 ghost use Rattle.vg_core.specs.declared.program.Method.{Method};
 ghost use Rattle.vg_core.specs.declared.program.Owner.TheVariants.{InClass};
@@ -51,6 +51,6 @@ pub fn live_methods_have_procedures()
 pub fn methods_get_receivers()
     ensures classes { (bindable : List Bool) (ys : List Method) (m c : ℕ) (y : Method) → slice_get ys m ≡ Some y → y.owner ≡ InClass c
         → holds (slice_get (receivers_from bindable 0 ys) m) ≡ true }
-    ensures bindable { (bindable : List Bool) (ys : List Method) (m : ℕ) → length bindable ≡ length ys → holds (slice_get bindable m) ≡ true
+    ensures bindable { (bindable : List Bool) (ys : List Method) (m : ℕ) → m < length ys → holds (slice_get bindable m) ≡ true
         → holds (slice_get (receivers_from bindable 0 ys) m) ≡ true }
 {}

@@ -1,5 +1,5 @@
 -- Which cells have a number.
-use Rattle.std.proofs.Common.{◌≡◌, refl, sym, ap, subst, ◌∙◌, arith, ℕ, zero, suc, ◌<◌, Bool, true, false, List, [], ◌∷◌, length, get_or, is_some}
+use Rattle.std.proofs.Common.{◌≡◌, refl, sym, ap, subst, ◌∙◌, arith, ℕ, ◌<◌, Bool, true, false, List, length, get_or, is_some}
 use Rattle.std.proofs.Common.{Option, Some, None, slice_get}
 use Rattle.std.proofs.lemmas.List.{length-map}
 use Rattle.std.proofs.lemmas.Option.{slice_get_within}
@@ -15,6 +15,7 @@ use Rattle.vg_live.specs.Sets.{flat, reason_of, IsLiveSet}
 use Rattle.vg_numbers.specs.Numbers.{numbered, number}
 use Rattle.vg_number.specs.declared.numbers.Numbers.{Numbers}
 use Rattle.vg_number.specs.Numbering.{kept_in, kinds_of, IsNumbering}
+use Rattle.vg_pack_cases.proofs.Receivers.{slot_there}
 use Rattle.vg_pack_live.proofs.Counted.{number_is}
 
 -- a member with a reason is in the set
@@ -29,11 +30,6 @@ reason_there rs m r e = by (slice_get rs m) refl e
     by : (o : Option (Option Reason)) → slice_get rs m ≡ o → flat o ≡ Some r → m < length rs
     by None q h = absurd (let clash : None ≡ Some r = h in cc)
     by (Some a) q h = slice_get_within rs m a q
-
-kind_there : (κ : List Kind) (j : ℕ) → j < length κ → (a : Kind) × (slice_get κ j ≡ Some a)
-kind_there [] j lt = absurd (omega (arith, lt))
-kind_there (a ∷ κ) zero lt = (a, refl)
-kind_there (a ∷ κ) (suc j) lt = kind_there κ j (omega (arith, lt))
 
 -- what has a number is kept
 kept_of : (p : Tables) (κ : List Kind) (kept : ℕ → Bool) (j : ℕ) → 0 < number p κ kept j → kept j ≡ true
@@ -64,7 +60,7 @@ module _ (p : Program) (h : Heap) (s : LiveSet) (set : IsLiveSet p h s) where
     have j l =
         let r = set.all (Cell j) l in
         let lt = reason_there s.cells j r.0 r.1 in let a = set.cells in let b = length-map h.cells kind_of in
-        let k = kind_there (kinds_of h) j (omega (arith, lt, a, b)) in
+        let k = slot_there (kinds_of h) j (omega (arith, lt, a, b)) in
         let g = number_of p.tables (kinds_of h) (kept_in s) j k.0 k.1 (live_kept j l) in
         let e = number_is p.tables (kinds_of h) (kept_in s) n is j in omega (arith, g, e)
 

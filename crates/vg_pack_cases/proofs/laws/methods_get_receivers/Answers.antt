@@ -5,4 +5,4 @@ pub returns-clause-classes : goal.returns-clause-classes
 returns-clause-classes c = λ bindable ys m cl y e o. of_class bindable ys m cl y e o
 
 pub returns-clause-bindable : goal.returns-clause-bindable
-returns-clause-bindable c = λ bindable ys m same h. of_bindable bindable ys m same h
+returns-clause-bindable c = λ bindable ys m lt h. of_bindable bindable ys m lt h
