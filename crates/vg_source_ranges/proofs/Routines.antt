@@ -129,8 +129,6 @@ module _ (ds : Node) where
 
   members_keep : (members : Node) (o : Owner) (c : Name) (above : Option Name) (home : Home) (seen : List Name) (made : Bool) → AreMembers members
       → bodies_breach ds o above members ≡ None → members_breach ds home seen made members ≡ None → Members o home c members
-  members_keep Nothing o c above home seen made are eb em =
-      record { methods = tt; own = tt; its = tt; constructor_ = record { params = refl; arguments = refl; body = refl; none = λ h. refl } }
   members_keep (Then (FieldDecl at x t e) rest) o c above home seen made are eb em =
       let q = kept (breach ds outside e Fresh no_names) _ eb in
       let r = kept (asks (initialiser_keeps ds outside (written_type t) e no_names) 21 at) _ q.1 in
@@ -182,7 +180,9 @@ module _ (ds : Node) where
           none = no_params home ps calls (asked (constructor_keeps home ps calls) 9 at m2.0);
         };
       }
-  members_keep _ o c above home seen made are eb em = absurd are
+  members_keep (Then _ rest) o c above home seen made are eb em = absurd are
+  members_keep _ o c above home seen made are eb em =
+      record { methods = tt; own = tt; its = tt; constructor_ = record { params = refl; arguments = refl; body = refl; none = λ h. refl } }
 
   -- ---- declarations
 

@@ -1,6 +1,6 @@
 -- Ranges of what runs in a source program.
 use Rattle.std.specs.Prelude.{List, [], ◌∷◌}
-use Rattle.vg_syntax.specs.Tree.{Node, Nothing, Then, ClassDecl, ComponentDecl, FieldDecl, MethodDecl, ConstructorDecl}
+use Rattle.vg_syntax.specs.Tree.{Node, Then, ClassDecl, ComponentDecl, FieldDecl, MethodDecl, ConstructorDecl}
 use Rattle.vg_source.specs.Values.{Value}
 use Rattle.vg_source.specs.Steps.{Routine, Target, Method, Construct, Start}
 use Rattle.vg_source_ranges.specs.Ranges.{IsConstant, AreRanged}
@@ -23,11 +23,11 @@ MayRunAbove (Start c) = ⊥
 
 -- A row of fields, methods and constructors.
 abbrev pub AreMembers : Node → Type 0
-AreMembers Nothing = Unit {0}
 AreMembers (Then (FieldDecl at x t e) rest) = AreMembers rest
 AreMembers (Then (MethodDecl at x ps t body) rest) = AreMembers rest
 AreMembers (Then (ConstructorDecl at ps calls args body) rest) = AreMembers rest
-AreMembers _ = ⊥
+AreMembers (Then m rest) = ⊥
+AreMembers _ = Unit {0}
 
 -- Classes and components have such members.
 abbrev pub HaveMembers : Node → Type 0

@@ -1,7 +1,8 @@
 -- What is ranged under names is ranged under numbers.
-use Rattle.std.proofs.Common.{◌≡◌, ◌⊎◌, refl, ap, subst, ◌∙◌, arith, ℕ, zero, suc, List, [], ◌∷◌, ◌++◌, map, Option, Some, None, slice_get}
+use Rattle.std.proofs.Common.{◌≡◌, ◌⊎◌, refl, ap, subst, ◌∙◌, arith, ℕ, zero, suc, ◌&&◌, Bool, true, false, List, [], ◌∷◌, ◌++◌, map, Option, Some, None, slice_get}
 use mathlib.Core.Logic.{inl, inr}
 use Rattle.vg_syntax.specs.Tree.{Node, Spot, Text}
+use Rattle.vg_syntax.specs.Tree as tree
 use Rattle.vg_meaning.specs.Code.{Code, Nothing, Then, Do, If, Loop, Break, Continue, Return}
 use Rattle.vg_source.specs.Steps as source
 use Rattle.vg_source.specs.Program.{source_of}
@@ -21,8 +22,9 @@ use Rattle.vg_live.specs.Uses.{uses, steps_in}
 use Rattle.vg_packing.specs.Allowed.{IsSmall, AreSmall}
 use Rattle.vg_renamed.specs.NamesTell.{NamesTell}
 use Rattle.vg_source_ranges.specs.Ranges as named
-use Rattle.vg_source_ranges.specs.Routines.{AreConstants, IsRangedRoutine, MayRunAbove, HaveMembers}
+use Rattle.vg_source_ranges.specs.Routines.{AreConstants, IsRangedRoutine, MayRunAbove, AreMembers, HaveMembers}
 use Rattle.vg_source_ranges.proofs.Routines.{ranged_routine}
+use Rattle.vg_types_declared.specs.Apart.{are_members, have_members}
 use Rattle.vg_ranged.specs.Ranges.{IsRangedStep, HaveRanges}
 use Rattle.vg_text_ranges.specs.Beside.{IsSafeBeside}
 
@@ -42,6 +44,31 @@ one_of_both (x ∷ xs) ys (suc i) s e = by (one_of_both xs ys i s e)
 behind : {A : Type 0} (xs ys : List A) (i : ℕ) (y : A) → slice_get ys i ≡ Some y → (j : ℕ) × (slice_get (xs ++ ys) j ≡ Some y)
 behind [] ys i y e = (i, e)
 behind (x ∷ xs) ys i y e = let r = behind xs ys i y e in (suc r.0, r.1)
+
+-- ---- members
+
+both : (a b : Bool) → (a && b) ≡ true → (a ≡ true) × (b ≡ true)
+both true true e = (refl, refl)
+both true false e = absurd (let clash : false ≡ true = e in cc)
+both false b e = absurd (let clash : false ≡ true = e in cc)
+
+false_true : {B : Type 0} → false ≡ true → B
+false_true e = absurd cc
+
+members_only : (members : Node) → are_members members ≡ true → AreMembers members
+members_only (tree.Then (tree.FieldDecl at x t e) rest) h = members_only rest h
+members_only (tree.Then (tree.MethodDecl at x ps t body) rest) h = members_only rest h
+members_only (tree.Then (tree.ConstructorDecl at ps calls args body) rest) h = members_only rest h
+members_only (tree.Then _ rest) h = false_true h
+members_only _ h = tt
+
+pub declarations_only : (ds : Node) → have_members ds ≡ true → HaveMembers ds
+declarations_only (tree.Then (tree.ClassDecl at c above members) rest) h =
+    let q = both (are_members members) (have_members rest) h in (members_only members q.0, declarations_only rest q.1)
+declarations_only (tree.Then (tree.ComponentDecl at c members) rest) h =
+    let q = both (are_members members) (have_members rest) h in (members_only members q.0, declarations_only rest q.1)
+declarations_only (tree.Then _ rest) h = declarations_only rest h
+declarations_only _ h = tt
 
 -- ---- types and steps
 
