@@ -1,5 +1,6 @@
 -- What is ranged under names is ranged under numbers.
-use Rattle.std.proofs.Common.{◌≡◌, ◌⊎◌, refl, ap, subst, ◌∙◌, arith, ℕ, zero, suc, ◌&&◌, Bool, true, false, List, [], ◌∷◌, ◌++◌, map, Option, Some, None, slice_get}
+use Rattle.std.proofs.Common.{◌≡◌, ◌⊎◌, refl, ap, subst, ◌∙◌, arith, ℕ, zero, suc, ◌&&◌, Bool, true, false, List, [], ◌∷◌, ◌++◌, map, Option, Some}
+use Rattle.std.proofs.Common.{None, slice_get}
 use mathlib.Core.Logic.{inl, inr}
 use Rattle.vg_syntax.specs.Tree.{Node, Spot, Text}
 use Rattle.vg_syntax.specs.Tree as tree

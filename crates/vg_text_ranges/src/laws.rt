@@ -12,7 +12,8 @@ ghost use Rattle.vg_ranged.specs.Ranges.{HaveRanges};
 ghost use Rattle.vg_text_ranges.specs.Beside.{IsSafeBeside};
 
 /// The typed program of a legal text has its constants, casts, locals and results in their ranges, and its methods run no construction of a class
-/// above, where its names tell its numbers apart, members alone stand in its classes and components, and what stands beside is known. The body is empty: its contract is a law of the definitions.
+/// above, where its names tell its numbers apart, members alone stand in its classes and components, and what stands
+/// beside is known. The body is empty: its contract is a law of the definitions.
 pub fn text_programs_have_ranges()
     ensures { (n : Naming) (p : Program) (at : Spot) (ds : Node) → source_of (Text at ds) ≡ naming.named n p → NamesTell n p → Legal (Text at ds)
         → have_members ds ≡ true → IsSafeBeside p → HaveRanges p }
