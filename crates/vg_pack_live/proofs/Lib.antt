@@ -1,0 +1,4 @@
+pub mod Counted
+pub mod Holding
+pub mod Cells
+pub mod Fields

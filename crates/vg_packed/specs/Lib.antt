@@ -1,0 +1,4 @@
+pub mod Programs
+pub mod Given
+pub mod Plans
+pub mod Packed

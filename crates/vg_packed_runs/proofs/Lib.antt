@@ -1,0 +1,4 @@
+pub mod Making
+pub mod Delegates
+pub mod Live
+pub mod Placed

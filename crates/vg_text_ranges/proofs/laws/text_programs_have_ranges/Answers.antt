@@ -1,0 +1,5 @@
+use Rattle.vg_text_ranges.proofs.Named.{have_ranges, declarations_only}
+use Rattle.vg_text_ranges.proofs.laws.text_programs_have_ranges.Goals as goal
+
+pub returns : goal.returns
+returns c = λ n p at ds is told legal have beside. have_ranges n p at ds is told legal (declarations_only ds have) beside
