@@ -4,7 +4,7 @@ use Rattle.std.proofs.Common.{◌≡◌, ◌≢◌, inl, inr, refl, sym, ap, ◌
 use Rattle.vg_firm.specs.Meaning.{fits}
 use Rattle.vg_firm.specs.Session.{all_fit, may_receive}
 use Rattle.vg_firm.specs.Program.{Procedure as FirmProcedure}
-use Rattle.vg_flatten.specs.Flattened.{receivers, with_receiver_width, own_widths, own_params, widened, all_widths, IsFit}
+use Rattle.vg_flatten.specs.Flattened.{receivers, with_receiver_width, own_widths, own_params, widened, wide_params, all_widths, IsFit}
 use Rattle.vg_flatten.proofs.Whole.{own_long, widened_long}
 use Rattle.vg_flattened.proofs.Numbers.{low_within}
 use Rattle.vg_flattened.proofs.CallRight.{ArePassed}
@@ -78,14 +78,14 @@ module _ (r : Room) (m : FirmProcedure) (receiver : r.receiver ≡ receivers m.r
 
   width_at : (i w : ℕ) → slice_get m.widths i ≡ Some w → (v : ℕ) × (slice_get all (r.receiver + i) ≡ Some v) × (w ≤ v)
   width_at i w h =
-      let g = widened_get (own_params m - 4) (own_widths m) (receivers m.receives + i) w (own_get m.receives m.widths i w h) (fit.widths i w h) in
+      let g = widened_get (wide_params m) (own_widths m) (receivers m.receives + i) w (own_get m.receives m.widths i w h) (fit.widths i w h) in
       (g.0, ap (λ z. slice_get all (z + i)) receiver ∙ get_front (all_widths m) (replicate r.temps 4) (receivers m.receives + i) g.0 g.1, g.2)
 
   pub widths_are : AreWidths r m.widths all
   widths_are =
       record {
         locals = width_at;
-        temps = λ k lt. ap (λ z. slice_get all (z + k)) (locals ∙ sym (widened_long (own_params m - 4) (own_widths m)))
+        temps = λ k lt. ap (λ z. slice_get all (z + k)) (locals ∙ sym (widened_long (wide_params m) (own_widths m)))
             ∙ get_behind (all_widths m) (replicate r.temps 4) k ∙ get_replicate r.temps 4 k lt;
       }
 
@@ -144,7 +144,7 @@ zeroed_before zero i ls j lt = refl
 zeroed_before (suc c) i ls j lt = let ne : j ≢ i = omega (arith, lt) in zeroed_before c (suc i) (with_local ls i 0) j (omega (arith, lt))
     ∙ others_stay ls i j 0 ne
 
-low_zero : (w : ℕ) → low w 0 ≡ 0
+pub low_zero : (w : ℕ) → low w 0 ≡ 0
 low_zero w = grind arith
 
 pub zeroed_value : (c i : ℕ) (ls : List LocalState) (j w : ℕ) → i ≤ j → j < i + c → (o : Option ℕ) × (slice_get ls j ≡ Some (record { width = w; value = o }))
@@ -247,7 +247,7 @@ module _ (r : Room) (m : FirmProcedure) (receiver : r.receiver ≡ receivers m.r
 
   received : (n : ℕ) → m.receives ≡ true → n < 256 ^ 2 → slice_get xs 0 ≡ Some n → IsReceiver r (Some n) (zeroed others (own_params m) (begun ws xs))
   received n is lt first =
-      let g = two_bytes m.receives m.widths (own_params m - 4) is in
+      let g = two_bytes m.receives m.widths (wide_params m) is in
       let one : receivers m.receives ≡ 1 = ap receivers is in (
         (omega (arith, receiver, one), omega (arith, locals, own, one)),
         ap value_in (zeroed_before others (own_params m) (begun ws xs) 0 (omega (arith, one)))

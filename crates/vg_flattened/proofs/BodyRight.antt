@@ -1,5 +1,5 @@
 -- That calls of flattened procedures do what calls of packed ones do: by induction on how deep they may nest.
-use Rattle.std.specs.Prelude.{ℕ, zero, suc, ◌+◌, ◌-◌, ◌<◌, ◌≤◌, ◌^◌, Bool, true, false, ◌==◌, ◌&&◌, nat_lt, List, [], ◌∷◌, ◌++◌, length, take, drop, replicate, Option, Some, None, slice_get}
+use Rattle.std.specs.Prelude.{ℕ, zero, suc, ◌+◌, ◌-◌, ◌<◌, ◌≤◌, ◌^◌, Bool, true, false, ◌==◌, ◌&&◌, nat_lt, List, [], ◌∷◌, ◌++◌, length, take, drop, replicate, Option, Some, None, slice_get, if◌then◌else◌}
 use Rattle.std.proofs.Common.{◌≡◌, ◌⊎◌, inl, inr, refl, sym, ap, ◌∙◌, subst, arith}
 use Rattle.vg_meaning.specs.History.{Calling, History, full}
 use Rattle.vg_meaning.specs.World.{World}
@@ -14,6 +14,7 @@ use Rattle.vg_lin.specs.declared.instr.Operand.{Operand}
 use Rattle.vg_lin.specs.declared.instr.Operand.TheVariants.{Known}
 use Rattle.vg_lin.specs.Program.{Procedure as LinProcedure, Program as LinProgram}
 use Rattle.vg_lin.specs.Steps.{Interrupt}
+use Rattle.vg_lin.specs.Values.{low}
 use Rattle.vg_lin.specs.State.{State}
 use Rattle.vg_lin.specs.Meaning.{language, begun, widths_of, name_of, result_of, call_of}
 use Rattle.vg_lin.specs.Structured.{Step, Deciding, fresh, Caller as LinCaller, with_found, handle as lin_handle, resumed, body as lin_body, called as lin_called, step as lin_step, truth as lin_truth}
@@ -31,8 +32,9 @@ use Rattle.vg_flattened.proofs.Right.{Right, Does, linear, packed}
 use Rattle.vg_flattened.proofs.CallRight.{Never, Returned, begins, alike_behind_both, ArePassed, Enters, AlikeCalls, AlikeHandling}
 use Rattle.vg_flattened.proofs.CodeRight.{right_code, empty_is}
 use Rattle.vg_flatten_shapes.proofs.Temps.{some_is}
-use Rattle.vg_flatten.specs.Flattened.{zeroes, own_params, all_widths, whole, IsFlat, IsFit, AreFlat}
-use Rattle.vg_flattened.proofs.Begun.{widths_are, zeroed, kept_at_entry}
+use Rattle.vg_flatten.specs.Flattened.{zeroes, own_params, all_widths, result_width, whole, IsFlat, IsFit, AreFlat}
+use Rattle.vg_flattened.proofs.Numbers.{low_same, low_within}
+use Rattle.vg_flattened.proofs.Begun.{low_zero, widths_are, zeroed, kept_at_entry}
 
 -- ---- interrupts
 
@@ -44,9 +46,9 @@ alike_handling lay p f call go calls handler r ws hs vector s d w i q =
     (handler vector))
     (by_handler (f.handler vector))
   where
-    behind : (s1 : Firm) (d1 : Deciding State) (w1 : World History) → IsFair w1 → Returned lay 0 s s1 d1
+    behind : (width : ℕ) (s1 : Firm) (d1 : Deciding State) (w1 : World History) → IsFair w1 → Returned lay width 0 s s1 d1
         → Alike (Held lay r ws (only hs)) (Leaves lay r ws) (taking (λ v. go_on) s1 w1) (resumed (language p) Interrupt d.state d d1 w1)
-    behind s1 d1 w1 i1 (v, e1, e2, e3, e4, small, held) =
+    behind width s1 d1 w1 i1 (v, e1, e2, e3, e4, fit, small, held) =
         subst (λ z. Alike (Held lay r ws (only hs)) (Leaves lay r ws) (take_from z (λ v. go_on) s1 w1) (resumed (language p) Interrupt d.state d d1 w1))
         (sym e1)
         (gives i1 (record {
@@ -65,7 +67,8 @@ alike_handling lay p f call go calls handler r ws hs vector s d w i q =
     by_call h (inl e) =
         subst (λ z. Alike (Held lay r ws (only hs)) (Leaves lay r ws) (and_then z (taking (λ v. go_on))) (lin_handle (language p) go (Some h) d w)) (sym e) wrong
     by_call h (inr en) =
-        alike_behind_both (taking (λ v. go_on)) (resumed (language p) Interrupt d.state d) (en.alike [] (nothing_passed en.packed.receives)) behind
+        alike_behind_both (taking (λ v. go_on)) (resumed (language p) Interrupt d.state d) (en.alike [] (nothing_passed en.packed.receives))
+        (behind en.packed.result)
 
     by_handler : (o : Option ℕ) → Alike (Held lay r ws (only hs)) (Leaves lay r ws) (firm_handled call o s w) (lin_handle (language p) go o d w)
     by_handler None = gives i q
@@ -89,8 +92,9 @@ alike_guarded lay f p names call go calls q count self s w ram i held = by_name 
           flat = en.flat;
           many = en.many;
           long = en.long;
+          fits = en.fits;
           receives = en.receives;
-          alike = λ xs h. subst (λ b. Alike (Returned lay count s) Never (checked b (call q count self) s w) (go q (fresh (begins p q xs ram)) w)) (sym e)
+          alike = λ xs h. subst (λ b. Alike (Returned lay en.packed.result count s) Never (checked b (call q count self) s w) (go q (fresh (begins p q xs ram)) w)) (sym e)
               (en.alike xs h);
         })
 
@@ -124,29 +128,39 @@ module _ (k : Codes) (lay : Layout) (f : FirmProgram) (p : LinProgram) (flat_all
   zeroes_do zero i d w = refl
   zeroes_do (suc c) i d w = zeroes_do c (suc i) (record d { state = record d.state { locals = zeroed (suc zero) i d.state.locals } }) w
 
+  lt_of : (a b : ℕ) → nat_lt a b ≡ true → a < b
+  lt_of a b e = grind arith
+
+  -- the bytes of a result hold it
+  whole' : (b : Bool) (n v : ℕ) → v < 2 ^ 32 → v < 256 ^ n → low (if b then 4 else n) v ≡ v
+  whole' true n v small lt = low_same v small
+  whole' false n v small lt = low_within n n v (omega arith) lt
+
   -- what the end of a body is to its caller
   finished : (count : ℕ) (s : Firm) (a : Answer Firm History) (b : Answer (Deciding State) History) → Alike (Held lay r ws empty) (Leaves lay r ws) a b
-      → Alike (Returned lay count s) Never (and_then (returned a (put 0)) (taking (of_width m.result (back_in count s))))
-      (returned (and_then b (linear' (GiveBack (Known 0)))) (over Wrong))
+      → Alike (Returned lay m.result count s) Never (and_then (returned a (put 0)) (taking (of_width m.result (back_in count s))))
+      (returned (and_then b (linear' (GiveBack (result_width m) (Known 0)))) (over Wrong))
   finished count s _ _ (gives {s = s1} {t = d1} {w = w1} i q) =
-      subst (λ z. Alike (Returned lay count s) Never (take_from (0 ∷ s1.values) (of_width m.result (back_in count s)) s1 w1)
-      (returned (and_then (with_found (result_of (Known 0) d1.state z) (λ x s2 w2. Gives (record s2 { result = x }) w2) d1 w1)
+      subst (λ z. Alike (Returned lay m.result count s) Never (take_from (0 ∷ s1.values) (of_width m.result (back_in count s)) s1 w1)
+      (returned (and_then (with_found (result_of (result_width m) (Known 0) d1.state z) (λ x s2 w2. Gives (record s2 { result = x }) w2) d1 w1)
       (λ s2 w2. Ends Returns s2 w2)) (over Wrong)))
-      (sym q.none) (by_width (nat_lt 0 (256 ^ m.result)))
+      (sym q.none) (by_width (nat_lt 0 (256 ^ m.result)) refl)
     where
-      by_width : (b : Bool) → Alike (Returned lay count s) Never (checked b (back_in count s 0) (record s1 { values = s1.values }) w1) (Gives
-          (record d1 { result = 0 }) w1)
-      by_width true = gives i (0, refl, refl, refl, refl, omega arith, q.ram)
-      by_width false = wrong
+      by_width : (b : Bool) → nat_lt 0 (256 ^ m.result) ≡ b → Alike (Returned lay m.result count s) Never (checked b (back_in count s 0) (record s1 { values = s1.values }) w1) (Gives
+          (record d1 { result = low (result_width m) 0 }) w1)
+      by_width true lt = gives i (0, refl, refl, refl, low_zero (result_width m), lt_of 0 (256 ^ m.result) lt, omega arith, q.ram)
+      by_width false lt = wrong
   finished count s _ _ (leaves {why = Breaks} i q) = wrong
   finished count s _ _ (leaves {why = Continues} i q) = wrong
   finished count s _ _ (leaves {why = Returns} {s = s1} {t = d1} {w = w1} i (v, vs, e, er, small, held)) =
-      subst (λ z. Alike (Returned lay count s) Never (take_from z (of_width m.result (back_in count s)) s1 w1) (Gives d1 w1)) (sym e)
-      (by_width (nat_lt v (256 ^ m.result)))
+      subst (λ z. Alike (Returned lay m.result count s) Never (take_from z (of_width m.result (back_in count s)) s1 w1) (Gives d1 w1)) (sym e)
+      (by_width (nat_lt v (256 ^ m.result)) refl)
     where
-      by_width : (b : Bool) → Alike (Returned lay count s) Never (checked b (back_in count s v) (record s1 { values = vs }) w1) (Gives d1 w1)
-      by_width true = gives i (v, refl, refl, refl, er, small, held)
-      by_width false = wrong
+      by_width : (b : Bool) → nat_lt v (256 ^ m.result) ≡ b → Alike (Returned lay m.result count s) Never (checked b (back_in count s v) (record s1 { values = vs }) w1) (Gives d1 w1)
+      by_width true lt =
+          gives i (v, refl, refl, refl, er ∙ ap (λ n. low n v) is.given ∙ whole' m.receives m.result v small (lt_of v (256 ^ m.result) lt),
+          lt_of v (256 ^ m.result) lt, small, held)
+      by_width false lt = wrong
   finished count s _ _ (leaves {why = Over why} i q) = absurd q
   finished count s _ _ overs = overs
   finished count s _ _ wrong = wrong
@@ -171,12 +185,12 @@ module _ (k : Codes) (lay : Layout) (f : FirmProgram) (p : LinProgram) (flat_all
   pub alike_body : (count : ℕ) (self : Option ℕ) (s : Firm) (xs ram : List ℕ) (w : World History) → IsFair w → may_enter m count self s ≡ true
       → ArePassed m.receives self (arguments count s) xs → RamStands lay.ram s.columns ram
       → (d : Deciding State) → d ≡ fresh (record { locals = begun ws xs; waiting = []; ram = ram })
-      → Alike (Returned lay count s) Never (run_procedure full k f call handle m count self s w) (lin_body (language p) go (structured (whole m is.block)) d w)
+      → Alike (Returned lay m.result count s) Never (run_procedure full k f call handle m count self s w) (lin_body (language p) go (structured (whole m is.block)) d w)
   alike_body count self s xs ram w i enter passed held d ed =
-      subst (λ z. Alike (Returned lay count s) Never (run_procedure full k f call handle m count self s w) (returned z (over Wrong)))
-      (sym (ap (λ z. and_then z (linear' (Both is.block (GiveBack (Known 0))))) (zeroes_do (length m.widths - m.params) (own_params m) d w)))
+      subst (λ z. Alike (Returned lay m.result count s) Never (run_procedure full k f call handle m count self s w) (returned z (over Wrong)))
+      (sym (ap (λ z. and_then z (linear' (Both is.block (GiveBack (result_width m) (Known 0))))) (zeroes_do (length m.widths - m.params) (own_params m) d w)))
       (finished count s _ _ (does (right_code k f m (guarded m.calls call) handle p go lay r ws wide
-      (alike_guarded lay f p m.calls call go calls) flat_all.receives flat_all.codes flat_all.numbers flat_all.dispatches
+      (alike_guarded lay f p m.calls call go calls) flat_all.passing flat_all.codes flat_all.numbers flat_all.dispatches
       (alike_handling lay p f call go calls flat_all.handler r ws) flat_all.flash m.body empty tt)))
     where
       facts : (count ≡ m.params) × (length (arguments count s) ≡ count) × (all_fit m.widths (arguments count s) ≡ true) × (may_receive m self ≡ true)

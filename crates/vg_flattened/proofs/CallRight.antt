@@ -2,49 +2,51 @@
 use Rattle.std.specs.Prelude.{ℕ, zero, suc, ◌+◌, ◌-◌, ◌<◌, ◌≤◌, ◌^◌, Bool, true, false, ◌==◌, ◌&&◌, nat_le, List, [], ◌∷◌, ◌++◌, length, reverse, take, drop, replicate, Option, Some, None}
 use Rattle.std.specs.Prelude.{slice_get, if◌then◌else◌}
 use Rattle.std.proofs.Common.{◌≡◌, ◌≢◌, ◌⊎◌, inl, inr, refl, sym, ap, ◌∙◌, subst, arith}
-use Rattle.std.proofs.lemmas.List.{length-append, take-append-drop, length-take-le}
+use Rattle.std.proofs.lemmas.List.{length-drop, length-take-le}
 use Rattle.vg_meaning.specs.History.{History, full}
 use Rattle.vg_meaning.specs.World.{World}
 use Rattle.vg_meaning.specs.Answer.{Wrong, Signal, Answer, Gives, Ends, Piece, go_on, over, and_then}
 use Rattle.vg_meaning.specs.Code.{performed}
 use Rattle.vg_codes.specs.Codes.{Codes}
 use Rattle.vg_firm.specs.Program.{Procedure as FirmProcedure, Program as FirmProgram}
-use Rattle.vg_firm.specs.Meaning.{State as Firm, Caller as FirmCaller}
-use Rattle.vg_firm.specs.Session.{arguments, may_receive}
+use Rattle.vg_firm.specs.Meaning.{State as Firm, Caller as FirmCaller, fits}
+use Rattle.vg_firm.specs.Session.{arguments, all_fit, may_receive}
 use Rattle.vg_lin.specs.declared.instr.Operand.{Operand}
 use Rattle.vg_lin.specs.declared.instr.Operand.TheVariants.{Local}
-use Rattle.vg_lin.specs.declared.instr.Plain.TheVariants.{Push}
 use Rattle.vg_lin.specs.declared.instr.Callee.{Callee}
+use Rattle.vg_lin.specs.declared.instr.Passed.{Passed}
+use Rattle.vg_lin.specs.declared.instr.Target.{Target}
 use Rattle.vg_lin.specs.declared.instr.Call.{Call as Calling}
 use Rattle.vg_lin.specs.Program.{Procedure as LinProcedure, Program as LinProgram}
 use Rattle.vg_lin.specs.Steps.{Entry, Result, Goes}
 use Rattle.vg_lin.specs.Values.{low}
 use Rattle.vg_lin.specs.State.{State, Waiting, value, using, sets}
-use Rattle.vg_lin.specs.Meaning.{language, operands, values, begun, widths_of, values_of, same_widths, called as lin_called, enter, entry_at, entry_of, entry_with}
+use Rattle.vg_lin.specs.Meaning.{language, operands, values, begun, widths_of, values_of, same_widths, gives_to, with_result, called as lin_called, enter, entry_at, entry_of, entry_with, entry_by}
 use Rattle.vg_lin.specs.Structured.{Deciding, fresh, Caller as LinCaller, with_found, entered, resumed, lifted, To, step as lin_step, truth as lin_truth}
 use Rattle.vg_flatten_shapes.specs.declared.layout.Layout.{Layout}
 use Rattle.vg_flatten_shapes.specs.declared.room.Room.{Room}
 use Rattle.vg_flatten_shapes.specs.Shapes.{Shape, only, temp}
 use Rattle.vg_flatten_shapes.specs.Blocks.{Block, CallTo}
 use Rattle.vg_flatten_shapes.specs.Made.{Made}
-use Rattle.vg_flatten_steps.specs.Calls.{registers_of, pushed_of, call_with, passing}
+use Rattle.vg_flatten_shapes.specs.declared.layout.Width.{Width}
+use Rattle.vg_flatten_steps.specs.Calls.{in_widths, pushed_of, call_with, passing}
 use Rattle.vg_flatten.specs.Columns.{RamStands}
-use Rattle.vg_flatten.specs.Flattened.{receivers, own_params, own_widths, widened, all_widths, IsFlat, IsFit}
-use Rattle.vg_flatten.proofs.Whole.{own_long}
+use Rattle.vg_flatten.specs.Flattened.{receivers, with_receiver_width, own_params, widened, all_widths, result_width, IsFlat, IsFit}
 use Rattle.vg_flattened.proofs.Alike.{IsFair, Alike, gives, leaves, overs, wrong, AlikePiece}
 use Rattle.vg_flattened.proofs.Related.{ArePlaced, AreAt, AreWidths, AreKept, AreSame, Held, Leaves}
-use Rattle.vg_flattened.proofs.Numbers.{low_same}
 use Rattle.vg_flattened.proofs.Locals.{put_temp}
-use Rattle.vg_flattened.proofs.Passed.{Valued, valued_take, valued_drop, valued_long, registers_valued, pushed_as, stacked, stacked_long, stacked_taken, stacked_dropped, stacked_reversed, four_values, four_count, four_widths}
+use Rattle.vg_flattened.proofs.Passed.{Valued, Passes, passes_long, passes_take, passes_drop, passes_as, passes_in, bytes_in, bytes_in_fours, Within, within_fours, within_fit}
+use Rattle.vg_flattened.proofs.Passed.{take_widened, waits_of, waits_long, waits_values, waits_split, waits_same, registers_valued, stacked, stacked_long, stacked_taken, stacked_dropped, stacked_reversed}
 use Rattle.vg_flattened.proofs.Right.{Right, linear}
 
 -- A call leaves in no other way than by the end of the whole run.
 abbrev pub Never : {S T : Type 0} → Signal → S → T → Type 0
 Never why s t = ⊥
 
--- Behind a call the caller has what it had, but for the arguments, and both have the result.
-abbrev pub Returned : Layout → (count : ℕ) → Firm → Firm → Deciding State → Type 0
-Returned lay count s s1 d1 = (v : ℕ) × (s1.values ≡ v ∷ drop count s.values) × (s1.locals ≡ s.locals) × (s1.self ≡ s.self) × (d1.result ≡ v) × (v < 2 ^ 32)
+-- Behind a call the caller has what it had, but for the arguments, and both have the result, which so many bytes hold.
+abbrev pub Returned : Layout → (width count : ℕ) → Firm → Firm → Deciding State → Type 0
+Returned lay width count s s1 d1 =
+    (v : ℕ) × (s1.values ≡ v ∷ drop count s.values) × (s1.locals ≡ s.locals) × (s1.self ≡ s.self) × (d1.result ≡ v) × (v < 256 ^ width) × (v < 2 ^ 32)
     × RamStands lay.ram s1.columns d1.state.ram
 
 -- The state in which procedure q begins with these arguments.
@@ -69,9 +71,10 @@ pub record Enters (lay : Layout) (f : FirmProgram) (p : LinProgram) (call : Firm
   pub flat : IsFlat lay packed flattened
   pub many : count ≡ packed.params
   pub long : length (arguments count s) ≡ count
+  pub fits : all_fit packed.widths (arguments count s) ≡ true
   pub receives : may_receive packed self ≡ true
   pub alike : (xs : List ℕ) → ArePassed packed.receives self (arguments count s) xs
-      → Alike (Returned lay count s) Never (call q count self s w) (go q (fresh (begins p q xs ram)) w)
+      → Alike (Returned lay packed.result count s) Never (call q count self s w) (go q (fresh (begins p q xs ram)) w)
 
 -- A call is one that no legal program makes, or enters a procedure.
 abbrev pub AlikeCalls : Layout → FirmProgram → LinProgram → FirmCaller History → LinCaller State → Type 0
@@ -107,61 +110,51 @@ module _ (k : Codes) (f : FirmProgram) (m : FirmProcedure) (call : FirmCaller Hi
   linear' = linear k f m call handle p go lay r ws wide
 
   -- the state with values that wait for a call
-  abbrev holding : State → List ℕ → State
-  holding t vs = record t { waiting = stacked vs t.waiting }
+  abbrev holding : State → List Waiting → State
+  holding t xs = record t { waiting = stacked xs t.waiting }
 
   -- the pushes of a call
-  pushes_do : (pushed : List Operand) (vs : List ℕ) (c : Calling) (d : Deciding State) (w : World History) → Valued pushed vs d.state
-      → linear' (CallTo pushed c) d w ≡ linear' (CallTo [] c) (record d { state = holding d.state vs }) w
+  pushes_do : (pushed : List Passed) (vs : List ℕ) (c : Calling) (d : Deciding State) (w : World History) → Passes pushed vs d.state
+      → linear' (CallTo pushed c) d w ≡ linear' (CallTo [] c) (record d { state = holding d.state (waits_of pushed vs) }) w
   pushes_do [] [] c d w h = refl
   pushes_do [] (v ∷ vs) c d w h = absurd h
   pushes_do (a ∷ more) [] c d w h = absurd h
   pushes_do (a ∷ more) (v ∷ vs) c d w h =
-      ap (λ z. and_then (lifted (using z (λ x. Goes (record d.state { waiting = record { width = 4; value = low 4 x } ∷ d.state.waiting }) w.outside)) d w)
-      (linear' (CallTo more c))) h.0
-      ∙ ap (λ z. linear' (CallTo more c) (record d { state = record d.state { waiting = record { width = 4; value = z } ∷ d.state.waiting } }) w)
-      (low_same v h.1)
-      ∙ pushes_do more vs c (record d { state = record d.state { waiting = record { width = 4; value = v } ∷ d.state.waiting } }) w
-      (pushed_as more vs d.state (record { width = 4; value = v } ∷ d.state.waiting) h.2)
+      ap (λ z. and_then (lifted (using z (λ x. Goes (record d.state { waiting = record { width = a.width; value = low a.width x } ∷ d.state.waiting })
+      w.outside)) d w) (linear' (CallTo more c))) h.0
+      ∙ ap (λ z. linear' (CallTo more c) (record d { state = record d.state { waiting = record { width = a.width; value = z } ∷ d.state.waiting } }) w) h.1
+      ∙ pushes_do more vs c (record d { state = record d.state { waiting = record { width = a.width; value = v } ∷ d.state.waiting } }) w
+      (passes_as more vs d.state (record { width = a.width; value = v } ∷ d.state.waiting) h.2)
 
   -- the entry of a procedure with values that were pushed, and others
-  enters : (c : Calling) (q : ℕ) (vs others : List ℕ) (t : State) (mq : LinProcedure) (front rest : List ℕ) → t.waiting ≡ []
-      → lin_called p c.callee (holding t vs) ≡ Some q → slice_get p.procedures q ≡ Some mq → c.pushed ≡ length vs
-      → values (operands c.registers) (holding t vs) ≡ Some others → length vs + length others ≡ mq.params
-      → mq.widths ≡ widened (length vs) front ++ rest → length vs ≤ length front
-      → enter p c (holding t vs) ≡ Some (record { proc = q; state = begins p q (vs ++ others) t.ram; kept = record t { waiting = [] } })
-  enters c q vs others t mq front rest none callee has many vals all wide' long =
-      ap (λ z. entry_at p z c (holding t vs)) callee
-      ∙ ap (λ z. entry_of q z c (holding t vs)) has
-      ∙ ap (λ n. if length (take n (holding t vs).waiting) == n
-      then entry_with q mq (reverse (take n (holding t vs).waiting)) (record t { waiting = drop n (holding t vs).waiting })
-      (values (operands c.registers) (holding t vs)) else None) many
-      ∙ ap (λ z. if length (take (length vs) (stacked vs z)) == length vs
-      then entry_with q mq (reverse (take (length vs) (stacked vs z))) (record t { waiting = drop (length vs) (stacked vs z) })
-      (values (operands c.registers) (holding t vs)) else None) none
-      ∙ ap (λ z. if length z == length vs then entry_with q mq (reverse z) (record t { waiting = drop (length vs) (stacked vs []) })
-      (values (operands c.registers) (holding t vs)) else None) (stacked_taken vs)
-      ∙ ap (λ z. if length (stacked vs []) == length vs then entry_with q mq (reverse (stacked vs [])) (record t { waiting = z })
-      (values (operands c.registers) (holding t vs)) else None) (stacked_dropped vs)
-      ∙ ap (λ b. if b then entry_with q mq (reverse (stacked vs [])) (record t { waiting = [] }) (values (operands c.registers) (holding t vs)) else None)
-      (same_is (length (stacked vs [])) (length vs) (stacked_long vs))
-      ∙ ap (entry_with q mq (reverse (stacked vs [])) (record t { waiting = [] })) vals
-      ∙ ap (λ b. if b then Some (entry (reverse (stacked vs [])) mq.widths) else None) fits
-      ∙ ap (λ z. Some (entry z mq.widths)) (stacked_reversed vs)
-      ∙ ap (λ z. Some (record {
-        proc = q;
-        state = record { locals = begun mq.widths (z ++ others); waiting = []; ram = t.ram };
-        kept = record t { waiting = [] };
-      })) (four_values vs)
-      ∙ ap (λ z. Some (record {
-        proc = q;
-        state = record { locals = begun (widths_of z) (vs ++ others); waiting = []; ram = t.ram };
-        kept = record t { waiting = [] };
-      })) (sym has)
+  enters : (c : Calling) (q : ℕ) (ps others : List Waiting) (t : State) (mq : LinProcedure) → t.waiting ≡ []
+      → lin_called p c.callee (holding t ps) ≡ Some q → slice_get p.procedures q ≡ Some mq → c.pushed ≡ length ps
+      → values (operands c.registers) (holding t ps) ≡ Some others → length (ps ++ others) ≡ mq.params
+      → same_widths mq.widths (ps ++ others) ≡ true → gives_to mq.result c.to ≡ true
+      → enter p c (holding t ps) ≡ Some (record { proc = q; state = begins p q (values_of (ps ++ others)) t.ram; kept = record t { waiting = [] } })
+  enters c q ps others t mq none callee has many vals all same gives' =
+      ap (λ z. entry_at p z c (holding t ps)) callee
+      ∙ ap (λ z. entry_of q z c (holding t ps)) has
+      ∙ ap (λ n. if length (take n (holding t ps).waiting) == n
+      then entry_with q mq c.to (reverse (take n (holding t ps).waiting)) (record t { waiting = drop n (holding t ps).waiting })
+      (values (operands c.registers) (holding t ps)) else None) many
+      ∙ ap (λ z. if length (take (length ps) (stacked ps z)) == length ps
+      then entry_with q mq c.to (reverse (take (length ps) (stacked ps z))) (record t { waiting = drop (length ps) (stacked ps z) })
+      (values (operands c.registers) (holding t ps)) else None) none
+      ∙ ap (λ z. if length z == length ps then entry_with q mq c.to (reverse z) (record t { waiting = drop (length ps) (stacked ps []) })
+      (values (operands c.registers) (holding t ps)) else None) (stacked_taken ps)
+      ∙ ap (λ z. if length (stacked ps []) == length ps then entry_with q mq c.to (reverse (stacked ps [])) (record t { waiting = z })
+      (values (operands c.registers) (holding t ps)) else None) (stacked_dropped ps)
+      ∙ ap (λ b. if b then entry_with q mq c.to (reverse (stacked ps [])) (record t { waiting = [] }) (values (operands c.registers) (holding t ps)) else None)
+      (same_is (length (stacked ps [])) (length ps) (stacked_long ps))
+      ∙ ap (entry_with q mq c.to (reverse (stacked ps [])) (record t { waiting = [] })) vals
+      ∙ ap (λ z. entry_by q mq c.to (record t { waiting = [] }) (z ++ others)) (stacked_reversed ps)
+      ∙ ap (λ b. if b then Some (entry mq.widths) else None) fits'
+      ∙ ap (λ z. Some (entry (widths_of z))) (sym has)
     where
-      entry : List Waiting → List ℕ → Entry State
-      entry pushed widths =
-          record { proc = q; state = record { locals = begun widths (values_of pushed ++ others); waiting = []; ram = t.ram }; kept = record t { waiting = [] } }
+      entry : List ℕ → Entry State
+      entry widths =
+          record { proc = q; state = record { locals = begun widths (values_of (ps ++ others)); waiting = []; ram = t.ram }; kept = record t { waiting = [] } }
 
       same_is : (a b : ℕ) → a ≡ b → (a == b) ≡ true
       same_is a b e = grind arith
@@ -169,55 +162,77 @@ module _ (k : Codes) (f : FirmProgram) (m : FirmProcedure) (call : FirmCaller Hi
       both_true : (a b : Bool) → a ≡ true → b ≡ true → (a && b) ≡ true
       both_true a b e h = grind arith
 
-      long_is : length (reverse (stacked vs [])) ≡ length vs
-      long_is = ap length (stacked_reversed vs) ∙ four_count vs
-
-      fits : (length (reverse (stacked vs [])) + length others == mq.params) && same_widths mq.widths (reverse (stacked vs [])) ≡ true
-      fits =
-          both_true _ _ (same_is _ mq.params (ap (λ z. z + length others) long_is ∙ all))
-          (ap (λ z. same_widths z (reverse (stacked vs []))) wide' ∙ ap (same_widths (widened (length vs) front ++ rest)) (stacked_reversed vs)
-          ∙ four_widths vs front rest long)
+      fits' : ((length (ps ++ others) == mq.params) && same_widths mq.widths (ps ++ others) && gives_to mq.result c.to) ≡ true
+      fits' =
+          both_true ((length (ps ++ others) == mq.params) && same_widths mq.widths (ps ++ others)) (gives_to mq.result c.to)
+          (both_true (length (ps ++ others) == mq.params) (same_widths mq.widths (ps ++ others)) (same_is _ mq.params all) same) gives'
 
   -- ---- calls with these arguments
 
-  -- what a procedure gets, by what it is
-  abbrev pub Passes : (q : ℕ) → Option ℕ → (args vs : List ℕ) → Type 0
-  Passes q self args vs =
-      (mq : FirmProcedure) → slice_get f.procedures q ≡ Some mq → may_receive mq self ≡ true
-      → ArePassed mq.receives self args vs × (length vs ≡ receivers mq.receives + length args)
+  -- what a procedure gets, and gives back, by what it is
+  pub record Takes (mq : FirmProcedure) (self : Option ℕ) (args vs : List ℕ) (xs : List Passed) (to : Option Target) : Type 0 where
+    pub passed : ArePassed mq.receives self args vs
+    pub long : length vs ≡ receivers mq.receives + length args
+    pub widths : take (own_params mq) (all_widths mq) ≡ bytes_in xs
+    pub result : gives_to (result_width mq) to ≡ true
 
-  pub right_passing : (callee : Callee) (q count to : ℕ) (self : Option ℕ) (xs hs : List Operand) → ArePlaced r.locals hs → temp r hs ≡ Some to
-      → (s : Firm) (d : Deciding State) (w : World History) → IsFair w → (vs : List ℕ) → Valued xs vs d.state
-      → ((u : List Waiting) → lin_called p callee (record d.state { waiting = u }) ≡ Some q) → Passes q self (arguments count s) vs
+  abbrev pub TakesIn : (q count : ℕ) → Option ℕ → (args vs : List ℕ) → List Passed → Option Target → Type 0
+  TakesIn q count self args vs xs to =
+      (mq : FirmProcedure) → slice_get f.procedures q ≡ Some mq → IsFit mq → count ≡ mq.params → length args ≡ count → may_receive mq self ≡ true
+      → Takes mq self args vs xs to
+
+  -- where the result of a procedure is behind a call
+  abbrev pub Lands : (q : ℕ) → Option Target → (home : Operand) → (hs : List Operand) → Type 0
+  Lands q to home hs =
+      (mq : FirmProcedure) → slice_get f.procedures q ≡ Some mq → (v : ℕ) → v < 256 ^ mq.result → v < 2 ^ 32 → gives_to (result_width mq) to ≡ true
+      → (s2 : Firm) (t : State) → AreSame lay r ws hs s2 t
+      → AreSame lay r ws (home ∷ hs) (record s2 { values = v ∷ s2.values }) (with_result to v t)
+
+  -- the bytes of the parameters hold what is passed
+  within : (mq : FirmProcedure) (self : Option ℕ) (args vs : List ℕ) (os : List Operand) (t : State) → IsFit mq → all_fit mq.widths args ≡ true
+      → length args ≡ mq.params → ArePassed mq.receives self args vs → length vs ≡ receivers mq.receives + length args → Valued os vs t
+      → Within (take (own_params mq) (all_widths mq)) vs
+  within mq self args vs os t fit fits' many passed long valued =
+      by_kind mq.receives mq.params mq.widths mq.widths refl fit.params fits' many passed long
+    where
+      by_kind : (b : Bool) (params : ℕ) (widths ns : List ℕ) → widths ≡ ns → params ≤ length widths → all_fit widths args ≡ true → length args ≡ params
+          → ArePassed b self args vs → length vs ≡ receivers b + length args
+          → Within (take (receivers b + params) (widened (if b then receivers b + params else 0) (with_receiver_width b ns))) vs
+      by_kind true params widths ns e le fs ml ps lg =
+          subst (λ z. Within z vs) (sym (take_widened (1 + params) (2 ∷ ns) (let l = ap length e in omega (arith, le, l))
+          ∙ ap (λ n. replicate n 4) (omega (arith, lg, ml)))) (within_fours os vs t valued)
+      by_kind false params widths ns e le fs ml ps lg =
+          subst (λ z. Within (take z ns) vs) (omega (arith, ml, lg))
+          (within_fit ns vs (subst (λ z. all_fit z vs ≡ true) e (subst (λ z. all_fit widths z ≡ true) (sym ps) fs)))
+
+  pub right_passing : (callee : Callee) (q count : ℕ) (to : Option Target) (home : Operand) (self : Option ℕ) (us : List Width) (os hs : List Operand)
+      → Lands q to home hs
+      → (s : Firm) (d : Deciding State) (w : World History) → IsFair w → (vs : List ℕ) → Valued os vs d.state
+      → ((u : List Waiting) → lin_called p callee (record d.state { waiting = u }) ≡ Some q)
+      → TakesIn q count self (arguments count s) vs (in_widths us os) to
       → AreAt hs (drop count s.values) d.state.locals → AreKept r ws s.self s.locals d.state.locals → d.state.waiting ≡ []
       → RamStands lay.ram s.columns d.state.ram
-      → Alike (Held lay r ws (only (Local to ∷ hs))) (Leaves lay r ws) (call q count self s w) (linear' (passing callee to xs) d w)
-  right_passing callee q count to self xs hs placed has s d w i vs valued callee_is passes at kept none held =
+      → Alike (Held lay r ws (only (home ∷ hs))) (Leaves lay r ws) (call q count self s w) (linear' (passing callee to (in_widths us os)) d w)
+  right_passing callee q count to home self us os hs lands s d w i vs valued callee_is takes' at kept none held =
       by_call (calls q count self s w d.state.ram i held)
     where
+      xs : List Passed
+      xs = in_widths us os
+
       n : ℕ
       n = length xs - 4
 
       c : Calling
       c = call_with callee to xs
 
-      front : List ℕ
-      front = take n vs
-
-      back : List ℕ
-      back = drop n vs
-
-      d1 : Deciding State
-      d1 = record d { state = holding d.state front }
-
-      behind : (s1 : Firm) (d2 : Deciding State) (w1 : World History) → IsFair w1 → Returned lay count s s1 d2
-          → Alike (Held lay r ws (only (Local to ∷ hs))) (Leaves lay r ws) (Gives s1 w1)
+      behind : (en : Enters lay f p call go q count self s w d.state.ram) → gives_to (result_width en.packed) to ≡ true → (d1 : Deciding State)
+          → (s1 : Firm) (d2 : Deciding State) (w1 : World History) → IsFair w1 → Returned lay en.packed.result count s s1 d2
+          → Alike (Held lay r ws (only (home ∷ hs))) (Leaves lay r ws) (Gives s1 w1)
           (resumed (language p) (Result c) (record d.state { waiting = [] }) d1 d2 w1)
-      behind s1 d2 w1 i1 (v, e1, e2, e3, e4, small, held1) =
-          gives i1 (subst (λ z. AreSame lay r ws (Local to ∷ hs) s1 (sets to z (record d.state { waiting = []; ram = d2.state.ram }))) (sym e4)
-          (subst (λ z. AreSame lay r ws (Local to ∷ hs) (record s1 { values = z }) (sets to v (record d.state { waiting = []; ram = d2.state.ram }))) (sym e1)
-          (put_temp lay r m.widths ws hs (record s1 { values = drop count s.values }) (record d.state { waiting = []; ram = d2.state.ram }) to v wide placed has
-          small
+      behind en ok d1 s1 d2 w1 i1 (v, e1, e2, e3, e4, fit, small, held1) =
+          gives i1 (subst (λ z. AreSame lay r ws (home ∷ hs) s1 (with_result to z (record d.state { waiting = []; ram = d2.state.ram }))) (sym e4)
+          (subst (λ z. AreSame lay r ws (home ∷ hs) (record s1 { values = z }) (with_result to v (record d.state { waiting = []; ram = d2.state.ram }))) (sym e1)
+          (lands en.packed en.is_packed v fit small ok (record s1 { values = drop count s.values }) (record d.state { waiting = []; ram = d2.state.ram })
           (record {
             waits = at;
             kept = subst (λ z. AreKept r ws z s1.locals d.state.locals) (sym e3) (subst (λ z. AreKept r ws s.self z d.state.locals) (sym e2) kept);
@@ -226,54 +241,105 @@ module _ (k : Codes) (f : FirmProgram) (m : FirmProcedure) (call : FirmCaller Hi
           }))))
 
       by_enters : Enters lay f p call go q count self s w d.state.ram
-          → Alike (Held lay r ws (only (Local to ∷ hs))) (Leaves lay r ws) (call q count self s w) (linear' (passing callee to xs) d w)
+          → Alike (Held lay r ws (only (home ∷ hs))) (Leaves lay r ws) (call q count self s w) (linear' (passing callee to xs) d w)
       by_enters en =
-          subst (λ z. Alike (Held lay r ws (only (Local to ∷ hs))) (Leaves lay r ws) (call q count self s w) z)
-          (sym (pushes_do (pushed_of xs) front c d w (valued_take n xs vs d.state valued)))
-          (subst (λ z. Alike (Held lay r ws (only (Local to ∷ hs))) (Leaves lay r ws) (call q count self s w)
+          subst (λ z. Alike (Held lay r ws (only (home ∷ hs))) (Leaves lay r ws) (call q count self s w) z)
+          (sym (pushes_do (pushed_of xs) (take n vs) c d w (passes_take n xs vs d.state passes)))
+          (subst (λ z. Alike (Held lay r ws (only (home ∷ hs))) (Leaves lay r ws) (call q count self s w)
           (with_found z (entered (language p) go c) d1 w)) (sym entry)
-          (alike_behind_call (resumed (language p) (Result c) (record d.state { waiting = [] }) d1)
-          (en.alike (front ++ back) (subst (ArePassed en.packed.receives self (arguments count s)) (sym (take-append-drop n vs)) passed.0)) behind))
+          (alike_behind_call (resumed (language p) (Result c) (record d.state { waiting = [] }) d1) (en.alike vs takes.passed) (behind en takes.result d1)))
         where
-          passed : ArePassed en.packed.receives self (arguments count s) vs × (length vs ≡ receivers en.packed.receives + length (arguments count s))
-          passed = passes en.packed en.is_packed en.receives
+          takes : Takes en.packed self (arguments count s) vs xs to
+          takes = takes' en.packed en.is_packed en.fit en.many en.long en.receives
 
-          same_long : length xs ≡ length vs
-          same_long = valued_long xs vs d.state valued
+          passes : Passes xs vs d.state
+          passes =
+              passes_in us os vs d.state valued
+              (subst (λ z. Within z vs) takes.widths
+              (within en.packed self (arguments count s) vs os d.state en.fit en.fits (en.long ∙ en.many) takes.passed takes.long valued))
 
-          own : length (own_widths en.packed) ≡ receivers en.packed.receives + length en.packed.widths
-          own = own_long en.packed.receives en.packed.widths
+          ps : List Waiting
+          ps = waits_of (take n xs) (take n vs)
 
-          all_params : length vs ≡ own_params en.packed
-          all_params = passed.1 ∙ ap (λ z. receivers en.packed.receives + z) (en.long ∙ en.many)
+          others : List Waiting
+          others = waits_of (drop n xs) (drop n vs)
 
-          front_long : length front ≡ n
-          front_long = length-take-le n vs (omega (arith, same_long))
+          d1 : Deciding State
+          d1 = record d { state = holding d.state ps }
 
-          parts_long : length front + length back ≡ length vs
-          parts_long = sym (length-append front back) ∙ ap length (take-append-drop n vs)
+          all : ps ++ others ≡ waits_of xs vs
+          all = waits_split n xs vs
 
           back_long : length (drop n xs) ≤ 4
-          back_long =
-              let a = valued_long (drop n xs) back d.state (valued_drop n xs vs d.state valued) in omega (arith, a, parts_long, front_long, same_long)
+          back_long = let l = length-drop n xs in omega (arith, l)
 
-          first_is : length front ≡ own_params en.packed - 4
-          first_is = omega (arith, front_long, same_long, all_params)
+          pushed_is : n ≡ length ps
+          pushed_is =
+              let a = waits_long (take n xs) (take n vs) d.state (passes_take n xs vs d.state passes) in
+              let b = passes_long (take n xs) (take n vs) d.state (passes_take n xs vs d.state passes) in
+              let l = length-take-le n xs (omega arith) in
+              omega (arith, a, b, l)
 
-          few : length front ≤ length (own_widths en.packed)
-          few = let le = en.fit.params in omega (arith, first_is, own, le)
-
-          entry : enter p c (holding d.state front)
-              ≡ Some (record { proc = q; state = begins p q (front ++ back) d.state.ram; kept = record d.state { waiting = [] } })
+          entry : enter p c (holding d.state ps)
+              ≡ Some (record { proc = q; state = begins p q vs d.state.ram; kept = record d.state { waiting = [] } })
           entry =
-              enters c q front back d.state en.flattened (own_widths en.packed) (replicate en.flat.room.temps 4) none
-              (callee_is (stacked front d.state.waiting)) en.is_linear (sym front_long)
-              (registers_valued (drop n xs) back (holding d.state front) back_long
-              (pushed_as (drop n xs) back d.state (stacked front d.state.waiting) (valued_drop n xs vs d.state valued)))
-              (parts_long ∙ all_params ∙ sym en.flat.parameters)
-              (en.flat.widths ∙ ap (λ z. widened z (own_widths en.packed) ++ replicate en.flat.room.temps 4) (sym first_is)) few
+              enters c q ps others d.state en.flattened none (callee_is (stacked ps d.state.waiting)) en.is_linear pushed_is
+              (registers_valued (drop n xs) (drop n vs) (holding d.state ps) back_long
+              (passes_as (drop n xs) (drop n vs) d.state (stacked ps d.state.waiting) (passes_drop n xs vs d.state passes)))
+              (ap length all ∙ waits_long xs vs d.state passes ∙ takes.long ∙ ap (λ z. receivers en.packed.receives + z) (en.long ∙ en.many)
+              ∙ sym en.flat.parameters)
+              (ap (same_widths en.flattened.widths) all ∙ ap (λ z. same_widths z (waits_of xs vs)) en.flat.widths
+              ∙ waits_same (all_widths en.packed) (own_params en.packed) (replicate en.flat.room.temps 4) xs vs takes.widths)
+              (ap (λ z. gives_to z to) en.flat.result ∙ takes.result)
+              ∙ ap (λ z. Some (record { proc = q; state = begins p q z d.state.ram; kept = record d.state { waiting = [] } }))
+              (ap values_of all ∙ waits_values xs vs d.state passes)
 
       by_call : (call q count self s w ≡ over Wrong s w) ⊎ Enters lay f p call go q count self s w d.state.ram
-          → Alike (Held lay r ws (only (Local to ∷ hs))) (Leaves lay r ws) (call q count self s w) (linear' (passing callee to xs) d w)
-      by_call (inl e) = subst (λ z. Alike (Held lay r ws (only (Local to ∷ hs))) (Leaves lay r ws) z (linear' (passing callee to xs) d w)) (sym e) wrong
+          → Alike (Held lay r ws (only (home ∷ hs))) (Leaves lay r ws) (call q count self s w) (linear' (passing callee to xs) d w)
+      by_call (inl e) = subst (λ z. Alike (Held lay r ws (only (home ∷ hs))) (Leaves lay r ws) z (linear' (passing callee to xs) d w)) (sym e) wrong
       by_call (inr en) = by_enters en
+
+  -- ---- where results are
+
+  pub in_temp : (q width to : ℕ) (hs : List Operand) → ArePlaced r.locals hs → temp r hs ≡ Some to
+      → Lands q (Some (record { width = width; local = to })) (Local to) hs
+  in_temp q width to hs placed has mq e v fit small ok s2 t same = put_temp lay r m.widths ws hs s2 t to v wide placed has small same
+
+  -- no byte holds nothing but 0
+  pub in_none : (mq : FirmProcedure) (v : ℕ) → v < 256 ^ mq.result → result_width mq ≡ 0 → v ≡ 0
+  in_none mq v fit e = by_kind mq.receives e
+    where
+      none : (n : ℕ) → n < 256 ^ 0 → n ≡ 0
+      none n h = omega (arith, h)
+
+      by_kind : (b : Bool) → (if b then 4 else mq.result) ≡ 0 → v ≡ 0
+      by_kind true h = absurd (grind arith)
+      by_kind false h = none v (subst (λ z. v < 256 ^ z) h fit)
+
+  -- a call of a procedure that is found in the run
+  pub fours_taken : (q count to : ℕ) (n : ℕ) (args us : List ℕ) (os : List Operand) → length os ≡ suc (length us) → us ≡ args
+      → TakesIn q count (Some n) args (n ∷ us) (in_widths [] os) (Some (record { width = 4; local = to }))
+  fours_taken q count to n args us os many same mq e fit cm long ok =
+      record {
+        passed = subst (λ z. ArePassed z (Some n) args (n ∷ us)) (sym is) (ap (λ z. n ∷ z) same);
+        long = subst (λ z. length (n ∷ us) ≡ receivers z + length args) (sym is) (let l = ap length same in omega (arith, l));
+        widths = widths_are;
+        result = subst (λ z. gives_to (if z then 4 else mq.result) (Some (record { width = 4; local = to })) ≡ true) (sym is) refl;
+      }
+    where
+      first_of : (a b : Bool) → (a && b) ≡ true → a ≡ true
+      first_of true b e1 = refl
+      first_of false b e1 = absurd (grind arith)
+
+      is : mq.receives ≡ true
+      is = first_of mq.receives (fits 2 n) ok
+
+      widths_are : take (own_params mq) (all_widths mq) ≡ bytes_in (in_widths [] os)
+      widths_are = at mq.receives is mq.params mq.widths cm fit.params
+        where
+          at : (b : Bool) → b ≡ true → (params : ℕ) (ns : List ℕ) → count ≡ params → params ≤ length ns
+              → take (receivers b + params) (widened (if b then receivers b + params else 0) (with_receiver_width b ns)) ≡ bytes_in (in_widths [] os)
+          at false b params ns cp le = absurd (grind arith)
+          at true b params ns cp le =
+              take_widened (1 + params) (2 ∷ ns) (omega (arith, le)) ∙ ap (λ k. replicate k 4) (let l = ap length same in omega (arith, many, l, long, cp))
+              ∙ sym (bytes_in_fours os)

@@ -2,6 +2,7 @@
 use Rattle.std.specs.Prelude.{ℕ, zero, suc, ◌+◌, ◌-◌, ◌*◌, ◌/◌, ◌%◌, ◌<◌, ◌≤◌, ◌^◌, Bool, true, false, ◌==◌, ◌&&◌, nat_lt, nat_le, List, [], ◌∷◌, ◌++◌, length, reverse, take, drop, Option, Some, None}
 use Rattle.std.specs.Prelude.{slice_get, if◌then◌else◌}
 use Rattle.std.proofs.Common.{◌≡◌, ◌≢◌, ◌⊎◌, inl, inr, refl, sym, ap, ◌∙◌, subst, arith}
+use Rattle.std.proofs.lemmas.List.{length-take-le}
 use Rattle.vg_meaning.specs.History.{History, full}
 use Rattle.vg_meaning.specs.World.{World}
 use Rattle.vg_meaning.specs.Outside.{Outside}
@@ -22,27 +23,32 @@ use Rattle.vg_lin.specs.Values.{low}
 use Rattle.vg_lin.specs.Program.{Program as LinProgram}
 use Rattle.vg_lin.specs.Steps.{Goes}
 use Rattle.vg_lin.specs.State.{State, value, value_in, using, sets, plain}
-use Rattle.vg_lin.specs.Meaning.{with_code}
+use Rattle.vg_lin.specs.declared.instr.Target.{Target}
+use Rattle.vg_lin.specs.Meaning.{with_code, gives_to}
 use Rattle.vg_lin.specs.Structured.{Deciding, Caller as LinCaller}
 use Rattle.vg_flatten_shapes.specs.declared.fault.Fault.TheVariants.{NotTaken}
 use Rattle.vg_flatten_shapes.specs.declared.open.Truth.TheVariants.{Holds}
 use Rattle.vg_flatten_shapes.specs.declared.layout.Layout.{Layout}
+use Rattle.vg_flatten_shapes.specs.declared.layout.Passing.{Passing}
+use Rattle.vg_flatten_shapes.specs.declared.layout.Width.{Width}
+use Rattle.vg_flatten_shapes.specs.Widths.{bytes_of, result_bytes}
 use Rattle.vg_flatten_shapes.specs.declared.room.Room.{Room}
 use Rattle.vg_flatten_shapes.specs.Shapes.{Shape, Taken, only, taken, temp}
 use Rattle.vg_flatten_shapes.specs.Blocks.{Block, One, Both, stop_where}
 use Rattle.vg_flatten_shapes.specs.Made.{Made, Gives as Makes, Refused, by_temp, is_zero}
-use Rattle.vg_flatten_steps.specs.Calls.{passing, with_taken, is_received, with_receiver, called, found_and_called, called_on, called_for, parted_and_called, called_by, called_value, bound, found_and_bound, bound_for}
+use Rattle.vg_flatten_steps.specs.Calls.{in_widths, passing, with_taken, passing_of, with_receiver, resulting, called, passing_four, found_and_called, called_on, called_for, parted_and_called, called_by, called_value, bound, found_and_bound, bound_for}
 use Rattle.vg_flatten.specs.Columns.{FlashStands}
-use Rattle.vg_flatten.specs.Flattened.{receivers}
+use Rattle.vg_flatten.specs.Flattened.{receivers, with_receiver_width, own_params, widened, wide_params, all_widths, result_width, IsPassing}
+use Rattle.vg_flatten.proofs.Whole.{own_long, widened_long}
 use Rattle.vg_flattened.proofs.Alike.{IsFair, Alike, gives, wrong}
 use Rattle.vg_flattened.proofs.Related.{ArePlaced, AreAt, AreWidths, AreSame, Held, Leaves}
 use Rattle.vg_flattened.proofs.Numbers.{low_same}
 use Rattle.vg_flattened.proofs.Locals.{value_of_home, put_temp, placed_temp, value_stays}
-use Rattle.vg_flattened.proofs.Passed.{Valued, valued_homes, valued_long, valued_take, valued_reverse, split_below, without, placed_drop, at_drop}
+use Rattle.vg_flattened.proofs.Passed.{Valued, bytes_in_widths, all_bytes_long, valued_homes, valued_long, valued_take, valued_reverse, split_below, without, placed_drop, at_drop}
 use Rattle.vg_flattened.proofs.Right.{Right, linear}
 use Rattle.vg_flattened.proofs.StepRight.{plain_goes, into_temp, computes_to}
 use Rattle.vg_flattened.proofs.ColumnRight.{null_then}
-use Rattle.vg_flattened.proofs.CallRight.{ArePassed, Enters, AlikeCalls, right_passing}
+use Rattle.vg_flattened.proofs.CallRight.{ArePassed, Enters, AlikeCalls, TakesIn, Lands, right_passing, in_temp, in_none, fours_taken}
 
 -- The numbers that are passed where a procedure is called on no receiver.
 abbrev numbers : Bool → List ℕ → List ℕ
@@ -57,6 +63,10 @@ numbers_passed : (b : Bool) (vs : List ℕ) → ArePassed b None vs (numbers b v
 numbers_passed true vs = (inl (0, refl), omega arith)
 numbers_passed false vs = (refl, omega arith)
 
+receiver_long : (b : Bool) (xs : List Operand) → length (with_receiver b xs) ≡ receivers b + length xs
+receiver_long true xs = omega arith
+receiver_long false xs = omega arith
+
 below : {A : Type 0} (xs : List A) (i : ℕ) (x : A) → slice_get xs i ≡ Some x → i < length xs
 below [] i x e = absurd (is_none e)
   where
@@ -68,7 +78,7 @@ below (y ∷ xs) (suc i) x e = let h = below xs i x e in omega (arith, h)
 module _ (k : Codes) (f : FirmProgram) (m : FirmProcedure) (call : FirmCaller History) (handle : ℕ → Piece Firm History)
     (p : LinProgram) (go : LinCaller State) (lay : Layout) (r : Room) (ws : List ℕ) (wide : AreWidths r m.widths ws)
     (flash : FlashStands lay f p) (calls : AlikeCalls lay f p call go)
-    (receives : (q : ℕ) (mq : FirmProcedure) → slice_get f.procedures q ≡ Some mq → slice_get lay.receives q ≡ Some mq.receives)
+    (receives : (q : ℕ) (mq : FirmProcedure) → slice_get f.procedures q ≡ Some mq → IsPassing mq (passing_of (slice_get lay.passing q)))
     (codes : p.codes ≡ k) (codes_are : AreCodes (length f.procedures) k) (dispatches : p.dispatches ≡ f.dispatches) where
   abbrev Right' : Shape → Made → Piece Firm History → Type 0
   Right' = Right k f m call handle p go lay r ws wide
@@ -98,8 +108,44 @@ module _ (k : Codes) (f : FirmProgram) (m : FirmProcedure) (call : FirmCaller Hi
 
   -- ---- a call by number
 
-  pub right_called : (q count : ℕ) (hs : List Operand) → ArePlaced r.locals hs → Right' (only hs) (called lay r q count hs) (step' (Call q count))
-  right_called q count hs placed = right_taken count hs _ (call q count None) (λ le. by_room (temp r (drop count hs)) refl)
+  -- what a procedure takes of a call as the layout says that it is called
+  takes_as : (q count : ℕ) (to : Option Target) (args : List ℕ) (os : List Operand) → length os ≡ length args
+      → ((mq : FirmProcedure) → slice_get f.procedures q ≡ Some mq → gives_to (result_width mq) to ≡ true)
+      → TakesIn k f m call handle p go lay r ws wide calls q count None args (numbers (passing_of (slice_get lay.passing q)).receives args)
+      (in_widths (passing_of (slice_get lay.passing q)).widths (with_receiver (passing_of (slice_get lay.passing q)).receives os)) to
+  takes_as q count to args os many ok mq e fit cm long may =
+      record {
+        passed = subst (λ z. ArePassed z None args (numbers x.receives args)) is.receives (numbers_passed x.receives args).0;
+        long = (numbers_passed x.receives args).1 ∙ ap (λ z. receivers z + length args) is.receives;
+        widths = sym is.widths ∙ sym (bytes_in_widths x.widths (with_receiver x.receives os) as_many);
+        result = ok mq e;
+      }
+    where
+      x : Passing
+      x = passing_of (slice_get lay.passing q)
+
+      is : IsPassing mq x
+      is = receives q mq e
+
+      as_many : length x.widths ≡ length (with_receiver x.receives os)
+      as_many =
+          let a = all_bytes_long x.widths in
+          let b = ap length is.widths in
+          let c = length-take-le (own_params mq) (all_widths mq) (le mq.receives mq.params mq.widths (wide_params mq) fit.params) in
+          let d1 = receiver_long x.receives os in
+          let o = ap receivers is.receives in
+          omega (arith, a, b, c, d1, o, many, long, cm)
+        where
+          le : (b : Bool) (params : ℕ) (widths : List ℕ) (n : ℕ) → params ≤ length widths
+              → receivers b + params ≤ length (widened n (with_receiver_width b widths))
+          le b params widths n h = let l = widened_long n (with_receiver_width b widths) in let o = own_long b widths in omega (arith, l, o, h)
+
+  right_resulting : (q count : ℕ) (hs : List Operand) → ArePlaced r.locals hs → (o : Option Width)
+      → result_bytes o ≡ result_bytes (passing_of (slice_get lay.passing q)).result
+      → Right' (only hs) (resulting r (ByNumber q) o
+      (in_widths (passing_of (slice_get lay.passing q)).widths (with_receiver (passing_of (slice_get lay.passing q)).receives (reverse (take count hs))))
+      (drop count hs)) (call q count None)
+  right_resulting q count hs placed o eo = by_result o eo
     where
       rest : List Operand
       rest = drop count hs
@@ -107,39 +153,55 @@ module _ (k : Codes) (f : FirmProgram) (m : FirmProcedure) (call : FirmCaller Hi
       placed_rest : ArePlaced r.locals rest
       placed_rest = placed_drop r.locals count hs placed
 
-      b : Bool
-      b = is_received (slice_get lay.receives q)
+      x : Passing
+      x = passing_of (slice_get lay.passing q)
 
-      by_room : (o : Option ℕ) → temp r rest ≡ o
-          → Right' (only hs) (by_temp o (λ to. Makes (passing (ByNumber q) to (with_receiver b (reverse (take count hs)))) (only (Local to ∷ rest))))
-          (call q count None)
-      by_room None has = tt
-      by_room (Some to) has = (
-        placed_temp r rest to has placed_rest,
-        λ s d w i same. right_passing k f m call handle p go lay r ws wide calls (ByNumber q) q count to None (with_receiver b (reverse (take count hs))) rest
-            placed_rest has s d w i (numbers b (arguments count s))
-            (numbers_valued b (reverse (take count hs)) (arguments count s) d.state (args_valued count hs s.values d.state same.waits))
-            (λ u. refl)
-            (λ mq e ok. subst (λ z. ArePassed mq.receives None (arguments count s) (numbers z (arguments count s))
-            × (length (numbers z (arguments count s)) ≡ receivers mq.receives + length (arguments count s))) (sym (ap is_received (receives q mq e)))
-            (numbers_passed mq.receives (arguments count s)))
-            (at_drop count hs s.values d.state.locals same.waits) same.kept same.none same.ram,
+      does : (to : Option Target) (home : Operand) → Lands k f m call handle p go lay r ws wide calls q to home rest
+          → ((mq : FirmProcedure) → slice_get f.procedures q ≡ Some mq → gives_to (result_width mq) to ≡ true)
+          → (s : Firm) (d : Deciding State) (w : World History) → IsFair w → AreSame lay r ws hs s d.state
+          → Alike (Held lay r ws (only (home ∷ rest))) (Leaves lay r ws) (call q count None s w)
+          (linear' (passing (ByNumber q) to (in_widths x.widths (with_receiver x.receives (reverse (take count hs))))) d w)
+      does to home lands ok s d w i same =
+          right_passing k f m call handle p go lay r ws wide calls (ByNumber q) q count to home None x.widths
+          (with_receiver x.receives (reverse (take count hs))) rest lands s d w i (numbers x.receives (arguments count s))
+          (numbers_valued x.receives (reverse (take count hs)) (arguments count s) d.state (args_valued count hs s.values d.state same.waits))
+          (λ u. refl)
+          (takes_as q count to (arguments count s) (reverse (take count hs))
+          (valued_long (reverse (take count hs)) (arguments count s) d.state (args_valued count hs s.values d.state same.waits)) ok)
+          (at_drop count hs s.values d.state.locals same.waits) same.kept same.none same.ram
+
+      by_result : (o : Option Width) → result_bytes o ≡ result_bytes x.result
+          → Right' (only hs) (resulting r (ByNumber q) o (in_widths x.widths (with_receiver x.receives (reverse (take count hs)))) rest) (call q count None)
+      by_result None eo = (
+        (tt, placed_rest),
+        does None (Known 0) (λ mq e v fit small ok s2 t same. record {
+          waits = ((sym (in_none k f m call handle p go lay r ws wide calls mq v fit (sym (receives q mq e).result ∙ sym eo)), small), same.waits);
+          kept = same.kept;
+          none = same.none;
+          ram = same.ram;
+        }) (λ mq e. refl),
       )
+      by_result (Some w) eo = by_room (temp r rest) refl
+        where
+          by_room : (t : Option ℕ) → temp r rest ≡ t
+              → Right' (only hs) (by_temp t (λ to. Makes (passing (ByNumber q) (Some (record { width = bytes_of w; local = to }))
+              (in_widths x.widths (with_receiver x.receives (reverse (take count hs))))) (only (Local to ∷ rest)))) (call q count None)
+          by_room None has = tt
+          by_room (Some to) has = (
+            placed_temp r rest to has placed_rest,
+            does (Some (record { width = bytes_of w; local = to })) (Local to)
+                (in_temp k f m call handle p go lay r ws wide calls q (bytes_of w) to rest placed_rest has)
+                (λ mq e. same_is (bytes_of w) (result_width mq) (eo ∙ (receives q mq e).result)),
+          )
+            where
+              same_is : (a b : ℕ) → a ≡ b → (a == b) ≡ true
+              same_is a b e = grind arith
+
+  pub right_called : (q count : ℕ) (hs : List Operand) → ArePlaced r.locals hs → Right' (only hs) (called lay r q count hs) (step' (Call q count))
+  right_called q count hs placed =
+      right_taken count hs _ (call q count None) (λ le. right_resulting q count hs placed (passing_of (slice_get lay.passing q)).result refl)
 
   -- ---- a call on a receiver
-
-  receives_of : (mq : FirmProcedure) (n : ℕ) → may_receive mq (Some n) ≡ true → mq.receives ≡ true
-  receives_of mq n e = first_of mq.receives (fits 2 n) e
-    where
-      first_of : (a b : Bool) → (a && b) ≡ true → a ≡ true
-      first_of true b e1 = refl
-      first_of false b e1 = absurd (grind arith)
-
-  passes_some : (n : ℕ) (us args : List ℕ) → args ≡ us → (mq : FirmProcedure) → may_receive mq (Some n) ≡ true
-      → ArePassed mq.receives (Some n) args (n ∷ us) × (length (n ∷ us) ≡ receivers mq.receives + length args)
-  passes_some n us args e mq ok =
-      subst (λ z. ArePassed z (Some n) args (n ∷ us) × (length (n ∷ us) ≡ receivers z + length args)) (sym (receives_of mq n ok))
-      (ap (λ z. n ∷ z) (sym e), let h = ap length e in omega (arith, h))
 
   found : (d to n q : ℕ) (h : Operand) (t : State) (o : Outside) → value h t ≡ Some n → dispatched f.dispatches d n ≡ Some q
       → plain p (Find d to h) t o ≡ Goes (sets to (k.code q) t) o
@@ -180,7 +242,7 @@ module _ (k : Codes) (f : FirmProgram) (m : FirmProcedure) (call : FirmCaller Hi
           → (n : ℕ) (us : List ℕ) → reverse (take (count + 1) s.values) ≡ n ∷ us → count + 1 ≤ length s.values
           → value h dd.state ≡ Some n → (q : ℕ) → dispatched f.dispatches d n ≡ Some q
           → Alike (Held lay r ws (only (Local to ∷ rest))) (Leaves lay r ws) (call q count (Some n) (without_receiver count s) w)
-          (linear' (Both (One (Find d code h)) (passing (ByCode (Local code)) to (h ∷ xs))) dd w)
+          (linear' (Both (One (Find d code h)) (passing_four (ByCode (Local code)) to (h ∷ xs))) dd w)
       does code has_code h xs eh to has s dd w i same n us en le hv q eq =
           by_call (calls q count (Some n) (without_receiver count s) w dd.state.ram i same.ram)
         where
@@ -192,30 +254,36 @@ module _ (k : Codes) (f : FirmProgram) (m : FirmProcedure) (call : FirmCaller Hi
 
           by_range : q < length f.procedures
               → Alike (Held lay r ws (only (Local to ∷ rest))) (Leaves lay r ws) (call q count (Some n) (without_receiver count s) w)
-              (linear' (Both (One (Find d code h)) (passing (ByCode (Local code)) to (h ∷ xs))) dd w)
+              (linear' (Both (One (Find d code h)) (passing_four (ByCode (Local code)) to (h ∷ xs))) dd w)
           by_range lt =
               subst (λ z. Alike (Held lay r ws (only (Local to ∷ rest))) (Leaves lay r ws) (call q count (Some n) (without_receiver count s) w)
-              (and_then z (linear' (passing (ByCode (Local code)) to (h ∷ xs)))))
+              (and_then z (linear' (passing_four (ByCode (Local code)) to (h ∷ xs)))))
               (sym (plain_goes k f m call handle p go lay r ws wide (Find d code h) dd w t1 (found d code n q h dd.state w.outside hv eq)))
-              (right_passing k f m call handle p go lay r ws wide calls (ByCode (Local code)) q count to (Some n) (h ∷ xs) rest placed_rest has
+              (right_passing k f m call handle p go lay r ws wide calls (ByCode (Local code)) q count (Some (record { width = 4; local = to })) (Local to)
+              (Some n) [] (h ∷ xs) rest (in_temp k f m call handle p go lay r ws wide calls q 4 to rest placed_rest has)
               (without_receiver count s) (record dd { state = t1 }) w i (n ∷ us)
-              (subst (λ z. Valued z (n ∷ us) t1) eh
-              (subst (λ z. Valued (reverse (take (count + 1) hs)) z t1) en (args_valued (count + 1) hs s.values t1 there.waits.1)))
+              valued1
               (λ u. ap (with_code p) there.waits.0.0 ∙ called_code q (k.code q) refl lt)
-              (λ mq e ok. passes_some n us (arguments count (without_receiver count s)) args_are mq ok)
+              (fours_taken k f m call handle p go lay r ws wide calls q count to n (arguments count (without_receiver count s)) us (h ∷ xs)
+              (valued_long (h ∷ xs) (n ∷ us) t1 valued1) (sym args_are))
               (subst (λ z. AreAt rest z t1.locals) (sym (without count s.values (omega (arith, le))).1) (at_drop (count + 1) hs s.values t1.locals there.waits.1))
               there.kept there.none there.ram)
             where
               there : AreSame lay r ws (Local code ∷ hs) (record s { values = k.code q ∷ s.values }) t1
               there = put_temp lay r m.widths ws hs s dd.state code (k.code q) wide placed has_code (code_small q lt) same
 
+              valued1 : Valued (h ∷ xs) (n ∷ us) t1
+              valued1 =
+                  subst (λ z. Valued z (n ∷ us) t1) eh
+                  (subst (λ z. Valued (reverse (take (count + 1) hs)) z t1) en (args_valued (count + 1) hs s.values t1 there.waits.1))
+
           by_call : (call q count (Some n) (without_receiver count s) w ≡ over Wrong (without_receiver count s) w)
               ⊎ Enters lay f p call go q count (Some n) (without_receiver count s) w dd.state.ram
               → Alike (Held lay r ws (only (Local to ∷ rest))) (Leaves lay r ws) (call q count (Some n) (without_receiver count s) w)
-              (linear' (Both (One (Find d code h)) (passing (ByCode (Local code)) to (h ∷ xs))) dd w)
+              (linear' (Both (One (Find d code h)) (passing_four (ByCode (Local code)) to (h ∷ xs))) dd w)
           by_call (inl e) =
               subst (λ z. Alike (Held lay r ws (only (Local to ∷ rest))) (Leaves lay r ws) z
-              (linear' (Both (One (Find d code h)) (passing (ByCode (Local code)) to (h ∷ xs))) dd w)) (sym e) wrong
+              (linear' (Both (One (Find d code h)) (passing_four (ByCode (Local code)) to (h ∷ xs))) dd w)) (sym e) wrong
           by_call (inr en1) = by_range (below f.procedures q en1.packed en1.is_packed)
 
       by_found : (code : ℕ) → temp r hs ≡ Some code → (h : Operand) (xs : List Operand) → reverse (take (count + 1) hs) ≡ h ∷ xs
@@ -223,7 +291,7 @@ module _ (k : Codes) (f : FirmProgram) (m : FirmProcedure) (call : FirmCaller Hi
           → (n : ℕ) (us : List ℕ) → reverse (take (count + 1) s.values) ≡ n ∷ us → count + 1 ≤ length s.values
           → value h dd.state ≡ Some n → (o : Option ℕ) → dispatched f.dispatches d n ≡ o
           → Alike (Held lay r ws (only (Local to ∷ rest))) (Leaves lay r ws) (with_found o (λ q. call q count (Some n)) (without_receiver count s) w)
-          (linear' (Both (One (Find d code h)) (passing (ByCode (Local code)) to (h ∷ xs))) dd w)
+          (linear' (Both (One (Find d code h)) (passing_four (ByCode (Local code)) to (h ∷ xs))) dd w)
       by_found code has_code h xs eh to has s dd w i same n us en le hv None eq = wrong
       by_found code has_code h xs eh to has s dd w i same n us en le hv (Some q) eq = does code has_code h xs eh to has s dd w i same n us en le hv q eq
 
@@ -236,7 +304,7 @@ module _ (k : Codes) (f : FirmProgram) (m : FirmProcedure) (call : FirmCaller Hi
       by_values code has_code h xs eh to has s dd w i same le (n ∷ us) ev valued =
           subst (λ z. Alike (Held lay r ws (only (Local to ∷ rest))) (Leaves lay r ws) (with_found z (not_null next) (without_receiver count s) w)
           (linear' (found_and_called d to code h xs) dd w)) (sym (split_below count s.values n us le ev).0)
-          (null_then k f m call handle p go lay r ws wide flash h n next (linear' (Both (One (Find d code h)) (passing (ByCode (Local code)) to (h ∷ xs))))
+          (null_then k f m call handle p go lay r ws wide flash h n next (linear' (Both (One (Find d code h)) (passing_four (ByCode (Local code)) to (h ∷ xs))))
           (without_receiver count s) dd w i valued.0 valued.1
           (λ pos. by_found code has_code h xs eh to has s (record dd { truth = None }) w i same n us ev le valued.0 (dispatched f.dispatches d n) refl))
 
@@ -285,20 +353,22 @@ module _ (k : Codes) (f : FirmProgram) (m : FirmProcedure) (call : FirmCaller Hi
           → (v : ℕ) (us : List ℕ) → reverse (take (count + 1) s.values) ≡ v ∷ us → count + 1 ≤ length s.values
           → value h dd.state ≡ Some v → v < 2 ^ 32 → (o : Option ℕ) → k.at_code (code_in v) ≡ o
           → Alike (Held lay r ws (only (Local to ∷ rest))) (Leaves lay r ws) (with_found o (λ q. call q count (Some (receiver_in v))) (without_receiver count s) w)
-          (linear' (Both (part receiver h) (passing (ByCode h) to (Local receiver ∷ xs))) dd w)
+          (linear' (Both (part receiver h) (passing_four (ByCode h) to (Local receiver ∷ xs))) dd w)
       by_found receiver has_r h xs eh to has s dd w i same v us en le hv small None eq = wrong
       by_found receiver has_r h xs eh to has s dd w i same v us en le hv small (Some q) eq =
           subst (λ z. Alike (Held lay r ws (only (Local to ∷ rest))) (Leaves lay r ws) (call q count (Some (receiver_in v)) (without_receiver count s) w)
-          (and_then z (linear' (passing (ByCode h) to (Local receiver ∷ xs)))))
+          (and_then z (linear' (passing_four (ByCode h) to (Local receiver ∷ xs)))))
           (sym (plain_goes k f m call handle p go lay r ws wide
           (Compute (record { operator = RightShift; width = 4; to = receiver; left = h; right = Known 16 })) dd w t1
           (computes_to k f m call handle p go lay r ws wide RightShift 4 receiver h (Known 16) v 16 (receiver_in v) dd.state w.outside hv refl
           (ap (λ z. Some (z / 2 ^ 16)) (low_same v small)))))
-          (right_passing k f m call handle p go lay r ws wide calls (ByCode h) q count to (Some (receiver_in v)) (Local receiver ∷ xs) rest placed_rest has
+          (right_passing k f m call handle p go lay r ws wide calls (ByCode h) q count (Some (record { width = 4; local = to })) (Local to)
+          (Some (receiver_in v)) [] (Local receiver ∷ xs) rest (in_temp k f m call handle p go lay r ws wide calls q 4 to rest placed_rest has)
           (without_receiver count s) (record dd { state = t1 }) w i (receiver_in v ∷ us)
           (there.waits.0.0, there.waits.0.1, valued1.2)
           (λ u. ap (with_code p) (value_waiting h u ∙ valued1.0) ∙ ap (λ z. z.at_code (code_in v)) codes ∙ eq)
-          (λ mq e ok. passes_some (receiver_in v) us (arguments count (without_receiver count s)) args_are mq ok)
+          (fours_taken k f m call handle p go lay r ws wide calls q count to (receiver_in v) (arguments count (without_receiver count s)) us
+          (Local receiver ∷ xs) (ap suc (valued_long xs us t1 valued1.2)) (sym args_are))
           (subst (λ z. AreAt rest z t1.locals) (sym (without count s.values (omega (arith, le))).1) (at_drop (count + 1) hs s.values t1.locals there.waits.1))
           there.kept there.none there.ram)
         where
@@ -332,7 +402,7 @@ module _ (k : Codes) (f : FirmProgram) (m : FirmProcedure) (call : FirmCaller Hi
       by_values receiver has_r h xs eh to has s dd w i same le (v ∷ us) ev valued =
           subst (λ z. Alike (Held lay r ws (only (Local to ∷ rest))) (Leaves lay r ws) (with_found z (not_null next) (without_receiver count s) w)
           (linear' (parted_and_called to receiver h xs) dd w)) (sym (split_below count s.values v us le ev).0)
-          (null_then k f m call handle p go lay r ws wide flash h v next (linear' (Both (part receiver h) (passing (ByCode h) to (Local receiver ∷ xs))))
+          (null_then k f m call handle p go lay r ws wide flash h v next (linear' (Both (part receiver h) (passing_four (ByCode h) to (Local receiver ∷ xs))))
           (without_receiver count s) dd w i valued.0 valued.1
           (λ pos. by_found receiver has_r h xs eh to has s (record dd { truth = None }) w i same v us ev le valued.0 valued.1 (k.at_code (code_in v)) refl))
 

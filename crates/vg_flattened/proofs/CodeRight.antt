@@ -19,12 +19,14 @@ use Rattle.vg_lin.specs.declared.instr.Plain.TheVariants.{Copy}
 use Rattle.vg_lin.specs.Program.{Program as LinProgram}
 use Rattle.vg_lin.specs.Steps.{Goes}
 use Rattle.vg_lin.specs.State.{State, value, using, sets}
-use Rattle.vg_lin.specs.Meaning.{language, result_of}
+use Rattle.vg_lin.specs.Meaning.{language, cut_to, result_of}
 use Rattle.vg_lin.specs.Structured.{Deciding, Caller as LinCaller, with_found, handle as lin_handle, lifted, step as lin_step, truth as lin_truth}
 use Rattle.vg_flatten_shapes.specs.declared.fault.Fault.TheVariants.{NotTaken}
 use Rattle.vg_flatten_shapes.specs.declared.open.Truth.{Truth}
 use Rattle.vg_flatten_shapes.specs.declared.layout.Layout.{Layout}
 use Rattle.vg_flatten.specs.Columns.{FlashStands}
+use Rattle.vg_flatten.specs.Flattened.{IsPassing}
+use Rattle.vg_flatten_steps.specs.Calls.{passing_of}
 use Rattle.vg_flatten_shapes.specs.declared.room.Room.{Room}
 use Rattle.vg_flatten_shapes.specs.Shapes.{Shape, only, empty, is_empty, is_none, same_operand, same_homes, temp}
 use Rattle.vg_flatten_shapes.specs.Blocks.{Block, Skip, One, TakeInterrupt, GiveBack, BreakOut, GoOn, Both, Choice, Repeat, structured, picked}
@@ -93,7 +95,7 @@ empty_is s e = by_truth s.truth s.homes e
 module _ (k : Codes) (f : FirmProgram) (m : FirmProcedure) (call : FirmCaller History) (handle : ℕ → Piece Firm History)
     (p : LinProgram) (go : LinCaller State) (lay : Layout) (r : Room) (ws : List ℕ) (wide : AreWidths r m.widths ws)
     (calls : AlikeCalls lay f p call go)
-    (receives : (q : ℕ) (mq : FirmProcedure) → slice_get f.procedures q ≡ Some mq → slice_get lay.receives q ≡ Some mq.receives)
+    (receives : (q : ℕ) (mq : FirmProcedure) → slice_get f.procedures q ≡ Some mq → IsPassing mq (passing_of (slice_get lay.passing q)))
     (codes : p.codes ≡ k) (codes_are : AreCodes (length f.procedures) k) (dispatches : p.dispatches ≡ f.dispatches)
     (handling : AlikeHandling lay r ws handle (λ vector. lin_handle (language p) go ((language p).handler vector)))
     (flash : FlashStands lay f p) where
@@ -348,19 +350,19 @@ module _ (k : Codes) (f : FirmProgram) (m : FirmProcedure) (call : FirmCaller Hi
       by_empty false e = tt
 
   -- the end of a body
-  right_given_back : (hs : List Operand) → ArePlaced r.locals hs → Right' (only hs) (given_back hs) (packed' Return)
+  right_given_back : (hs : List Operand) → ArePlaced r.locals hs → Right' (only hs) (given_back r hs) (packed' Return)
   right_given_back [] placed = tt
   right_given_back (h ∷ a ∷ hs) placed = tt
   right_given_back (h ∷ []) placed = (tt, λ s d w i q. by_values s d w i q s.values refl q.waits)
     where
       by_values : (s : Firm) (d : Deciding State) (w : World History) → IsFair w → AreSame lay r ws (h ∷ []) s d.state → (vs : List ℕ) → s.values ≡ vs
-          → AreAt (h ∷ []) vs d.state.locals → Alike (Held lay r ws empty) (Leaves lay r ws) (Ends Returns s w) (linear' (GiveBack h) d w)
+          → AreAt (h ∷ []) vs d.state.locals → Alike (Held lay r ws empty) (Leaves lay r ws) (Ends Returns s w) (linear' (GiveBack r.result h) d w)
       by_values s d w i q [] e at = absurd at
       by_values s d w i q (v ∷ vs) e at =
           subst (λ z. Alike (Held lay r ws empty) (Leaves lay r ws) (Ends Returns s w) z)
-          (sym (ap (λ z. and_then (with_found (result_of h d.state z) (λ x s1 w1. Gives (record s1 { result = x }) w1) d w)
+          (sym (ap (λ z. and_then (with_found (result_of r.result h d.state z) (λ x s1 w1. Gives (record s1 { result = x }) w1) d w)
           (λ s1 w1. Ends Returns s1 w1)) q.none
-          ∙ ap (λ z. and_then (with_found z (λ x s1 w1. Gives (record s1 { result = x }) w1) d w) (λ s1 w1. Ends Returns s1 w1))
+          ∙ ap (λ z. and_then (with_found (cut_to r.result z) (λ x s1 w1. Gives (record s1 { result = x }) w1) d w) (λ s1 w1. Ends Returns s1 w1))
           (value_of_home h v d.state at.0.0)))
           (leaves i (v, vs, e, refl, at.0.1, q.ram))
 
@@ -381,4 +383,4 @@ module _ (k : Codes) (f : FirmProgram) (m : FirmProcedure) (call : FirmCaller Hi
       (right_code body empty tt) (right_code next empty tt))
   right_code Break shape placed = right_where_empty shape (Makes BreakOut empty) (packed' Break) (tt, λ s d w i q. leaves i q)
   right_code Continue shape placed = right_where_empty shape (Makes GoOn empty) (packed' Continue) (tt, λ s d w i q. leaves i q)
-  right_code Return shape placed = right_settled k f m call handle p go lay r ws wide shape given_back (packed' Return) placed right_given_back
+  right_code Return shape placed = right_settled k f m call handle p go lay r ws wide shape (given_back r) (packed' Return) placed right_given_back

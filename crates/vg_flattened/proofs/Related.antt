@@ -6,6 +6,7 @@ use Rattle.vg_firm.specs.Meaning.{State as Firm}
 use Rattle.vg_firm.specs.Operators.{as_number}
 use Rattle.vg_lin.specs.declared.instr.Operand.{Operand}
 use Rattle.vg_lin.specs.declared.instr.Operand.TheVariants.{Local, Known}
+use Rattle.vg_lin.specs.Values.{low}
 use Rattle.vg_lin.specs.State.{LocalState, State, value_in, holds}
 use Rattle.vg_lin.specs.Structured.{Deciding}
 use Rattle.vg_flatten_shapes.specs.declared.open.Truth.{Truth}
@@ -83,13 +84,14 @@ AreSameBy lay r ws (Some x) hs s t = IsSaid lay r ws x hs s t
 abbrev pub Held : Layout → Room → (ws : List ℕ) → Shape → Firm → Deciding State → Type 0
 Held lay r ws shape s d = AreSameBy lay r ws shape.truth shape.homes s d.state
 
--- A value that is returned waits on one side, and is the result on the other.
-abbrev pub IsResult : Layout → Firm → Deciding State → Type 0
-IsResult lay s d = (v : ℕ) × (vs : List ℕ) × (s.values ≡ v ∷ vs) × (d.result ≡ v) × (v < 2 ^ 32) × RamStands lay.ram s.columns d.state.ram
+-- A value that is returned waits on one side, and its low bytes, as many as a result has, are the result on the other.
+abbrev pub IsResult : Layout → Room → Firm → Deciding State → Type 0
+IsResult lay r s d =
+    (v : ℕ) × (vs : List ℕ) × (s.values ≡ v ∷ vs) × (d.result ≡ low r.result v) × (v < 2 ^ 32) × RamStands lay.ram s.columns d.state.ram
 
 -- How the states are where code leaves.
 abbrev pub Leaves : Layout → Room → (ws : List ℕ) → Signal → Firm → Deciding State → Type 0
 Leaves lay r ws Breaks s d = Held lay r ws empty s d
 Leaves lay r ws Continues s d = Held lay r ws empty s d
-Leaves lay r ws Returns s d = IsResult lay s d
+Leaves lay r ws Returns s d = IsResult lay r s d
 Leaves lay r ws (Over why) s d = ⊥

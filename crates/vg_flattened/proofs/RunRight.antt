@@ -16,8 +16,8 @@ use Rattle.vg_firm.specs.Session.{arguments, run_procedure, may_receive, may_ent
 use Rattle.vg_lin.specs.declared.instr.Instr.{Instr}
 use Rattle.vg_lin.specs.Program.{Procedure as LinProcedure, Program as LinProgram}
 use Rattle.vg_lin.specs.Steps.{Entry, Result, fetch}
-use Rattle.vg_lin.specs.State.{State}
-use Rattle.vg_lin.specs.Meaning.{language, operands, values, begun, widths_of, name_of, call_of, codes_in, enter, entry_of, entry_with, first_state}
+use Rattle.vg_lin.specs.State.{State, Waiting}
+use Rattle.vg_lin.specs.Meaning.{language, operands, values, begun, widths_of, name_of, call_of, codes_in, values_of, same_widths, enter, entry_of, entry_with, first_state}
 use Rattle.vg_lin.specs.Structured.{Step, Deciding, fresh, Caller as LinCaller, with_found, entered, resumed, handle as lin_handle, body as lin_body, called as lin_called, running as lin_running, To, step as lin_step}
 use Rattle.vg_lin.specs.Stands.{Stands, Next, nothing, AllStand, StandsFirst}
 use Rattle.vg_lin.specs.Follows.{IsLegal}
@@ -35,7 +35,7 @@ use Rattle.vg_flatten_shapes.proofs.Temps.{some_is, none_is_not}
 use Rattle.vg_flattened.proofs.CallRight.{Never, Returned, begins, alike_behind_both, ArePassed, Enters, AlikeCalls}
 use Rattle.vg_flatten_shapes.specs.Blocks.{set_in}
 use Rattle.vg_flattened.proofs.Standing.{Lies, stands}
-use Rattle.vg_flatten.specs.Flattened.{receivers, main_args, whole, calls_main, start_of, IsFlat, IsFit, AreFlat}
+use Rattle.vg_flatten.specs.Flattened.{receivers, with_receiver_width, widened, main_args, whole, calls_main, start_of, IsFlat, IsFit, AreFlat}
 use Rattle.vg_flatten.specs.Columns.{RamStands}
 use Rattle.vg_flattened.proofs.BodyRight.{alike_handling, alike_body}
 use Rattle.vg_flattened.specs.Runs.{FollowsPacked}
@@ -126,14 +126,14 @@ module _ (k : Codes) (lay : Layout) (f : FirmProgram) (p : LinProgram) (flat : A
   IsEntered go lin q count self s w ram o e =
       (firm_found o (λ m. checked (may_enter m count self s) (go m)) s w ≡ over Wrong s w)
       ⊎ ((m : FirmProcedure) × (o ≡ Some m) × (may_enter m count self s ≡ true) × ((xs : List ℕ) → ArePassed m.receives self (arguments count s) xs
-      → Alike (Returned lay count s) Never (firm_found o (λ m1. checked (may_enter m1 count self s) (go m1)) s w)
+      → Alike (Returned lay m.result count s) Never (firm_found o (λ m1. checked (may_enter m1 count self s) (go m1)) s w)
       (lin (structured (block_at q o e)) (fresh (begins p q xs ram)) w)))
 
   entered_as : (go : FirmProcedure → Piece Firm History) (lin : Code Step → Piece (Deciding State) History) (q count : ℕ) (self : Option ℕ)
       (s : Firm) (w : World History) (ram : List ℕ)
       → ((m : FirmProcedure) (e : slice_get f.procedures q ≡ Some m) → may_enter m count self s ≡ true → (xs : List ℕ)
       → ArePassed m.receives self (arguments count s) xs
-      → Alike (Returned lay count s) Never (go m s w) (lin (structured (block_at q (Some m) e)) (fresh (begins p q xs ram)) w))
+      → Alike (Returned lay m.result count s) Never (go m s w) (lin (structured (block_at q (Some m) e)) (fresh (begins p q xs ram)) w))
       → (o : Option FirmProcedure) (e : slice_get f.procedures q ≡ o) → IsEntered go lin q count self s w ram o e
   entered_as go lin q count self s w ram does None e = inl refl
   entered_as go lin q count self s w ram does (Some m) e = by_enter (may_enter m count self s) refl
@@ -145,17 +145,17 @@ module _ (k : Codes) (lay : Layout) (f : FirmProgram) (p : LinProgram) (flat : A
             m,
             refl,
             enters,
-            λ xs passed. subst (λ b. Alike (Returned lay count s) Never (checked b (go m) s w)
+            λ xs passed. subst (λ b. Alike (Returned lay m.result count s) Never (checked b (go m) s w)
                 (lin (structured (block_at q (Some m) e)) (fresh (begins p q xs ram)) w)) (sym enters) (does m e enters xs passed),
           )
 
   facts_of : (m : FirmProcedure) (count : ℕ) (self : Option ℕ) (s : Firm) → may_enter m count self s ≡ true
-      → (count ≡ m.params) × (length (arguments count s) ≡ count) × (may_receive m self ≡ true)
+      → (count ≡ m.params) × (length (arguments count s) ≡ count) × (may_receive m self ≡ true) × (all_fit m.widths (arguments count s) ≡ true)
   facts_of m count self s e =
       let first = both_of ((count == m.params) && (length (arguments count s) == count) && all_fit m.widths (arguments count s)) (may_receive m self) e in
       let second = both_of ((count == m.params) && (length (arguments count s) == count)) (all_fit m.widths (arguments count s)) first.0 in
       let third = both_of (count == m.params) (length (arguments count s) == count) second.0 in
-      (eq_of count m.params third.0, eq_of (length (arguments count s)) count third.1, first.1)
+      (eq_of count m.params third.0, eq_of (length (arguments count s)) count third.1, first.1, second.1)
     where
       eq_of : (x y : ℕ) → (x == y) ≡ true → x ≡ y
       eq_of x y h = grind arith
@@ -169,7 +169,7 @@ module _ (k : Codes) (lay : Layout) (f : FirmProgram) (p : LinProgram) (flat : A
       → (call q count self s w ≡ over Wrong s w)
       ⊎ ((m : FirmProcedure) × (slice_get f.procedures q ≡ Some m) × (may_enter m count self s ≡ true) × ((xs : List ℕ)
       → ArePassed m.receives self (arguments count s) xs
-      → Alike (Returned lay count s) Never (call q count self s w) (lin q (fresh (begins p q xs ram)) w)))
+      → Alike (Returned lay m.result count s) Never (call q count self s w) (lin q (fresh (begins p q xs ram)) w)))
       → (call q count self s w ≡ over Wrong s w) ⊎ Enters lay f p call lin q count self s w ram
   enters_as call lin q count self s w ram (inl e) = inl e
   enters_as call lin q count self s w ram (inr (m, e, enters, does)) =
@@ -183,6 +183,7 @@ module _ (k : Codes) (lay : Layout) (f : FirmProgram) (p : LinProgram) (flat : A
         flat = (flat.flats q m e).3;
         many = facts.0;
         long = facts.1;
+        fits = facts.3;
         receives = facts.2;
         alike = does;
       })
@@ -191,21 +192,21 @@ module _ (k : Codes) (lay : Layout) (f : FirmProgram) (p : LinProgram) (flat : A
       (w : World History) (ram : List ℕ) → IsFair w → RamStands lay.ram s.columns ram
       → (m : FirmProcedure) (e : slice_get f.procedures q ≡ Some m) → may_enter m count self s ≡ true → (xs : List ℕ)
       → ArePassed m.receives self (arguments count s) xs
-      → Alike (Returned lay count s) Never
+      → Alike (Returned lay m.result count s) Never
       (opened full (Calling m.method) (run_procedure full k f (firm_called full k f n) (λ vector. firm_handled (firm_called full k f n)
       (f.handler vector)) m count self) s w)
       (with_found ((language p).named q) (λ a. opened full a (lin_body (language p) (lin_called (language p) bodies n) (structured (block_at q (Some m) e))))
       (fresh (begins p q xs ram)) w)
   does_call n hn q count self s w ram i held m e enters xs passed =
-      subst (λ z. Alike (Returned lay count s) Never
+      subst (λ z. Alike (Returned lay m.result count s) Never
       (opened full (Calling m.method) (run_procedure full k f (firm_called full k f n) (λ vector. firm_handled (firm_called full k f n)
       (f.handler vector)) m count self) s w)
       (with_found z (λ a. opened full a (lin_body (language p) (lin_called (language p) bodies n) (structured (block_at q (Some m) e)))) start w))
       (sym (ap name_of (flat.flats q m e).1 ∙ ap call_of (flat.flats q m e).3.method))
-      (alike_opened {G = Start} {J = Returned lay count s} {L = Never} (Calling m.method)
+      (alike_opened {G = Start} {J = Returned lay m.result count s} {L = Never} (Calling m.method)
       (run_procedure full k f (firm_called full k f n) (λ vector. firm_handled (firm_called full k f n) (f.handler vector)) m count self)
       (lin_body (language p) (lin_called (language p) bodies n) (structured (block_at q (Some m) e)))
-      (λ s1 d1 w1 i1 st. subst (λ z. Alike (Returned lay count s) Never
+      (λ s1 d1 w1 i1 st. subst (λ z. Alike (Returned lay m.result count s) Never
       (run_procedure full k f (firm_called full k f n) (λ vector. firm_handled (firm_called full k f n) (f.handler vector)) m count self z w1)
       (lin_body (language p) (lin_called (language p) bodies n) (structured (block_at q (Some m) e)) d1 w1)) (sym st.0)
       (alike_body k lay f p flat (firm_called full k f n) (lin_called (language p) bodies n) hn m (flat.flats q m e).0 (flat.flats q m e).2
@@ -235,7 +236,7 @@ module _ (k : Codes) (lay : Layout) (f : FirmProgram) (p : LinProgram) (flat : A
 
   -- the procedure with which a run begins has no locals
   abbrev bare : Room
-  bare = record { receiver = 0; locals = 0; temps = 0 }
+  bare = record { receiver = 0; locals = 0; temps = 0; result = 0 }
 
   abbrev Top : Firm → Deciding State → Type 0
   Top = Held lay bare [] (only [])
@@ -245,7 +246,11 @@ module _ (k : Codes) (lay : Layout) (f : FirmProgram) (p : LinProgram) (flat : A
   main_numbers true = 0 ∷ []
   main_numbers false = []
 
-  main_values : (b : Bool) (t : State) → values (operands (main_args b)) t ≡ Some (main_numbers b)
+  abbrev main_waits : Bool → List Waiting
+  main_waits true = record { width = 4; value = 0 } ∷ []
+  main_waits false = []
+
+  main_values : (b : Bool) (t : State) → values (operands (main_args b)) t ≡ Some (main_waits b)
   main_values true t = refl
   main_values false t = refl
 
@@ -253,34 +258,48 @@ module _ (k : Codes) (lay : Layout) (f : FirmProgram) (p : LinProgram) (flat : A
   main_passed true = inl (0, refl)
   main_passed false = refl
 
-  main_long : (b : Bool) → length (main_numbers b) ≡ receivers b
+  main_long : (b : Bool) → length (main_waits b) ≡ receivers b
   main_long true = refl
   main_long false = refl
 
-  module _ (lp : LinProcedure) (has : slice_get p.procedures f.main ≡ Some lp) (params : lp.params ≡ receivers flat.main.receives) where
+  main_numbered : (b : Bool) → values_of (main_waits b) ≡ main_numbers b
+  main_numbered true = refl
+  main_numbered false = refl
+
+  -- main gets a receiver in the four bytes of its parameter
+  main_same : (b : Bool) (params : ℕ) (ws more : List ℕ)
+      → same_widths (widened (if b then receivers b + params else 0) (with_receiver_width b ws) ++ more) (main_waits b) ≡ true
+  main_same true params ws more =
+      let e : 1 + params ≡ suc params = omega arith in ap (λ n. same_widths (widened n (2 ∷ ws) ++ more) (main_waits true)) e
+  main_same false params ws more = refl
+
+  module _ (lp : LinProcedure) (has : slice_get p.procedures f.main ≡ Some lp) (params : lp.params ≡ receivers flat.main.receives)
+      (same : same_widths lp.widths (main_waits flat.main.receives) ≡ true) where
     enters_main : (t : State) → enter p (calls_main f.main flat.main.receives) t
         ≡ Some (record { proc = f.main; state = begins p f.main (main_numbers flat.main.receives) t.ram; kept = t })
     enters_main t =
         ap (λ z. entry_of f.main z (calls_main f.main flat.main.receives) t) has
-        ∙ ap (entry_with f.main lp [] t) (main_values flat.main.receives t)
-        ∙ ap (λ b. if b then Some (entry lp.widths) else None) (fits (length (main_numbers flat.main.receives)) lp.params (main_long flat.main.receives ∙ sym params))
-        ∙ ap (λ z. Some (entry (widths_of z))) (sym has)
+        ∙ ap (entry_with f.main lp None [] t) (main_values flat.main.receives t)
+        ∙ ap (λ b. if b then Some (entry lp.widths (values_of (main_waits flat.main.receives))) else None)
+        (fits (length (main_waits flat.main.receives)) lp.params (same_widths lp.widths (main_waits flat.main.receives))
+        (main_long flat.main.receives ∙ sym params) same)
+        ∙ ap (λ z. Some (entry lp.widths z)) (main_numbered flat.main.receives)
+        ∙ ap (λ z. Some (entry (widths_of z) (main_numbers flat.main.receives))) (sym has)
       where
-        entry : List ℕ → Entry State
-        entry widths =
-            record { proc = f.main; state = record { locals = begun widths (main_numbers flat.main.receives); waiting = []; ram = t.ram }; kept = t }
+        entry : (widths xs : List ℕ) → Entry State
+        entry widths xs = record { proc = f.main; state = record { locals = begun widths xs; waiting = []; ram = t.ram }; kept = t }
 
-        fits : (a l : ℕ) → a ≡ l → (0 + a == l) && true ≡ true
-        fits a l e = grind arith
+        fits : (a l : ℕ) (b : Bool) → a ≡ l → b ≡ true → ((a == l) && b && true) ≡ true
+        fits a l b e h = grind arith
 
   alike_main : (n : ℕ) → AlikePiece Top Top (Leaves lay bare []) (firm_handled (firm_called full k f n) (Some f.main))
       (lin_step (language p) (lin_called (language p) bodies n) (To (calls_main f.main flat.main.receives)))
   alike_main n s d w i q = by_call (calls n f.main 0 None s w d.state.ram i q.ram)
     where
-      behind : (s1 : Firm) (d1 : Deciding State) (w1 : World History) → IsFair w1 → Returned lay 0 s s1 d1
+      behind : (width : ℕ) (s1 : Firm) (d1 : Deciding State) (w1 : World History) → IsFair w1 → Returned lay width 0 s s1 d1
           → Alike Top (Leaves lay bare []) (taking (λ v. go_on) s1 w1)
           (resumed (language p) (Result (calls_main f.main flat.main.receives)) d.state d d1 w1)
-      behind s1 d1 w1 i1 (v, e1, e2, e3, e4, small, held) =
+      behind width s1 d1 w1 i1 (v, e1, e2, e3, e4, fit, small, held) =
           subst (λ z. Alike Top (Leaves lay bare []) (take_from z (λ v. go_on) s1 w1)
           (resumed (language p) (Result (calls_main f.main flat.main.receives)) d.state d d1 w1)) (sym e1)
           (gives i1 (record {
@@ -296,17 +315,19 @@ module _ (k : Codes) (lay : Layout) (f : FirmProgram) (p : LinProgram) (flat : A
 
       by_enters : Enters lay f p (firm_called full k f n) (lin_called (language p) bodies n) f.main 0 None s w d.state.ram → (m : FirmProcedure) → flat.main ≡ m
           → (lp : LinProcedure) → slice_get p.procedures f.main ≡ Some lp → lp.params ≡ receivers m.receives
-          → ((xs : List ℕ) → ArePassed m.receives None [] xs → Alike (Returned lay 0 s) Never (firm_called full k f n f.main 0 None s w)
+          → same_widths lp.widths (main_waits m.receives) ≡ true
+          → ((xs : List ℕ) → ArePassed m.receives None [] xs → Alike (Returned lay m.result 0 s) Never (firm_called full k f n f.main 0 None s w)
           (lin_called (language p) bodies n f.main (fresh (begins p f.main xs d.state.ram)) w))
           → Alike Top (Leaves lay bare []) (firm_handled (firm_called full k f n) (Some f.main) s w)
           (lin_step (language p) (lin_called (language p) bodies n) (To (calls_main f.main flat.main.receives)) d w)
-      by_enters en m em lp has params does =
+      by_enters en m em lp has params same does =
           subst (λ z. Alike Top (Leaves lay bare []) (firm_handled (firm_called full k f n) (Some f.main) s w)
           (with_found z (entered (language p) (lin_called (language p) bodies n) (calls_main f.main flat.main.receives)) d w))
-          (sym (enters_main lp has (params ∙ ap (λ z. receivers z.receives) (sym em)) d.state))
+          (sym (enters_main lp has (params ∙ ap (λ z. receivers z.receives) (sym em))
+          (subst (λ z. same_widths lp.widths (main_waits z.receives) ≡ true) (sym em) same) d.state))
           (alike_behind_both (taking (λ v. go_on)) (resumed (language p) (Result (calls_main f.main flat.main.receives)) d.state d)
           (does (main_numbers flat.main.receives) (subst (λ z. ArePassed z.receives None [] (main_numbers flat.main.receives)) em (main_passed flat.main.receives)))
-          behind)
+          (behind m.result))
 
       by_call : (firm_called full k f n f.main 0 None s w ≡ over Wrong s w)
           ⊎ Enters lay f p (firm_called full k f n) (lin_called (language p) bodies n) f.main 0 None s w d.state.ram
@@ -317,7 +338,9 @@ module _ (k : Codes) (lay : Layout) (f : FirmProgram) (p : LinProgram) (flat : A
           (lin_step (language p) (lin_called (language p) bodies n) (To (calls_main f.main flat.main.receives)) d w)) (sym e) wrong
       by_call (inr en) =
           by_enters en en.packed (some_is flat.main en.packed (sym flat.is_main ∙ en.is_packed)) en.flattened en.is_linear
-          (en.flat.parameters ∙ ap (λ z. receivers en.packed.receives + z) (sym en.many) ∙ alone (receivers en.packed.receives)) en.alike
+          (en.flat.parameters ∙ ap (λ z. receivers en.packed.receives + z) (sym en.many) ∙ alone (receivers en.packed.receives))
+          (ap (λ z. same_widths z (main_waits en.packed.receives)) en.flat.widths
+          ∙ main_same en.packed.receives en.packed.params en.packed.widths (replicate en.flat.room.temps 4)) en.alike
         where
           alone : (a : ℕ) → a + 0 ≡ a
           alone a = omega arith

@@ -7,7 +7,7 @@ use Rattle.vg_lin.specs.declared.instr.Instr.{Instr}
 use Rattle.vg_lin.specs.declared.instr.Instr.TheVariants.{Plain, When, Unless, Jump, Call, Return, Idle}
 use Rattle.vg_flatten_shapes.proofs.Choices.{alone, with_jump, choice_cases, nothing_anywhere}
 use Rattle.vg_lin.specs.Structured.{Step, To}
-use Rattle.vg_lin.specs.declared.instr.Operand.{Operand}
+use Rattle.vg_lin.specs.declared.instr.Passed.{Passed}
 use Rattle.vg_lin.specs.declared.instr.Call.{Call as Calling}
 use Rattle.vg_lin.specs.Stands.{Next, Either, Stands, nothing, sequence, plain, call, idle, when, unless, flip, choice, loop, break', continue', return, before, behind}
 use Rattle.vg_flatten_shapes.specs.declared.open.Truth.{Truth}
@@ -111,7 +111,7 @@ module _ (fetch : ℕ → Option Instr) where
       goal_at x y (structured b) at (at + length (open_code b at)) at (omega (arith, n)) (h (subst (λ z. Lies fetch x y z at) (sym e) tt))
 
   -- the pushes of a call, and the call
-  stands_call : (pushed : List Operand) (c : Calling) (x y at : ℕ) → Lies fetch x y (call_code pushed c) at
+  stands_call : (pushed : List Passed) (c : Calling) (x y at : ℕ) → Lies fetch x y (call_code pushed c) at
       → Stands fetch x y (pushing pushed (Do (To c))) at (Next (at + length (call_code pushed c)))
   stands_call [] c x y at l = goal_at x y _ at (suc at) (at + 1) (omega arith) (call l.0)
   stands_call (a ∷ more) c x y at l =
@@ -123,7 +123,7 @@ module _ (fetch : ℕ → Option Instr) where
   stands (One p) x y at l = goal_at x y _ at (suc at) (at + 1) (omega arith) (plain l.0)
   stands (CallTo pushed c) x y at l = stands_call pushed c x y at l
   stands TakeInterrupt x y at l = goal_at x y _ at (suc at) (at + 1) (omega arith) (idle l.0)
-  stands (GiveBack a) x y at l = return l.0
+  stands (GiveBack w a) x y at l = return l.0
   stands BreakOut x y at l = before l.0 break'
   stands GoOn x y at l = before l.0 continue'
   stands (Both a b) x y at l =
