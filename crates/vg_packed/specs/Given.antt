@@ -1,5 +1,5 @@
 -- What is known where a program is packed.
-use Rattle.std.specs.Prelude.{◌≡◌, ℕ, ◌<◌, ◌≤◌, List, [], length, Some, slice_get}
+use Rattle.std.specs.Prelude.{◌≡◌, ℕ, ◌<◌, ◌≤◌, ◌^◌, List, [], length, Some, slice_get}
 use Rattle.vg_core.specs.declared.heap.Heap.{Heap}
 use Rattle.vg_core.specs.declared.program.Tables.{Tables}
 use Rattle.vg_core.specs.declared.types.CoreType.{CoreType}
@@ -34,6 +34,7 @@ pub record IsGiven (p : Program) (h : Heap) (s : LiveSet) (n : Numbers) (c : Col
   pub numbers : IsNumbering p.tables (kinds_of h) (kept_in s) n
   pub columns : ArePlaced (all_columns p.tables (needs p (kinds_of h) s) (kinds_of h)) c
   pub wide : HaveWidth p.tables (kinds_of h)
+  pub few_fields : length p.tables.fields < 2 ^ 32
   pub few_classes : length p.tables.classes < 65536
   pub few_methods : length p.tables.methods < 65536
   pub few_parameters : HaveFewParameters p.tables.methods

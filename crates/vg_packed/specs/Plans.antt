@@ -5,7 +5,6 @@ use Rattle.vg_core.specs.declared.types.CoreType.{CoreType}
 use Rattle.vg_core.specs.Program.{Program}
 use Rattle.vg_firm.specs.Session.{is_among}
 use Rattle.vg_live.specs.declared.live_set.LiveSet.{LiveSet}
-use Rattle.vg_live.specs.Sets.{flat}
 use Rattle.vg_number.specs.declared.numbers.Numbers.{Numbers}
 use Rattle.vg_number.specs.Numbering.{kept_in, kinds_of}
 use Rattle.vg_packing.specs.Layout.{Column, Layout}

@@ -1,0 +1,12 @@
+use Rattle.std.proofs.Common.{◌≡◌, drop}
+use Rattle.vg_codes.specs.Codes.{Codes}
+use Rattle.vg_number.specs.Numbering.{kinds_of}
+use Rattle.vg_pack_code.specs.Plans.{layout_by}
+use Rattle.vg_pack_values.specs.Columns.{numbers_in}
+use Rattle.vg_pack_values.specs.Places.{with_places, object_places}
+use Rattle.vg_pack_values.proofs.filling.put_fields.Given as goal
+
+abbrev pub invariant-loop-field : goal.invariant-loop-field
+invariant-loop-field l =
+    (k : Codes) → with_places l.tables l.heap (layout_by (kinds_of l.heap) l.numbers l.plan) k (object_places l.cell (drop l.field-index l.fields)) (numbers_in k l.rows.items)
+    ≡ with_places l.tables l.heap (layout_by (kinds_of l.heap) l.numbers l.plan) k (object_places l.cell l.fields) (numbers_in k l.fn.rows.items)

@@ -1,0 +1,4 @@
+pub mod Sets
+pub mod Held
+pub mod Binding
+pub mod Calling
