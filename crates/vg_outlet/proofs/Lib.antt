@@ -1,0 +1,3 @@
+pub mod Told
+pub mod Putting
+pub mod Puts
