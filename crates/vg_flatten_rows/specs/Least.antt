@@ -18,7 +18,7 @@ use Rattle.vg_lin.specs.declared.instr.Instr.TheVariants.{Plain, Unless, Call, R
 use Rattle.vg_lin.specs.Program.{Procedure as LinProcedure}
 use Rattle.vg_arith.specs.Simple.{are_simple}
 use Rattle.vg_expand.specs.Code.{expanded}
-use Rattle.vg_flatten_rows.specs.Bodies.{steps, procedure, flattened, computes, is_zero}
+use Rattle.vg_flatten_rows.specs.Bodies.{steps, procedure, flattened, four, four_to, computes, is_zero}
 
 -- M.PORTB = ((-2147483648 / -1) :: raw.32 >> 24) :: raw.8; local z: int = 0; z = 5 % z;
 -- Each minus is an operator before its number. The first cast keeps all bits, so no step stands for it.
@@ -39,7 +39,7 @@ linear =
     Plain (Copy 0 (Known 0)) ∷ computes Difference 4 1 (Known 0) (Known 2147483648) ∷ computes Difference 4 2 (Known 0) (Known 1)
     ∷ checked 2 5 ∷ Plain (Stop 3) ∷ computes Quotient 4 1 (Local 1) (Local 2) ∷ computes RightShift 4 1 (Local 1) (Known 24)
     ∷ computes Sum 1 1 (Local 1) (Known 0) ∷ Plain (Writes 0x38 (Local 1)) ∷ Plain (Copy 0 (Known 0)) ∷ checked 0 12 ∷ Plain (Stop 3)
-    ∷ computes Rest 4 1 (Known 5) (Local 0) ∷ Plain (Copy 0 (Local 1)) ∷ Return (Known 0) ∷ []
+    ∷ computes Rest 4 1 (Known 5) (Local 0) ∷ Plain (Copy 0 (Local 1)) ∷ Return 4 (Known 0) ∷ []
 
 flattened_main : flattened 4 main ≡ Some linear
 flattened_main = refl
@@ -47,17 +47,17 @@ flattened_main = refl
 -- ---- with the routines from the procedure 7 on, so that division is the procedure 8
 
 abbrev pub linear_main : LinProcedure
-linear_main = record { method = Some 0; params = 0; widths = 4 ∷ 4 ∷ 4 ∷ 4 ∷ 4 ∷ []; code = linear }
+linear_main = record { method = Some 0; params = 0; result = 4; widths = 4 ∷ 4 ∷ 4 ∷ 4 ∷ 4 ∷ []; code = linear }
 
 abbrev pub divides : Registers → Instr
-divides args = Call (record { callee = ByNumber 8; pushed = 0; registers = args; to = Some 1 })
+divides args = Call (record { callee = ByNumber 8; pushed = 0; registers = args; to = four_to 1 })
 
 -- Both divisions are calls of one routine, whose last argument chooses quotient or remainder. The shift by a known amount stays.
 expanded_main : (expanded 7 linear_main).code
     ≡ Plain (Copy 0 (Known 0)) ∷ computes Difference 4 1 (Known 0) (Known 2147483648) ∷ computes Difference 4 2 (Known 0) (Known 1)
-    ∷ checked 2 5 ∷ Plain (Stop 3) ∷ divides (Three (Local 1) (Local 2) (Known 0)) ∷ computes RightShift 4 1 (Local 1) (Known 24)
+    ∷ checked 2 5 ∷ Plain (Stop 3) ∷ divides (Three (four (Local 1)) (four (Local 2)) (record { width = 1; value = Known 0 })) ∷ computes RightShift 4 1 (Local 1) (Known 24)
     ∷ computes Sum 1 1 (Local 1) (Known 0) ∷ Plain (Writes 0x38 (Local 1)) ∷ Plain (Copy 0 (Known 0)) ∷ checked 0 12 ∷ Plain (Stop 3)
-    ∷ divides (Three (Known 5) (Local 0) (Known 1)) ∷ Plain (Copy 0 (Local 1)) ∷ Return (Known 0) ∷ []
+    ∷ divides (Three (four (Known 5)) (four (Local 0)) (record { width = 1; value = Known 1 })) ∷ Plain (Copy 0 (Local 1)) ∷ Return 4 (Known 0) ∷ []
 expanded_main = refl
 
 -- No product, no division, no remainder and no shift by an amount that is not known is left.

@@ -24,6 +24,7 @@ fn sixty(alloc: Global) -> Result<Row<u8>, NoMemory>
 fn high(alloc: Global, count: u8) -> Result<Procedure, NoMemory>
     ensures params { IfOk result (λ p. p.params ≤ length p.widths) }
     ensures widths { IfOk result (λ p. AllByRecursion IsWidth p.widths) }
+    ensures given { IfOk result (λ p. p.result ≤ 4) }
 {
     let widths = sixty(alloc)?;
     let mut steps = Vec::new(alloc);
@@ -50,7 +51,7 @@ fn flattened(alloc: Global, count: u8) -> Result<LinProc, Refusal<Fault>> {
         ram: Row::new(alloc),
         flash: Row::new(alloc),
         tables: Row::new(alloc),
-        receives: Row::new(alloc),
+        passing: Row::new(alloc),
     };
     flatten(alloc, &layout, &high(alloc, count)?)
 }
@@ -73,6 +74,7 @@ fn many_values_wait(rt: HostRuntime) {
 fn dividing(alloc: Global) -> Result<Procedure, NoMemory>
     ensures params { IfOk result (λ p. p.params ≤ length p.widths) }
     ensures widths { IfOk result (λ p. AllByRecursion IsWidth p.widths) }
+    ensures given { IfOk result (λ p. p.result ≤ 4) }
 {
     let mut widths = Row::new(alloc);
     widths.push(4)?;
@@ -137,7 +139,7 @@ fn divisions_are_calls(rt: HostRuntime) {
         ram: Row::new(alloc),
         flash: Row::new(alloc),
         tables: Row::new(alloc),
-        receives: Row::new(alloc),
+        passing: Row::new(alloc),
     };
     let divisions = match dividing(alloc) {
         Ok(procedure) => divisions_in(alloc, &layout, &procedure),
@@ -150,17 +152,13 @@ fn divisions_are_calls(rt: HostRuntime) {
 fn divisions_in(alloc: Global, layout: &Layout, procedure: &Procedure) -> usize
     requires params { procedure.now.params ≤ length procedure.now.widths }
     requires widths { AllByRecursion IsWidth procedure.now.widths }
+    requires given { procedure.now.result ≤ 4 }
 {
     match flatten(alloc, layout, procedure) {
-        Ok(linear) => {
-            if linear.code().len() > 32767 {
-                return 0;
-            }
-            match expand(alloc, &linear, 7) {
-                Ok(expanded) => calls_of(expanded.code(), 8),
-                Err(_) => 0,
-            }
-        }
+        Ok(linear) => match expand(alloc, &linear, 7) {
+            Ok(expanded) => calls_of(expanded.code(), 8),
+            Err(_) => 0,
+        },
         Err(_) => 0,
     }
 }

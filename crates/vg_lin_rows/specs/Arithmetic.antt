@@ -10,6 +10,7 @@ use Rattle.vg_lin.specs.declared.instr.Comparison.TheVariants.{Same}
 use Rattle.vg_lin.specs.declared.instr.Test.{Test}
 use Rattle.vg_lin.specs.declared.instr.Plain.TheVariants.{Copy, Compute, Product, WriteDevice}
 use Rattle.vg_lin.specs.declared.instr.Callee.TheVariants.{Procedure as ByNumber}
+use Rattle.vg_lin.specs.declared.instr.Passed.{Passed}
 use Rattle.vg_lin.specs.declared.instr.Registers.{Registers}
 use Rattle.vg_lin.specs.declared.instr.Registers.TheVariants.{Empty, Two, Three}
 use Rattle.vg_lin.specs.declared.instr.Instr.{Instr}
@@ -33,6 +34,7 @@ main =
     record {
       method = Some 0;
       params = 0;
+      result = 0;
       widths = 4 ∷ 4 ∷ 4 ∷ 1 ∷ [];
       code =
           Plain (Copy 0 (Known 0x80000000))
@@ -42,23 +44,30 @@ main =
           ∷ Plain (WriteDevice 0x38 (Local 3)) ∷ Plain (WriteDevice 0x38 (Local 2)) ∷ When ends_here 9
           ∷ Plain (Compute (record { operator = Times; width = 2; to = 1; left = Local 3; right = Known 0x0207 }))
           ∷ Plain (Compute (record { operator = ShiftLeft; width = 1; to = 3; left = Known 3; right = Local 2 })) ∷ Plain (WriteDevice 0x38 (Local 1))
-          ∷ Plain (WriteDevice 0x38 (Local 3)) ∷ Return (Known 0) ∷ [];
+          ∷ Plain (WriteDevice 0x38 (Local 3)) ∷ Return 0 (Known 0) ∷ [];
     }
 
 abbrev pub routine_call : (routine : ℕ) → Registers → (to : ℕ) → Instr
-routine_call q rs to = Call (record { callee = ByNumber q; pushed = 0; registers = rs; to = Some to })
+routine_call q rs to = Call (record { callee = ByNumber q; pushed = 0; registers = rs; to = Some (record { width = 4; local = to }) })
+
+-- Arguments of four bytes, and those of a division, of which the last chooses the result.
+abbrev pub four : Operand → Passed
+four a = record { width = 4; value = a }
+
+abbrev pub dividing : (wanted : Operand) → Registers
+dividing wanted = Three (four (Local 0)) (four (Known 0xFFFFFFFF)) (record { width = 1; value = wanted })
 
 abbrev pub cut : (width to : ℕ) → Instr
 cut w to = Plain (Compute (record { operator = Plus; width = w; to = to; left = Local to; right = Known 0 }))
 
 -- Two calls of the routine of division; the shift by a known amount stays, and the branch leads two places further.
 stands : (expanded 2 main).code
-    ≡ Plain (Copy 0 (Known 0x80000000)) ∷ routine_call 3 (Three (Local 0) (Known 0xFFFFFFFF) (Known 0)) 1
-    ∷ routine_call 3 (Three (Local 0) (Known 0xFFFFFFFF) (Known 1)) 2
+    ≡ Plain (Copy 0 (Known 0x80000000)) ∷ routine_call 3 (dividing (Known 0)) 1
+    ∷ routine_call 3 (dividing (Known 1)) 2
     ∷ Plain (Compute (record { operator = ShiftRight; width = 4; to = 3; left = Local 1; right = Known 24 })) ∷ Plain (WriteDevice 0x38 (Local 3))
-    ∷ Plain (WriteDevice 0x38 (Local 2)) ∷ When ends_here 11 ∷ routine_call 2 (Two (Local 3) (Known 0x0207)) 1 ∷ cut 2 1
-    ∷ routine_call 4 (Three (Known 3) (Local 2) (Known 0xFF)) 3 ∷ cut 1 3 ∷ Plain (WriteDevice 0x38 (Local 1)) ∷ Plain (WriteDevice 0x38 (Local 3))
-    ∷ Return (Known 0) ∷ []
+    ∷ Plain (WriteDevice 0x38 (Local 2)) ∷ When ends_here 11 ∷ routine_call 2 (Two (four (Local 3)) (four (Known 0x0207))) 1 ∷ cut 2 1
+    ∷ routine_call 4 (Three (four (Known 3)) (four (Local 2)) (four (Known 0xFF))) 3 ∷ cut 1 3 ∷ Plain (WriteDevice 0x38 (Local 1)) ∷ Plain (WriteDevice 0x38 (Local 3))
+    ∷ Return 0 (Known 0) ∷ []
 stands = refl
 
 abbrev pub start : Procedure
@@ -66,6 +75,7 @@ start =
     record {
       method = None;
       params = 0;
+      result = 0;
       widths = [];
       code = Call (record { callee = ByNumber 0; pushed = 0; registers = Empty; to = None }) ∷ Idle ∷ Jump 1 ∷ [];
     }
@@ -135,10 +145,10 @@ by_seven : product_code 4 (Local 0) (Known 7)
 by_seven = refl
 
 -- the local of the result is the operand, so that a shift would lose it
-five_times_itself : product_code 4 (Local 1) (Known 5) ≡ routine_call 2 (Two (Local 1) (Known 5)) 1 ∷ []
+five_times_itself : product_code 4 (Local 1) (Known 5) ≡ routine_call 2 (Two (four (Local 1)) (four (Known 5))) 1 ∷ []
 five_times_itself = refl
 
-by_ten : product_code 4 (Local 0) (Known 10) ≡ routine_call 2 (Two (Local 0) (Known 10)) 1 ∷ []
+by_ten : product_code 4 (Local 0) (Known 10) ≡ routine_call 2 (Two (four (Local 0)) (four (Known 10))) 1 ∷ []
 by_ten = refl
 
 -- two bytes
@@ -148,7 +158,7 @@ of_bytes = refl
 of_byte_and_known : product_code 1 (Local 2) (Known 10) ≡ Plain (Product 1 (Local 2) (Known 10)) ∷ cut 1 1 ∷ []
 of_byte_and_known = refl
 
-of_byte_and_more : product_code 4 (Local 2) (Local 0) ≡ routine_call 2 (Two (Local 2) (Local 0)) 1 ∷ []
+of_byte_and_more : product_code 4 (Local 2) (Local 0) ≡ routine_call 2 (Two (four (Local 2)) (four (Local 0))) 1 ∷ []
 of_byte_and_more = refl
 
 -- of two known numbers it is worked out, and cut to its width

@@ -8,7 +8,7 @@ use Rattle.vg_lin.specs.declared.instr.Operator.TheVariants.{Plus, Minus}
 use Rattle.vg_lin.specs.declared.instr.Comparison.TheVariants.{Below, Same}
 use Rattle.vg_lin.specs.declared.instr.Test.{Test}
 use Rattle.vg_lin.specs.declared.instr.Memory.TheVariants.{Ram, Flash}
-use Rattle.vg_lin.specs.declared.instr.Plain.TheVariants.{Copy, Compute, Load, Store, ReadDevice, WriteDevice, Push, Find, Stop}
+use Rattle.vg_lin.specs.declared.instr.Plain.TheVariants.{Copy, Compute, Load, Store, ReadDevice, WriteDevice, Push, Pop, Find, Stop}
 use Rattle.vg_lin.specs.declared.instr.Callee.TheVariants.{Procedure as ByNumber, Code as ByCode}
 use Rattle.vg_lin.specs.declared.instr.Registers.TheVariants.{Empty, One}
 use Rattle.vg_lin.specs.declared.instr.Call.{Call as Calling}
@@ -24,7 +24,7 @@ start_call = record { callee = ByNumber 0; pushed = 0; registers = Empty; to = N
 
 -- the call of `count` on object 2: the receiver goes in a register, and x is pushed
 abbrev pub count_call : Calling
-count_call = record { callee = ByCode (Local 1); pushed = 1; registers = One (Known 2); to = None }
+count_call = record { callee = ByCode (Local 1); pushed = 1; registers = One (record { width = 2; value = Known 2 }); to = None }
 
 abbrev pub is_zero : Test
 is_zero = record { comparison = Same; width = 4; left = Local 0; right = Known 0 }
@@ -35,14 +35,15 @@ main =
     record {
       method = Some 0;
       params = 0;
+      result = 0;
       widths = 4 ∷ 2 ∷ [];
       code =
           Plain (ReadDevice 0 0x36) ∷ When is_zero 7 ∷ Plain (Find 0 1 (Known 2)) ∷ Plain (Push 4 (Local 0)) ∷ Call count_call
-          ∷ Plain (Compute (record { operator = Minus; width = 4; to = 0; left = Local 0; right = Known 1 })) ∷ Jump 1 ∷ Return (Known 0) ∷ [];
+          ∷ Plain (Compute (record { operator = Minus; width = 4; to = 0; left = Local 0; right = Known 1 })) ∷ Jump 1 ∷ Return 0 (Known 0) ∷ [];
     }
 
 abbrev pub nothing_done : Procedure
-nothing_done = record { method = Some 4; params = 2; widths = 4 ∷ 2 ∷ []; code = Return (Known 0) ∷ [] }
+nothing_done = record { method = Some 4; params = 2; result = 0; widths = 4 ∷ 2 ∷ []; code = Return 0 (Known 0) ∷ [] }
 
 -- locals: n, the receiver, the sum
 abbrev pub count : Procedure
@@ -50,11 +51,12 @@ count =
     record {
       method = Some 7;
       params = 2;
+      result = 0;
       widths = 4 ∷ 2 ∷ 4 ∷ [];
       code =
           Plain (Load Ram 4 2 (record { base = 0x100; index = Known 0 }))
           ∷ Plain (Compute (record { operator = Plus; width = 4; to = 2; left = Local 2; right = Local 0 }))
-          ∷ Plain (Store 4 (record { base = 0x100; index = Known 0 }) (Local 2)) ∷ Plain (WriteDevice 0x38 (Local 2)) ∷ Return (Known 0) ∷ [];
+          ∷ Plain (Store 4 (record { base = 0x100; index = Known 0 }) (Local 2)) ∷ Plain (WriteDevice 0x38 (Local 2)) ∷ Return 0 (Known 0) ∷ [];
     }
 
 -- the bounds check of a known index against the length in the table, and the element at the place in the table
@@ -63,16 +65,17 @@ handler index =
     record {
       method = Some 9;
       params = 0;
+      result = 0;
       widths = 2 ∷ 1 ∷ [];
       code =
           Plain (Load Flash 2 0 (record { base = 0x91; index = Known 0 }))
           ∷ Unless (record { comparison = Below; width = 2; left = Known index; right = Local 0 }) 6
           ∷ Plain (Load Flash 2 0 (record { base = 0x8F; index = Known 0 })) ∷ Plain (Load Flash 1 1 (record { base = index; index = Local 0 }))
-          ∷ Plain (WriteDevice 0x37 (Local 1)) ∷ Return (Known 0) ∷ Plain (Stop 2) ∷ [];
+          ∷ Plain (WriteDevice 0x37 (Local 1)) ∷ Return 0 (Known 0) ∷ Plain (Stop 2) ∷ [];
     }
 
 abbrev pub start : Procedure
-start = record { method = None; params = 0; widths = []; code = Call start_call ∷ Idle ∷ Jump 1 ∷ [] }
+start = record { method = None; params = 0; result = 0; widths = []; code = Call start_call ∷ Idle ∷ Jump 1 ∷ [] }
 
 -- In flash stand the letters from 0x8C on, and then the table: the place 0x8C and the length 3, two bytes each.
 abbrev pub linear : (index : ℕ) → Program
@@ -115,7 +118,7 @@ then_called = refl
 abbrev pub alone : (widths : List ℕ) → List Instr → Program
 alone widths code =
     record {
-      procedures = record { method = None; params = 0; widths = widths; code = code } ∷ [];
+      procedures = record { method = None; params = 0; result = 0; widths = widths; code = code } ∷ [];
       dispatches = [];
       codes = codes;
       tables = [];
@@ -141,3 +144,47 @@ two_bytes = refl
 
 not_there : (alone_shows (2 ∷ []) (Plain (Load Ram 2 0 (record { base = 0x100; index = Known 2 })) ∷ Idle ∷ [])).ending ≡ Some Wrong
 not_there = refl
+
+-- What was pushed is taken back, cut to its width, and in no other width.
+taken_back : (alone_shows (2 ∷ []) (Plain (Push 1 (Known 0x1FF)) ∷ Plain (Pop 1 0) ∷ Plain (WriteDevice 0x38 (Local 0)) ∷ Idle ∷ [])).trace
+    ≡ Write 0x38 0xFF ∷ []
+taken_back = refl
+
+taken_wider : (alone_shows (2 ∷ []) (Plain (Push 1 (Known 1)) ∷ Plain (Pop 2 0) ∷ Idle ∷ [])).ending ≡ Some Wrong
+taken_wider = refl
+
+nothing_taken : (alone_shows (2 ∷ []) (Plain (Pop 1 0) ∷ Idle ∷ [])).ending ≡ Some Wrong
+nothing_taken = refl
+
+-- A procedure of one parameter of two bytes, which gives back its low byte.
+abbrev pub low_byte : Procedure
+low_byte = record { method = None; params = 1; result = 1; widths = 2 ∷ []; code = Return 1 (Local 0) ∷ [] }
+
+-- It is called with so many bytes of a number, and so many are taken of its result.
+abbrev pub calls_low_byte : (passed taken : ℕ) → Procedure
+calls_low_byte passed taken =
+    record {
+      method = None;
+      params = 0;
+      result = 0;
+      widths = 4 ∷ [];
+      code =
+          Call (record {
+            callee = ByNumber 1;
+            pushed = 0;
+            registers = One (record { width = passed; value = Known 0x10205 });
+            to = Some (record { width = taken; local = 0 });
+          }) ∷ Plain (WriteDevice 0x38 (Local 0)) ∷ Idle ∷ [];
+    }
+
+abbrev pub low_byte_shows : (passed taken : ℕ) → Shown
+low_byte_shows passed taken = seen (run (record (alone [] []) { procedures = calls_low_byte passed taken ∷ low_byte ∷ [] }) 20 [] [])
+
+in_its_widths : (low_byte_shows 2 1).trace ≡ Write 0x38 5 ∷ []
+in_its_widths = refl
+
+passed_narrow : (low_byte_shows 1 1).ending ≡ Some Wrong
+passed_narrow = refl
+
+result_wide : (low_byte_shows 2 4).ending ≡ Some Wrong
+result_wide = refl

@@ -12,11 +12,12 @@ sample =
     record {
       method = None;
       params = 2;
+      result = 4;
       widths = 4 ∷ 4 ∷ 2 ∷ [];
       code =
           When (record { comparison = Same; width = 4; left = Local 1; right = Known 0 }) 5
           ∷ Plain (Compute (record { operator = Divide; width = 4; to = 0; left = Local 0; right = Local 1 }))
           ∷ Plain (Compute (record { operator = Times; width = 2; to = 2; left = Local 0; right = Local 1 }))
           ∷ Plain (Compute (record { operator = Times; width = 4; to = 1; left = Local 0; right = Known 9 }))
-          ∷ Plain (Compute (record { operator = ShiftRight; width = 4; to = 0; left = Local 1; right = Local 0 })) ∷ Return (Local 0) ∷ [];
+          ∷ Plain (Compute (record { operator = ShiftRight; width = 4; to = 0; left = Local 1; right = Local 0 })) ∷ Return 4 (Local 0) ∷ [];
     }

@@ -4,6 +4,6 @@ use Rattle.vg_lin.specs.declared.instr.Operand.TheVariants.{Known}
 use Rattle.vg_lin.specs.declared.instr.Instr.TheVariants.{Return}
 use Rattle.vg_lin.specs.Program.{Procedure}
 
--- It has no locals, and returns 0.
+-- It has no locals and no result.
 abbrev pub smallest : Procedure
-smallest = record { method = None; params = 0; widths = []; code = Return (Known 0) ∷ [] }
+smallest = record { method = None; params = 0; result = 0; widths = []; code = Return 0 (Known 0) ∷ [] }

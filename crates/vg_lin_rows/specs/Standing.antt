@@ -19,7 +19,7 @@ use Rattle.vg_lin_rows.specs.Linear.{start_call, count_call, is_zero, linear}
 
 -- The result 0.
 abbrev pub gives_zero : Code Step
-gives_zero = Then (Do (Give (Known 0))) Return
+gives_zero = Then (Do (Give 0 (Known 0))) Return
 
 -- The loop's test asks whether x is not 0.
 abbrev pub main_body : Code Step

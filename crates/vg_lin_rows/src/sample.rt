@@ -18,7 +18,7 @@ pub fn sample_procedure(alloc: Global) -> Result<LinProc, NoMemory>
     widths.push(4)?;
     widths.push(2)?;
     let code = sample_code(alloc)?;
-    Ok(LinProc::new(None, 2, widths, code))
+    Ok(LinProc::new(None, 2, 4, widths, code))
 }
 
 fn sample_code(alloc: Global) -> Result<Row<Instr>, NoMemory>
@@ -38,7 +38,7 @@ fn sample_code(alloc: Global) -> Result<Row<Instr>, NoMemory>
     code.push(computing(Operator::Times, 2, 2, 0, Operand::Local(1)))?;
     code.push(computing(Operator::Times, 4, 1, 0, Operand::Known(9)))?;
     code.push(computing(Operator::ShiftRight, 4, 0, 1, Operand::Local(0)))?;
-    code.push(Instr::Return(Operand::Local(0)))?;
+    code.push(Instr::Return(4, Operand::Local(0)))?;
     Ok(code)
 }
 

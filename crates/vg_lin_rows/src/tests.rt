@@ -1,6 +1,7 @@
 use crate::sample::sample_procedure;
 use crate::smallest::smallest_procedure;
 use vg_arith::{ROUTINES, routine};
+use vg_base::{NoMemory, Refusal};
 use vg_expand::expand;
 use vg_lin::{Callee, Instr};
 
@@ -23,7 +24,7 @@ fn arithmetic_becomes_calls(rt: HostRuntime) {
     let alloc = rt.alloc();
     let expanded = match sample_procedure(alloc) {
         Ok(sample) => expand(alloc, &sample, 20),
-        Err(fault) => Err(fault),
+        Err(NoMemory) => Err(Refusal::NoMemory),
     };
     let (length, branch, calls) = match &expanded {
         Ok(proc) => {
