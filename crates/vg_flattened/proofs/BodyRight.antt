@@ -158,8 +158,16 @@ module _ (k : Codes) (lay : Layout) (f : FirmProgram) (p : LinProgram) (flat_all
     where
       by_width : (b : Bool) → nat_lt v (256 ^ m.result) ≡ b → Alike (Returned lay m.result count s) Never (checked b (back_in count s v) (record s1 { values = vs }) w1) (Gives d1 w1)
       by_width true lt =
-          gives i (v, refl, refl, refl, er ∙ ap (λ n. low n v) is.given ∙ whole' m.receives m.result v small (lt_of v (256 ^ m.result) lt),
-          lt_of v (256 ^ m.result) lt, small, held)
+          gives i (
+            v,
+            refl,
+            refl,
+            refl,
+            er ∙ ap (λ n. low n v) is.given ∙ whole' m.receives m.result v small (lt_of v (256 ^ m.result) lt),
+            lt_of v (256 ^ m.result) lt,
+            small,
+            held,
+          )
       by_width false lt = wrong
   finished count s _ _ (leaves {why = Over why} i q) = absurd q
   finished count s _ _ overs = overs

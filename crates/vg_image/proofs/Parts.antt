@@ -133,5 +133,12 @@ module _ (p : Parts) (slots : (k at : ℕ) → p.slots k ≡ Some at → at < 65
   bytes_count =
       let v = flat_map instr_bytes (vectors p) in
       let c = flat_map instr_bytes p.code in
-      omega (arith, length-append v (p.tables ++ (filler p.tables ++ c)), length-append p.tables (filler p.tables ++ c), length-append (filler p.tables) c,
-      fillers (length p.tables % 2), vectors-bytes, length-code p.code)
+      omega (
+        arith,
+        length-append v (p.tables ++ (filler p.tables ++ c)),
+        length-append p.tables (filler p.tables ++ c),
+        length-append (filler p.tables) c,
+        fillers (length p.tables % 2),
+        vectors-bytes,
+        length-code p.code,
+      )

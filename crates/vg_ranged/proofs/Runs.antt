@@ -69,13 +69,16 @@ module _ (T : Step → Type 0) where
 module _ (p : Program) (ranges : HaveRanges p) {H : Type 0} where
   keeps_back : (t : CoreType) (count : ℕ) (s : State) → Ranged p.tables s → K {H = H} p.tables (back_in p.tables t count s)
   keeps_back t count s g =
-      keeps_taking p.tables _ (λ v a. keeps_type p.tables t v _ (λ body w h. (record {
-        values = (a, ranged_drop count s.values g.values);
-        locals = g.locals;
-        self = g.self;
-        cells = h.0.cells;
-        globals = h.0.globals;
-      }, h.1)))
+      keeps_taking p.tables _ (λ v a. keeps_type p.tables t v _ (λ body w h. (
+        record {
+          values = (a, ranged_drop count s.values g.values);
+          locals = g.locals;
+          self = g.self;
+          cells = h.0.cells;
+          globals = h.0.globals;
+        },
+        h.1,
+      )))
 
   keeps_body : (r : Recorder H) (call : Caller H) → KeepsCaller p.tables call → (g : Signature) (b : Body) (count : ℕ) (self : CoreValue)
       → Every (IsRangedStep p.tables) b.code → AreSmall b.others → IsSmall g.result → IsRanged self → K p.tables (run_body r p.tables call g b count self)
@@ -89,14 +92,16 @@ module _ (p : Program) (ranges : HaveRanges p) {H : Type 0} where
       (keeps_back g.result count s h.0)
     where
       begun : Starts p.tables (entered b count self s) w.phase w.largest
-      begun =
-          (record {
-            values = tt;
-            locals = ranged_onto (take count s.values) (map default b.others) (ranged_take count s.values h.0.values) (defaults_of_types b.others others);
-            self = a;
-            cells = h.0.cells;
-            globals = h.0.globals;
-          }, h.1)
+      begun = (
+        record {
+          values = tt;
+          locals = ranged_onto (take count s.values) (map default b.others) (ranged_take count s.values h.0.values) (defaults_of_types b.others others);
+          self = a;
+          cells = h.0.cells;
+          globals = h.0.globals;
+        },
+        h.1,
+      )
 
   keeps_arguments : (g : Signature) (count : ℕ) (f : Piece State H) → K p.tables f → K p.tables (with_arguments p.tables g count f)
   keeps_arguments g count f k =

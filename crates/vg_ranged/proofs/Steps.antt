@@ -216,10 +216,12 @@ module _ {H : Type 0} (p : Tables) where
       rest = take count s.values ++ drop (count + 1) s.values
 
       there : At (record s { values = rest }) w
-      there =
-          (with_values p s rest g
-              (ranged_both (take count s.values) (drop (count + 1) s.values) (ranged_take count s.values g.values)
-              (ranged_drop (count + 1) s.values g.values)), q)
+      there = (
+        with_values p s rest g
+            (ranged_both (take count s.values) (drop (count + 1) s.values) (ranged_take count s.values g.values)
+            (ranged_drop (count + 1) s.values g.values)),
+        q,
+      )
 
   keeps_computed : (at : ℕ) (c : Computed) → RangesOf c → K (computed at c)
   keeps_computed at (Is x) a s w h = keeps_put (scalar_value x) (scalar_ranged x a) s w h
@@ -353,14 +355,16 @@ module _ {H : Type 0} (p : Tables) where
       keeps_found t _ (λ u e. keeps_type u v _ (λ s1 w1 h1. keeps_found (value_at p s1.heap x) _ (λ old e1 s2 w2 h2. stored s2 w2 h2) s1 w1 h1))
     where
       stored : (s : State) (w : World H) → At s w → At (record s { heap = set_at p x v s.heap }) w
-      stored s w (g, q) =
-          (record {
-            values = g.values;
-            locals = g.locals;
-            self = g.self;
-            cells = cells_set p v a s.heap g.cells x;
-            globals = globals_set p v a s.heap g.globals x;
-          }, q)
+      stored s w (g, q) = (
+        record {
+          values = g.values;
+          locals = g.locals;
+          self = g.self;
+          cells = cells_set p v a s.heap g.cells x;
+          globals = globals_set p v a s.heap g.globals x;
+        },
+        q,
+      )
 
   keeps_local : (n : ℕ) (t : CoreType) (v : CoreValue) → IsRanged v → K (put_local p n t v)
   keeps_local n t v a = keeps_type t v _ (λ s1 w1 h1. keeps_found (slice_get s1.locals n) _ (λ old e s2 w2 h2. stored s2 w2 h2) s1 w1 h1)

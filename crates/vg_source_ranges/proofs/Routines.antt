@@ -151,11 +151,14 @@ module _ (ds : Node) where
       let g = members_keep rest o c above home (x ∷ seen) made are q.1 m2.1 in
       let b = in_body o (written_type t) ps body q.0 k.0 in
       record {
-        methods = (record {
-          code = b.does;
-          others = others_in_range (length ps) _ b.scope;
-          missing = default_in_range (written_type t) (small_type ds t k.1);
-        }, g.methods);
+        methods = (
+          record {
+            code = b.does;
+            others = others_in_range (length ps) _ b.scope;
+            missing = default_in_range (written_type t) (small_type ds t k.1);
+          },
+          g.methods,
+        );
         own = (tt, g.own);
         its = (tt, g.its);
         constructor_ = g.constructor_;

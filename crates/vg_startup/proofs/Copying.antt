@@ -123,9 +123,10 @@ module _ (e : Run) (deep : Type 0) (pc end : ℕ) (o : Outside) (stand : AllStan
     where
       test_stands : AllStandAt e.flash (pc + 2) tests
       test_stands =
-          let here : pc + 1 + 1 ≡ pc + 2 = omega arith in
-          (subst (λ n. StandsAt e.flash n (Cpi 26 (end % 256))) here stand.1.1.0,
-          (subst (λ n. StandsAt e.flash (n + 1) (Cpc 27 16)) here stand.1.1.1.0, tt))
+          let here : pc + 1 + 1 ≡ pc + 2 = omega arith in (
+            subst (λ n. StandsAt e.flash n (Cpi 26 (end % 256))) here stand.1.1.0,
+            (subst (λ n. StandsAt e.flash (n + 1) (Cpc 27 16)) here stand.1.1.1.0, tt),
+          )
 
       branch : (w : State) → At e (pc + 4) (turned v i) w
           → Goes e deep 1 w (At e (if not (turned v i).regs.flags.zero then near_from (pc + 4) 0x7B else pc + 5) (turned v i))
@@ -180,9 +181,12 @@ module _ (e : Run) (deep : Type 0) (pc end : ℕ) (o : Outside) (stand : AllStan
       next.static ∙ (ap (λ l. (front ++ flash_byte e.flash at ∷ []) ++ l) (none rest (omega (arith, long))) ∙ append-nil (front ++ flash_byte e.flash at ∷ [])) in
       goes_then e deep 1 0 s (At e (if not w.regs.flags.zero then near_from (pc + 4) 0x7B else pc + 5) w) goal
       (turn (length front) v s (inside front y rest v c.static) c.x a)
-      (λ t d. goes_here e deep t goal
-      (w.regs, next.zero, at_view e (pc + 5) t w.regs w.static (front ++ bytes_from e.flash at 1) w.stack [] w.out o static next.stack next.out
-      (subst (λ f. At e (if not f then near_from (pc + 4) 0x7B else pc + 5) w t) on d)))
+      (λ t d. goes_here e deep t goal (
+        w.regs,
+        next.zero,
+        at_view e (pc + 5) t w.regs w.static (front ++ bytes_from e.flash at 1) w.stack [] w.out o static next.stack next.out
+            (subst (λ f. At e (if not f then near_from (pc + 4) 0x7B else pc + 5) w t) on d),
+      ))
   turns (suc k) at front (y ∷ rest) v s long ends low room_at c a =
       let w = turned v (length front) in
       let b = flash_byte e.flash at in

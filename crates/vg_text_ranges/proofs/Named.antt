@@ -133,10 +133,12 @@ module _ (n : Naming) (p : Program) where
   stands_at : (t : Target) (g : Signature) (b : Body) → signature_of p.tables t ≡ Some g → body_of p t ≡ Some b → (ts : List Target) (j : ℕ)
       → slice_get ts j ≡ Some t → (i : ℕ) × (slice_get (naming.routines_at n p ts) i ≡ Some (named_routine n p.tables t g b))
   stands_at t g b eg eb [] j e = absurd (grind (arith, e))
-  stands_at t g b eg eb (u ∷ ts) zero e =
-      (0, ap (λ z. slice_get (naming.routine_at n p z (signature_of p.tables z) (body_of p z) ++ naming.routines_at n p ts) 0) (same u t e)
-          ∙ (ap (λ o. slice_get (naming.routine_at n p t o (body_of p t) ++ naming.routines_at n p ts) 0) eg
-          ∙ ap (λ o. slice_get (naming.routine_at n p t (Some g) o ++ naming.routines_at n p ts) 0) eb))
+  stands_at t g b eg eb (u ∷ ts) zero e = (
+    0,
+    ap (λ z. slice_get (naming.routine_at n p z (signature_of p.tables z) (body_of p z) ++ naming.routines_at n p ts) 0) (same u t e)
+        ∙ (ap (λ o. slice_get (naming.routine_at n p t o (body_of p t) ++ naming.routines_at n p ts) 0) eg
+        ∙ ap (λ o. slice_get (naming.routine_at n p t (Some g) o ++ naming.routines_at n p ts) 0) eb),
+  )
     where
       same : (a c : Target) → Some a ≡ Some c → a ≡ c
       same a c q = cc
