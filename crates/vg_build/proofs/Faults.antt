@@ -12,18 +12,21 @@ use Rattle.vg_first_laws.specs.Trees.{empty_heap}
 use Rattle.vg_first_laws.proofs.Texts.{first_is_text}
 use Rattle.vg_first_laws.proofs.Means.{text_is_legal, text_starts}
 use Rattle.vg_faults.specs.declared.fault.Fault.{Fault}
-use Rattle.vg_faults.specs.declared.fault.Fault.TheVariants.{NoTree, TooDeep, TooMany, Broken, InitTrap, InitSteps, InitDepth, InitTouches, InitTooBig, Allocates, NoMember, NotBuilt}
+use Rattle.vg_faults.specs.declared.fault.Fault.TheVariants.{NoTree, TooDeep, TooMany, Broken, InitTrap, InitSteps, InitDepth, InitTouches, InitTooBig, Allocates, StaticFull, TableFull}
+use Rattle.vg_faults.specs.declared.fault.Fault.TheVariants.{NoMember, NotBuilt}
 use Rattle.vg_faults.specs.Faults.{IsOfInit}
-use Rattle.vg_faults.specs.Living.{HasLiveFault, IsFirmIn}
+use Rattle.vg_faults.specs.Fitting.{HasFitFault, IsFittingIn}
 use Rattle.vg_faults.specs.Starting.{FailsIn, StartsIn}
-use Rattle.vg_faults.proofs.Makers.{firm_starts, no_live_fault, one_live_fault}
-use Rattle.vg_alive.specs.declared.finding.Alive.{Alive}
-use Rattle.vg_alive.specs.Answer.{IsAliveOf, Lives, named_start_heap}
+use Rattle.vg_faults.proofs.Makers.{firm_starts}
+use Rattle.vg_faults.proofs.Fits.{no_fit_fault, one_fit_fault}
+use Rattle.vg_alive.specs.Answer.{named_start_heap}
+use Rattle.vg_fits.specs.declared.fitting.Fitted.{Fitted}
+use Rattle.vg_fits.specs.Answer.{IsFittedOf, Fits}
 use Rattle.vg_tree_walks.specs.Whole.{tree_at}
 use Rattle.vg_build.specs.Image.{IsBuiltOf}
 use Rattle.vg_build.specs.declared.building.Built.{Built}
 use Rattle.vg_faults.specs.Judged.{IsLegal}
-use Rattle.vg_build.proofs.Constants.{firm_of}
+use Rattle.vg_build.proofs.Constants.{fitting_of}
 use Rattle.vg_build.specs.Answer.{Answer, Answers, HasFault, IsCause, IsNotBuilt, IsSettled, fault_in, first_place}
 
 same_fault : (a b : Fault) → Some a ≡ Some b → a ≡ b
@@ -35,7 +38,7 @@ same_place p q e = cc
 -- ---- the faults of a text, and the one that a form is not built
 
 abbrev Sorted : Fault → List ℕ → ℕ → Type 0
-Sorted why bytes clock = ((why ≡ NotBuilt first_place) × IsNotBuilt bytes clock) ⊎ HasLiveFault why bytes clock
+Sorted why bytes clock = ((why ≡ NotBuilt first_place) × IsNotBuilt bytes clock) ⊎ HasFitFault why bytes clock
 
 sorted : (why : Fault) (bytes : List ℕ) (clock : ℕ) → HasFault why bytes clock → Sorted why bytes clock
 sorted (NoTree p) bytes clock h = inr h
@@ -48,11 +51,13 @@ sorted InitDepth bytes clock h = inr h
 sorted (InitTouches address) bytes clock h = inr h
 sorted InitTooBig bytes clock h = inr h
 sorted (Allocates p line) bytes clock h = inr h
+sorted (StaticFull need) bytes clock h = inr h
+sorted (TableFull need) bytes clock h = inr h
 sorted NoMember bytes clock h = inr h
 sorted (NotBuilt p) bytes clock h = inl (ap NotBuilt h.1, h.0)
 
 -- a fault of the text is one of the command
-has_fault : (why : Fault) (bytes : List ℕ) (clock : ℕ) → HasLiveFault why bytes clock → HasFault why bytes clock
+has_fault : (why : Fault) (bytes : List ℕ) (clock : ℕ) → HasFitFault why bytes clock → HasFault why bytes clock
 has_fault (NoTree p) bytes clock h = h
 has_fault (TooDeep p) bytes clock h = h
 has_fault (TooMany what limit p) bytes clock h = h
@@ -63,14 +68,16 @@ has_fault InitDepth bytes clock h = h
 has_fault (InitTouches address) bytes clock h = h
 has_fault InitTooBig bytes clock h = h
 has_fault (Allocates p line) bytes clock h = h
+has_fault (StaticFull need) bytes clock h = h
+has_fault (TableFull need) bytes clock h = h
 has_fault NoMember bytes clock h = h
 has_fault (NotBuilt p) bytes clock h = absurd h
 
 one_sorted : (a b : Fault) (bytes : List ℕ) (clock : ℕ) → Sorted a bytes clock → Sorted b bytes clock → a ≡ b
 one_sorted a b bytes clock (inl h) (inl k) = h.0 ∙ sym k.0
-one_sorted a b bytes clock (inl h) (inr k) = absurd (no_live_fault bytes clock b h.1.0 k)
-one_sorted a b bytes clock (inr h) (inl k) = absurd (no_live_fault bytes clock a k.1.0 h)
-one_sorted a b bytes clock (inr h) (inr k) = one_live_fault bytes clock a b h k
+one_sorted a b bytes clock (inl h) (inr k) = absurd (no_fit_fault bytes clock b h.1.0 k)
+one_sorted a b bytes clock (inr h) (inl k) = absurd (no_fit_fault bytes clock a k.1.0 h)
+one_sorted a b bytes clock (inr h) (inr k) = one_fit_fault bytes clock a b h k
 
 -- the bytes have at most one fault
 one_fault : (a b : Fault) (bytes : List ℕ) (clock : ℕ) → HasFault a bytes clock → HasFault b bytes clock → a ≡ b
@@ -78,24 +85,24 @@ one_fault a b bytes clock h k = one_sorted a b bytes clock (sorted a bytes clock
 
 -- ---- programs of constants
 
--- a program of constants starts, with each clock from 1 on, and makes nothing
-first_starts : (bytes : List ℕ) (clock : ℕ) (writes : List DeviceWrite) → 1 ≤ clock → IsFirst bytes writes → IsFirmIn bytes clock
+-- a program of constants starts, with each clock from 1 on, makes nothing and fits
+first_starts : (bytes : List ℕ) (clock : ℕ) (writes : List DeviceWrite) → 1 ≤ clock → IsFirst bytes writes → IsFittingIn bytes clock
 first_starts bytes zero writes some first = absurd (omega (arith, some))
 first_starts bytes (suc clock) writes some first =
     let text : IsText bytes = first_is_text bytes writes first in
     let (tree, reads) = some_tree bytes text in
     let legal : IsLegal bytes tree = record { text = text; reads = reads; legal = text_is_legal bytes writes tree first reads } in
-    (tree, empty_heap, firm_of bytes (suc clock) writes tree empty_heap legal (text_starts bytes writes tree first reads clock) first)
+    (tree, empty_heap, fitting_of bytes (suc clock) writes tree empty_heap legal (text_starts bytes writes tree first reads clock) first)
 
-starts_and_first : (why : Fault) (bytes : List ℕ) (clock : ℕ) (writes : List DeviceWrite) → IsFirmIn bytes clock → IsFirst bytes writes
+starts_and_first : (why : Fault) (bytes : List ℕ) (clock : ℕ) (writes : List DeviceWrite) → IsFittingIn bytes clock → IsFirst bytes writes
     → Sorted why bytes clock → ⊥
 starts_and_first why bytes clock writes starts first (inl h) = h.1.1 writes first
-starts_and_first why bytes clock writes starts first (inr h) = no_live_fault bytes clock why starts h
+starts_and_first why bytes clock writes starts first (inr h) = no_fit_fault bytes clock why starts h
 
--- what was built starts and makes nothing
-built_starts : (bytes : List ℕ) (clock : ℕ) (built : Built) → IsBuiltOf bytes clock built → IsFirmIn bytes clock
+-- what was built starts, makes nothing and fits
+built_starts : (bytes : List ℕ) (clock : ℕ) (built : Built) → IsBuiltOf bytes clock built → IsFittingIn bytes clock
 built_starts bytes clock built is =
-    let i = is.image in (i.tree, i.heap, firm_of bytes clock i.writes i.tree i.heap i.legal i.starts i.first)
+    let i = is.image in (i.tree, i.heap, fitting_of bytes clock i.writes i.tree i.heap i.legal i.starts i.first)
 
 -- ---- exactly which texts are refused, and for what
 
@@ -124,6 +131,8 @@ init_of bytes clock r h settled InitDepth of_init = exactly bytes clock r h sett
 init_of bytes clock r h settled (InitTouches address) of_init = exactly bytes clock r h settled (InitTouches address)
 init_of bytes clock r h settled InitTooBig of_init = exactly bytes clock r h settled InitTooBig
 init_of bytes clock r h settled (Allocates p line) of_init = absurd of_init
+init_of bytes clock r h settled (StaticFull need) of_init = absurd of_init
+init_of bytes clock r h settled (TableFull need) of_init = absurd of_init
 init_of bytes clock r h settled NoMember of_init = absurd of_init
 init_of bytes clock r h settled (NotBuilt p) of_init = absurd of_init
 
@@ -148,14 +157,14 @@ complete_of bytes clock (Err (refusal.Fault why)) h some writes first =
 complete_of bytes clock (Err refusal.NoMemory) h some writes first = inr refl
 
 -- what is answered to a text is answered by the command
-pub lives_by : (bytes : List ℕ) (clock : ℕ) (why : Refusal Fault) → Lives bytes clock (Err why) → IsCause why bytes clock
-lives_by bytes clock (refusal.Fault why) h = has_fault why bytes clock h
-lives_by bytes clock refusal.NoMemory h = tt
+pub fits_by : (bytes : List ℕ) (clock : ℕ) (why : Refusal Fault) → Fits bytes clock (Err why) → IsCause why bytes clock
+fits_by bytes clock (refusal.Fault why) h = has_fault why bytes clock h
+fits_by bytes clock refusal.NoMemory h = tt
 
--- a text that starts and makes nothing is one that starts
-pub firm_is_start : (bytes : List ℕ) (clock : ℕ) → IsFirmIn bytes clock → StartsIn bytes clock
-firm_is_start bytes clock (tree, heap, firm) = firm_starts bytes clock tree heap firm
+-- a text that starts, makes nothing and fits is one that starts
+pub fitting_is_start : (bytes : List ℕ) (clock : ℕ) → IsFittingIn bytes clock → StartsIn bytes clock
+fitting_is_start bytes clock (tree, heap, is) = firm_starts bytes clock tree heap is.firm
 
--- what is live is that of a text that starts and makes nothing
-pub alive_is_firm : (bytes : List ℕ) (clock : ℕ) (a : Alive) → IsAliveOf bytes clock a → IsFirmIn bytes clock
-alive_is_firm bytes clock a is = (tree_at a.start.names a.start.tree, named_start_heap a.start, is.firm)
+-- what is placed is that of such a text
+pub fitted_is : (bytes : List ℕ) (clock : ℕ) (f : Fitted) → IsFittedOf bytes clock f → IsFittingIn bytes clock
+fitted_is bytes clock f is = (tree_at f.alive.start.names f.alive.start.tree, named_start_heap f.alive.start, is.fitting)

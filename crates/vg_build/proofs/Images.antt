@@ -5,12 +5,11 @@ use Rattle.vg_source.specs.Values.{Heap}
 use Rattle.vg_source.specs.Program.{source_of}
 use Rattle.vg_source.specs.Session.{Started, started}
 use Rattle.vg_source.specs.Peak.{sessions}
-use Rattle.vg_source.proofs.MoreClock.{one_heap}
 use Rattle.vg_first_text.specs.declared.device_write.DeviceWrite.{DeviceWrite}
 use Rattle.vg_first_text.specs.FirstSession.{first_session}
 use Rattle.vg_first_text.specs.FirstText.{IsFirst}
 use Rattle.vg_first_laws.specs.Trees.{empty_heap}
-use Rattle.vg_first_laws.proofs.Means.{text_starts, text_sessions}
+use Rattle.vg_first_laws.proofs.Means.{text_sessions}
 use Rattle.avr_isa.specs.Agrees.{Agrees, NeverReaches}
 use Rattle.vg_hex.specs.HexImage.{HexImage}
 use Rattle.vg_hex.specs.HexText.{hex_text}
@@ -21,12 +20,7 @@ use Rattle.vg_build.specs.declared.building.Built.{Built}
 use Rattle.vg_build.specs.declared.layout.Layout.{Layout}
 use Rattle.vg_build.specs.Image.{IsBuiltOf, IsImageOf}
 use Rattle.vg_build.specs.Mirrors.{IsMadeOf, all_sram}
-
--- a program of constants that starts does so to the empty heap
-heap_is : (bytes : List ℕ) (clock : ℕ) (writes : List DeviceWrite) (tree : Node) (heap : Heap) → IsLegal bytes tree → IsFirst bytes writes
-    → started (source_of tree) clock ≡ Started heap → empty_heap ≡ heap
-heap_is bytes clock writes tree heap legal first starts =
-    one_heap (source_of tree) 1 clock empty_heap heap (text_starts bytes writes tree first legal.reads 0) starts
+use Rattle.vg_build.proofs.Constants.{heap_is, static_of}
 
 -- with all of SRAM for the stack
 image_of_text : (bytes : List ℕ) (clock : ℕ) (image : List ℕ) (layout : Layout) (writes : List DeviceWrite) → all_sram ≡ layout → StartsIn bytes clock
@@ -43,7 +37,7 @@ image_of_text bytes clock image layout writes same (tree, legal, heap, starts) f
       starts = starts;
       writes = writes;
       first = first;
-      static_is = refl;
+      static_is = static_of bytes clock writes tree heap legal starts first;
       stack_is = refl;
       fits = omega arith;
       floor_is = refl;

@@ -7,7 +7,7 @@ use Rattle.vg_first_text.specs.declared.device_write.DeviceWrite.{DeviceWrite}
 use Rattle.vg_first_text.specs.FirstText.{IsFirst}
 use Rattle.vg_faults.specs.declared.fault.Fault.{Fault}
 use Rattle.vg_faults.specs.declared.fault.Fault.TheVariants.{NotBuilt}
-use Rattle.vg_faults.specs.Living.{HasLiveFault, IsFirmIn}
+use Rattle.vg_faults.specs.Fitting.{HasFitFault, IsFittingIn}
 use Rattle.vg_build.specs.declared.building.Built.{Built}
 use Rattle.vg_build.specs.Image.{IsBuiltOf}
 
@@ -31,9 +31,9 @@ fault_in (Err refusal.NoMemory) = None
 abbrev pub IsNoFirst : List ℕ → Type 0
 IsNoFirst bytes = (writes : List DeviceWrite) → IsFirst bytes writes → ⊥
 
--- the bytes are a legal text that starts with this clock and whose live methods make nothing, of a form that is not built yet
+-- the bytes are a legal text that starts with this clock, whose live methods make nothing and which fits, of a form that is not built yet
 abbrev pub IsNotBuilt : List ℕ → (clock : ℕ) → Type 0
-IsNotBuilt bytes clock = IsFirmIn bytes clock × IsNoFirst bytes
+IsNotBuilt bytes clock = IsFittingIn bytes clock × IsNoFirst bytes
 
 -- the first place of a text
 abbrev pub first_place : Place
@@ -42,7 +42,7 @@ first_place = record { line = 1; col = 1 }
 -- the bytes have this fault, where initialisation has this clock; a form that is not built stands at the first place
 abbrev pub HasFault : Fault → List ℕ → (clock : ℕ) → Type 0
 HasFault (NotBuilt place) bytes clock = IsNotBuilt bytes clock × (place ≡ first_place)
-HasFault why bytes clock = HasLiveFault why bytes clock
+HasFault why bytes clock = HasFitFault why bytes clock
 
 -- why nothing was built of the bytes: they have a fault, or memory was wanting
 abbrev pub IsCause : Refusal Fault → List ℕ → (clock : ℕ) → Type 0

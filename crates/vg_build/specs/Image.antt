@@ -7,6 +7,7 @@ use Rattle.vg_source.specs.Session.{Started, started}
 use Rattle.vg_source.specs.Peak.{sessions}
 use Rattle.vg_first_text.specs.declared.device_write.DeviceWrite.{DeviceWrite}
 use Rattle.vg_first_text.specs.FirstText.{IsFirst}
+use Rattle.vg_static_source.specs.Sums.{IsStatic}
 use Rattle.vg_faults.specs.Judged.{IsLegal}
 use Rattle.avr_isa.specs.Agrees.{Agrees, NeverReaches}
 use Rattle.vg_hex.specs.HexText.{hex_text}
@@ -14,10 +15,6 @@ use Rattle.vg_hex.specs.HexImage.{HexImage}
 use Rattle.vg_build.specs.declared.building.Built.{Built}
 use Rattle.vg_build.specs.declared.layout.Layout.{Layout}
 use Rattle.vg_build.specs.Layout.{layout_text, stated}
-
--- The bytes of the static area of a program of constants: it has no field that lives in SRAM.
-abbrev pub static_of : List DeviceWrite → ℕ
-static_of writes = 0
 
 -- The image does what the bytes say, where initialisation has this clock and this stack is asked for, or none.
 pub record IsImageOf (bytes : List ℕ) (clock : ℕ) (asked : Option ℕ) (image : List ℕ) (layout : Layout) : Type 0 where
@@ -28,8 +25,8 @@ pub record IsImageOf (bytes : List ℕ) (clock : ℕ) (asked : Option ℕ) (imag
   pub starts : started (source_of tree) clock ≡ Started heap
   pub writes : List DeviceWrite
   pub first : IsFirst bytes writes
-  -- the static area is the program's, the stack is the stated one, both fit into SRAM, and the stack ends where SRAM does
-  pub static_is : layout.static_bytes ≡ static_of writes
+  -- the static area has the bytes that the tree and the heap need, the stack is the stated one, both fit into SRAM, and the stack ends where SRAM does
+  pub static_is : IsStatic tree heap layout.static_bytes
   pub stack_is : layout.stack ≡ stated asked layout.static_bytes
   pub fits : layout.static_bytes + layout.stack ≤ 4096
   pub floor_is : layout.floor + layout.stack ≡ 0x1100

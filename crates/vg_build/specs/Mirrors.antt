@@ -8,7 +8,7 @@ use Rattle.vg_hex.specs.HexText.{hex_text}
 use Rattle.vg_hex.specs.HexImage.{HexImage}
 use Rattle.vg_build.specs.declared.building.Built.{Built}
 use Rattle.vg_faults.specs.declared.fault.Fault.{Fault}
-use Rattle.vg_faults.specs.Living.{IsFirmIn}
+use Rattle.vg_faults.specs.Fitting.{IsFittingIn}
 use Rattle.vg_build.specs.declared.layout.Layout.{Layout}
 use Rattle.vg_build.specs.Answer.{IsCause}
 use Rattle.vg_build.specs.Layout.{layout_text}
@@ -26,7 +26,7 @@ pub record IsMadeOf (writes : List DeviceWrite) (built : Built) : Type 0 where
   pub spelled : HexImage (hex_text built.image) built.image
   pub note : built.note ≡ layout_text built.layout
 
--- the bytes are a legal text that starts and whose live methods make nothing, or there is a cause
-abbrev pub FirmBy : List ℕ → (clock : ℕ) → {V : Type 0} → Result V (Refusal Fault) → Type 0
-FirmBy bytes clock (Ok v) = IsFirmIn bytes clock
-FirmBy bytes clock (Err why) = IsCause why bytes clock
+-- the bytes are a legal text that starts, whose live methods make nothing and which fits, or there is a cause
+abbrev pub FitsBy : List ℕ → (clock : ℕ) → {V : Type 0} → Result V (Refusal Fault) → Type 0
+FitsBy bytes clock (Ok v) = IsFittingIn bytes clock
+FitsBy bytes clock (Err why) = IsCause why bytes clock

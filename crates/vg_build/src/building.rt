@@ -9,21 +9,22 @@ ghost use Rattle.vg_first_text.specs.FirstText.{IsFirst};
 ghost use Rattle.vg_faults.specs.Faults.{IsOfInit};
 ghost use Rattle.vg_faults.specs.Judged.{RefusedIn};
 ghost use Rattle.vg_faults.specs.Living.{AllocatesIn};
+ghost use Rattle.vg_faults.specs.Fitting.{StaticFullIn, TableFullIn};
 ghost use Rattle.vg_faults.specs.Starting.{FailsIn};
 ghost use Rattle.vg_faults.specs.declared.fault.Fault as fault;
 ghost use Rattle.vg_build.specs.Answer.{Answers, IsCause, IsNotBuilt, IsSettled, fault_in, first_place};
 ghost use Rattle.vg_build.specs.Image.{IsBuiltOf};
 ghost use Rattle.vg_rules.specs.declared.what.What.{What};
-ghost use Rattle.vg_build.specs.Mirrors.{FirmBy, IsMadeOf};
+ghost use Rattle.vg_build.specs.Mirrors.{FitsBy, IsMadeOf};
 
 use crate::layout::{Layout, layout_text};
 use avr_isa::Image;
 use std::alloc::Global;
-use vg_alive::find_live;
 use vg_base::{NoMemory, Place, Refusal, Row};
 use vg_faults::Fault;
 use vg_first_image::image_of;
 use vg_first_text::{DeviceWrite, read_first};
+use vg_fits::fit;
 use vg_hex::write;
 
 /// What is built of a source text.
@@ -42,7 +43,7 @@ pub struct Built {
 /// ticks.
 ///
 /// Today a text of the language is built where it is a program of constants: one component whose one method writes at most 100 bytes to device
-/// registers. Every other one that starts and whose live methods make nothing is refused as not built, at its first place.
+/// registers. Every other one that starts, whose live methods make nothing and whose fields and arrays fit is refused as not built, at its first place.
 pub fn build(alloc: Global, text: &[u8], init_steps: u32) -> Result<Built, Refusal<Fault>>
     requires { length text.now ≤ text_limit }
 
@@ -60,6 +61,8 @@ pub fn build(alloc: Global, text: &[u8], init_steps: u32) -> Result<Built, Refus
     ensures init { IsSettled result → (why : fault.Fault) → IsOfInit why → (fault_in result ≡ Some why) ↔ FailsIn text.now init_steps why }
     ensures allocates { IsSettled result → (place : Place) (line : List ℕ)
         → (fault_in result ≡ Some (fault.Fault.Allocates place line)) ↔ AllocatesIn text.now init_steps place line }
+    ensures static_full { IsSettled result → (need : ℕ) → (fault_in result ≡ Some (fault.Fault.StaticFull need)) ↔ StaticFullIn text.now init_steps need }
+    ensures table_full { IsSettled result → (need : ℕ) → (fault_in result ≡ Some (fault.Fault.TableFull need)) ↔ TableFullIn text.now init_steps need }
     ensures not_built { IsSettled result → (fault_in result ≡ Some (fault.Fault.NotBuilt first_place)) ↔ IsNotBuilt text.now init_steps }
     ensures not_built_first { (place : Place) → fault_in result ≡ Some (fault.Fault.NotBuilt place) → place ≡ first_place }
     ensures complete { 1 ≤ init_steps → (writes : List Write) → IsFirst text.now writes → IsOk result ⊎ (result ≡ Err Refusal.NoMemory) }
@@ -89,14 +92,14 @@ fn answer_to(alloc: Global, text: &[u8], init_steps: u32) -> Result<Built, Refus
     }
 }
 
-// Whether the bytes are a legal text that starts, and whose live methods make nothing.
-#[tactic(auto, using(crate::proofs::Faults::lives_by))]
+// Whether the bytes are a legal text that starts, whose live methods make nothing and which fits.
+#[tactic(auto, using(crate::proofs::Faults::fits_by))]
 fn check_text(alloc: Global, text: &[u8], init_steps: u32) -> Result<(), Refusal<Fault>>
     requires { length text.now ≤ text_limit }
-    ensures { FirmBy text.now init_steps result }
+    ensures { FitsBy text.now init_steps result }
 {
-    match find_live(alloc, text, init_steps) {
-        Ok(_alive) => Ok(()),
+    match fit(alloc, text, init_steps) {
+        Ok(_fitted) => Ok(()),
         Err(refusal) => Err(refusal),
     }
 }

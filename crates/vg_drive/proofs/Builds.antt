@@ -21,7 +21,11 @@ use Rattle.vg_build.specs.Image.{IsBuiltOf, IsImageOf}
 use Rattle.vg_build.specs.Layout.{layout_text, stated}
 use Rattle.vg_build.specs.declared.building.Built.{Built}
 use Rattle.vg_faults.specs.declared.fault.Fault.{Fault}
-use Rattle.vg_faults.specs.declared.fault.Fault.TheVariants.{NoTree, TooDeep, TooMany, Broken, InitTrap, InitSteps, InitDepth, InitTouches, InitTooBig, Allocates, NoMember, NotBuilt}
+use Rattle.vg_faults.specs.declared.fault.Fault.TheVariants.{NoTree, TooDeep, TooMany, Broken, InitTrap, InitSteps, InitDepth, InitTouches, InitTooBig, Allocates, StaticFull, TableFull}
+use Rattle.vg_faults.specs.declared.fault.Fault.TheVariants.{NoMember, NotBuilt}
+use Rattle.vg_faults.specs.Fitting.{StaticFullIn, TableFullIn}
+use Rattle.vg_static_source.proofs.Tests.{one_static}
+use Rattle.vg_build.proofs.Constants.{static_of}
 use Rattle.vg_build.specs.declared.layout.Layout.{Layout}
 use Rattle.vg_build.proofs.Faults.{complete_of, exactly, first_of}
 use Rattle.vg_drive.specs.declared.status.Status.{Status}
@@ -86,6 +90,8 @@ fault_answer InitDepth bytes clock h = tt
 fault_answer (InitTouches address) bytes clock h = tt
 fault_answer InitTooBig bytes clock h = tt
 fault_answer (Allocates p line) bytes clock h = tt
+fault_answer (StaticFull need) bytes clock h = tt
+fault_answer (TableFull need) bytes clock h = tt
 fault_answer NoMember bytes clock h = h
 fault_answer (NotBuilt p) bytes clock h = tt
 
@@ -117,6 +123,20 @@ exactly_by s told file clock out note (inr h) settled =
     of_file told file h.bytes (λ bytes. (why : Fault) → (s ≡ Refused why) ↔ HasFault why bytes clock) h.whole
     (λ why. chain _ _ _ (refused_iff h.answer s out note h.puts why)
     (exactly h.bytes clock h.answer h.says (settled_answer h.answer s out note h.puts settled) why))
+
+-- exactly the texts that do not fit into RAM are refused so, with the bytes that they need
+pub static_full_by : (s : Status) (told : Option (List File)) (file : List ℕ) (clock : ℕ) (out note : Change) → BuildBy s told file clock out note → IsSettled s
+    → ForFile told file (λ bytes. (need : ℕ) → (s ≡ Refused (StaticFull need)) ↔ StaticFullIn bytes clock need)
+static_full_by s told file clock out note h settled =
+    with_file told file _ (λ bytes. (need : ℕ) → (s ≡ Refused (StaticFull need)) ↔ StaticFullIn bytes clock need) (λ bytes f need. f (StaticFull need))
+    (exactly_by s told file clock out note h settled)
+
+-- and exactly those whose tables do not fit
+pub table_full_by : (s : Status) (told : Option (List File)) (file : List ℕ) (clock : ℕ) (out note : Change) → BuildBy s told file clock out note → IsSettled s
+    → ForFile told file (λ bytes. (need : ℕ) → (s ≡ Refused (TableFull need)) ↔ TableFullIn bytes clock need)
+table_full_by s told file clock out note h settled =
+    with_file told file _ (λ bytes. (need : ℕ) → (s ≡ Refused (TableFull need)) ↔ TableFullIn bytes clock need) (λ bytes f need. f (TableFull need))
+    (exactly_by s told file clock out note h settled)
 
 -- exactly the legal texts of a form that is not built are refused so
 pub not_built_by : (s : Status) (told : Option (List File)) (file : List ℕ) (clock : ℕ) (out note : Change) → BuildBy s told file clock out note → IsSettled s
@@ -238,7 +258,8 @@ answers_by s told file clock out note (inr h) = put_answer h.answer s h.bytes cl
 -- a program of constants has no static area, so all SRAM is for its stack
 layout_is : (bytes : List ℕ) (clock : ℕ) (image : List ℕ) (layout : Layout) → IsImageOf bytes clock None image layout → layout ≡ constants_layout
 layout_is bytes clock image layout is =
-    let none : layout.static_bytes ≡ 0 = is.static_is in
+    let none : layout.static_bytes ≡ 0 =
+    one_static is.tree is.heap layout.static_bytes 0 is.static_is (static_of bytes clock is.writes is.tree is.heap is.legal is.starts is.first) in
     let all : layout.stack ≡ 4096 = is.stack_is ∙ ap (λ n. stated None n) none in
     let floor : layout.floor ≡ 0x0100 = let sum = is.floor_is in omega (arith, all, sum) in
     ap (λ n. record layout { static_bytes = n }) none ∙ ap (λ n. record layout { static_bytes = 0; floor = n }) floor

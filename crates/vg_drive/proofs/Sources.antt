@@ -5,7 +5,8 @@ use Rattle.vg_io.specs.declared.file.File.{File}
 use Rattle.vg_words.specs.Commands.{Command}
 use Rattle.vg_fetch.specs.Told.{ForFile}
 use Rattle.vg_faults.specs.declared.fault.Fault.{Fault}
-use Rattle.vg_faults.specs.declared.fault.Fault.TheVariants.{NoTree, TooDeep, TooMany, Broken, InitTrap, InitSteps, InitDepth, InitTouches, InitTooBig, Allocates, NoMember, NotBuilt}
+use Rattle.vg_faults.specs.declared.fault.Fault.TheVariants.{NoTree, TooDeep, TooMany, Broken, InitTrap, InitSteps, InitDepth, InitTouches, InitTooBig, Allocates, StaticFull, TableFull}
+use Rattle.vg_faults.specs.declared.fault.Fault.TheVariants.{NoMember, NotBuilt}
 use Rattle.vg_faults.specs.Faults.{HasFault, IsOfInit}
 use Rattle.vg_faults.specs.Starting.{FailsIn, init_steps}
 use Rattle.vg_faults.specs.Living.{AllocatesIn}
@@ -25,6 +26,8 @@ use Rattle.vg_drive.proofs.Files.{with_file}
 -- a fault that every command answers
 abbrev pub IsOfText : Fault → Type 0
 IsOfText (Allocates p line) = ⊥
+IsOfText (StaticFull need) = ⊥
+IsOfText (TableFull need) = ⊥
 IsOfText NoMember = ⊥
 IsOfText (NotBuilt p) = ⊥
 IsOfText _ = Unit {0}
@@ -42,6 +45,8 @@ of_text InitDepth s bytes clock asked f = f
 of_text (InitTouches address) s bytes clock asked f = f
 of_text InitTooBig s bytes clock asked f = f
 of_text (Allocates p line) s bytes clock asked f = absurd asked
+of_text (StaticFull need) s bytes clock asked f = absurd asked
+of_text (TableFull need) s bytes clock asked f = absurd asked
 of_text NoMember s bytes clock asked f = absurd asked
 of_text (NotBuilt p) s bytes clock asked f = absurd asked
 
@@ -58,6 +63,8 @@ of_asked InitDepth s bytes member asked f = f
 of_asked (InitTouches address) s bytes member asked f = f
 of_asked InitTooBig s bytes member asked f = f
 of_asked (Allocates p line) s bytes member asked f = absurd asked
+of_asked (StaticFull need) s bytes member asked f = absurd asked
+of_asked (TableFull need) s bytes member asked f = absurd asked
 of_asked NoMember s bytes member asked f = absurd asked
 of_asked (NotBuilt p) s bytes member asked f = absurd asked
 
@@ -109,5 +116,7 @@ init_is s bytes clock f InitDepth asked = f InitDepth tt
 init_is s bytes clock f (InitTouches address) asked = f (InitTouches address) tt
 init_is s bytes clock f InitTooBig asked = f InitTooBig tt
 init_is s bytes clock f (Allocates p line) asked = absurd asked
+init_is s bytes clock f (StaticFull need) asked = absurd asked
+init_is s bytes clock f (TableFull need) asked = absurd asked
 init_is s bytes clock f NoMember asked = absurd asked
 init_is s bytes clock f (NotBuilt p) asked = absurd asked

@@ -3,7 +3,7 @@ use Rattle.std.specs.Prelude.{ℕ, ◌≡◌, List, [], ◌∷◌, Option, Some,
 use Rattle.vg_base.specs.Limits.{image_text_limit, text_limit}
 use Rattle.vg_words.specs.Commands.{Command, Build, Run, Sim, Why}
 use Rattle.vg_fetch.specs.Asking.{Request}
-use Rattle.vg_faults.specs.declared.fault.Fault.TheVariants.{Allocates, NoMember, NotBuilt}
+use Rattle.vg_faults.specs.declared.fault.Fault.TheVariants.{Allocates, StaticFull, TableFull, NoMember, NotBuilt}
 use Rattle.vg_build.specs.Layout.{layout_text}
 use Rattle.vg_build.specs.declared.layout.Layout.{Layout}
 use Rattle.vg_faults.specs.Starting.{init_steps as default_steps}
@@ -75,6 +75,8 @@ IsAnswerOfBuild _ = ⊥
 
 abbrev pub IsAnswerOfRun : Status → Type 0
 IsAnswerOfRun (Refused (Allocates place line)) = ⊥
+IsAnswerOfRun (Refused (StaticFull need)) = ⊥
+IsAnswerOfRun (Refused (TableFull need)) = ⊥
 IsAnswerOfRun (Refused NoMember) = ⊥
 IsAnswerOfRun (Refused (NotBuilt place)) = ⊥
 IsAnswerOfRun Usage = ⊥
@@ -90,6 +92,8 @@ IsAnswerOfSim _ = Unit {0}
 
 abbrev pub IsAnswerOfWhy : Status → Type 0
 IsAnswerOfWhy Done = Unit {0}
+IsAnswerOfWhy (Refused (StaticFull need)) = ⊥
+IsAnswerOfWhy (Refused (TableFull need)) = ⊥
 IsAnswerOfWhy (Refused (NotBuilt place)) = ⊥
 IsAnswerOfWhy (Refused fault) = Unit {0}
 IsAnswerOfWhy ReadFault = Unit {0}

@@ -20,6 +20,7 @@ ghost use Rattle.vg_rules.specs.declared.what.What.{What};
 ghost use Rattle.vg_faults.specs.Faults.{IsOfInit};
 ghost use Rattle.vg_faults.specs.Judged.{IsLegal, RefusedIn};
 ghost use Rattle.vg_faults.specs.Living.{AllocatesIn};
+ghost use Rattle.vg_faults.specs.Fitting.{StaticFullIn, TableFullIn};
 ghost use Rattle.vg_faults.specs.Starting.{FailsIn, StartsIn, init_steps};
 ghost use Rattle.vg_faults.specs.declared.fault.Fault as fault;
 ghost use Rattle.vg_build.specs.Answer.{IsNotBuilt, first_place};
@@ -91,6 +92,12 @@ pub fn run<S: Shelf, O: Sink, N: Sink>(
     // `build` and `why`: which live methods would make something.
     ensures allocates { IsSettled result → OnLive (command_of (words_in words.now)) (λ file clock. ForFile (S.told shelf.old) file (λ bytes.
         (place : Place) (line : List ℕ) → (result ≡ Status.Refused (fault.Fault.Allocates place line)) ↔ AllocatesIn bytes clock place line)) }
+
+    // `build`: what does not fit into RAM, and whose tables do not fit into flash.
+    ensures static_full { IsSettled result → OnBuild (command_of (words_in words.now)) (λ file clock. ForFile (S.told shelf.old) file (λ bytes.
+        (need : ℕ) → (result ≡ Status.Refused (fault.Fault.StaticFull need)) ↔ StaticFullIn bytes clock need)) }
+    ensures table_full { IsSettled result → OnBuild (command_of (words_in words.now)) (λ file clock. ForFile (S.told shelf.old) file (λ bytes.
+        (need : ℕ) → (result ≡ Status.Refused (fault.Fault.TableFull need)) ↔ TableFullIn bytes clock need)) }
 
     // `build`: which legal texts are not built, and which are.
     ensures not_built { IsSettled result → OnBuild (command_of (words_in words.now)) (λ file clock. ForFile (S.told shelf.old) file (λ bytes.

@@ -13,7 +13,8 @@ use vg_faults::Fault;
 use vg_hex::HexFault;
 use vg_rules::what::What;
 
-/// The bytes of the longest fault line, or more: a place has two numbers of at most ten digits, and a rule's number at most three.
+/// The bytes of the longest fault line, or more: a place has two numbers of at most ten digits, a rule's number at most three, and a number of bytes at
+/// most twenty.
 pub const LONGEST_LINE: usize = 48;
 
 /// A fault line: one that was made, or one that a fault has.
@@ -85,6 +86,8 @@ fn refusal_line(fault: &Fault) -> ArrayString<LONGEST_LINE>
         Fault::InitTouches(address) => touches_line(*address),
         Fault::InitTooBig => plain_line("init too big\n"),
         Fault::Allocates { .. } => unreachable!(),
+        Fault::StaticFull { need } => full_line("static full ", *need),
+        Fault::TableFull { need } => full_line("table full ", *need),
         Fault::NoMember => plain_line("no member\n"),
         Fault::NotBuilt(place) => placed_line("not built at ", *place),
     }
@@ -207,6 +210,18 @@ fn placed_line(says: &str, place: Place) -> ArrayString<LONGEST_LINE>
     line.push_str(Buffer::new().format(place.line));
     line.push_str(":");
     line.push_str(Buffer::new().format(place.col));
+    line.push_str("\n");
+    line
+}
+
+// What it says, and then a number of bytes.
+fn full_line(says: &str, need: u64) -> ArrayString<LONGEST_LINE>
+    requires { length says.now ≤ 16 }
+    ensures { result.bytes ≡ says.now ++ decimal need ++ codes "\n" }
+{
+    let mut line = ArrayString::new();
+    line.push_str(says);
+    line.push_str(Buffer::new().format(need));
     line.push_str("\n");
     line
 }

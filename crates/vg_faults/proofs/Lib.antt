@@ -1,3 +1,4 @@
 pub mod Once
 pub mod Numbers
 pub mod Makers
+pub mod Fits

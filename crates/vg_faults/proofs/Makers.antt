@@ -4,15 +4,16 @@ use Rattle.vg_base.specs.declared.place.Place.{Place}
 use Rattle.vg_syntax.specs.Tree.{Node}
 use Rattle.vg_source.specs.Names.{Name}
 use Rattle.vg_source.specs.Values.{Heap}
-use Rattle.vg_source.specs.Steps.{Routine, Target}
+use Rattle.vg_source.specs.Steps.{Routine}
 use Rattle.vg_source.specs.Steps.{Method as TheMethod}
 use Rattle.vg_source.specs.State.{find_routine}
 use Rattle.vg_source.specs.Program.{declarations_of, routines_in, source_of}
 use Rattle.vg_source.specs.Session.{Started, started}
 use Rattle.vg_live_source.specs.Uses.{steps_in}
-use Rattle.vg_live_source.specs.Making.{IsFirstMaker, MakesNothing, least_made, made_in, number_in, number_of}
+use Rattle.vg_live_source.specs.Making.{IsFirstMaker, MakesNothing, least_made, made_in, number_in}
 use Rattle.vg_faults.specs.declared.fault.Fault.{Fault}
-use Rattle.vg_faults.specs.declared.fault.Fault.TheVariants.{NoTree, TooDeep, TooMany, Broken, InitTrap, InitSteps, InitDepth, InitTouches, InitTooBig, Allocates, NoMember, NotBuilt}
+use Rattle.vg_faults.specs.declared.fault.Fault.TheVariants.{NoTree, TooDeep, TooMany, Broken, InitTrap, InitSteps, InitDepth, InitTouches, InitTooBig, Allocates, StaticFull, TableFull}
+use Rattle.vg_faults.specs.declared.fault.Fault.TheVariants.{NoMember, NotBuilt}
 use Rattle.vg_faults.specs.Judged.{IsLegal, place_in}
 use Rattle.vg_faults.specs.Starting.{StartsIn}
 use Rattle.vg_faults.specs.Faults.{HasFault}
@@ -124,6 +125,8 @@ sorted InitSteps bytes clock h = inr h
 sorted InitDepth bytes clock h = inr h
 sorted (InitTouches address) bytes clock h = inr h
 sorted InitTooBig bytes clock h = inr h
+sorted (StaticFull need) bytes clock h = inr h
+sorted (TableFull need) bytes clock h = inr h
 sorted NoMember bytes clock h = inr h
 sorted (NotBuilt p) bytes clock h = inr h
 
@@ -139,6 +142,8 @@ is_live_fault InitSteps bytes clock h = h
 is_live_fault InitDepth bytes clock h = h
 is_live_fault (InitTouches address) bytes clock h = h
 is_live_fault InitTooBig bytes clock h = h
+is_live_fault (StaticFull need) bytes clock h = h
+is_live_fault (TableFull need) bytes clock h = h
 is_live_fault NoMember bytes clock h = h
 is_live_fault (NotBuilt p) bytes clock h = h
 

@@ -5,12 +5,13 @@ use Rattle.vg_base.specs.declared.place.Place.{Place}
 use Rattle.vg_syntax.specs.Faults.{IsText, NoTreeIn, TooDeepIn}
 use Rattle.vg_syntax.specs.Tree.{Node}
 use Rattle.vg_source.specs.Program.{source_of}
-use Rattle.vg_source.specs.Session.{Initialised, started}
+use Rattle.vg_source.specs.Session.{started}
 use Rattle.vg_rules.specs.Refusal.{refusal_of}
 use Rattle.vg_texts.proofs.Once.{no_fault, not_deep, one_cause, one_end, one_bracket}
 use Rattle.vg_texts.proofs.Values.{one_tree}
 use Rattle.vg_faults.specs.declared.fault.Fault.{Fault}
-use Rattle.vg_faults.specs.declared.fault.Fault.TheVariants.{NoTree, TooDeep, TooMany, Broken, InitTrap, InitSteps, InitDepth, InitTouches, InitTooBig, Allocates, NoMember, NotBuilt}
+use Rattle.vg_faults.specs.declared.fault.Fault.TheVariants.{NoTree, TooDeep, TooMany, Broken, InitTrap, InitSteps, InitDepth, InitTouches, InitTooBig, Allocates, StaticFull, TableFull}
+use Rattle.vg_faults.specs.declared.fault.Fault.TheVariants.{NoMember, NotBuilt}
 use Rattle.vg_faults.specs.Judged.{IsLegal, RefusedIn, fault_of, tree_fault}
 use Rattle.vg_faults.specs.Starting.{FailsIn, StartsIn, start_fault}
 use Rattle.vg_faults.specs.Faults.{HasFault}
@@ -32,6 +33,8 @@ sorted InitDepth bytes clock h = inr (inr (inr h))
 sorted (InitTouches address) bytes clock h = inr (inr (inr h))
 sorted InitTooBig bytes clock h = inr (inr (inr h))
 sorted (Allocates p line) bytes clock h = absurd h
+sorted (StaticFull need) bytes clock h = absurd h
+sorted (TableFull need) bytes clock h = absurd h
 sorted NoMember bytes clock h = absurd h
 sorted (NotBuilt p) bytes clock h = absurd h
 

@@ -2,3 +2,4 @@ pub mod Judged
 pub mod Starting
 pub mod Faults
 pub mod Living
+pub mod Fitting

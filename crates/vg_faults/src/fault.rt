@@ -39,6 +39,14 @@ pub enum Fault {
         place: Place,
         line: Row<u8>,
     },
+    /// The live fields and the elements of live arrays need more than the 4,096 bytes of RAM: so many.
+    StaticFull {
+        need: u64,
+    },
+    /// The tables need more than 60,000 bytes of flash: so many.
+    TableFull {
+        need: u64,
+    },
     /// No class or component of the text declares the member that is asked for.
     NoMember,
     /// The text is a legal one that starts and that allocates nothing, and a form that is not built yet stands at this place.

@@ -4,6 +4,7 @@ ghost use Rattle.vg_faults.specs.declared.fault.Fault.{Fault};
 ghost use Rattle.vg_faults.specs.Starting.{StartsIn};
 ghost use Rattle.vg_faults.specs.Faults.{HasFault};
 ghost use Rattle.vg_faults.specs.Living.{HasLiveFault, IsFirmIn};
+ghost use Rattle.vg_faults.specs.Fitting.{HasFitFault, IsFittingIn};
 
 /// The bytes of a text have at most one of the faults that are answered, and none where they are a text that starts. So each is answered exactly
 /// where the bytes have it. The body is empty: its contract is a law of the definitions.
@@ -17,4 +18,10 @@ pub fn faults_exclude()
 pub fn live_faults_exclude()
     ensures one { (bytes : List ℕ) (clock : ℕ) (a b : Fault) → HasLiveFault a bytes clock → HasLiveFault b bytes clock → a ≡ b }
     ensures none { (bytes : List ℕ) (clock : ℕ) (why : Fault) → IsFirmIn bytes clock → HasLiveFault why bytes clock → ⊥ }
+{}
+
+/// The same, of the faults that are found once it is known how many bytes the columns take: the bytes have at most one, and none where all of them fit.
+pub fn fit_faults_exclude()
+    ensures one { (bytes : List ℕ) (clock : ℕ) (a b : Fault) → HasFitFault a bytes clock → HasFitFault b bytes clock → a ≡ b }
+    ensures none { (bytes : List ℕ) (clock : ℕ) (why : Fault) → IsFittingIn bytes clock → HasFitFault why bytes clock → ⊥ }
 {}

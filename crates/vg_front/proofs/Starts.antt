@@ -24,7 +24,8 @@ use Rattle.vg_types.proofs.Alike.{initialised, sessions}
 use Rattle.vg_session.specs.declared.initialisation.InitFault.{InitFault}
 use Rattle.vg_session.specs.Initialises.{Initialises, why_of}
 use Rattle.vg_faults.specs.declared.fault.Fault.{Fault}
-use Rattle.vg_faults.specs.declared.fault.Fault.TheVariants.{NoTree, TooDeep, TooMany, Broken, InitTrap, InitSteps, InitDepth, InitTouches, InitTooBig, Allocates, NoMember, NotBuilt}
+use Rattle.vg_faults.specs.declared.fault.Fault.TheVariants.{NoTree, TooDeep, TooMany, Broken, InitTrap, InitSteps, InitDepth, InitTouches, InitTooBig, Allocates, StaticFull, TableFull}
+use Rattle.vg_faults.specs.declared.fault.Fault.TheVariants.{NoMember, NotBuilt}
 use Rattle.vg_front.specs.declared.starting.Start.{Start}
 use Rattle.vg_faults.specs.Judged.{IsLegal, RefusedIn, fault_of, tree_fault}
 use Rattle.vg_faults.specs.Starting.{FailsIn, StartsIn, failure_of, start_fault}
@@ -75,6 +76,8 @@ of_tree bytes clock InitDepth asked h = absurd asked
 of_tree bytes clock (InitTouches address) asked h = absurd asked
 of_tree bytes clock InitTooBig asked h = absurd asked
 of_tree bytes clock (Allocates p line) asked h = absurd asked
+of_tree bytes clock (StaticFull need) asked h = absurd asked
+of_tree bytes clock (TableFull need) asked h = absurd asked
 of_tree bytes clock NoMember asked h = absurd asked
 of_tree bytes clock (NotBuilt p) asked h = absurd asked
 
@@ -111,6 +114,8 @@ of_start bytes clock InitDepth failure h = h
 of_start bytes clock (InitTouches address) failure h = h
 of_start bytes clock InitTooBig failure h = h
 of_start bytes clock (Allocates p line) failure h = absurd failure
+of_start bytes clock (StaticFull need) failure h = absurd failure
+of_start bytes clock (TableFull need) failure h = absurd failure
 of_start bytes clock NoMember failure h = absurd failure
 of_start bytes clock (NotBuilt p) failure h = absurd failure
 

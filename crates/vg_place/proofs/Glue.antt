@@ -197,8 +197,8 @@ pub are_small : (h : Heap) (cells : List Cell) → cells ≡ h.cells → stored_
 are_small h cells e le = let f = few_cells h cells e le in omega (arith, f)
 
 pub few_rows : (h : Heap) (cells : List Cell) (values values1 rows rows1 : List Column) (counts order order1 : List ℕ) (fields : ℕ) → cells ≡ h.cells
-    → stored_values h ≤ 60000 → fields < 1073741824 → length values ≤ fields + length order → length order ≤ length cells → order1 ≡ order
-    → rows ≡ map (table_by counts) order1 → values1 ≡ values → rows1 ≡ rows → length values1 + length rows1 + 1 < 2147483648
+    → stored_values h ≤ 60000 → fields < 4294967296 → length values ≤ fields + length order → length order ≤ length cells → order1 ≡ order
+    → rows ≡ map (table_by counts) order1 → values1 ≡ values → rows1 ≡ rows → length values1 + length rows1 + 1 < 8589934592
 few_rows h cells values values1 rows rows1 counts order order1 fields ec le lf lv lo eo er ev1 er1 =
     let f = few_cells h cells ec le in let o = ap length eo in let r = ap length er in let m = length-map order1 (table_by counts) in
     let v1 = ap length ev1 in let r1 = ap length er1 in omega (arith, f, lf, lv, lo, o, r, m, v1, r1)

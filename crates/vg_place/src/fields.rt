@@ -37,9 +37,10 @@ pub fn home_of_values() -> Home
     Home::Ram
 }
 
-/// The bytes of a column.
+/// The bytes of a column, fewer than 2^24.
 pub fn bytes_of(column: &Column) -> u32
-    ensures { result ≡ columns.bytes_of column.now }
+    ensures bytes { result ≡ columns.bytes_of column.now }
+    ensures few { result < 2 ^ 24 }
 {
     u32::from(column.width) * u32::from(column.count)
 }

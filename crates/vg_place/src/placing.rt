@@ -52,7 +52,7 @@ pub fn place(
     live: &LiveSet,
     numbers: &Numbers,
 ) -> Result<Columns, Refusal<PlaceFault>>
-    requires fields { length program.now.tables.fields < 2 ^ 30 }
+    requires fields { length program.now.tables.fields < 2 ^ 32 }
     requires owners { AreOwned program.now.tables }
     requires listed { AreListed program.now.tables (kinds_of heap.now) }
     requires few { stored_values heap.now ≤ 60000 }
@@ -80,7 +80,7 @@ fn value_columns(
     spans: &[Span],
     arrays: &Arrays,
 ) -> Result<Row<Column>, NoMemory>
-    requires fields { length tables.now.fields < 2 ^ 30 }
+    requires fields { length tables.now.fields < 2 ^ 32 }
     ensures columns { IfOk result (λ rows. rows ≡ columns.field_columns (needs_by live.now spans.now) 0 tables.now.fields
         ++ item_columns_by tables.now.types arrays.now.sizes arrays.now.order) }
     ensures length { IfOk result (λ rows. length rows ≤ length tables.now.fields + length arrays.now.order) }
@@ -109,7 +109,7 @@ fn append(rows: &mut Row<Column>, more: &[Column]) -> Result<(), NoMemory>
 // The columns of values and the tables behind them, at their addresses.
 #[tactic(auto, using(crate::proofs::Glue::ram_of_all))]
 fn fitted(alloc: Global, values: &[Column], rows: &[Column]) -> Result<Columns, Refusal<PlaceFault>>
-    requires few { length values.now + length rows.now + 1 < 2 ^ 31 }
+    requires few { length values.now + length rows.now + 1 < 2 ^ 33 }
     requires flash { columns.home_bytes homes.Ram rows.now ≡ 0 }
     ensures { Places (columns.with_tables values.now rows.now) result }
 {

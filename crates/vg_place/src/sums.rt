@@ -1,5 +1,5 @@
 // Sums of bytes.
-ghost use Rattle.std.specs.Prelude.{◌≡◌, ◌<◌, ◌^◌, length};
+ghost use Rattle.std.specs.Prelude.{◌≡◌, ◌<◌, ◌≤◌, ◌^◌, length};
 ghost use Rattle.vg_placement.specs.Columns as columns;
 
 use crate::fields::bytes_of;
@@ -8,7 +8,7 @@ use vg_placement::Column;
 
 /// The bytes of the columns of a home.
 pub fn home_bytes(rows: &[Column], home: Home) -> u64
-    requires { length rows.now < 2 ^ 31 }
+    requires { length rows.now < 2 ^ 33 }
     ensures { result ≡ columns.home_bytes home rows.now }
 {
     let mut sum = 0u64;
@@ -20,7 +20,8 @@ pub fn home_bytes(rows: &[Column], home: Home) -> u64
 
 /// So many bytes, where a column of the second home stands in the first.
 pub fn bytes_where(home: Home, other: Home, bytes: u32) -> u32
-    ensures { result ≡ columns.bytes_where home other bytes }
+    ensures bytes { result ≡ columns.bytes_where home other bytes }
+    ensures most { result ≤ bytes }
 {
     match home {
         Home::Ram => match other {

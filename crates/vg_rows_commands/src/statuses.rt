@@ -64,6 +64,12 @@ fn refused(name: &str, first: u32, second: u32) -> Option<Status> {
         "too-many-methods" => Some(too_many(What::Methods, METHOD_LIMIT, place)),
         "too-many-locals" => Some(too_many(What::Locals, LOCAL_LIMIT, place)),
         "too-many-height" => Some(too_many(What::Height, HEIGHT_LIMIT, place)),
+        "static-full" => Some(Status::Refused(Fault::StaticFull {
+            need: u64::from(first),
+        })),
+        "table-full" => Some(Status::Refused(Fault::TableFull {
+            need: u64::from(first),
+        })),
         "no-member" => Some(Status::Refused(Fault::NoMember)),
         "not-built" => Some(Status::Refused(Fault::NotBuilt(place))),
         "hex-form" => Some(Status::HexRefused(HexFault::Form(first))),

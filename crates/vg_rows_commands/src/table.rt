@@ -74,12 +74,12 @@ impl Table {
         Ok(true)
     }
 
-    // `more NAME REST`: what the rest of the line spells goes behind the text of this name.
+    // `more NAME REST`: what the rest of the line spells goes behind the text of this name; where it is `@OTHER`, the text of that name does.
     fn extend_text(&mut self, words: &str) -> Result<bool, NoMemory> {
         let Some((name, rest)) = words.split_once(' ') else {
             return Ok(false);
         };
-        let Some(more) = spelled(self.alloc, rest)? else {
+        let Some(more) = self.bytes_of(rest)? else {
             return Ok(false);
         };
         let Some(front) = find_file(&self.texts, name) else {

@@ -15,6 +15,7 @@ use Rattle.vg_core.specs.Naming.{naming_of, named, named_target, named_handler}
 use Rattle.vg_core.specs.Program.{Program}
 use Rattle.vg_core.specs.Typing.{IsEntry, AreEntries, WellFormed, WellTyped}
 use Rattle.vg_renamed.specs.NamesTell.{NamesTell}
+use Rattle.vg_written.specs.Written.{AreWritten, IsWritten, is_written}
 use Rattle.vg_types_tables.specs.declared.declared.Declared.{Declared}
 use Rattle.vg_types_tables.specs.Views.{declarations_at}
 use Rattle.vg_types_tables.specs.Declares.{Declares}
@@ -24,6 +25,7 @@ use Rattle.vg_types_declared.specs.Named.{Keeps}
 use Rattle.vg_types_declared.specs.Apart.{have_members}
 use Rattle.vg_types_named.specs.Left.{Left}
 use Rattle.vg_types_named.proofs.Sizes.{nodes_sized}
+use Rattle.vg_types_written.proofs.Written.{written}
 use Rattle.vg_types_entries.specs.declared.program.ProgramEntries.{ProgramEntries}
 use Rattle.vg_types_entries.specs.Entries.{AreEntriesOf}
 use Rattle.vg_types_routines.specs.declared.pass.Bodies.{Bodies}
@@ -86,8 +88,18 @@ module _ (texts : List (List ℕ)) (root : held_node.Node) (d : Declared) (e : P
       ap (λ t. map (λ (m : Method). m.nodes) t.methods) moved.tables ∙ nodes_sized texts ds d left
       ∙ ap (λ z. map (λ (s : Size). s.nodes) (sizes_in z)) (sym same)
 
+  fields_kept : (tree : Node) → declarations_of tree ≡ ds → IsWritten texts tree p.tables
+  fields_kept tree same = is_written (subst (AreWritten texts tree) (sym moved.tables) (written texts ds d kept left tree same))
+
   pub is_program : IsProgramFor texts ds p
-  is_program tree same = record { named = ap program_of same ∙ source_named; typed = typed; told = names_tell; nodes = nodes_kept tree same }
+  is_program tree same =
+      record {
+        named = ap program_of same ∙ source_named;
+        typed = typed;
+        told = names_tell;
+        nodes = nodes_kept tree same;
+        written = fields_kept tree same;
+      }
 
 -- where three parts have no breach there is none
 pub none_of_three : (a b c : Option Breach) → a ≡ None → b ≡ None → c ≡ None → a or b or c ≡ None

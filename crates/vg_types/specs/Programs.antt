@@ -8,12 +8,15 @@ use Rattle.vg_core.specs.Naming as naming
 use Rattle.vg_core.specs.Program.{Program}
 use Rattle.vg_core.specs.Typing.{WellTyped}
 use Rattle.vg_renamed.specs.NamesTell.{NamesTell}
+use Rattle.vg_written.specs.Written.{IsWritten}
 
 -- With names in place of its numbers it is the source program of the tree; it is well typed; its names tell its numbers apart; and each method, by its
 -- number, keeps how many nodes its body has in the tree. So a method has the parameters, the locals and the loops of the tree: the routine of its number
--- in the source program has so many parameters, a value for each other local, and its code.
+-- in the source program has so many parameters, a value for each other local, and its code. Its tables keep the fields that the tree declares, with their
+-- types, and the classes above classes.
 pub record IsProgramOf (texts : List (List ℕ)) (tree : Node) (p : Program) : Type 0 where
   pub named : source_of tree ≡ naming.named (naming_of texts p.tables) p
   pub typed : WellTyped p
   pub told : NamesTell (naming_of texts p.tables) p
   pub nodes : map (λ m. m.nodes) p.tables.methods ≡ map (λ s. s.nodes) (sizes tree)
+  pub written : IsWritten texts tree p.tables

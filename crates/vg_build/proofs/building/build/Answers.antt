@@ -1,4 +1,4 @@
-use Rattle.vg_faults.specs.declared.fault.Fault.TheVariants.{NoTree, TooDeep, TooMany, Broken, Allocates}
+use Rattle.vg_faults.specs.declared.fault.Fault.TheVariants.{NoTree, TooDeep, TooMany, Broken, Allocates, StaticFull, TableFull}
 use Rattle.vg_build.proofs.Faults.{complete_of, exactly, first_of, init_of, not_built_of}
 use Rattle.vg_build.proofs.building.build.Goals as goal
 
@@ -19,6 +19,12 @@ returns-clause-init c = init_of _ _ _ c.answer_to.ensures
 
 pub returns-clause-allocates : goal.returns-clause-allocates
 returns-clause-allocates c = λ settled place line. exactly _ _ _ c.answer_to.ensures settled (Allocates place line)
+
+pub returns-clause-static_full : goal.returns-clause-static_full
+returns-clause-static_full c = λ settled need. exactly _ _ _ c.answer_to.ensures settled (StaticFull need)
+
+pub returns-clause-table_full : goal.returns-clause-table_full
+returns-clause-table_full c = λ settled need. exactly _ _ _ c.answer_to.ensures settled (TableFull need)
 
 pub returns-clause-not_built : goal.returns-clause-not_built
 returns-clause-not_built c = not_built_of _ _ _ c.answer_to.ensures

@@ -1,5 +1,5 @@
-use Rattle.vg_build.proofs.Faults.{alive_is_firm}
+use Rattle.vg_build.proofs.Faults.{fitted_is}
 use Rattle.vg_build.proofs.building.check_text.Goals as goal
 
 pub returns-in-Ok : goal.returns-in-Ok
-returns-in-Ok c = alive_is_firm _ _ _ c.in-Ok.ensures
+returns-in-Ok c = fitted_is _ _ _ c.in-Ok.ensures

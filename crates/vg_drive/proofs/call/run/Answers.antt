@@ -54,6 +54,14 @@ returns-clause-init g c =
 pub returns-clause-allocates : goal.returns-clause-allocates
 returns-clause-allocates g c = λ settled. allocates_of _ _ _ _ _ c.answer-status.ensures.holds settled
 
+pub returns-clause-static_full : goal.returns-clause-static_full
+returns-clause-static_full g c =
+    λ settled. on_build _ _ _ _ _ _ c.answer-status.ensures.holds (λ file clock h. builds.static_full_by _ _ file clock _ _ h settled)
+
+pub returns-clause-table_full : goal.returns-clause-table_full
+returns-clause-table_full g c =
+    λ settled. on_build _ _ _ _ _ _ c.answer-status.ensures.holds (λ file clock h. builds.table_full_by _ _ file clock _ _ h settled)
+
 pub returns-clause-not_built : goal.returns-clause-not_built
 returns-clause-not_built g c =
     λ settled. on_build _ _ _ _ _ _ c.answer-status.ensures.holds (λ file clock h. builds.not_built_by _ _ file clock _ _ h settled)

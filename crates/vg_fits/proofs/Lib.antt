@@ -1,0 +1,3 @@
+mod Classes
+mod Fields
+pub mod Answering
