@@ -1,4 +1,5 @@
 // What a line of the table asks.
+use crate::columns::placed;
 use crate::programs::outlined;
 use crate::rules::judged;
 use crate::sessions::played;
@@ -16,6 +17,7 @@ pub fn answer_of(alloc: Global, line: TextLine<'_>) -> Result<String, NoMemory> 
     match line.question {
         "program" => outlined(alloc, text.as_slice()),
         "build" => judged(alloc, text.as_slice()),
+        "columns" => placed(alloc, text.as_slice()),
         "why" => told(alloc, text.as_slice(), line.word),
         _ => played(alloc, text.as_slice(), line),
     }

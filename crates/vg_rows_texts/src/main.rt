@@ -1,8 +1,9 @@
 //! A table of whole texts: a question about a text a line comes in, with its answer; each line that differs goes out, and how many there are. The questions are what
-//! `build` says of it, what its typed program is, what it shows on a script, and why a member of it is live.
+//! `build` says of it, what its typed program is, what it shows on a script, why a member of it is live, and where its values stand.
 #![tactic(auto)]
 
 mod answers;
+mod columns;
 mod faults;
 mod outline;
 mod programs;
