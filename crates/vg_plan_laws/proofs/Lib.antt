@@ -1,0 +1,10 @@
+pub mod Fields
+pub mod Items
+pub mod Listed
+pub mod Counted
+pub mod Tables
+pub mod Planned
+pub mod Values
+pub mod Filled
+pub mod Among
+pub mod Entered
