@@ -1,0 +1,2 @@
+pub mod Entrances
+pub mod Packs
