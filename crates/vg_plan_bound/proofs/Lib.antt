@@ -1,0 +1,4 @@
+pub mod Found
+pub mod Bound
+pub mod Only
+pub mod Planned

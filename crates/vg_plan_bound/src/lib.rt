@@ -1,0 +1,4 @@
+//! Laws: what is planned for delegates and calls has its reason in what is live.
+#![tactic(auto)]
+
+pub mod laws;
