@@ -2,8 +2,10 @@
 use std::alloc::Global;
 use vg_base::{Name, Names, NoMemory, Row};
 use vg_core::{Body, Code, CoreType, CoreValue, Method, Operator, Owner, Program, Step, Tables};
+use vg_interp::Playing;
 use vg_interp_run::{Around, Run, Signal};
 use vg_interp_sessions::{go, init};
+use vg_io::NullSink;
 
 /// So many loops, each in the block of the other, are a statement of height 40.
 const LOOPS: u32 = 20;
@@ -16,8 +18,8 @@ fn ended(alloc: Global, argument: i32) -> Result<Signal, NoMemory> {
         Err(why) => return Ok(why),
     };
     let around = Around::running(alloc, Some(400), Vec::new(alloc), Vec::new(alloc), 100_000);
-    let mut run = Run::new(alloc, store, around);
-    match go(&mut run, &program) {
+    let mut play = Playing::new(alloc, Run::new(alloc, store, around));
+    match go(&mut play, &mut NullSink::new(), &program) {
         Ok(()) => Ok(Signal::Wrong),
         Err(why) => Ok(why),
     }

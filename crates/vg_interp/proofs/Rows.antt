@@ -1,5 +1,5 @@
 -- Rows of code as lists, and how much less the parts have.
-use Rattle.std.proofs.Common.{◌≡◌, ◌≢◌, ℕ, zero, suc, ◌+◌, ◌-◌, ◌*◌, ◌<◌, ◌≤◌, List, [], ◌∷◌, length, get_or, Option, Some, None, Vec, Box, Global, refl, sym, ap, ◌∙◌, subst, arith}
+use Rattle.std.proofs.Common.{◌≡◌, ℕ, zero, suc, ◌+◌, ◌<◌, ◌≤◌, List, [], ◌∷◌, length, get_or, Some, None, Vec, Box, Global, refl, sym, ap, ◌∙◌, arith}
 use Rattle.std.specs.Prelude.{slice_get}
 use Rattle.std.proofs.lemmas.Option.{slice_get-map}
 use Rattle.vg_meaning.specs.Code.{Code, Then, If}
@@ -7,8 +7,11 @@ use Rattle.vg_core.specs.declared.step.Step.{Step}
 use Rattle.vg_core.specs.declared.code.Code as held
 use Rattle.vg_core.specs.declared.code.Code.TheViews as views
 use Rattle.vg_core.specs.declared.program.Body.{Body}
-use Rattle.vg_core.specs.HeldProgram.{code_of, row_of, chain_of, arms_of, code_row, code_chain, before, and_chain}
-use Rattle.vg_interp.specs.Weights.{weight, row_weight, weights, bodies_weight, arm_then, arms_list}
+use Rattle.vg_core.specs.HeldProgram.{code_of, row_of, chain_of, arms_of, code_row, code_chain}
+use Rattle.vg_interp.specs.Weights.{weight, row_weight, weights, bodies_weight, arm_then, arms_list, parts_of}
+
+given_is : (a b : held.Code × held.Code) → Some a ≡ Some b → a ≡ b
+given_is a b e = cc
 
 row_is : (n : _) (k : held.Row_of-Code n) → row_of k ≡ code_row (held.items-the_row-Code n k)
 row_is _ held.end_of-Code = refl
@@ -73,6 +76,46 @@ part_weighs [] i x lt is = absurd (omega (arith, lt))
 part_weighs (y ∷ xs) zero x lt is = let e = ap weight is in omega (arith, e)
 part_weighs (y ∷ xs) (suc i) x lt is = let h = part_weighs xs i x (omega (arith, lt)) is in omega (arith, h)
 
+-- what an arm is, and what it has
+pub parts_weigh : (x c b : held.Code) → parts_of x ≡ Some (c, b) → weight x ≡ suc (weight c + weight b)
+parts_weigh (held.Arm' p d q e) c b is =
+    let same = given_is (d, e) (c, b) is in ap (λ y. suc (weight y.0 + weight y.1)) same
+parts_weigh (held.Row' s all) c b is = cc
+parts_weigh (held.Chain' s all) c b is = cc
+parts_weigh (held.Do p) c b is = cc
+parts_weigh (held.If' p a q d) c b is = cc
+parts_weigh (held.Arms' s all p a) c b is = cc
+parts_weigh (held.Loop' p a q d r e) c b is = cc
+parts_weigh held.Break c b is = cc
+parts_weigh held.Continue c b is = cc
+parts_weigh held.Return c b is = cc
+
+pub parts_then : (x c b : held.Code) (rest : Code Step) → parts_of x ≡ Some (c, b) → arm_then x rest ≡ Then (code_of c) (If (code_of b) rest)
+parts_then (held.Arm' p d q e) c b rest is =
+    let same = given_is (d, e) (c, b) is in ap (λ y. Then (code_of y.0) (If (code_of y.1) rest)) same
+parts_then (held.Row' s all) c b rest is = cc
+parts_then (held.Chain' s all) c b rest is = cc
+parts_then (held.Do p) c b rest is = cc
+parts_then (held.If' p a q d) c b rest is = cc
+parts_then (held.Arms' s all p a) c b rest is = cc
+parts_then (held.Loop' p a q d r e) c b rest is = cc
+parts_then held.Break c b rest is = cc
+parts_then held.Continue c b rest is = cc
+parts_then held.Return c b rest is = cc
+
+-- code that is no arm
+pub none_then : (x : held.Code) (rest : Code Step) → parts_of x ≡ None → arm_then x rest ≡ Then (code_of x) rest
+none_then (held.Arm' p d q e) rest is = cc
+none_then (held.Row' s all) rest is = refl
+none_then (held.Chain' s all) rest is = refl
+none_then (held.Do p) rest is = refl
+none_then (held.If' p a q d) rest is = refl
+none_then (held.Arms' s all p a) rest is = refl
+none_then (held.Loop' p a q d r e) rest is = refl
+none_then held.Break rest is = refl
+none_then held.Continue rest is = refl
+none_then held.Return rest is = refl
+
 some_is : (a b : Body) → Some a ≡ Some b → a ≡ b
 some_is a b e = cc
 
@@ -88,3 +131,5 @@ some_weight [] = omega arith
 some_weight (x ∷ xs) = omega arith
 
 pub ruleset at_bodies = (slice_get-map, body_weighs)
+
+pub ruleset weighing = (row_weighs, chain_weighs, arms_weigh, part_weighs, parts_weigh, some_weight)

@@ -1,11 +1,12 @@
 -- Turns of loops, opened calls, and chains.
-use Rattle.std.proofs.Common.{◌≡◌, ◌≢◌, ℕ, zero, suc, ◌-◌, ◌<◌, ◌+◌, ◌==◌, ◌&&◌, length, take, rules, Bool, true, false, List, [], ◌∷◌, refl, sym, ap, ◌∙◌, arith}
+use Rattle.std.proofs.Common.{◌≡◌, ◌≢◌, ℕ, zero, suc, ◌-◌, ◌+◌, ◌==◌, ◌&&◌, length, take, rules, Bool, true, false, List, [], ◌∷◌, refl, sym, ap, ◌∙◌, arith}
 use Rattle.std.specs.Prelude.{Ok}
-use Rattle.vg_meaning.specs.History.{Active, depth_alone, one_less}
+use Rattle.vg_meaning.specs.History.{Active, depth_alone}
 use Rattle.vg_meaning.specs.World.{World}
 use Rattle.vg_meaning.specs.Answer.{Answer, Gives, Ends, Piece, OutOfClock, over, and_then, passes}
 use Rattle.vg_meaning.specs.Calls.{opened, closed}
 use Rattle.vg_meaning.specs.Clock.{ticked}
+use Rattle.vg_meaning.specs.Code.{Nothing}
 use Rattle.vg_meaning.specs.Loops.{turned, turns}
 use Rattle.vg_core.specs.declared.code.Code.{Code as HeldCode}
 use Rattle.vg_core.specs.HeldProgram.{code_of, code_chain}
@@ -72,6 +73,11 @@ chosen false go r a e h = cc
 pub not_chosen : (b : Bool) (go : Piece State ℕ) (r : Run) (a : Answer State ℕ) → b ≡ false → Chooses (Ok b) go r a → a ≡ Gives (state r) (world r)
 not_chosen true go r a e h = cc
 not_chosen false go r a e h = h
+
+-- where nothing comes behind, both answers are an end that is well
+pub arm_over : (b : Bool) (p : Program) (n : ℕ) (r : Run) (a : Answer State ℕ) → Chooses (Ok b) (does p n Nothing) r a → a ≡ Gives (state r) (world r)
+arm_over true p n r a h = h
+arm_over false p n r a h = h
 
 -- what has ended has ended before what would come behind it
 pub signals_on : (why : Signal) (s : State) (w : World ℕ) (a : Answer State ℕ) (go : Piece State ℕ) → Signals why s w a → Signals why s w (and_then a go)

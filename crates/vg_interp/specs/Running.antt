@@ -1,10 +1,10 @@
 -- What code and calls of a program do, for a history that is the depth alone, and what a result of the code says of it.
-use Rattle.std.specs.Prelude.{◌≡◌, ◌==◌, ℕ, Bool, true, false, List, [], length, take, Result, Ok, Err}
+use Rattle.std.specs.Prelude.{◌≡◌, ◌==◌, ℕ, Bool, true, false, List, [], length, take, Option, Result, Ok, Err}
 use Rattle.vg_meaning.specs.History.{depth_alone}
-use Rattle.vg_meaning.specs.World.{World}
 use Rattle.vg_meaning.specs.Answer.{Answer, Gives, Piece, and_then}
 use Rattle.vg_meaning.specs.Calls.{opened, returned}
 use Rattle.vg_meaning.specs.Code.{Code, performed}
+use Rattle.vg_meaning.specs.Grows.{trace_of}
 use Rattle.vg_core.specs.declared.step.Step.{Step}
 use Rattle.vg_core.specs.declared.program.Target.{Target}
 use Rattle.vg_core.specs.declared.value.CoreValue.{CoreValue}
@@ -18,6 +18,8 @@ use Rattle.vg_interp_run.specs.declared.signal.Exit.{Exit}
 use Rattle.vg_interp_run.specs.declared.signal.Exit.TheVariants.{Break, Continue, Return}
 use Rattle.vg_interp_run.specs.Exits.{Exits}
 use Rattle.vg_interp_run.specs.Run.{state, world, Kept}
+use Rattle.vg_outlet.specs.Puts.{moment, PutsOf}
+use Rattle.vg_interp.specs.declared.playing.Playing.{Playing}
 
 -- Calls of a program, at most so deep.
 abbrev pub calling : Program → (most : ℕ) → Caller ℕ
@@ -56,3 +58,8 @@ abbrev pub Chooses : Result Bool Exit → Piece State ℕ → Run → Answer Sta
 Chooses (Ok true) go r a = a ≡ go (state r) (world r)
 Chooses (Ok false) go r a = a ≡ Gives (state r) (world r)
 Chooses (Err why) go r a = Exits why r a
+
+-- What was put between two moments is of the trace of this answer.
+abbrev pub Shows : (told : Option (List ℕ)) → (faults : ℕ) → Playing → (told_now : Option (List ℕ)) → (faults_now : ℕ) → Playing → Answer State ℕ → Type 0
+Shows told faults before told_now faults_now now a =
+    PutsOf (moment told faults before.outlet) (moment told_now faults_now now.outlet) (trace_of a)

@@ -1,6 +1,6 @@
 -- How many boxes and rows code has: what each recursion along it goes down by.
-use Rattle.std.specs.Prelude.{ℕ, suc, ◌+◌, ◌*◌, List, [], ◌∷◌}
-use Rattle.vg_meaning.specs.Code.{Code, Nothing, Then, If}
+use Rattle.std.specs.Prelude.{ℕ, suc, ◌+◌, ◌*◌, List, [], ◌∷◌, Option, Some, None}
+use Rattle.vg_meaning.specs.Code.{Code, Then, If}
 use Rattle.vg_core.specs.declared.step.Step.{Step}
 use Rattle.vg_core.specs.declared.code.Code as held
 use Rattle.vg_core.specs.declared.program.Body.{Body}
@@ -37,6 +37,11 @@ bodies_weight (b ∷ bs) = weight b.code + bodies_weight bs
 -- More than each body of a program.
 abbrev pub whole : Program → ℕ
 whole p = 8 * (bodies_weight p.methods + bodies_weight p.makings + bodies_weight p.starts) + 8
+
+-- The condition and the block of an arm.
+abbrev pub parts_of : held.Code → Option (held.Code × held.Code)
+parts_of (held.Arm' p c q b) = Some (c, b)
+parts_of c = None
 
 -- An arm, and what is done where its condition does not hold.
 abbrev pub arm_then : held.Code → Code Step → Code Step

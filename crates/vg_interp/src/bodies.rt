@@ -1,9 +1,9 @@
 // What is called, and its body.
 ghost use Rattle.std.specs.Prelude.{◌≡◌, ◌*◌, ◌+◌, ◌≤◌, Some, None, IfSome, MatchOption, is_some, slice_get};
 ghost use Rattle.vg_core.specs.HeldProgram.{body_at, program_at};
-ghost use Rattle.vg_interp.specs.Weights.{weight, whole};
+ghost use Rattle.vg_interp.specs.Weights.{parts_of, weight, whole};
 
-use vg_core::{Body, Class, Method, Program, Tables};
+use vg_core::{Body, Class, Code, Method, Program, Tables};
 
 /// A method.
 pub fn method_at(tables: &Tables, number: u16) -> Option<&Method>
@@ -28,6 +28,28 @@ pub fn is_component(tables: &Tables, number: u16) -> bool
         .as_slice()
         .get(usize::from(number))
         .is_some()
+}
+
+/// The condition and the block of an arm.
+pub fn arm_parts(code: &Code) -> Option<(&Code, &Code)>
+    ensures { MatchOption result (parts_of code.entry.now ≡ None) (λ found. parts_of code.entry.now ≡ Some (found.0.now, found.1.now)) }
+{
+    match code {
+        Code::Arm(condition, block) => {
+            let condition: &Code = condition;
+            let block: &Code = block;
+            Some((condition, block))
+        }
+        Code::Row(_)
+        | Code::Chain(_)
+        | Code::Do(_)
+        | Code::If(_, _)
+        | Code::Arms(_, _)
+        | Code::Loop(_, _, _)
+        | Code::Break
+        | Code::Continue
+        | Code::Return => None,
+    }
 }
 
 /// The body of a method; it has less than the whole program.

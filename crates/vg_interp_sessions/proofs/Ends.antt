@@ -1,5 +1,5 @@
 -- Room, and interrupts one by one.
-use Rattle.std.proofs.Common.{◌≡◌, ℕ, zero, suc, ◌+◌, ◌<◌, nat_lt, Bool, true, refl, sym, ap, ◌∙◌, arith}
+use Rattle.std.proofs.Common.{◌≡◌, ℕ, zero, suc, ◌+◌, ◌<◌, nat_lt, true, ap, arith}
 use Rattle.vg_meaning.specs.History.{depth_alone}
 use Rattle.vg_meaning.specs.World.{World}
 use Rattle.vg_meaning.specs.Answer.{Over, OutOfRoom, Ends, Piece, and_then, unless}

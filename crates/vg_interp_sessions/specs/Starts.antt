@@ -1,7 +1,7 @@
 -- What initialisation gives.
 use Rattle.std.specs.Prelude.{◌≡◌, ℕ, Result, Ok, Err}
 use Rattle.vg_meaning.specs.World.{World}
-use Rattle.vg_meaning.specs.Answer.{Answer, Gives}
+use Rattle.vg_meaning.specs.Answer.{Answer}
 use Rattle.vg_core.specs.declared.heap.Heap.{Heap}
 use Rattle.vg_core.specs.Session.{Started, start_of}
 use Rattle.vg_core.specs.State.{State}

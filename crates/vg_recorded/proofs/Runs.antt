@@ -7,10 +7,11 @@ use Rattle.vg_meaning.specs.History.{Recorder}
 use Rattle.vg_meaning.specs.World.{World, Starting, Running}
 use Rattle.vg_meaning.specs.Outside.{with_event}
 use Rattle.vg_meaning.specs.Answer.{Stops, Wants, Touches, Done, OutOfClock, OutOfDepth, OutOfRoom, Wrong, Signal, Breaks, Continues, Returns, Over}
-use Rattle.vg_meaning.specs.Answer.{Answer, Ends, Piece, and_then}
+use Rattle.vg_meaning.specs.Answer.{Answer, Ends, Piece, and_then, go_on}
+use Rattle.vg_meaning.specs.Code.{Code, performed}
 use Rattle.vg_meaning.specs.Interrupts.{interrupt_from, idles}
 use Rattle.vg_meaning.specs.Grows.{trace_of, Extends, Grows}
-use Rattle.vg_meaning.proofs.Grows.{extends_itself, grows_idles}
+use Rattle.vg_meaning.proofs.Grows.{extends_itself, grows_idles, grows_performed}
 use Rattle.vg_meaning.specs.Told as of
 use Rattle.vg_meaning.specs.Told.{told, Told, ToldPiece, Tells}
 use Rattle.vg_source.specs.Session.{starting_world, running_world}
@@ -18,13 +19,14 @@ use Rattle.vg_core.specs.declared.types.CoreType.{CoreType}
 use Rattle.vg_core.specs.declared.value.CoreValue.{CoreValue}
 use Rattle.vg_core.specs.declared.value.CoreValue.TheVariants.{Null}
 use Rattle.vg_core.specs.declared.heap.Heap.{Heap}
+use Rattle.vg_core.specs.declared.step.Step.{Step}
 use Rattle.vg_core.specs.declared.program.Tables.{Tables}
 use Rattle.vg_core.specs.declared.program.Target.{Target}
 use Rattle.vg_core.specs.declared.program.Target.TheVariants.{Run, Start}
 use Rattle.vg_core.specs.Heap.{default, stored_values}
 use Rattle.vg_core.specs.Program.{Body, Program, Signature, signature_of, body_of}
 use Rattle.vg_core.specs.State.{State, are_of, onto, entered}
-use Rattle.vg_core.specs.Meaning.{Caller, step, truth, activity, back_in, run_body, with_arguments, called}
+use Rattle.vg_core.specs.Meaning.{Caller, step, truth, activity, back_in, put, run_body, taking, with_arguments, called}
 use Rattle.vg_core.specs.Session.{call_alone, first_heap, start_all, with_heap, starting, handler_of, handled, handle, running}
 use Rattle.std.specs.Prelude.{take}
 use Rattle.vg_recorded.specs.Setting.{Setting, start_setting, run_setting, setting_of, IsIn, IsSignal, EndsStart, EndsRun}
@@ -172,6 +174,30 @@ module _ {H : Type 0} where
   grows p q k s w =
       seen_grows (setting_of w) (p s w) _ (k (setting_of w) s w
       (record { phase_is = refl; deepest_is = refl; largest_is = refl; interrupts_are = refl; seen_stays = extends_itself w.outside.trace }))
+
+  pub grows_called : (r : Recorder H) (p : Program) (n : ℕ) (t : Target) (count : ℕ) (self : CoreValue) → Grows (called r p n t count self)
+  grows_called r p n t count self =
+      grows (called r p n t count self) (called r p n t count self) (λ x. on_called x (λ h. h) r r (tells_itself r) p n t count self)
+
+  grows_step : (r : Recorder H) (p : Program) (n : ℕ) (st : Step) → Grows (step p.tables (called r p n) st)
+  grows_step r p n st =
+      grows (step p.tables (called r p n) st) (step p.tables (called r p n) st)
+      (λ x. on_step x (λ h. h) p.tables (called r p n) (called r p n) (on_called x (λ h. h) r r (tells_itself r) p n) st)
+
+  pub grows_code : (r : Recorder H) (p : Program) (n : ℕ) (c : Code Step) → Grows (performed r (step p.tables (called r p n)) truth c)
+  grows_code r p n c = grows_performed r truth (step p.tables (called r p n)) (grows_step r p n) c
+
+  -- what is done with the value of a call
+  pub grows_back : (p : Tables) (t : CoreType) (count : ℕ) (s0 : State) → Grows {H = H} (back_in p t count s0)
+  grows_back p t count s0 =
+      grows (back_in p t count s0) (back_in p t count s0)
+      (λ x. on_taking x (λ h. h) _ _ (λ v. on_type x (λ h. h) p t v _ _ (λ body w h. gives h)))
+
+  pub grows_forgotten : Grows {H = H} (taking (λ v. go_on))
+  grows_forgotten = grows (taking (λ v. go_on)) (taking (λ v. go_on)) (λ x. on_taking x (λ h. h) _ _ (λ v s w h. gives h))
+
+  pub grows_replaced : (u : CoreValue) → Grows {H = H} (taking (λ v. put u))
+  grows_replaced u = grows (taking (λ v. put u)) (taking (λ v. put u)) (λ x. on_taking x (λ h. h) _ _ (λ v. on_put x (λ h. h) u))
 
   pub grows_alone : (r : Recorder H) (p : Program) (t : Target) → Grows (call_alone r p t)
   grows_alone r p t = grows (call_alone r p t) (call_alone r p t) (λ x. on_alone x (λ h. h) r r (tells_itself r) p t)

@@ -1,11 +1,15 @@
 // Laws of histories and of endings.
 ghost use Rattle.std.specs.Prelude.{ℕ, List, Option};
 ghost use Rattle.vg_meaning.specs.History.{Recorder};
+ghost use Rattle.vg_meaning.specs.Code.{Code, performed};
 ghost use Rattle.vg_meaning.specs.Grows.{Grows};
 ghost use Rattle.vg_meaning.specs.Interrupts.{idles};
 ghost use Rattle.vg_meaning.specs.Told.{Told, Tells};
 ghost use Rattle.vg_core.specs.declared.heap.Heap.{Heap};
 ghost use Rattle.vg_core.specs.declared.program.Target.{Target};
+ghost use Rattle.vg_core.specs.declared.step.Step.{Step};
+ghost use Rattle.vg_core.specs.declared.value.CoreValue.{CoreValue};
+ghost use Rattle.vg_core.specs.Meaning.{called, step, truth};
 ghost use Rattle.vg_core.specs.Program.{Program};
 ghost use Rattle.vg_core.specs.Session.{call_alone, handle, starting, running};
 ghost use Rattle.vg_recorded.specs.Setting.{EndsRun, EndsStart};
@@ -31,8 +35,10 @@ pub fn runs_end<H>()
         → EndsRun deepest (running r history p heap deepest reads interrupts clock) }
 {}
 
-/// A call from outside and the idle loop only add to the trace.
+/// Code, calls and the idle loop only add to the trace.
 pub fn traces_grow<H>()
+    ensures code { (r : Recorder H) (p : Program) (n : ℕ) (c : Code Step) → Grows (performed r (step p.tables (called r p n)) truth c) }
+    ensures called { (r : Recorder H) (p : Program) (n : ℕ) (t : Target) (count : ℕ) (self : CoreValue) → Grows (called r p n t count self) }
     ensures calls { (r : Recorder H) (p : Program) (t : Target) → Grows (call_alone r p t) }
     ensures idle { (r : Recorder H) (p : Program) (n : ℕ) → Grows (idles n (handle r p)) }
 {}

@@ -1,17 +1,16 @@
 -- How initialisation and sessions end: a well typed program is never Wrong, initialisation ends as such, and a run as a run does. What is kept of the
 -- history changes neither heap, trace nor ending.
-use Rattle.std.specs.Prelude.{ℕ, List, length, take, drop, Option, Some, None, Result, Ok, Err}
+use Rattle.std.specs.Prelude.{ℕ, ◌≤◌, Bool, true, false, List, length, Option, Some, None, Result, Ok, Err}
 use Rattle.std.proofs.Common.{◌≡◌, refl, sym, ap, ◌∙◌, subst}
 use Rattle.vg_base.specs.declared.refusal.Refusal.{Refusal}
 use Rattle.vg_base.specs.declared.refusal.Refusal.TheVariants.{Fault, NoMemory as Memory}
 use Rattle.vg_meaning.specs.declared.event.Event.{Event}
 use Rattle.vg_meaning.specs.Answer.{End, Stops, Wants, Touches, Done, OutOfClock, OutOfDepth, OutOfRoom, Wrong, Signal as Why, Breaks, Continues, Returns, Over}
-use Rattle.vg_io.specs.Piece.{AppendsAll}
 use Rattle.vg_meaning.specs.Answer.{Answer, Gives, Ends, kept, and_then}
 use Rattle.vg_meaning.specs.Interrupts.{idles}
 use Rattle.vg_meaning.specs.Ending.{Ending}
 use Rattle.vg_meaning.specs.Ending as ending
-use Rattle.vg_meaning.specs.Grows.{trace_of}
+use Rattle.vg_meaning.specs.Grows.{trace_of, Extends}
 use Rattle.vg_meaning.specs.History.{History, full, depth_alone, depth_of, no_history}
 use Rattle.vg_meaning.specs.Safe.{Safe, gives, leaves, overs, NoWay, IsRight}
 use Rattle.vg_meaning.specs.Told as of
@@ -41,10 +40,11 @@ use Rattle.vg_session.specs.declared.initialisation.InitFault.{InitFault}
 use Rattle.vg_session.specs.declared.session.SessionEnd.{SessionEnd}
 use Rattle.vg_session.specs.declared.session.SessionEnd.TheVariants as end
 use Rattle.vg_session.specs.Initialises.{why_of, Initialises}
-use Rattle.vg_session.specs.declared.playing.Played.{Played}
-use Rattle.vg_session.specs.Ends.{lines, session_on, EndsAs, Puts}
-use Rattle.vg_session.specs.Playing.{CanFail, FailsBy, CanEnd, HasMemory, EndsBy, from_main, Plays}
-use Rattle.vg_session.proofs.Putting.{puts_last, fails_last}
+use Rattle.vg_session.specs.Ends.{session_on, EndsAs}
+use Rattle.vg_session.specs.Playing.{CanFail, FailsBy, CanEnd, HasMemory, Lacks, IsEndOf, EndsBy, from_main, Leaves}
+use Rattle.vg_outlet.specs.Puts.{Moment, IsPut, PutsOf}
+use Rattle.vg_outlet.proofs.Puts.{put_first, put_front, put_failed, put_later, put_whole}
+use Rattle.vg_meaning.proofs.Grows.{extends_itself}
 use Rattle.vg_script.specs.Script.{Lists}
 
 -- ---- what never comes
@@ -220,9 +220,9 @@ module _ {A : Type 0} (s : State) (w : World ℕ) (a : Answer State ℕ) where
   trace_is (Err signal.Wrong) c h = absurd c
   trace_is (Err signal.NoMemory) c h = absurd c
 
-  pub ends_so : (e : SessionEnd) (r : Result A Signal) → CanEnd r → EndsBy e r → Answers r s w a → EndsAs e (end_of a)
+  pub ends_so : (e : SessionEnd) (r : Result A Signal) → (HasMemory r → CanEnd r) → EndsBy e r → Answers r s w a → EndsAs e (end_of a)
   ends_so e (Err why) c k h = ends_signal A s w a e why k h
-  ends_so e (Ok u) c k h = absurd c
+  ends_so e (Ok u) c k h = absurd (c tt)
 
 module _ (p : Program) (good : WellTyped p) (heap : Heap) (typed : HasTypedHeap p.tables heap) (reads interrupts : List ℕ) (clock : ℕ) where
   abbrev pub run_of : Answer State ℕ
@@ -251,17 +251,6 @@ run_is p r heap reads interrupts clock e f =
     ap (λ s. and_then (call_alone depth_alone q (OfMethod p.main) s (world r)) (idles (length (world r).outside.interrupts) (handle depth_alone q))) e
     ∙ ap (λ w. and_then (call_alone depth_alone q (OfMethod p.main) (with_heap heap) w) (idles (length w.outside.interrupts) (handle depth_alone q))) f
 
--- the rest of the lines, where the first were put
-pub puts_end : (e : SessionEnd) (put : ℕ) (events : List Event) (a b c : Option (List ℕ)) → AppendsAll a b (lines (take put events))
-    → Puts e b c (drop put events) → Puts e a c events
-puts_end end.SinkFailed put events a b c k h = fails_last put events a b c k h
-puts_end end.NoMemory put events a b c k h = fails_last put events a b c k h
-puts_end end.Idle put events a b c k h = puts_last put events a b c k h
-puts_end (end.Stop code) put events a b c k h = puts_last put events a b c k h
-puts_end (end.Wants address) put events a b c k h = puts_last put events a b c k h
-puts_end end.Budget put events a b c k h = puts_last put events a b c k h
-puts_end end.Depth put events a b c k h = puts_last put events a b c k h
-
 -- a session that was played to its end
 module _ (p : HeldProgram) (good : WellTyped (program_at p)) (heap : Heap) (typed : HasTypedHeap p.tables heap) (script : Lists) (clock : ℕ) (first : Run)
     (begins : state first ≡ with_heap heap) (around : world first ≡ running_world 0 (Some 400) script.reads script.interrupts clock) where
@@ -274,23 +263,74 @@ module _ (p : HeldProgram) (good : WellTyped (program_at p)) (heap : Heap) (type
   pub played_trace : trace_of (from_main p first) ≡ (session_on p heap script clock).trace
   played_trace = ap trace_of is_whole ∙ same_trace (program_at p) good heap typed script.reads script.interrupts clock
 
-  module _ (x : Played) (last : Run) (a b : Option (List ℕ)) (plays : Plays x last (from_main p first) a b) where
-    answered : Answers x.ended (state last) (world last) whole_run
-    answered = subst (Answers x.ended (state last) (world last)) is_whole plays.0
+  module _ (ended : Result (Unit {0}) Signal) (last : Run) (answers : Answers ended (state last) (world last) (from_main p first)) where
+    answered : Answers ended (state last) (world last) whole_run
+    answered = subst (Answers ended (state last) (world last)) is_whole answers
 
-    pub played_can_end : CanEnd x.ended
-    played_can_end = run_can_end (program_at p) good heap typed script.reads script.interrupts clock x.ended (state last) (world last) answered plays.1
+    pub played_can_end : HasMemory ended → CanEnd ended
+    played_can_end memory = run_can_end (program_at p) good heap typed script.reads script.interrupts clock ended (state last) (world last) answered memory
 
-    pub played_ends : (e : SessionEnd) → EndsBy e x.ended → EndsAs e (session_on p heap script clock).ending
+    pub played_ends : (e : SessionEnd) → EndsBy e ended → EndsAs e (session_on p heap script clock).ending
     played_ends e h =
         subst (EndsAs e) (same_end (program_at p) good heap typed script.reads script.interrupts clock)
-        (ends_so (state last) (world last) whole_run e x.ended played_can_end h answered)
+        (ends_so (state last) (world last) whole_run e ended played_can_end h answered)
 
-    pub played_puts : (e : SessionEnd) (c : Option (List ℕ)) → Puts e b c (drop x.put (world last).outside.trace)
-        → Puts e a c (session_on p heap script clock).trace
-    played_puts e c h =
-        let same = trace_is (state last) (world last) whole_run x.ended played_can_end answered in
-        let told : AppendsAll a b (lines (take x.put (trace_of whole_run))) =
-        subst (λ z. AppendsAll a b (lines (take x.put (trace_of z)))) is_whole plays.2 in
-        subst (Puts e a c) (same_trace (program_at p) good heap typed script.reads script.interrupts clock)
-        (puts_end e x.put (trace_of whole_run) a b c told (subst (λ t. Puts e b c (drop x.put t)) (sym same) h))
+    pub played_seen : HasMemory ended → trace_of (from_main p first) ≡ (world last).outside.trace
+    played_seen memory = ap trace_of is_whole ∙ trace_is (state last) (world last) whole_run ended (played_can_end memory) answered
+
+    -- what a session leaves, where nothing was put before it
+    pub played_leaves : (a b : Option (List ℕ)) (f g put : ℕ) (failed : Bool) (m : Moment) (e : SessionEnd) → put ≡ 0 → failed ≡ false
+        → PutsOf (record { told = a; faults = f; put = put; failed = failed }) m (trace_of (from_main p first))
+        → ((told : Option (List ℕ)) (faults : ℕ) (whole : List Event) → IsPut told faults m whole → (HasMemory ended → whole ≡ (world last).outside.trace)
+        → Leaves e told faults b g whole)
+        → Leaves e a f b g (session_on p heap script clock).trace
+    played_leaves a b f g put failed m e none well puts left =
+        let whole = trace_of (from_main p first) in
+        subst (Leaves e a f b g) played_trace
+        (left a f whole (puts.holds a f whole (extends_itself whole) (put_first a f put failed whole none well)) played_seen)
+
+-- how the lines of a trace are left
+pub leaves_failed : (a : Option (List ℕ)) (f : ℕ) (m : Moment) (t : List Event) → IsPut a f m t → m.failed ≡ true → Leaves end.SinkFailed a f m.told m.faults t
+leaves_failed a f m t is e = (put_front a f m t is, put_failed a f m t is e, put_later a f m t is)
+
+pub leaves_front : (a : Option (List ℕ)) (f : ℕ) (m : Moment) (t : List Event) → IsPut a f m t → Leaves end.NoMemory a f m.told m.faults t
+leaves_front a f m t is = (put_front a f m t is, tt, put_later a f m t is)
+
+pub leaves_whole : {A : Type 0} (e : SessionEnd) (r : Result A Signal) (a : Option (List ℕ)) (f : ℕ) (m : Moment) (t : List Event) → IsEndOf e r → IsPut a f m t
+    → m.failed ≡ false → length t ≤ m.put → Leaves e a f m.told m.faults t
+leaves_whole end.Idle r a f m t k is e h = (put_whole a f m t is e h, tt, put_later a f m t is)
+leaves_whole (end.Stop code) r a f m t k is e h = (put_whole a f m t is e h, tt, put_later a f m t is)
+leaves_whole (end.Wants address) r a f m t k is e h = (put_whole a f m t is e h, tt, put_later a f m t is)
+leaves_whole end.Budget r a f m t k is e h = (put_whole a f m t is e h, tt, put_later a f m t is)
+leaves_whole end.Depth r a f m t k is e h = (put_whole a f m t is e h, tt, put_later a f m t is)
+leaves_whole end.SinkFailed (Ok u) a f m t k is e h = absurd k
+leaves_whole end.SinkFailed (Err why) a f m t k is e h = absurd k
+leaves_whole end.NoMemory (Ok u) a f m t k is e h = absurd k
+leaves_whole end.NoMemory (Err why) a f m t k is e h = absurd k
+
+-- the lines that were left are put
+module _ (a : Option (List ℕ)) (f : ℕ) (m n : Moment) (es t : List Event) (same : es ≡ t) (puts : PutsOf m n es) (is : IsPut a f m t) where
+  is_put : IsPut a f n t
+  is_put = puts.holds a f t (subst (λ x. Extends x t) (sym same) (extends_itself t)) is
+
+  pub rest_whole : {A : Type 0} (e : SessionEnd) (r : Result A Signal) → IsEndOf e r → n.failed ≡ false → length es ≤ n.put → Leaves e a f n.told n.faults t
+  rest_whole e r k well all = leaves_whole e r a f n t k is_put well (subst (λ x. length x ≤ n.put) same all)
+
+  pub rest_failed : n.failed ≡ true → Leaves end.SinkFailed a f n.told n.faults t
+  rest_failed e = leaves_failed a f n t is_put e
+
+  pub rest_front : Leaves end.NoMemory a f n.told n.faults t
+  rest_front = leaves_front a f n t is_put
+
+pub ends_by : {A : Type 0} (e : SessionEnd) (r : Result A Signal) → IsEndOf e r → EndsBy e r
+ends_by end.Idle r k = k
+ends_by (end.Stop code) r k = k
+ends_by (end.Wants address) r k = k
+ends_by end.Budget r k = k
+ends_by end.Depth r k = k
+ends_by end.SinkFailed r k = tt
+ends_by end.NoMemory r k = tt
+
+pub has_memory : (b : Bool) (why : Signal) → b ≡ false → Lacks b why → HasMemory {A = Unit {0}} (Err why)
+has_memory true why e h = cc
+has_memory false why e h = h

@@ -1,4 +1,1 @@
-pub mod Told
-pub mod Putting
 pub mod Ending
-pub mod Idling

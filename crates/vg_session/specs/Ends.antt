@@ -1,6 +1,5 @@
 -- How a session ends, and what a sink has of it then.
 use Rattle.std.specs.Prelude.{◌≡◌, ℕ, List, Option, Some}
-use Rattle.std.specs.List.{flat_map}
 use Rattle.vg_io.specs.Count.{Rose}
 use Rattle.vg_io.specs.Piece.{AppendsAll, AppendsFront}
 use Rattle.vg_meaning.specs.declared.event.Event.{Event}
@@ -12,17 +11,13 @@ use Rattle.vg_core.specs.declared.program.Program.{Program}
 use Rattle.vg_core.specs.HeldProgram.{program_at}
 use Rattle.vg_core.specs.Session.{session}
 use Rattle.vg_script.specs.Script.{Lists}
-use Rattle.vg_script.specs.Traces.{event_line}
+use Rattle.vg_outlet.specs.Lines.{lines}
 use Rattle.vg_session.specs.declared.session.SessionEnd.{SessionEnd}
 use Rattle.vg_session.specs.declared.session.SessionEnd.TheVariants.{Idle, Stop, Wants, Budget, Depth, SinkFailed, NoMemory}
 
 -- The session of a program from this heap, on a script, in so many ticks and with at most 400 active calls.
 abbrev pub session_on : Program → Heap → Lists → (budget : ℕ) → Session
 session_on p heap script budget = session (program_at p) heap (Some 400) script.reads script.interrupts budget
-
--- The lines of events.
-abbrev pub lines : List Event → List ℕ
-lines events = flat_map event_line events
 
 -- The session has this ending; nothing is said where a put failed or memory was wanting.
 abbrev pub EndsAs : SessionEnd → Option Ending → Type 0

@@ -1,12 +1,10 @@
--- Mirrors of the code that plays a session and puts its lines: no public clause cites them.
-use Rattle.std.specs.Prelude.{◌≡◌, ℕ, ◌-◌, ◌≤◌, List, length, take, drop, Option, Some, Result, Err}
+-- Mirrors of the code that plays a session and puts its lines: no public clause cites one.
+use Rattle.std.specs.Prelude.{◌≡◌, ℕ, ◌≤◌, Bool, true, false, List, length, Option, Some, Result, Err}
 use Rattle.vg_base.specs.declared.refusal.Refusal.{Refusal}
 use Rattle.vg_base.specs.declared.refusal.Refusal.TheVariants.{Fault, NoMemory as Memory}
-use Rattle.vg_io.specs.Piece.{AppendsAll}
 use Rattle.vg_meaning.specs.declared.event.Event.{Event}
 use Rattle.vg_meaning.specs.Answer as answer
 use Rattle.vg_meaning.specs.Answer.{Answer, and_then}
-use Rattle.vg_meaning.specs.Grows.{trace_of}
 use Rattle.vg_meaning.specs.History.{depth_alone}
 use Rattle.vg_meaning.specs.Interrupts.{idles}
 use Rattle.vg_core.specs.declared.program.Program.{Program}
@@ -17,12 +15,11 @@ use Rattle.vg_core.specs.State.{State}
 use Rattle.vg_interp_run.specs.declared.run.Run.{Run}
 use Rattle.vg_interp_run.specs.declared.signal.Signal.{Signal}
 use Rattle.vg_interp_run.specs.declared.signal.Signal.TheVariants as signal
-use Rattle.vg_interp_run.specs.Run.{state, world, Answers}
+use Rattle.vg_interp_run.specs.Run.{state, world}
 use Rattle.vg_session.specs.declared.initialisation.InitFault.{InitFault}
 use Rattle.vg_session.specs.declared.session.SessionEnd.{SessionEnd}
 use Rattle.vg_session.specs.declared.session.SessionEnd.TheVariants as end
-use Rattle.vg_session.specs.declared.playing.Played.{Played}
-use Rattle.vg_session.specs.Ends.{lines}
+use Rattle.vg_session.specs.Ends.{Causes, Puts}
 use Rattle.vg_session.specs.Initialises.{why_of}
 
 -- ---- initialisation
@@ -63,6 +60,11 @@ abbrev pub HasMemory : {A : Type 0} → Result A Signal → Type 0
 HasMemory (Err signal.NoMemory) = ⊥
 HasMemory _ = Unit {0}
 
+-- Where memory was not wanting, an answer says so.
+abbrev pub Lacks : Bool → Signal → Type 0
+Lacks true why = Unit {0}
+Lacks false why = HasMemory {A = Unit {0}} (Err why)
+
 -- The end of a session is that of its signal.
 abbrev pub IsEndOf : {A : Type 0} → SessionEnd → Result A Signal → Type 0
 IsEndOf end.Idle (Err signal.Done) = Unit {0}
@@ -78,22 +80,12 @@ EndsBy end.SinkFailed r = Unit {0}
 EndsBy end.NoMemory r = Unit {0}
 EndsBy e r = IsEndOf e r
 
--- So many interrupts, and one more.
-abbrev pub idling : Program → (count : ℕ) → Run → Answer State ℕ
-idling p count r = idles count (handle depth_alone (program_at p)) (state r) (world r)
-
 -- Main, and the interrupts behind it.
 abbrev pub from_main : Program → Run → Answer State ℕ
 from_main p r =
     and_then (call_alone depth_alone (program_at p) (OfMethod p.main) (state r) (world r))
     (idles (length (world r).outside.interrupts) (handle depth_alone (program_at p)))
 
--- A session went as this answer says, and the lines of the first so many of its events were put.
-abbrev pub Plays : Played → (after : Run) → Answer State ℕ → (before now : Option (List ℕ)) → Type 0
-Plays p after whole before now =
-    Answers p.ended (state after) (world after) whole × HasMemory p.ended × AppendsAll before now (lines (take p.put (trace_of whole)))
-
--- The lines of events were put, from those of this number up to those of the other.
-abbrev pub PutsOn : (put now : ℕ) → List Event → (before after : Option (List ℕ)) → Type 0
-PutsOn put now events before after =
-    AppendsAll before after (lines (take (now - put) (drop put events))) × (put ≤ now) × (now ≤ length events)
+-- A session that ended so has put what it puts of a trace, since the sink had taken these bytes and had failed so often.
+abbrev pub Leaves : SessionEnd → (told : Option (List ℕ)) → (faults : ℕ) → (told_now : Option (List ℕ)) → (faults_now : ℕ) → List Event → Type 0
+Leaves e told faults told_now faults_now trace = Puts e told told_now trace × Causes e faults faults_now × (faults ≤ faults_now)

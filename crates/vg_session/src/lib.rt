@@ -3,8 +3,6 @@
 #![tactic(auto)]
 
 pub mod initialisation;
-mod lines;
-mod playing;
 pub mod session;
 
 pub use initialisation::{InitFault, init};

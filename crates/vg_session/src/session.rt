@@ -1,18 +1,20 @@
 // Sessions.
-ghost use Rattle.std.specs.Prelude.{◌≡◌, ◌≤◌, IfOk, drop};
+ghost use Rattle.std.specs.Prelude.{◌≡◌, ◌≤◌, ℕ, List, Option, Err, IfOk};
 ghost use Rattle.vg_core.specs.HeldProgram.{program_at};
 ghost use Rattle.vg_core.specs.Typing.{WellTyped};
 ghost use Rattle.vg_sound.specs.Good.{HasTypedHeap};
+ghost use Rattle.vg_meaning.specs.declared.event.Event.{Event};
 ghost use Rattle.vg_interp_run.specs.Run.{world};
+ghost use Rattle.vg_outlet.specs.Puts.{moment, IsPut};
 ghost use Rattle.vg_session.specs.Ends.{session_on, Causes, EndsAs, Puts};
-ghost use Rattle.vg_session.specs.Playing.{CanEnd, EndsBy, IsEndOf};
+ghost use Rattle.vg_session.specs.Playing.{CanEnd, EndsBy, HasMemory, IsEndOf, Lacks, Leaves};
 
-use crate::lines::{Unput, put_lines};
-use crate::playing::{Played, play};
 use std::alloc::Global;
 use vg_base::NoMemory;
 use vg_core::Program;
+use vg_interp::Playing;
 use vg_interp_run::{Around, Run, Signal};
+use vg_interp_sessions::go;
 use vg_io::Sink;
 use vg_script::Script;
 use vg_shape::Store;
@@ -58,7 +60,7 @@ impl<'a> Session<'a> {
     }
 
     /// Runs main, and then the handler of each interrupt of the script, in at most so many ticks and with at most 400 active calls, and
-    /// puts the lines of the trace.
+    /// puts the lines of the trace: while it runs, 512 in one put, and those that are left at its end. A put that fails ends it.
     pub fn run<O: Sink>(self, script: &Script, budget: u32, sink: &mut O) -> SessionEnd
         requires typed { WellTyped (program_at self.program.now) }
         requires heap { HasTypedHeap self.program.now.tables self.heap }
@@ -74,45 +76,80 @@ impl<'a> Session<'a> {
             return SessionEnd::NoMemory;
         };
         let around = Around::running(self.alloc, Some(400), reads, interrupts, budget);
-        let mut run = Run::new(self.alloc, self.heap, around);
-        match play(self.alloc, &mut run, self.program, sink) {
-            Ok(played) => finish(self.alloc, &run, played, sink),
-            Err(Unput::SinkFailed) => SessionEnd::SinkFailed,
-            Err(Unput::NoMemory) => SessionEnd::NoMemory,
-        }
+        let run = Run::new(self.alloc, self.heap, around);
+        let mut play = Playing::new(self.alloc, run);
+        let ended = go(&mut play, sink, self.program);
+        finish(&mut play, ended, sink)
     }
 }
 
 // Puts the lines that are left, and says how the session ends.
-fn finish<O: Sink>(alloc: Global, run: &Run, played: Played, sink: &mut O) -> SessionEnd
-    requires { CanEnd played.ended }
-    ensures ended { EndsBy result played.ended }
-    ensures lines { Puts result (O.told sink.old) (O.told sink.new) (drop played.put (world run.now).outside.trace) }
-    ensures cause { Causes result (O.faults sink.old) (O.faults sink.new) }
-    ensures later { O.faults sink.old ≤ O.faults sink.new }
+fn finish<O: Sink>(play: &mut Playing, ended: Result<(), Signal>, sink: &mut O) -> SessionEnd
+    requires { HasMemory ended → CanEnd ended }
+    ensures ended { EndsBy result ended }
+    ensures lines { (told : Option (List ℕ)) (faults : ℕ) (whole : List Event)
+        → IsPut told faults (moment (O.told sink.old) (O.faults sink.old) play.old.outlet) whole
+        → (HasMemory ended → whole ≡ (world play.old.run).outside.trace) → Leaves result told faults (O.told sink.new) (O.faults sink.new) whole }
 {
-    let events = run.around.events();
-    let first = played.put.min(events.len());
-    match put_lines(alloc, &events[first..], sink) {
-        Ok(()) => end_of(played.ended),
-        Err(Unput::SinkFailed) => SessionEnd::SinkFailed,
-        Err(Unput::NoMemory) => SessionEnd::NoMemory,
+    let failed = play.outlet.failed;
+    if failed {
+        return SessionEnd::SinkFailed;
+    }
+    match ended {
+        Err(why) => {
+            if lacks_memory(why) {
+                SessionEnd::NoMemory
+            } else {
+                put_rest(play, why, sink)
+            }
+        }
+        Ok(()) => unreachable!(),
+    }
+}
+
+// Whether memory was wanting.
+fn lacks_memory(why: Signal) -> bool
+    ensures { Lacks result why }
+{
+    match why {
+        Signal::NoMemory => true,
+        _ => false,
+    }
+}
+
+// The same, where memory was not wanting.
+fn put_rest<O: Sink>(play: &mut Playing, why: Signal, sink: &mut O) -> SessionEnd
+    requires { CanEnd {A = Unit {0}} (Err why) }
+    ensures ended { EndsBy {A = Unit {0}} result (Err why) }
+    ensures lines { (told : Option (List ℕ)) (faults : ℕ)
+        → IsPut told faults (moment (O.told sink.old) (O.faults sink.old) play.old.outlet) (world play.old.run).outside.trace
+        → Leaves result told faults (O.told sink.new) (O.faults sink.new) (world play.old.run).outside.trace }
+{
+    match play.outlet.put_all(play.run.around.events(), sink) {
+        Ok(()) => end_of(why),
+        Err(NoMemory) => {
+            let failed = play.outlet.failed;
+            if failed {
+                SessionEnd::SinkFailed
+            } else {
+                SessionEnd::NoMemory
+            }
+        }
     }
 }
 
 // How a session ends that goes no further for this reason.
-fn end_of(ended: Result<(), Signal>) -> SessionEnd
-    requires { CanEnd ended }
-    ensures { IsEndOf result ended }
+fn end_of(why: Signal) -> SessionEnd
+    requires { CanEnd {A = Unit {0}} (Err why) }
+    ensures { IsEndOf {A = Unit {0}} result (Err why) }
 {
-    match ended {
-        Err(Signal::Done) => SessionEnd::Idle,
-        Err(Signal::Stops(code, _)) => SessionEnd::Stop(code),
-        Err(Signal::Wants(address)) => SessionEnd::Wants(address),
-        Err(Signal::OutOfClock) => SessionEnd::Budget,
-        Err(Signal::OutOfDepth) => SessionEnd::Depth,
-        Err(_) => unreachable!(),
-        Ok(()) => unreachable!(),
+    match why {
+        Signal::Done => SessionEnd::Idle,
+        Signal::Stops(code, _) => SessionEnd::Stop(code),
+        Signal::Wants(address) => SessionEnd::Wants(address),
+        Signal::OutOfClock => SessionEnd::Budget,
+        Signal::OutOfDepth => SessionEnd::Depth,
+        _ => unreachable!(),
     }
 }
 

@@ -1,4 +1,4 @@
-use Rattle.std.proofs.Common.{rules, ◌≡◌, ◌<◌, sym, ap, ◌∙◌, subst, arith}
+use Rattle.std.proofs.Common.{rules, ◌<◌}
 use Rattle.vg_source.specs.Session.{starting_world}
 use Rattle.vg_core.specs.Heap.{stored_values}
 use Rattle.vg_core.specs.HeldProgram.{program_at}

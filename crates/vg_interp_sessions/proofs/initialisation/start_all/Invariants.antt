@@ -9,5 +9,5 @@ abbrev pub invariant-loop-name : goal.invariant-loop-name
 invariant-loop-name l =
     let p = program_at l.program in
     (l.number ≡ l._name-index)
-    × (start_all depth_alone p 0 l.program.tables.components (state l.fn.run) (world l.fn.run)
-    ≡ start_all depth_alone p l.number (drop l._name-index l.program.tables.components) (state l.run) (world l.run))
+    × (start_all depth_alone p 0 l.program.tables.components (state l.fn.play.run) (world l.fn.play.run)
+    ≡ start_all depth_alone p l.number (drop l._name-index l.program.tables.components) (state l.play.run) (world l.play.run))
