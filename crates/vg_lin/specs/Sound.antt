@@ -1,6 +1,6 @@
 -- What every procedure of linear code keeps: few locals, operands in range, results of one width, the widths of what waits at each place,
 -- and no jump to itself.
-use Rattle.std.specs.Prelude.{◌≡◌, ◌≢◌, ℕ, suc, ◌≤◌, ◌<◌, List, [], ◌∷◌, length, drop, Option, Some, None, slice_get}
+use Rattle.std.specs.Prelude.{◌≡◌, ◌≢◌, ℕ, zero, suc, ◌≤◌, ◌<◌, List, [], ◌∷◌, length, drop, Option, Some, None, slice_get}
 use Rattle.std.specs.List.{AllByRecursion}
 use Rattle.vg_lin.specs.declared.instr.Operand.{Operand}
 use Rattle.vg_lin.specs.declared.instr.Operand.TheVariants.{Local, Known}
@@ -69,6 +69,26 @@ AreOperands p Idle = Unit {0}
 
 -- ---- what waits
 
+-- The widths of what waits behind an instruction, the newest first, where these wait before it.
+abbrev pub behind_plain : PlainInstr → List ℕ → List ℕ
+behind_plain (Push w a) held = w ∷ held
+behind_plain (Pop w to) held = drop 1 held
+behind_plain i held = held
+
+abbrev pub behind : Instr → List ℕ → List ℕ
+behind (Plain i) held = behind_plain i held
+behind (Call c) held = drop c.pushed held
+behind i held = held
+
+-- The widths of what waits at a place of code, where these wait at its first: what waits behind the instruction before it.
+abbrev pub waits_in : (held : List ℕ) → List Instr → (at : ℕ) → List ℕ
+waits_in held is zero = held
+waits_in held [] (suc j) = []
+waits_in held (i ∷ is) (suc j) = waits_in (behind i held) is j
+
+abbrev pub waits_of : Procedure → (at : ℕ) → List ℕ
+waits_of p = waits_in [] p.code
+
 -- The procedure has this place, and values of these widths wait there.
 abbrev pub GoesOn : Procedure → (waits : ℕ → List ℕ) → (to : ℕ) → List ℕ → Type 0
 GoesOn p waits to widths = (to < length p.code) × (waits to ≡ widths)
@@ -99,6 +119,5 @@ pub record IsSound (p : Procedure) : Type 0 where
   pub result : p.result ≤ 4
   pub widths : AllByRecursion IsWidth p.widths
   pub operands : (at : ℕ) (i : Instr) → slice_get p.code at ≡ Some i → AreOperands p i
-  pub waits : ℕ → List ℕ
-  pub begins : GoesOn p waits 0 []
-  pub goes_on : (at : ℕ) (i : Instr) → slice_get p.code at ≡ Some i → Waits p waits at i
+  pub begins : GoesOn p (waits_of p) 0 []
+  pub goes_on : (at : ℕ) (i : Instr) → slice_get p.code at ≡ Some i → Waits p (waits_of p) at i
