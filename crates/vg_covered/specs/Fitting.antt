@@ -1,0 +1,39 @@
+-- What instructions need beside what every procedure of linear code keeps, so that there is code for them.
+use Rattle.std.specs.Prelude.{◌<◌, slice_get}
+use Rattle.vg_meaning.specs.Device.{IsDeviceAddress}
+use Rattle.vg_codes.specs.Dispatch.{cases_of}
+use Rattle.vg_lin.specs.declared.instr.Operand.{Operand}
+use Rattle.vg_lin.specs.declared.instr.Operand.TheVariants.{Local}
+use Rattle.vg_lin.specs.declared.instr.Operator.{Operator}
+use Rattle.vg_lin.specs.declared.instr.Operator.TheVariants.{Times, Divide, Remainder, ShiftLeft, ShiftRight}
+use Rattle.vg_lin.specs.declared.instr.Plain.{Plain as PlainInstr}
+use Rattle.vg_lin.specs.declared.instr.Plain.TheVariants.{Compute, DivideStep, Load, Store, ReadDevice, WriteDevice, Find}
+use Rattle.vg_lin.specs.declared.instr.Instr.{Instr}
+use Rattle.vg_lin.specs.declared.instr.Instr.TheVariants.{Plain}
+use Rattle.vg_lin.specs.Program.{Program}
+use Rattle.vg_lookups.specs.Tables.{AreCases}
+use Rattle.vg_standing.specs.Covered.{IsFourBytes}
+
+-- Products, quotients, remainders and shifts by amounts that are not known are the routines' work.
+abbrev pub IsExpanded : Operator → (right : Operand) → Type 0
+IsExpanded Times a = ⊥
+IsExpanded Divide a = ⊥
+IsExpanded Remainder a = ⊥
+IsExpanded ShiftLeft (Local i) = ⊥
+IsExpanded ShiftRight (Local i) = ⊥
+IsExpanded op a = Unit {0}
+
+-- No column or table begins at address 0, what is read and written are device registers, and the numbers of a dispatch have two bytes.
+abbrev pub IsPlainFit : Program → PlainInstr → Type 0
+IsPlainFit p (Compute c) = IsExpanded c.operator c.right
+IsPlainFit p (DivideStep r d a) = IsFourBytes a
+IsPlainFit p (Load m w to a) = 0 < a.base
+IsPlainFit p (Store w a from) = 0 < a.base
+IsPlainFit p (ReadDevice to address) = IsDeviceAddress address
+IsPlainFit p (WriteDevice address a) = IsDeviceAddress address
+IsPlainFit p (Find place to a) = AreCases p.codes.code (cases_of (slice_get p.dispatches place))
+IsPlainFit p q = Unit {0}
+
+abbrev pub IsFit : Program → Instr → Type 0
+IsFit p (Plain q) = IsPlainFit p q
+IsFit p i = Unit {0}
