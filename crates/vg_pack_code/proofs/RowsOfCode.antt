@@ -1,15 +1,22 @@
 -- Rows of code as lists, in the typed program and in the packed one.
-use Rattle.std.proofs.Common.{◌≡◌, refl, sym, ap, subst, ◌∙◌, arith, ℕ, zero, suc, ◌+◌, ◌<◌, false, List, [], ◌∷◌, ◌++◌, drop, length, get_or, Vec, Box, Global}
+use Rattle.std.proofs.Common.{◌≡◌, refl, sym, ap, subst, ◌∙◌, arith, ℕ, zero, suc, ◌+◌, ◌<◌, false, List, [], ◌∷◌, ◌++◌, drop, length, get_or, Vec, Box, Global, Some, None}
 use Rattle.std.proofs.lemmas.List.{drop_more}
-use Rattle.vg_meaning.specs.Code.{Code, Nothing, Then, replaced}
+use Rattle.vg_meaning.specs.Code.{Code, Nothing, Then, Do, replaced}
+use Rattle.vg_core.specs.declared.program.Tables.{Tables}
 use Rattle.vg_core.specs.declared.step.Step.{Step}
+use Rattle.vg_core.specs.declared.step.Step.TheVariants.{CallValue}
 use Rattle.vg_core.specs.declared.code.Code as held
 use Rattle.vg_core.specs.declared.code.Code.TheViews as views
 use Rattle.vg_core.specs.HeldProgram.{code_of, row_of, chain_of, arms_of, code_row, code_chain}
 use Rattle.vg_firm.specs.declared.step.Step.{Step as FirmStep}
+use Rattle.vg_firm.specs.declared.step.Step.TheVariants as steps
 use Rattle.vg_firm.specs.declared.code.Code as firm
 use Rattle.vg_firm.specs.declared.code.Code.TheViews as firm_views
 use Rattle.vg_firm.specs.Held as firm_held
+use Rattle.vg_number.specs.declared.numbers.Numbers.{Numbers}
+use Rattle.vg_packing.specs.Pass.{forgets, call_value}
+use Rattle.vg_pack_code.specs.declared.plan.Plan.{Plan}
+use Rattle.vg_pack_code.specs.Plans.{delegate_arguments, moved}
 use Rattle.vg_pack_code.specs.Lists.{arm_then, arms_list, packed_arm, packed_arms, packed_row, is_arm}
 
 -- ---- of the typed program
@@ -90,17 +97,17 @@ no_arm firm.Continue z e = refl
 no_arm firm.Return z e = refl
 
 -- the rest from a place on begins with what stands there
-rest_at : (xs : List held.Code) (i : ℕ) (x : held.Code) → i < length xs → x ≡ get_or xs i x → drop i xs ≡ x ∷ drop (i + 1) xs
+pub rest_at : (xs : List held.Code) (i : ℕ) (x : held.Code) → i < length xs → x ≡ get_or xs i x → drop i xs ≡ x ∷ drop (i + 1) xs
 rest_at xs i x lt is = drop_more xs i x lt ∙ ap (λ z. z ∷ drop (i + 1) xs) (sym is)
 
-one : (i : ℕ) → suc i ≡ i + 1
+pub one : (i : ℕ) → suc i ≡ i + 1
 one i = omega arith
 
-behind : (y : held.Code) (ys : List held.Code) → 0 < length ys → code_chain (y ∷ ys) ≡ Then (code_of y) (code_chain ys)
+pub behind : (y : held.Code) (ys : List held.Code) → 0 < length ys → code_chain (y ∷ ys) ≡ Then (code_of y) (code_chain ys)
 behind y [] lt = absurd (omega (arith, lt))
 behind y (z ∷ ys) lt = refl
 
-more_left : (ys : List held.Code) (i : ℕ) → suc i < length ys → 0 < length (drop (suc i) ys)
+pub more_left : (ys : List held.Code) (i : ℕ) → suc i < length ys → 0 < length (drop (suc i) ys)
 more_left [] i lt = absurd (omega (arith, lt))
 more_left (y ∷ []) zero lt = absurd (omega (arith, lt))
 more_left (y ∷ z ∷ ys) zero lt = omega arith
@@ -142,3 +149,27 @@ pub arms_whole : (mv : Step → Code FirmStep) (n : held.Code) (v : Vec held.Cod
     → packed_arms rows (firm_held.code_of end) ≡ replaced mv (code_of n)
 arms_whole mv n v b s c rows end e f g h i =
     ap (packed_arms rows) i ∙ h (code_of c) ∙ sym (ap (replaced mv) (arms_same n v b s c e f g))
+
+-- ---- a call of null with many arguments
+
+one_more : (i : ℕ) (z : Code FirmStep) → forgets i (Then (Do steps.Forget) z) ≡ forgets (suc i) z
+one_more zero z = refl
+one_more (suc i) z = ap (Then (Do steps.Forget)) (one_more i z)
+
+-- so many values are dropped, and one more
+pub forget_step : (xs new : List firm.Code) (i : ℕ) → new ≡ xs ++ firm.Do steps.Forget ∷ [] → ((z : Code FirmStep) → packed_arms xs z ≡ forgets i z)
+    → (z : Code FirmStep) → packed_arms new z ≡ forgets (i + 1) z
+forget_step xs new i more h z =
+    ap (λ rows. packed_arms rows z) more ∙ arms_more xs (firm.Do steps.Forget) z ∙ h (Then (Do steps.Forget) z) ∙ one_more i z
+    ∙ ap (λ n. forgets n z) (one i)
+
+-- a call of a delegate becomes what the pass makes of it
+pub delegate_call : (p : Tables) (n : Numbers) (x : Plan) (s : Step) (count : ℕ) → delegate_arguments s ≡ Some count → moved p n x s ≡ call_value count
+delegate_call p n x (CallValue at a t) count e = ap call_value (same a count e)
+  where
+    same : (a b : ℕ) → Some a ≡ Some b → a ≡ b
+    same a b e = cc
+delegate_call p n x _ count e = absurd (none_some count e)
+  where
+    none_some : (a : ℕ) → None ≡ Some a → ⊥
+    none_some a e = absurd (grind (arith, e))

@@ -86,12 +86,16 @@ abbrev pub done : Option Step → Code Step
 done (Some s) = Do s
 done None = Nothing
 
--- A call with at most 255 arguments: what passes them is cut.
+-- A call of a method with at most 255 arguments: what passes them is cut.
 abbrev pub few_step : core.Step → core.Step
 few_step (core_steps.CallMethod at c s count) = core_steps.CallMethod at c s (min count 255)
-few_step (core_steps.CallValue at count t) = core_steps.CallValue at (min count 255) t
 few_step (core_steps.CallComponent m count) = core_steps.CallComponent m (min count 255)
 few_step s = s
+
+-- The number of arguments of a call of a delegate.
+abbrev pub delegate_arguments : core.Step → Option ℕ
+delegate_arguments (core_steps.CallValue at count t) = Some count
+delegate_arguments s = None
 
 -- What stands for a step in a body.
 abbrev pub moved : Tables → Numbers → Plan → core.Step → Code Step

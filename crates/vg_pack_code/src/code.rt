@@ -1,18 +1,18 @@
 // What stands for code.
 ghost use Rattle.std.specs.Prelude.{◌≡◌, ◌<◌, length, false, IfOk};
 ghost use Rattle.vg_core.specs.HeldProgram.{code_of, code_chain, code_row};
-ghost use Rattle.vg_core.specs.declared.step.Step.{Step};
+ghost use Rattle.vg_core.specs.declared.step.Step.{Step as CoreStep};
 ghost use Rattle.vg_firm.specs.Held as firm;
 ghost use Rattle.vg_meaning.specs.Code.{Code as Structured, If, Nothing, Then, replaced};
 ghost use Rattle.vg_pack_code.specs.Lists.{arm_then, arms_list, is_arm, packed_arm, packed_arms};
 ghost use Rattle.vg_pack_code.specs.Plans.{moved};
 
 use crate::plan::Plan;
-use crate::rows::{arms_of, row_of, single};
-use crate::steps::step_for;
+use crate::rows::{arms_of, call_value, row_of, single};
+use crate::steps::{delegate_arguments, step_for};
 use std::alloc::Global;
 use vg_base::NoMemory;
-use vg_core::{Code, Tables};
+use vg_core::{Code, Step, Tables};
 use vg_number::Numbers;
 
 /// What stands for code: each step is replaced, and all else stays as it is.
@@ -33,7 +33,7 @@ pub fn packed_code(
     match code {
         Code::Row(codes) => row(alloc, tables, numbers, plan, codes.as_slice()),
         Code::Chain(codes) => chain(alloc, tables, numbers, plan, codes.as_slice()),
-        Code::Do(step) => Ok(single(alloc, step_for(tables, numbers, plan, *step))),
+        Code::Do(step) => step_code(alloc, tables, numbers, plan, *step),
         Code::If(first, rest) => {
             let first = boxed(alloc, tables, numbers, plan, first)?;
             let rest = boxed(alloc, tables, numbers, plan, rest)?;
@@ -58,6 +58,24 @@ pub fn packed_code(
         Code::Break => Ok(vg_firm::Code::Break),
         Code::Continue => Ok(vg_firm::Code::Continue),
         Code::Return => Ok(vg_firm::Code::Return),
+    }
+}
+
+// What stands for a step.
+fn step_code(
+    alloc: Global,
+    tables: &Tables,
+    numbers: &Numbers,
+    plan: &Plan,
+    step: Step,
+) -> Result<vg_firm::Code, NoMemory>
+    requires asked { length plan.now.asked < 65536 }
+    ensures code { IfOk result (λ c. firm.code_of c ≡ moved tables.now numbers.now plan.now step) }
+    ensures arm { IfOk result (λ c. is_arm c ≡ false) }
+{
+    match delegate_arguments(step) {
+        Some(count) => call_value(alloc, count),
+        None => Ok(single(alloc, step_for(tables, numbers, plan, step))),
     }
 }
 
@@ -133,7 +151,7 @@ fn arms(
     codes: &[Code],
 ) -> Result<Vec<vg_firm::Code>, NoMemory>
     requires asked { length plan.now.asked < 65536 }
-    ensures { IfOk result (λ v. (rest : Structured Step) → packed_arms v.items (replaced (moved tables.now numbers.now plan.now) rest)
+    ensures { IfOk result (λ v. (rest : Structured CoreStep) → packed_arms v.items (replaced (moved tables.now numbers.now plan.now) rest)
         ≡ replaced (moved tables.now numbers.now plan.now) (arms_list codes.now rest)) }
 {
     let mut rows = Vec::with_capacity(alloc, codes.len())?;
@@ -154,7 +172,7 @@ fn arm(
     code: &Code,
 ) -> Result<vg_firm::Code, NoMemory>
     requires asked { length plan.now.asked < 65536 }
-    ensures { IfOk result (λ c. (rest : Structured Step) → packed_arm c (replaced (moved tables.now numbers.now plan.now) rest)
+    ensures { IfOk result (λ c. (rest : Structured CoreStep) → packed_arm c (replaced (moved tables.now numbers.now plan.now) rest)
         ≡ replaced (moved tables.now numbers.now plan.now) (arm_then code.now rest)) }
 {
     match code {

@@ -1,11 +1,14 @@
 // Rows of packed code.
-ghost use Rattle.std.specs.Prelude.{◌≡◌, false};
+ghost use Rattle.std.specs.Prelude.{◌≡◌, false, IfOk};
 ghost use Rattle.vg_firm.specs.Held as firm;
-ghost use Rattle.vg_meaning.specs.Code.{Nothing};
+ghost use Rattle.vg_firm.specs.declared.step.Step.TheVariants.{LoadNothing};
+ghost use Rattle.vg_meaning.specs.Code.{Do, Nothing};
+ghost use Rattle.vg_packing.specs.Pass as pass;
 ghost use Rattle.vg_pack_code.specs.Lists.{is_arm, packed_arms, packed_row};
 ghost use Rattle.vg_pack_code.specs.Plans.{done};
 
 use std::alloc::Global;
+use vg_base::NoMemory;
 use vg_firm::{Code, Step};
 
 /// One behind another. It takes no memory.
@@ -33,4 +36,30 @@ pub fn single(alloc: Global, step: Option<Step>) -> Code
         Some(found) => Code::Do(found),
         None => Code::Row(Vec::new(alloc)),
     }
+}
+
+/// A call of the delegate below so many arguments. No method has more than 255 parameters, so with more arguments null alone can be called:
+/// they are dropped, and the null check stays.
+pub fn call_value(alloc: Global, count: u16) -> Result<Code, NoMemory>
+    ensures code { IfOk result (λ c. firm.code_of c ≡ pass.call_value count) }
+    ensures arm { IfOk result (λ c. is_arm c ≡ false) }
+{
+    if count < 256 {
+        Ok(single(alloc, Some(Step::CallValue(count as u8))))
+    } else {
+        null_call(alloc, count)
+    }
+}
+
+// So many values are dropped, and then a null check.
+fn null_call(alloc: Global, count: u16) -> Result<Code, NoMemory>
+    ensures code { IfOk result (λ c. firm.code_of c ≡ pass.forgets count (Do LoadNothing)) }
+    ensures arm { IfOk result (λ c. is_arm c ≡ false) }
+{
+    let mut rows = Vec::with_capacity(alloc, usize::from(count))?;
+    for index in 0..count {
+        rows.push(Code::Do(Step::Forget))?;
+    }
+    let last = Box::new(alloc, Code::Do(Step::LoadNothing))?;
+    Ok(arms_of(rows, last))
 }

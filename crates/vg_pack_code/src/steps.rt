@@ -1,12 +1,12 @@
 // What stands for a step.
-ghost use Rattle.std.specs.Prelude.{◌≡◌, ◌<◌, [], length, min, slice_get};
+ghost use Rattle.std.specs.Prelude.{◌≡◌, ◌<◌, [], length, min, None, slice_get};
 ghost use Rattle.vg_coded.specs.Operators as coded;
 ghost use Rattle.vg_core.specs.Tables as tables_of;
 ghost use Rattle.vg_number.specs.declared.numbers.Numbers.{Numbers as NumbersValue};
 ghost use Rattle.vg_pack_code.specs.declared.plan.Plan.{Plan as PlanValue};
 ghost use Rattle.vg_packing.specs.Layout as layout;
 ghost use Rattle.vg_packing.specs.Pass as pass;
-ghost use Rattle.vg_pack_code.specs.Plans.{column_of, done, few_step, layout_by, no_codes};
+ghost use Rattle.vg_pack_code.specs.Plans.{column_of, delegate_arguments, done, few_step, layout_by, no_codes};
 
 use crate::constants::constant;
 use crate::operators::{cut_for, operator_for, prefix_for, width_of};
@@ -14,7 +14,8 @@ use crate::plan::{ColumnPlace, Plan, number_of, span_of};
 use vg_core::{CoreType, Field, Owner, Step, Tables};
 use vg_number::Numbers;
 
-/// The step that stands for a step; none where nothing is done. Of a call with more than 255 arguments only 255 are counted.
+/// The step that stands for a step but a call of a delegate; none where nothing is done. Of a call of a method with more than 255 arguments only
+/// 255 are counted.
 pub fn step_for(
     tables: &Tables,
     numbers: &Numbers,
@@ -22,7 +23,7 @@ pub fn step_for(
     step: Step,
 ) -> Option<vg_firm::Step>
     requires asked { length plan.now.asked < 65536 }
-    ensures { done result ≡ pass.move tables.now (layout_by [] numbers.now plan.now) no_codes (few_step step) }
+    ensures { delegate_arguments step ≡ None → done result ≡ pass.move tables.now (layout_by [] numbers.now plan.now) no_codes (few_step step) }
 {
     match step {
         Step::Put(value) => Some(vg_firm::Step::Number(constant(numbers, plan, value))),
@@ -53,7 +54,7 @@ pub fn step_for(
         Step::CallMethod(_, class, selector, count) => {
             Some(vg_firm::Step::CallFor(plan.dispatch(class, selector), few(count)))
         }
-        Step::CallValue(_, count, _) => Some(vg_firm::Step::CallValue(few(count))),
+        Step::CallValue(_, _, _) => None,
         Step::CallComponent(method, count) => Some(vg_firm::Step::Call(
             plan.procedure(method),
             few(count),
@@ -71,6 +72,16 @@ pub fn step_for(
         Step::NewObject(_, _, _) => None,
         Step::NewArray(_, _) => None,
         Step::Super(_, _) => None,
+    }
+}
+
+/// The number of arguments of a call of a delegate.
+pub fn delegate_arguments(step: Step) -> Option<u16>
+    ensures { result ≡ delegate_arguments step }
+{
+    match step {
+        Step::CallValue(_, count, _) => Some(count),
+        _ => None,
     }
 }
 

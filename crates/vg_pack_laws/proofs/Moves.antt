@@ -59,7 +59,7 @@ module _ (p : Tables) (κ : List Kind) (n : Numbers) (x : Plan) (k : Codes) wher
   same_move (core.Length at t) a b = refl
   same_move (core.MethodOf at c s) a b = refl
   same_move (core.CallMethod at c s count) a b = ap (λ z. Do (firm.CallFor ((layout_by κ n x).dispatch c s) z)) (sym (least count b))
-  same_move (core.CallValue at count t) a b = ap (λ z. Do (firm.CallValue z)) (sym (least count b))
+  same_move (core.CallValue at count t) a b = refl
   same_move (core.CallComponent m count) a b = call
     where
       call : move p (layout_by κ n x) k (core.CallComponent m count) ≡ moved p n x (core.CallComponent m count)

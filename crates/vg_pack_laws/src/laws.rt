@@ -20,8 +20,8 @@ ghost use Rattle.vg_pack_bodies.specs.Procedures.{packed_methods};
 ghost use Rattle.vg_pack_calls.specs.Procedures.{procedures_from};
 ghost use Rattle.vg_pack_laws.specs.Few.{HasFewArguments, HaveFewArguments};
 
-/// A step of a plain method, with at most 255 arguments, becomes what the pass makes of it, whatever the kinds of the cells and the code
-/// numbers. The body is empty: its contract is a law of the definitions, as those below.
+/// A step of a plain method, which is no call of a method with more than 255 arguments, becomes what the pass makes of it, whatever the kinds
+/// of the cells and the code numbers. The body is empty: its contract is a law of the definitions, as those below.
 pub fn steps_are_packed()
     ensures { (p : Tables) (κ : List Kind) (n : Numbers) (x : Plan) (k : Codes) (s : Step) → IsPlainStep s → HasFewArguments s
         → move p (layout_by κ n x) k s ≡ moved p n x s }

@@ -70,6 +70,7 @@ module _ (p : Program) (h : Heap) (s : LiveSet) (n : Numbers) (c : Columns) (f :
           items = from.is_plan.item_widths;
           tables = from.tables k;
           codes = λ m q eq. let lt = within m q eq in (are.back q lt, are.positive q lt, are.two_bytes q lt);
+          few_parameters = λ m q y eq ey. given.few_parameters m y ey;
           procedures = procedures;
           main = from.main;
           handlers = from.handlers;

@@ -15,7 +15,7 @@ use Rattle.vg_pack_laws.specs.Few.{HaveFewArguments}
 abbrev pub HaveWideFields : Tables → Type 0
 HaveWideFields p = (f : ℕ) (y : Field) → slice_get p.fields f ≡ Some y → 0 < column_width y.type_
 
--- Constants, casts and scalars in the heap are in their ranges, calls have at most 255 arguments, and no live method makes anything.
+-- Constants, casts and scalars in the heap are in their ranges, calls of methods have at most 255 arguments, and no live method makes anything.
 pub record IsReady (p : Program) (h : Heap) : Type 0 where
   pub plain : IsPlain p
   pub ranged : AreRanged p.tables h

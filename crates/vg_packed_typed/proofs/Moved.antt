@@ -1,5 +1,5 @@
 -- That what stands for a step takes and leaves what the step does, and names what is there.
-use Rattle.std.specs.Prelude.{ℕ, ◌+◌, ◌<◌, ◌≤◌, Bool, true, false, List, [], length, Option, Some, None, slice_get, get_or}
+use Rattle.std.specs.Prelude.{ℕ, ◌+◌, ◌<◌, ◌≤◌, Bool, true, false, nat_lt, if◌then◌else◌, List, [], length, Option, Some, None, slice_get, get_or}
 use Rattle.std.proofs.Common.{◌≡◌, ◌⊎◌, inl, inr, refl, sym, ap, ◌∙◌, subst, arith}
 use Rattle.std.proofs.lemmas.List.{length-map}
 use Rattle.std.proofs.lemmas.Option.{slice_get_cases}
@@ -31,7 +31,7 @@ use Rattle.vg_coded.specs.Numbers.{coded, known}
 use Rattle.vg_coded.specs.Widths.{width_of}
 use Rattle.vg_coded.specs.Operators.{operator_for, prefix_for, cut_for}
 use Rattle.vg_packing.specs.Layout.{Column, Layout, first_with}
-use Rattle.vg_packing.specs.Pass.{width_in, load, store, load_at, store_at, cut, cast, move, packed}
+use Rattle.vg_packing.specs.Pass.{width_in, load, store, load_at, store_at, cut, cast, forgets, call_value, move, packed}
 use Rattle.vg_packing.specs.Allowed.{IsWritten, Allowed, allowing}
 use Rattle.vg_packed_typed.specs.Counted.{takes, leaves, IsAlone, Counts, Counted}
 use Rattle.vg_packed_typed.specs.Suits.{Suits}
@@ -118,6 +118,18 @@ module _ (p : Tables) (l : Layout) (k : Codes) (f : FirmProgram) (lay : Placed) 
           (suits.fields f' c e ram) h
       by_column None e ram = one_step below x y (SetField at f') firm.StoreNothing refl refl (λ n a. tt) tt h
 
+  few : (n : ℕ) → n < 256 → nat_lt n 256 ≡ true
+  few n h = grind (arith, h)
+
+  -- as few values wait, a byte counts the arguments
+  call_typed : (looped : Bool) (below x y at count t : ℕ) → Counts 191 below (CallValue at count t) x y → Typed knows looped below (call_value count) x y
+  call_typed looped below x y at count t c =
+      let e = c.before in
+      let room = c.room in
+      subst (λ b. Typed knows looped below (if b then Do (firm.CallValue count) else forgets count (Do firm.LoadNothing)) x y)
+      (sym (few count (omega (arith, e, room))))
+      (one_step below x y (CallValue at count t) (firm.CallValue count) refl refl (λ n z. tt) tt c)
+
   step_typed : (looped : Bool) (calls : List ℕ) (o : Owner) (below x y : ℕ) (xs ys : List CoreType) (s : Step) → Takes p ts o s xs ys → Allowed p l f calls s
       → Counts 191 below s x y → Typed knows looped below (move p l k s) x y
   step_typed looped calls o below x y xs ys (Put v) t a c =
@@ -148,7 +160,7 @@ module _ (p : Tables) (l : Layout) (k : Codes) (f : FirmProgram) (lay : Placed) 
   step_typed looped calls o below x y xs ys (CallMethod at d s count) t a c =
       one_step below x y (CallMethod at d s count) (firm.CallFor (l.dispatch d s) count) refl refl (λ n z. tt) tt c
   step_typed looped calls o below x y xs ys (CallValue at count u) t a c =
-      one_step below x y (CallValue at count u) (firm.CallValue count) refl refl (λ n z. tt) tt c
+      call_typed looped below x y at count u c
   step_typed looped calls o below x y xs ys (CallComponent m count) t a c =
       one_step below x y (CallComponent m count) (firm.Call (known (l.numbering.procedure m)) count) refl refl (λ n z. tt) tt c
   step_typed looped calls o below x y xs ys (NewObject at d count) t a c = absurd a

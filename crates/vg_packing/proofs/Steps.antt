@@ -1,17 +1,19 @@
 -- Each step and what stands for it do the same.
-use Rattle.std.proofs.Common.{◌≡◌, ◌⊎◌, refl, sym, ap, subst, ◌∙◌, arith, ℕ, ◌+◌, ◌-◌, ◌*◌, ◌/◌, ◌%◌, ◌<◌, ◌^◌, Bool, true, false, ◌==◌, ◌&&◌, nat_lt, nat_le}
+use Rattle.std.proofs.Common.{◌≡◌, ◌⊎◌, refl, sym, ap, subst, ◌∙◌, arith, ℕ, zero, suc, ◌+◌, ◌-◌, ◌*◌, ◌/◌, ◌%◌, ◌<◌, ◌≤◌, ◌^◌, Bool, true, false, ◌==◌, ◌&&◌}
+use Rattle.std.proofs.Common.{nat_lt, nat_le}
 use Rattle.std.proofs.Common.{List, [], ◌∷◌, ◌++◌, length, map, take, drop, Option, Some, None, option_map, slice_get, slice_set, if◌then◌else◌}
-use Rattle.std.proofs.lemmas.Option.{none-some, slice_get-map}
+use Rattle.std.proofs.lemmas.Option.{none-some, slice_get-map, slice_get_within}
 use Rattle.std.proofs.lemmas.List.{map-set}
 use Rattle.std.proofs.lemmas.Nat.{mod-mul-add, div-mul-add}
 use Rattle.std.specs.Cmp.{unsigned_Decides}
 use mathlib.Core.Logic.{inl, inr}
 use Rattle.vg_meaning.specs.History.{Recorder}
-use Rattle.vg_meaning.specs.Answer.{Signal, Gives, Piece, go_on}
+use Rattle.vg_meaning.specs.World.{World}
+use Rattle.vg_meaning.specs.Answer.{Signal, Gives, Piece, go_on, stops}
 use Rattle.vg_meaning.specs.Devices.{write_device}
-use Rattle.vg_meaning.specs.Code.{Code, performed}
+use Rattle.vg_meaning.specs.Code.{Code, Do, performed}
 use Rattle.vg_meaning.specs.Same.{Nowhere}
-use Rattle.vg_fair.specs.Fair.{Alike, gives, wrong}
+use Rattle.vg_fair.specs.Fair.{IsFair, Alike, gives, wrong}
 use Rattle.vg_fair.proofs.Fair.{alike_stops, alike_read, alike_write}
 use Rattle.vg_source.specs.Operators.{binary, prefixed, Operand, Scalar, AnInt, ATruth, AChar, Bits, Format, ToInt, ToChar, ToBits, recast}
 use Rattle.vg_codes.specs.Codes.{Codes, delegate, code_in, receiver_in}
@@ -45,7 +47,7 @@ use Rattle.vg_core.specs.Typing.{t_is_below}
 use Rattle.vg_core.specs.Typing.{t_field, t_item, t_length, t_method_of, t_call_method, t_call_value, t_call_component, t_new_object, t_new_array, t_set_local}
 use Rattle.vg_core.specs.Typing.{t_set_component_field, t_set_register, t_set_field, t_set_item, t_forget, t_super}
 use Rattle.vg_core.specs.Meaning as core
-use Rattle.vg_sound.proofs.Values.{the_same, fits, beneath}
+use Rattle.vg_sound.proofs.Values.{the_same, fits, beneath, subs_length, onto_length}
 use Rattle.vg_sound.proofs.Cells.{is_typed}
 use Rattle.vg_firm.specs.declared.step.Home.TheVariants.{Ram}
 use Rattle.vg_firm.specs.declared.step.Prefix.{Prefix as FirmPrefix}
@@ -64,7 +66,7 @@ use Rattle.vg_coded.specs.Operators.{bits_of, operator_for, prefix_for, cut_for,
 use Rattle.vg_coded.proofs.Computing.{prefixes, to_int, to_char, to_bits}
 use Rattle.vg_coded.proofs.Fitting.{value_fits}
 use Rattle.vg_packing.specs.Layout.{Column, Layout, first_with, spot_in, item_spot}
-use Rattle.vg_packing.specs.Pass.{width_in, load, store, load_at, store_at, cut, cast, move}
+use Rattle.vg_packing.specs.Pass.{width_in, load, store, load_at, store_at, cut, cast, forgets, move}
 use Rattle.vg_packing.specs.Allowed.{IsObject, IsRead, IsWritten, IsDispatched, IsSmall, Allowed}
 use Rattle.vg_packing.specs.Packs.{Holds, Receiver, Packs, packs}
 use Rattle.vg_packing.specs.Laid.{Laid}
@@ -721,6 +723,97 @@ module _ {K : Type 0} (p : Program) (formed : WellFormed p.tables) (l : Layout) 
         by (Obj n) kept h = absurd h
         by (Arr n) kept h = absurd h
 
+    -- so many values are dropped before the code
+    forgotten : (n : ℕ) (c : Code FirmStep) (vs ls : List ℕ) (number : Option ℕ) (cols : List (List ℕ)) (w : World K) → n ≤ length vs
+        → performed r (firm.step k f m call' handle) firm.truth (forgets n c) (record { values = vs; locals = ls; self = number; columns = cols }) w
+        ≡ performed r (firm.step k f m call' handle) firm.truth c (record { values = drop n vs; locals = ls; self = number; columns = cols }) w
+    forgotten zero c vs ls number cols w le = refl
+    forgotten (suc n) c [] ls number cols w le = absurd (omega (arith, le))
+    forgotten (suc n) c (v ∷ vs) ls number cols w le = forgotten n c vs ls number cols w (omega (arith, le))
+
+    rest_at : (vs : List ℕ) (n v : ℕ) → slice_get vs n ≡ Some v → drop n vs ≡ v ∷ drop (suc n) vs
+    rest_at [] n v e = absurd (none-some v e)
+    rest_at (u ∷ vs) zero v e = ap (λ z. z ∷ vs) (the_same _ _ e)
+    rest_at (u ∷ vs) (suc n) v e = rest_at vs n v e
+
+    -- so many arguments, and null below them
+    null_called : (at n : ℕ) (s : State) (vs ls : List ℕ) (number : Option ℕ) (cols : List (List ℕ)) (w : World K) → IsFair w → slice_get vs n ≡ Some 0
+        → Alike (Packs p.tables l k f o) L (stops 1 at s w)
+        (performed r (firm.step k f m call' handle) firm.truth (forgets n (Do steps.LoadNothing))
+        (record { values = vs; locals = ls; self = number; columns = cols }) w)
+    null_called at n s vs ls number cols w i e =
+        let lt = slice_get_within vs n 0 e in
+        subst (λ z. Alike (Packs p.tables l k f o) L (stops 1 at s w) z)
+        (sym (forgotten n (Do steps.LoadNothing) vs ls number cols w (omega (arith, lt))))
+        (subst (λ us. Alike (Packs p.tables l k f o) L (stops 1 at s w)
+        (performed r (firm.step k f m call' handle) firm.truth (Do steps.LoadNothing) (record { values = us; locals = ls; self = number; columns = cols }) w))
+        (sym (rest_at vs n 0 e))
+        (alike_stops (λ a b. Unit {0}) (Packs p.tables l k f o) L 1 at 0 s
+        (record { values = drop (suc n) vs; locals = ls; self = number; columns = cols }) w i tt))
+
+    -- no method that a delegate is of has so many parameters
+    none_bound : (at t ps rt : ℕ) (params us : List CoreType) → IsRow p.tables params ps → Subs p.tables us (onto params [])
+        → nat_lt (length us) 256 ≡ false → (receiver : Option ℕ) (n : ℕ) → IsDelegate p.tables l.kinds receiver n ps rt
+        → IsKept l.numbering (Bound receiver n) → ⊥
+    none_bound at t ps rt params us row subs e receiver n (y, ey, ef, h) ((q, eq, bi), kept) =
+        let few = laid.few_parameters n q y eq ey in
+        let same : length y.params ≡ length params = ap length (params_are p.tables y ps rt params (formed.functions n y ey) ef row) in
+        let many : length us ≡ length params = subs_length p.tables us (onto params []) subs ∙ (onto_length params [] ∙ nothing_more (length params)) in
+        let lt : length us < 256 = omega (arith, few, same, many) in
+        clash (sym (below (length us) 256 lt) ∙ e)
+      where
+        nothing_more : (n : ℕ) → n + length {0} {A = CoreType} [] ≡ n
+        nothing_more n = omega arith
+
+        clash : true ≡ false → ⊥
+        clash z = absurd (let q : true ≡ false = z in cc)
+
+    step_call_null : (x : List CoreType) (at t ps rt : ℕ) (params us : List CoreType) → IsRow p.tables params ps → Subs p.tables us (onto params [])
+        → nat_lt (length us) 256 ≡ false
+        → StandsFor' (us ++ FunctionType ps rt ∷ x) (CallValue at (length us) t) (forgets (length us) (Do steps.LoadNothing))
+    step_call_null x at t ps rt params us row subs many _ _ w i (packs {vs = vs} {ls = ls} {self = self} {h = heap} {number = number} {cols = cols} y z ks rec q) j =
+        by (slice_get vs (length us)) refl
+      where
+        before : State
+        before = record { values = vs; locals = ls; self = self; heap = heap }
+
+        rest : State
+        rest = record { values = take (length us) vs ++ drop (length us + 1) vs; locals = ls; self = self; heap = heap }
+
+        dropped : Piece FirmState K
+        dropped = performed r (firm.step k f m call' handle) firm.truth (forgets (length us) (Do steps.LoadNothing))
+
+        behind : FirmState
+        behind = record { values = map (coded l.numbering k) vs; locals = map (coded l.numbering k) ls; self = number; columns = cols }
+
+        found : (v : CoreValue) → slice_get vs (length us) ≡ Some v → IsKept l.numbering v → HasType p.tables l.kinds v (FunctionType ps rt)
+            → Alike (Packs p.tables l k f o) L (core.call_bound p.tables call at (length us) t v rest w) (dropped behind w)
+        found Null e kept h =
+            null_called at (length us) rest (map (coded l.numbering k) vs) (map (coded l.numbering k) ls) number cols w i
+            (slice_get-map (coded l.numbering k) vs (length us) ∙ ap (option_map (coded l.numbering k)) e)
+        found (Bound receiver n) e kept h = absurd (none_bound at t ps rt params us row subs many receiver n h kept)
+        found (Int n) e kept h = absurd h
+        found (Truth n) e kept h = absurd h
+        found (Char n) e kept h = absurd h
+        found (Raw n n1) e kept h = absurd h
+        found (Obj n) e kept h = absurd h
+        found (Arr n) e kept h = absurd h
+
+        by : (c : Option CoreValue) → slice_get vs (length us) ≡ c
+            → Alike (Packs p.tables l k f o) L (core.with_found c (core.call_bound p.tables call at (length us) t) rest w) (dropped behind w)
+        by None e = wrong
+        by (Some v) e = found v e (kept_get l vs (length us) v y e) (typed_below us (FunctionType ps rt) x before v j e)
+
+    -- a call with as many arguments as a byte counts, or with more
+    step_call : (x : List CoreType) (at t ps rt : ℕ) (params us : List CoreType) → IsRow p.tables params ps → Subs p.tables us (onto params [])
+        → ((n q : ℕ) (y : Method) → l.numbering.procedure n ≡ Some q → l.numbering.bindable n ≡ true → slice_get p.tables.methods n ≡ Some y
+        → y.function ≡ t → is_among cs q ≡ true)
+        → (b : Bool) → nat_lt (length us) 256 ≡ b
+        → StandsFor' (us ++ FunctionType ps rt ∷ x) (CallValue at (length us) t)
+        (if b then Do (steps.CallValue (length us)) else forgets (length us) (Do steps.LoadNothing))
+    step_call x at t ps rt params us row subs among true e = step_call_value x at t ps rt params us row subs among
+    step_call x at t ps rt params us row subs among false e = step_call_null x at t ps rt params us row subs e
+
     step_call_component : (x : List CoreType) (n c : ℕ) (y : Method) (us : List CoreType) → slice_get p.tables.methods n ≡ Some y → y.owner ≡ InComponent c
         → Subs p.tables us (onto y.params []) → (q : ℕ) × (l.numbering.procedure n ≡ Some q) × (is_among cs q ≡ true)
         → Stands (us ++ x) (CallComponent n (length us)) (steps.Call (known (l.numbering.procedure n)) (length us))
@@ -764,7 +857,7 @@ module _ {K : Type 0} (p : Program) (formed : WellFormed p.tables) (l : Layout) 
     same_step _ x _ (t_method_of {at = at} {d = d} {s = s} n y em ey ef) a = step_method_of x at d s a
     same_step _ _ _ (t_call_method {at = at} {d = d} {s = s} {x = x} n y us em ey subs) a = step_call_method x at d s n y us em ey subs a
     same_step _ _ _ (t_call_value {at = at} {f = t} {ps = ps} {r = rt} {x = x} params us ef row et subs) a =
-        step_call_value x at t ps rt params us row subs a
+        step_call x at t ps rt params us row subs a (nat_lt (length us) 256) refl
     same_step _ _ _ (t_call_component {m = n} {k = c} {x = x} y us ey eo subs) a = step_call_component x n c y us ey eo subs a
     same_step _ _ _ (t_new_object c us ek subs) a = absurd a
     same_step _ _ _ (t_new_array e) a = absurd a

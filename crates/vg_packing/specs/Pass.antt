@@ -1,6 +1,6 @@
--- The pass: each step becomes at most one.
-use Rattle.std.specs.Prelude.{ℕ, Option, Some, None, map, length}
-use Rattle.vg_meaning.specs.Code.{Code, Nothing, Do, replaced}
+-- The pass: each step becomes at most one, but for a call of null with very many arguments.
+use Rattle.std.specs.Prelude.{ℕ, zero, suc, nat_lt, if◌then◌else◌, Option, Some, None, map, length}
+use Rattle.vg_meaning.specs.Code.{Code, Nothing, Then, Do, replaced}
 use Rattle.vg_codes.specs.Codes.{Codes}
 use Rattle.vg_core.specs.declared.types.CoreType.{CoreType}
 use Rattle.vg_core.specs.declared.types.CoreType.TheVariants.{IntType, CharType, RawType, ClassType}
@@ -57,6 +57,16 @@ cast l t (RawType k) = cut (cut_for t (RawType k))
 cast l t (ClassType c) = Do (firm.StopUnlessWithin (l.first c) (l.count c))
 cast l t _ = Nothing
 
+-- So many values are dropped, and then the code is done.
+abbrev pub forgets : ℕ → Code FirmStep → Code FirmStep
+forgets zero c = c
+forgets (suc n) c = Then (Do firm.Forget) (forgets n c)
+
+-- A call of the delegate below so many arguments. No method has more than 255 parameters, so null alone can be called with more arguments:
+-- they are dropped, and the null check stays.
+abbrev pub call_value : (count : ℕ) → Code FirmStep
+call_value count = if nat_lt count 256 then Do (firm.CallValue count) else forgets count (Do firm.LoadNothing)
+
 -- What stands for a step. Nothing is made in a run.
 abbrev pub move : Tables → Layout → Codes → Step → Code FirmStep
 move p l k (Put v) = Do (firm.Number (coded l.numbering k v))
@@ -75,7 +85,7 @@ move p l k (Item at t) = Do (firm.LoadItem (l.items t))
 move p l k (Length at t) = Do (firm.Length (l.items t).table)
 move p l k (MethodOf at c s) = Do (firm.BindFor (l.dispatch c s))
 move p l k (CallMethod at c s count) = Do (firm.CallFor (l.dispatch c s) count)
-move p l k (CallValue at count t) = Do (firm.CallValue count)
+move p l k (CallValue at count t) = call_value count
 move p l k (CallComponent m count) = Do (firm.Call (known (l.numbering.procedure m)) count)
 move p l k (SetLocal i t) = Do (firm.SetLocal i)
 move p l k (SetComponentField f) = Do (store (l.column f) (width_in l (field_type p f)))

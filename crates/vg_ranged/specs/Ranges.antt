@@ -30,7 +30,7 @@ IsRangedStep p (NewArray at t) = AreItems p t
 IsRangedStep p _ = Unit {0}
 
 -- All of this holds of methods, constructions and initialisations. Locals, results and fields have bit strings of at most 32 bits, and fields have
--- bytes. Methods run no construction of a class above, and calls have at most 255 arguments.
+-- bytes. Methods run no construction of a class above, and calls of methods have at most 255 arguments.
 pub record HaveRanges (p : Program) : Type 0 where
   pub steps : (t : Target) (b : Body) (i : ℕ) (s : Step) → body_of p t ≡ Some b → slice_get (uses b.code) i ≡ Some s → IsRangedStep p.tables s
   pub others : (t : Target) (b : Body) → body_of p t ≡ Some b → AreSmall b.others

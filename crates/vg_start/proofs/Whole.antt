@@ -122,6 +122,7 @@ module _ (p : Program) (good : WellTyped p) (plain : IsPlain p) (h : Heap) (κ :
         bodies = bodies;
         procedures = procedures;
         receivers = is.bindable_receives;
+        few_parameters = at.few_parameters;
         main = at.main;
         handlers = at.handlers;
       }

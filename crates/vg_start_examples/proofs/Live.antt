@@ -1,5 +1,5 @@
 -- The layout of the worked program is the one of its live set.
-use Rattle.std.proofs.Common.{◌≡◌, refl, sym, ap, subst, ◌∙◌, arith, ℕ, zero, suc, ◌<◌, true, false, List, Option, Some, None, slice_get, pos}
+use Rattle.std.proofs.Common.{◌≡◌, refl, sym, ap, subst, ◌∙◌, arith, ℕ, zero, suc, ◌<◌, true, false, List, length, Option, Some, None, slice_get, pos}
 use mathlib.Core.Logic.{inl}
 use Rattle.vg_core.specs.declared.member.Member.TheVariants.{Method, Field, Cell}
 use Rattle.vg_core.specs.declared.value.CoreValue.{CoreValue}
@@ -243,6 +243,10 @@ procedures zero q g b e eg eb =
     (subst (λ z. slice_get firm.procedures 0 ≡ Some (packed program.tables layout codes 0 main_signature z)) (the_same _ _ eb) refl))
 procedures (suc m) q g b e eg eb = none_some q e
 
+few_parameters : (m q : ℕ) (y : TheMethod) → procedure_of m ≡ Some q → slice_get program.tables.methods m ≡ Some y → length y.params < 256
+few_parameters zero q y e ey = subst (λ z. length z.params < 256) (the_same _ _ ey) (omega arith)
+few_parameters (suc m) q y e ey = none_some q e
+
 pub placed : IsPlaced program layout codes firm
 placed = record {
   kept = kept;
@@ -255,6 +259,7 @@ placed = record {
   items = λ t e h. ap item_width h;
   tables = λ j t n is. absurd (no_arrays j t n is);
   codes = code_numbers;
+  few_parameters = few_parameters;
   procedures = procedures;
   main = refl;
   handlers = λ v. tt;

@@ -24,5 +24,5 @@ pub record IsSafeBeside (p : Program) : Type 0 where
       → slice_get p.tables.types u ≡ Some e → 0 < column_width e
   pub fields : (f : ℕ) (y : Field) → slice_get p.tables.fields f ≡ Some y → IsSmall y.type_
   pub wide : HaveWideFields p.tables
-  -- calls have at most 255 arguments
+  -- calls of methods have at most 255 arguments
   pub few_arguments : HaveFewArguments p
