@@ -32,6 +32,7 @@ use Rattle.vg_placement.specs.declared.column.Column.{Column}
 use Rattle.vg_placement.specs.Needs.{needs}
 use Rattle.vg_packed.specs.declared.program.FirmProgram.{FirmProgram}
 use Rattle.vg_packed.specs.Given.{IsGiven}
+use Rattle.vg_packed.specs.Packed.{IsPackedFrom}
 use Rattle.vg_packed.specs.Plans.{planned}
 use Rattle.vg_packed.specs.Programs.{handler_in, program_of}
 use Rattle.vg_plan.specs.declared.planning.Planned.{Planned}
@@ -46,7 +47,7 @@ use Rattle.vg_plan_laws.proofs.Filled.{values_stand}
 use Rattle.vg_plan_laws.proofs.Listed.{few_columns}
 use Rattle.vg_plan_laws.proofs.Planned.{stands_in, fits, are_tabled}
 use Rattle.vg_pack.specs.Entrances.{entrance}
-use Rattle.vg_pack.specs.Packs.{IsPackedBy}
+use Rattle.vg_plan_whole.proofs.Whole.{is_plan, dispatches_planned}
 
 module _ (p : Program) (h : Heap) (s : LiveSet) (n : Numbers) (c : Columns) (g : IsGiven p h s n c) where
   pub all_listed : AreListed p.tables (kinds_of h)
@@ -87,13 +88,14 @@ module _ (p : Program) (h : Heap) (s : LiveSet) (n : Numbers) (c : Columns) (g :
         → f.dispatches ≡ x.dispatches → f.main ≡ known (flat (slice_get x.plan.procedures p.main)) → f.handlers ≡ map (entrance x.plan) p.handlers
         → AreRows (kinds_of h) (kept_in s) x.plan.items (length (kinds_of h)) rows → f.tables ≡ tables_of rows c.list
         → ((k : Codes) → numbers_in k f.columns ≡ with_places p.tables h (planned h n x.plan) k (all_places p.tables h n) (numbers_in k (blank_rows c.list)))
-        → IsPackedBy p h s n c f
+        → IsPackedFrom p h s n c f
     is_packed f rows ep ed em eh are et ev = record {
-      plan = x;
-      plans = plans;
-      stands = stands_;
+      plan = x.plan;
+      is_plan = is_plan p h s n c x g plans stands_;
+      own = plans.own;
+      are_own = plans.are_own;
       procedures = ep;
-      dispatches = ed;
+      dispatches = ed ∙ dispatches_planned p h s n c.list x plans;
       main = main_procedure p h s g.live x.plan.procedures plans.tables.procedures g.typed.main ∙ ap (λ z. Some z) (sym em);
       handlers = λ v. subst (λ z. SameEntry (planned h n x.plan) (handler_of p.handlers v) (handler_in z v)) (sym eh)
           (same_entry (handler_of p.handlers v) (handler_in (map (entrance x.plan) p.handlers) v)
@@ -165,7 +167,7 @@ module _ (p : Program) (h : Heap) (s : LiveSet) (n : Numbers) (c : Columns) (g :
         → f.main ≡ known (flat (slice_get x.plan.procedures p.main)) → f.handlers ≡ map (entrance x.plan) handlers
         → (rows : List (List ArrayPlace)) → AreRows (map kind_of cells) (has_reason live) items (length cells) rows → f.tables ≡ tables_of rows list
         → ((k : Codes) → numbers_in k f.columns ≡ with_places p.tables h (planned h n x.plan) k (all_places p.tables h n) (numbers_in k (blank_rows list)))
-        → IsPackedBy p h s n c f
+        → IsPackedFrom p h s n c f
     parts list cells live items handlers f el ec ev ei eh ep ed em ehs rows are et values =
         is_packed f rows ep ed em (ehs ∙ ap (map (entrance x.plan)) eh) (rows_there cells live items rows ec ev ei are) (et ∙ ap (tables_of rows) el)
         (λ k. values k ∙ ap (λ z. with_places p.tables h (planned h n x.plan) k (all_places p.tables h n) (numbers_in k (blank_rows z))) el)

@@ -1,2 +1,2 @@
 pub mod Entrances
-pub mod Packs
+pub mod Same
