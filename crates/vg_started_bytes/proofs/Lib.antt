@@ -1,0 +1,4 @@
+mod Rows
+mod Placed
+mod Whole
+mod Ends
