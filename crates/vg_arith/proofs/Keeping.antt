@@ -12,7 +12,8 @@ use Rattle.vg_lin.specs.declared.instr.Plain.TheVariants.{Copy, Compute, Product
 use Rattle.vg_lin.specs.declared.instr.Instr.{Instr}
 use Rattle.vg_lin.specs.declared.instr.Instr.TheVariants.{Plain, When, Unless, Jump, Call, Return, Idle}
 use Rattle.vg_lin.specs.Program.{Procedure}
-use Rattle.vg_lin.specs.Sound.{IsWidth, IsLocal, IsOperand, IsTest, IsPlain, AreOperands, PlainWaits, Waits, IsSound}
+use Rattle.vg_lin.specs.Sound.{IsWidth, IsLocal, IsOperand, IsTest, IsPlain, AreOperands, behind, behind_plain, PlainWaits, Waits, IsSound}
+use Rattle.vg_lin.proofs.Scanned.{sound_by}
 use Rattle.vg_arith.specs.Shifts.{shift}
 use Rattle.vg_arith.specs.Product.{mul}
 use Rattle.vg_arith.specs.Division.{divide}
@@ -176,20 +177,44 @@ waits_kept m at (Call c) e = absurd (grind arith)
 waits_kept m at (Return w a) e = refl
 waits_kept m at Idle e = absurd (grind arith)
 
+plain_leaves : (m : Procedure) (p : PlainInstr) → is_plain m p ≡ true → [] ≡ behind_plain p []
+plain_leaves m (Copy to a) e = refl
+plain_leaves m (Compute c) e = refl
+plain_leaves m (Product to a b) e = refl
+plain_leaves m (DivideStep r d a) e = refl
+plain_leaves m (Load x w to a) e = refl
+plain_leaves m (Store w a from) e = refl
+plain_leaves m (ReadDevice to a) e = refl
+plain_leaves m (WriteDevice to a) e = refl
+plain_leaves m (Push w a) e = absurd (grind arith)
+plain_leaves m (Pop w to) e = refl
+plain_leaves m (Find d to a) e = refl
+plain_leaves m (CodeOf q to) e = refl
+plain_leaves m (Stop c) e = refl
+
+leaves : (m : Procedure) (at : ℕ) (i : Instr) → is_kept m at i ≡ true → [] ≡ behind i []
+leaves m at (Plain p) e = plain_leaves m p (first_of _ _ e)
+leaves m at (When t to) e = refl
+leaves m at (Unless t to) e = refl
+leaves m at (Jump to) e = refl
+leaves m at (Call c) e = absurd (grind arith)
+leaves m at (Return w a) e = refl
+leaves m at Idle e = refl
+
 -- a procedure that passes the test keeps it all
 pub sound : (m : Procedure) → length m.widths ≤ 252 → m.params ≤ length m.widths → m.result ≤ 4 → AllByRecursion IsWidth m.widths → 0 < length m.code
     → are_kept m 0 m.code ≡ true → IsSound m
 sound m few params result widths some e =
-    record {
+    sound_by m nothing_waits (record {
       few = few;
       params = params;
       result = result;
       widths = widths;
       operands = λ at i h. operands_kept m (0 + at) i (kept_at m m.code 0 at i e h);
-      waits = nothing_waits;
       begins = (some, refl);
       goes_on = λ at i h. let z : 0 + at ≡ at = omega arith in subst (λ n. Waits m nothing_waits n i) z (waits_kept m (0 + at) i (kept_at m m.code 0 at i e h));
-    }
+      marked = λ at i h. leaves m (0 + at) i (kept_at m m.code 0 at i e h);
+    })
 
 pub shift_sound : (op : Operator) → IsSound (shift op)
 shift_sound op = sound (shift op) (omega arith) (omega arith) (omega arith) (a_width 4 refl, (a_width 4 refl, (a_width 4 refl, tt {0}))) (omega arith) refl

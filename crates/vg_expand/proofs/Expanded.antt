@@ -14,7 +14,7 @@ use Rattle.vg_lin.specs.declared.instr.Registers.TheVariants.{Two}
 use Rattle.vg_lin.specs.declared.instr.Instr.{Instr}
 use Rattle.vg_lin.specs.declared.instr.Instr.TheVariants.{Plain, When, Unless, Jump, Call, Return, Idle}
 use Rattle.vg_lin.specs.Program.{Procedure}
-use Rattle.vg_lin.specs.Sound.{AreOperands, Waits, IsSound}
+use Rattle.vg_lin.specs.Sound.{AreOperands, Waits, IsSound, waits_of}
 use Rattle.vg_arith.specs.Simple.{needs_no_routine, is_simple, are_simple}
 use Rattle.vg_expand.specs.Expansion.{Does, PlainStands, StandsFor, Expands}
 use Rattle.vg_expand.specs.Code.{worked_out}
@@ -63,7 +63,7 @@ module _ (first : ℕ) (m : Procedure) (sound : IsSound m) where
   plain_stands at (Stop c) e st ok = (st.0, next_is at _ e refl)
 
   instr_stands : (at : ℕ) (i : Instr) → slice_get m.code at ≡ Some i → StandAt now.code (place at) (expanded_at its_base (place_in its_base m.code) i)
-      → AreOperands m i → Waits m sound.waits at i → StandsFor first now place at i
+      → AreOperands m i → Waits m (waits_of m) at i → StandsFor first now place at i
   instr_stands at (Plain i) e st ok w = plain_stands at i e st ok
   instr_stands at (When t to) e st ok ((n, (h, g)), b) = (st.0 ∙ ap (λ z. Some (When t z)) (target_is to h), next_is at _ e refl)
   instr_stands at (Unless t to) e st ok ((n, (h, g)), b) = (st.0 ∙ ap (λ z. Some (Unless t z)) (target_is to h), next_is at _ e refl)

@@ -16,7 +16,7 @@ use Rattle.vg_lin.specs.declared.instr.Registers.TheVariants.{Two, Three}
 use Rattle.vg_lin.specs.declared.instr.Instr.{Instr}
 use Rattle.vg_lin.specs.declared.instr.Instr.TheVariants.{Plain, When, Unless, Jump, Call, Return, Idle}
 use Rattle.vg_lin.specs.Program.{Procedure}
-use Rattle.vg_lin.specs.Sound.{IsPlain, AreOperands, Waits, IsSound}
+use Rattle.vg_lin.specs.Sound.{IsPlain, AreOperands, Waits, IsSound, waits_of}
 use Rattle.vg_lin.specs.Onward.{leads_on, all_lead_on}
 use Rattle.vg_arith.proofs.ShiftRoutines.{some_is}
 use Rattle.vg_expand.specs.Flow.{is_routine, calls_in, calls_of}
@@ -192,7 +192,7 @@ module _ (first : ℕ) (m : Procedure) (sound : IsSound m) where
   plain_leads at k (CodeOf q to) x h f = alone (λ n y. leads_on (place_of its_base m.code at + n) y ≡ true) (Plain (CodeOf q to)) k x f refl
   plain_leads at k (Stop c) x h f = alone (λ n y. leads_on (place_of its_base m.code at + n) y ≡ true) (Plain (Stop c)) k x f refl
 
-  leads : (at k : ℕ) (i x : Instr) → AreOperands m i → Waits m sound.waits at i → leads_on at i ≡ true
+  leads : (at k : ℕ) (i x : Instr) → AreOperands m i → Waits m (waits_of m) at i → leads_on at i ≡ true
       → slice_get (expanded_at its_base (place_in its_base m.code) i) k ≡ Some x → leads_on (place_of its_base m.code at + k) x ≡ true
   leads at k (Plain p) x h w l f = plain_leads at k p x h f
   leads at k (When t to) x h ((n, (b, g)), r) l f =

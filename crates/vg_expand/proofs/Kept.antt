@@ -21,7 +21,7 @@ use Rattle.vg_lin.specs.declared.instr.Instr.{Instr}
 use Rattle.vg_lin.specs.declared.instr.Instr.TheVariants.{Plain, When, Unless, Jump, Call, Return, Idle}
 use Rattle.vg_lin.specs.Program.{Procedure}
 use Rattle.vg_lin.specs.Meaning.{operands}
-use Rattle.vg_lin.specs.Sound.{IsWidth, IsLocal, IsOperand, IsPassed, IsTo, IsTest, IsCallee, IsPlain, AreOperands, GoesOn, Jumps, PlainWaits, Waits, IsSound}
+use Rattle.vg_lin.specs.Sound.{IsWidth, IsLocal, IsOperand, IsPassed, IsTo, IsTest, IsCallee, IsPlain, AreOperands, behind as left_by, waits_in, waits_of as waits_at, GoesOn, Jumps, PlainWaits, Waits, IsSound}
 use Rattle.vg_arith.proofs.ShiftRoutines.{some_is}
 use Rattle.vg_expand.specs.Code.{Base, cut_to, shifting, multiplying, computing, expanded_at, expanded_code, size, place_in}
 use Rattle.vg_expand.specs.Code.{is_narrow, narrow_or, product_of, power_of, by_difference, by_sum, is_in, in_two, by_power, by_factor, base_of, expanded}
@@ -139,42 +139,6 @@ place_grows base (i ∷ is) zero zero h g = absurd (omega arith)
 place_grows base (i ∷ is) (suc at) zero h g = absurd (omega arith)
 place_grows base (i ∷ is) zero (suc to) h g = let s = size_some base i in omega (arith, s)
 place_grows base (i ∷ is) (suc at) (suc to) h g = let r = place_grows base is at to (omega (arith, h)) (omega (arith, g)) in omega (arith, r)
-
--- ---- what waits
-
-abbrev pub spread : Base → List Instr → (ℕ → List ℕ) → ℕ → List ℕ
-spread base [] ws k = []
-spread base (i ∷ is) ws k = if nat_lt k (size base i) then ws 0 else spread base is (λ n. ws (suc n)) (k - size base i)
-
-spread_at : (base : Base) (is : List Instr) (ws : ℕ → List ℕ) (at k : ℕ) (i : Instr) → slice_get is at ≡ Some i → k < size base i
-    → spread base is ws (place_of base is at + k) ≡ ws at
-spread_at base [] ws at k i e h = absurd (grind arith)
-spread_at base (j ∷ is) ws zero k i e h =
-    by_test (nat_lt (0 + k) (size base j)) refl
-  where
-    g : size base i ≡ size base j
-    g = ap (size base) (sym (some_is j i e))
-
-    by_test : (b : Bool) → nat_lt (0 + k) (size base j) ≡ b → (if b then ws 0 else spread base is (λ n. ws (suc n)) (0 + k - size base j)) ≡ ws 0
-    by_test true f = refl
-    by_test false f = absurd (not_below k (size base j) (omega (arith, h, g)) f)
-      where
-        not_below : (a b : ℕ) → a < b → nat_lt (0 + a) b ≡ false → ⊥
-        not_below a b h f = grind arith
-spread_at base (j ∷ is) ws (suc at) k i e h =
-    by_test (spread_at base is (λ n. ws (suc n)) at k i e h) (nat_lt (size base j + place_of base is at + k) (size base j)) refl
-  where
-    by_test : spread base is (λ n. ws (suc n)) (place_of base is at + k) ≡ ws (suc at) → (b : Bool)
-        → nat_lt (size base j + place_of base is at + k) (size base j) ≡ b
-        → (if b then ws 0 else spread base is (λ n. ws (suc n)) (size base j + place_of base is at + k - size base j)) ≡ ws (suc at)
-    by_test r true f = absurd (not_below (size base j) (place_of base is at + k) (size base j + place_of base is at + k) (omega arith) f)
-      where
-        not_below : (a b c : ℕ) → c ≡ a + b → nat_lt c a ≡ true → ⊥
-        not_below a b c h f = grind arith
-    by_test r false f = ap (spread base is (λ n. ws (suc n))) (less (size base j) (place_of base is at) k) ∙ r
-      where
-        less : (a b c : ℕ) → a + b + c - a ≡ b + c
-        less a b c = omega arith
 
 -- ---- operands
 
@@ -355,6 +319,47 @@ waits_of m ws j (Call c) (e, h) g =
 waits_of m ws j (Return w a) h g = absurd h
 waits_of m ws j Idle h g = absurd h
 
+-- ---- what waits
+
+in_front : (held : List ℕ) (xs ys : List Instr) (k : ℕ) → k ≤ length xs → waits_in held (xs ++ ys) k ≡ waits_in held xs k
+in_front held xs ys zero h = refl
+in_front held [] ys (suc k) h = absurd (omega (arith, h))
+in_front held (x ∷ xs) ys (suc k) h = in_front (left_by x held) xs ys k (omega (arith, h))
+
+beyond : (held : List ℕ) (xs ys : List Instr) (k : ℕ) → waits_in held (xs ++ ys) (length xs + k) ≡ waits_in (waits_in held xs (length xs)) ys k
+beyond held [] ys k = ap (waits_in held ys) (omega arith)
+beyond held (x ∷ xs) ys k = ap (waits_in held (x ∷ (xs ++ ys))) next ∙ beyond (left_by x held) xs ys k
+  where
+    next : suc (length xs) + k ≡ suc (length xs + k)
+    next = omega arith
+
+-- the code of a computation leaves what waits
+leaves : (m : Procedure) (x : Instr) (held : List ℕ) → IsOfComputation m x → left_by x held ≡ held
+leaves m (Plain (Copy to a)) held h = refl
+leaves m (Plain (Compute c)) held h = refl
+leaves m (Plain (Product to a b)) held h = refl
+leaves m (Plain (DivideStep r d a)) held h = absurd h
+leaves m (Plain (Load x w to a)) held h = absurd h
+leaves m (Plain (Store w a from)) held h = absurd h
+leaves m (Plain (ReadDevice to a)) held h = absurd h
+leaves m (Plain (WriteDevice to a)) held h = absurd h
+leaves m (Plain (Push w a)) held h = absurd h
+leaves m (Plain (Pop w to)) held h = absurd h
+leaves m (Plain (Find d to a)) held h = absurd h
+leaves m (Plain (CodeOf q to)) held h = absurd h
+leaves m (Plain (Stop c)) held h = absurd h
+leaves m (When t to) held h = absurd h
+leaves m (Unless t to) held h = absurd h
+leaves m (Jump to) held h = absurd h
+leaves m (Call c) held (e, h) = ap (λ k. drop k held) e
+leaves m (Return w a) held h = absurd h
+leaves m Idle held h = absurd h
+
+leave : (m : Procedure) (xs : List Instr) (held : List ℕ) (k : ℕ) → AllByRecursion (IsOfComputation m) xs → k ≤ length xs → waits_in held xs k ≡ held
+leave m xs held zero h g = refl
+leave m [] held (suc k) h g = absurd (omega (arith, g))
+leave m (x ∷ xs) held (suc k) (h, more) g = leave m xs (left_by x held) k more (omega (arith, g)) ∙ leaves m x held h
+
 -- ---- the whole procedure
 
 -- an instruction that stands alone
@@ -373,10 +378,101 @@ module _ (first : ℕ) (m : Procedure) (sound : IsSound m) where
   place at = place_of base m.code at
 
   abbrev pub ws : ℕ → List ℕ
-  ws = sound.waits
+  ws = waits_at m
 
   abbrev pub new_waits : ℕ → List ℕ
-  new_waits j = spread base m.code sound.waits j
+  new_waits = waits_at now
+
+  plain_computes : (c : Computation) → IsPlain m (Compute c) → AllByRecursion (IsOfComputation now) (computing base c c.operator)
+  plain_computes c (hw, ht, hl, hr) = computing_is first m c.width c.to c.left c.right hw ht hl hr c.operator
+
+  -- the code in place of one instruction leaves together what that one leaves
+  one_plain : (p : PlainInstr) (held : List ℕ) → IsPlain m p → waits_in held (expanded_at base (place_in base m.code) (Plain p)) (size base (Plain p))
+      ≡ left_by (Plain p) held
+  one_plain (Copy to a) held h = refl
+  one_plain (Compute c) held h = leave now (computing base c c.operator) held (length (computing base c c.operator)) (plain_computes c h) (omega arith)
+  one_plain (Product to a b) held h = refl
+  one_plain (DivideStep r d a) held h = refl
+  one_plain (Load x w to a) held h = refl
+  one_plain (Store w a from) held h = refl
+  one_plain (ReadDevice to a) held h = refl
+  one_plain (WriteDevice to a) held h = refl
+  one_plain (Push w a) held h = refl
+  one_plain (Pop w to) held h = refl
+  one_plain (Find d to a) held h = refl
+  one_plain (CodeOf q to) held h = refl
+  one_plain (Stop c) held h = refl
+
+  one_leaves : (i : Instr) (held : List ℕ) → AreOperands m i → waits_in held (expanded_at base (place_in base m.code) i) (size base i) ≡ left_by i held
+  one_leaves (Plain p) held h = one_plain p held h
+  one_leaves (When t to) held h = refl
+  one_leaves (Unless t to) held h = refl
+  one_leaves (Jump to) held h = refl
+  one_leaves (Call c) held h = refl
+  one_leaves (Return w a) held h = refl
+  one_leaves Idle held h = refl
+
+  -- and what waits before it waits at each of its places
+  first_of : (i : Instr) (held : List ℕ) (k : ℕ) → size base i ≡ 1 → k < size base i → waits_in held (expanded_at base (place_in base m.code) i) k ≡ held
+  first_of i held zero e h = refl
+  first_of i held (suc k) e h = absurd (omega (arith, e, h))
+
+  within_plain : (p : PlainInstr) (held : List ℕ) (k : ℕ) → IsPlain m p → k < size base (Plain p)
+      → waits_in held (expanded_at base (place_in base m.code) (Plain p)) k ≡ held
+  within_plain (Copy to a) held k h g = first_of (Plain (Copy to a)) held k refl g
+  within_plain (Compute c) held k h g = leave now (computing base c c.operator) held k (plain_computes c h) (omega (arith, g))
+  within_plain (Product to a b) held k h g = first_of (Plain (Product to a b)) held k refl g
+  within_plain (DivideStep r d a) held k h g = first_of (Plain (DivideStep r d a)) held k refl g
+  within_plain (Load x w to a) held k h g = first_of (Plain (Load x w to a)) held k refl g
+  within_plain (Store w a from) held k h g = first_of (Plain (Store w a from)) held k refl g
+  within_plain (ReadDevice to a) held k h g = first_of (Plain (ReadDevice to a)) held k refl g
+  within_plain (WriteDevice to a) held k h g = first_of (Plain (WriteDevice to a)) held k refl g
+  within_plain (Push w a) held k h g = first_of (Plain (Push w a)) held k refl g
+  within_plain (Pop w to) held k h g = first_of (Plain (Pop w to)) held k refl g
+  within_plain (Find d to a) held k h g = first_of (Plain (Find d to a)) held k refl g
+  within_plain (CodeOf q to) held k h g = first_of (Plain (CodeOf q to)) held k refl g
+  within_plain (Stop c) held k h g = first_of (Plain (Stop c)) held k refl g
+
+  within_one : (i : Instr) (held : List ℕ) (k : ℕ) → AreOperands m i → k < size base i
+      → waits_in held (expanded_at base (place_in base m.code) i) k ≡ held
+  within_one (Plain p) held k h g = within_plain p held k h g
+  within_one (When t to) held k h g = first_of (When t to) held k refl g
+  within_one (Unless t to) held k h g = first_of (Unless t to) held k refl g
+  within_one (Jump to) held k h g = first_of (Jump to) held k refl g
+  within_one (Call c) held k h g = first_of (Call c) held k refl g
+  within_one (Return w a) held k h g = first_of (Return w a) held k refl g
+  within_one Idle held k h g = first_of Idle held k refl g
+
+  waits_kept : (is : List Instr) (held : List ℕ) → ((j : ℕ) (y : Instr) → slice_get is j ≡ Some y → AreOperands m y) → (at k : ℕ) (i : Instr)
+      → slice_get is at ≡ Some i → k < size base i
+      → waits_in held (expanded_code base (place_in base m.code) is) (place_of base is at + k) ≡ waits_in held is at
+  waits_kept [] held own at k i e h = absurd (grind arith)
+  waits_kept (j ∷ is) held own zero k i e h =
+      ap (waits_in held (expanded_code base (place_in base m.code) (j ∷ is))) (omega arith)
+      ∙ in_front held (expanded_at base (place_in base m.code) j) (expanded_code base (place_in base m.code) is) k (omega (arith, s, short))
+      ∙ within_one j held k (own 0 j refl) short
+    where
+      s : length (expanded_at base (place_in base m.code) j) ≡ size base j
+      s = size_is base (place_in base m.code) j
+
+      short : k < size base j
+      short = subst (λ z. k < size base z) (sym (some_is j i e)) h
+  waits_kept (j ∷ is) held own (suc at) k i e h =
+      ap (waits_in held (xs ++ ys)) (omega (arith, s)) ∙ beyond held xs ys (place_of base is at + k)
+      ∙ ap (λ z. waits_in z ys (place_of base is at + k)) (ap (waits_in held xs) s ∙ one_leaves j held (own 0 j refl))
+      ∙ waits_kept is (left_by j held) (λ n y f. own (suc n) y f) at k i e h
+    where
+      xs : List Instr
+      xs = expanded_at base (place_in base m.code) j
+
+      ys : List Instr
+      ys = expanded_code base (place_in base m.code) is
+
+      s : length xs ≡ size base j
+      s = size_is base (place_in base m.code) j
+
+  spread_at : (at k : ℕ) (i : Instr) → slice_get m.code at ≡ Some i → k < size base i → new_waits (place at + k) ≡ ws at
+  spread_at at k i e h = waits_kept m.code [] sound.operands at k i e h
 
   get_at : (xs : List Instr) (k : ℕ) → k < length xs → (x : Instr) × (slice_get xs k ≡ Some x)
   get_at [] k h = absurd (omega arith)
@@ -389,7 +485,7 @@ module _ (first : ℕ) (m : Procedure) (sound : IsSound m) where
       with_instr : (y : Instr) × (slice_get m.code to ≡ Some y) → GoesOn now new_waits (place to) l
       with_instr (y, g) =
           let s = size_some base y in let f = place_end base (place_in base m.code) m.code to y g in
-          (omega (arith, s, f), subst (λ k. new_waits k ≡ ws to) (none (place to)) (spread_at base m.code ws to 0 y g s) ∙ e)
+          (omega (arith, s, f), subst (λ k. new_waits k ≡ ws to) (none (place to)) (spread_at to 0 y g s) ∙ e)
         where
           none : (n : ℕ) → n + 0 ≡ n
           none n = omega arith
@@ -402,7 +498,7 @@ module _ (first : ℕ) (m : Procedure) (sound : IsSound m) where
   goes_next at i l e g h = subst (λ k. GoesOn now new_waits k l) (sym (behind at i e g)) (goes_place (suc at) l h)
 
   here : (at : ℕ) (i : Instr) → slice_get m.code at ≡ Some i → new_waits (place at + 0) ≡ ws at
-  here at i e = spread_at base m.code ws at 0 i e (size_some base i)
+  here at i e = spread_at at 0 i e (size_some base i)
 
   -- the code of a computation goes on to the next place
   goes_within : (at k : ℕ) (i : Instr) → slice_get m.code at ≡ Some i → k < size base i → GoesOn m ws (suc at) (ws at)
@@ -410,12 +506,12 @@ module _ (first : ℕ) (m : Procedure) (sound : IsSound m) where
   goes_within at k i e h g = by_test (nat_lt (suc k) (size base i)) refl
     where
       this : new_waits (place at + k) ≡ ws at
-      this = spread_at base m.code ws at k i e h
+      this = spread_at at k i e h
 
       by_test : (b : Bool) → nat_lt (suc k) (size base i) ≡ b → GoesOn now new_waits (suc (place at + k)) (new_waits (place at + k))
       by_test true f =
           let f = place_end base (place_in base m.code) m.code at i e in
-          (omega (arith, f, more), subst (λ j. new_waits j ≡ ws at) (next (place at) k) (spread_at base m.code ws at (suc k) i e more) ∙ sym this)
+          (omega (arith, f, more), subst (λ j. new_waits j ≡ ws at) (next (place at) k) (spread_at at (suc k) i e more) ∙ sym this)
         where
           below : (a b : ℕ) → nat_lt a b ≡ true → a < b
           below a b e = grind arith
@@ -581,7 +677,6 @@ module _ (first : ℕ) (m : Procedure) (sound : IsSound m) where
         result = sound.result;
         widths = sound.widths;
         operands = λ j x e. (each j x e).0;
-        waits = new_waits;
         begins = subst (λ k. GoesOn now new_waits k []) (first_place m.code) (goes_place 0 [] sound.begins);
         goes_on = λ j x e. (each j x e).1;
       }

@@ -82,7 +82,7 @@ open_closed u v (Set i ∷ os) = ap (λ z. called_at i ++ z) (open_closed u v os
 open_closed u v (Breaking ∷ os) = open_closed u v os
 open_closed u v (Continuing ∷ os) = open_closed u v os
 
-in_set : (u v : ℕ) (os : List Open) → calls_in (map (set_in u v) os) ≡ open_in os
+pub in_set : (u v : ℕ) (os : List Open) → calls_in (map (set_in u v) os) ≡ open_in os
 in_set u v [] = refl
 in_set u v (Set i ∷ os) = ap (λ z. called_at i ++ z) (in_set u v os)
 in_set u v (Breaking ∷ os) = in_set u v os
@@ -163,33 +163,33 @@ abbrev pub HasCalls : List Called → Made → Type 0
 HasCalls xs (Gives b s) = block_calls b ≡ xs
 HasCalls xs (Refused why) = Unit {0}
 
-abbrev Quiet : Made → Type 0
+abbrev pub Quiet : Made → Type 0
 Quiet made = HasCalls [] made
 
-calls_behind : (xs ys : List Called) (a : Block) (made : Made) → block_calls a ≡ xs → HasCalls ys made → HasCalls (xs ++ ys) (behind a made)
+pub calls_behind : (xs ys : List Called) (a : Block) (made : Made) → block_calls a ≡ xs → HasCalls ys made → HasCalls (xs ++ ys) (behind a made)
 calls_behind xs ys a (Gives b s) ha hm = ap (λ z. z ++ block_calls b) ha ∙ ap (λ z. xs ++ z) hm
 calls_behind xs ys a (Refused why) ha hm = tt
 
-calls_after : (xs ys : List Called) (made : Made) (more : Shape → Made) → HasCalls xs made → ((s : Shape) → HasCalls ys (more s))
+pub calls_after : (xs ys : List Called) (made : Made) (more : Shape → Made) → HasCalls xs made → ((s : Shape) → HasCalls ys (more s))
     → HasCalls (xs ++ ys) (after made more)
 calls_after xs ys (Gives a s) more hm h = calls_behind xs ys a (more s) hm (h s)
 calls_after xs ys (Refused why) more hm h = tt
 
-calls_temp : (xs : List Called) (o : Option ℕ) (go : ℕ → Made) → ((to : ℕ) → HasCalls xs (go to)) → HasCalls xs (by_temp o go)
+pub calls_temp : (xs : List Called) (o : Option ℕ) (go : ℕ → Made) → ((to : ℕ) → HasCalls xs (go to)) → HasCalls xs (by_temp o go)
 calls_temp xs (Some to) go h = h to
 calls_temp xs None go h = tt
 
-calls_if : (xs : List Called) (b : Bool) (x y : Made) → HasCalls xs x → HasCalls xs y → HasCalls xs (if b then x else y)
+pub calls_if : (xs : List Called) (b : Bool) (x y : Made) → HasCalls xs x → HasCalls xs y → HasCalls xs (if b then x else y)
 calls_if xs true x y h g = h
 calls_if xs false x y h g = g
 
-quiet_temp : (o : Option ℕ) (go : ℕ → Made) → ((to : ℕ) → Quiet (go to)) → Quiet (by_temp o go)
+pub quiet_temp : (o : Option ℕ) (go : ℕ → Made) → ((to : ℕ) → Quiet (go to)) → Quiet (by_temp o go)
 quiet_temp o go h = calls_temp [] o go h
 
 quiet_if : (b : Bool) (x y : Made) → Quiet x → Quiet y → Quiet (if b then x else y)
 quiet_if b x y h g = calls_if [] b x y h g
 
-quiet_settled : (r : Room) (s : Shape) → Quiet (settled r s)
+pub quiet_settled : (r : Room) (s : Shape) → Quiet (settled r s)
 quiet_settled r s = by_truth s.truth
   where
     by_truth : (o : Option Truth) → Quiet (settled_as r o s.homes)
@@ -400,7 +400,7 @@ module _ (lay : Layout) (r : Room) where
   quiet_written address [] = tt
   quiet_written address (a ∷ hs) = refl
 
-  calls_step : (p : Step) (hs : List Operand) → HasCalls (called_by p) (stepped lay r p hs)
+  pub calls_step : (p : Step) (hs : List Operand) → HasCalls (called_by p) (stepped lay r p hs)
   calls_step (Number v) hs = quiet_if (nat_lt v (2 ^ 32)) _ _ refl tt
   calls_step This hs = quiet_if (r.receiver == 0) _ _ refl (quiet_at_local 0 hs)
   calls_step (GetLocal i) hs = quiet_at_local (r.receiver + i) hs
@@ -441,7 +441,7 @@ module _ (lay : Layout) (r : Room) where
       landed_quiet [] = refl
       landed_quiet (h ∷ hs) = quiet_temp (temp r hs) _ (λ to. quiet_if (same_operand (Local to) h) _ _ refl refl)
 
-  calls_joined : (xs ys : List Called) (t : Truth) (x y : Made) → HasCalls xs x → HasCalls ys y → HasCalls (xs ++ ys) (joined t x y)
+  pub calls_joined : (xs ys : List Called) (t : Truth) (x y : Made) → HasCalls xs x → HasCalls ys y → HasCalls (xs ++ ys) (joined t x y)
   calls_joined xs ys t (Refused why) y hx hy = tt
   calls_joined xs ys t (Gives a s) (Refused why) hx hy = tt
   calls_joined xs ys t (Gives a s) (Gives b s1) hx hy =
@@ -455,10 +455,10 @@ module _ (lay : Layout) (r : Room) where
       calls_joined xs ys t.truth (landed r (f (only t.homes))) (landed r (g (only t.homes))) (calls_landed xs (f (only t.homes)) (hf (only t.homes)))
       (calls_landed ys (g (only t.homes)) (hg (only t.homes)))
 
-  calls_where : (xs : List Called) (s : Shape) (made : Made) → HasCalls xs made → HasCalls xs (where_empty s made)
+  pub calls_where : (xs : List Called) (s : Shape) (made : Made) → HasCalls xs made → HasCalls xs (where_empty s made)
   calls_where xs s made h = calls_if xs (is_empty s) made (Refused NotTaken) h tt
 
-  calls_repeated : (xs ys zs : List Called) (x y z : Made) → HasCalls xs x → HasCalls ys y → HasCalls zs z → HasCalls (xs ++ (ys ++ zs)) (repeated x y z)
+  pub calls_repeated : (xs ys zs : List Called) (x y z : Made) → HasCalls xs x → HasCalls ys y → HasCalls zs z → HasCalls (xs ++ (ys ++ zs)) (repeated x y z)
   calls_repeated xs ys zs (Refused why) y z hx hy hz = tt
   calls_repeated xs ys zs (Gives p s) y z hx hy hz = by_test (tested s)
     where
@@ -476,7 +476,7 @@ module _ (lay : Layout) (r : Room) where
       by_test None = tt
       by_test (Some t) = calls_where (xs ++ (ys ++ zs)) (only t.homes) (repeated_body p t.truth y z) (by_body t.truth y hy)
 
-  quiet_given : (hs : List Operand) → Quiet (given_back r hs)
+  pub quiet_given : (hs : List Operand) → Quiet (given_back r hs)
   quiet_given [] = tt
   quiet_given (a ∷ []) = refl
   quiet_given (a ∷ b ∷ hs) = tt
@@ -496,7 +496,7 @@ module _ (lay : Layout) (r : Room) where
 
   -- ---- whole procedures
 
-  zeroes_quiet : (c i : ℕ) → block_calls (zeroes c i) ≡ []
+  pub zeroes_quiet : (c i : ℕ) → block_calls (zeroes c i) ≡ []
   zeroes_quiet zero i = refl
   zeroes_quiet (suc c) i = zeroes_quiet c (suc i)
 

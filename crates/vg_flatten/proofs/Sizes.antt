@@ -66,27 +66,27 @@ abbrev pub Small : (n : ℕ) → Made → Type 0
 Small n (Gives b s) = block_size b ≤ n
 Small n (Refused why) = Unit {0}
 
-fewer : (n m : ℕ) (made : Made) → n ≤ m → Small n made → Small m made
+pub fewer : (n m : ℕ) (made : Made) → n ≤ m → Small n made → Small m made
 fewer n m (Gives b s) le h = omega (arith, le, h)
 fewer n m (Refused why) le h = tt
 
-small_behind : (n m : ℕ) (a : Block) (made : Made) → block_size a ≤ n → Small m made → Small (n + m) (behind a made)
+pub small_behind : (n m : ℕ) (a : Block) (made : Made) → block_size a ≤ n → Small m made → Small (n + m) (behind a made)
 small_behind n m a (Gives b s) ha hm = omega (arith, ha, hm)
 small_behind n m a (Refused why) ha hm = tt
 
-small_after : (n m : ℕ) (made : Made) (more : Shape → Made) → Small n made → ((s : Shape) → Small m (more s)) → Small (n + m) (after made more)
+pub small_after : (n m : ℕ) (made : Made) (more : Shape → Made) → Small n made → ((s : Shape) → Small m (more s)) → Small (n + m) (after made more)
 small_after n m (Gives a s) more hm h = small_behind n m a (more s) hm (h s)
 small_after n m (Refused why) more hm h = tt
 
-small_temp : (n : ℕ) (o : Option ℕ) (go : ℕ → Made) → ((to : ℕ) → Small n (go to)) → Small n (by_temp o go)
+pub small_temp : (n : ℕ) (o : Option ℕ) (go : ℕ → Made) → ((to : ℕ) → Small n (go to)) → Small n (by_temp o go)
 small_temp n (Some to) go h = h to
 small_temp n None go h = tt
 
-small_if : (n : ℕ) (b : Bool) (x y : Made) → Small n x → Small n y → Small n (if b then x else y)
+pub small_if : (n : ℕ) (b : Bool) (x y : Made) → Small n x → Small n y → Small n (if b then x else y)
 small_if n true x y h g = h
 small_if n false x y h g = g
 
-small_settled : (r : Room) (s : Shape) → Small 4 (settled r s)
+pub small_settled : (r : Room) (s : Shape) → Small 4 (settled r s)
 small_settled r s = by_truth s.truth
   where
     by_truth : (o : Option Truth) → Small 4 (settled_as r o s.homes)
@@ -330,7 +330,7 @@ module _ (lay : Layout) (r : Room) where
   small_written address [] = tt
   small_written address (a ∷ hs) = omega arith
 
-  small_step : (p : Step) (hs : List Operand) → Small (step_size p - 4) (stepped lay r p hs)
+  pub small_step : (p : Step) (hs : List Operand) → Small (step_size p - 4) (stepped lay r p hs)
   small_step (Number v) hs = small_if 12 (nat_lt v (2 ^ 32)) _ _ (omega arith) tt
   small_step This hs = small_if 12 (r.receiver == 0) _ _ (omega arith) (small_at_local 0 hs)
   small_step (GetLocal i) hs = small_at_local (r.receiver + i) hs
@@ -371,7 +371,7 @@ module _ (lay : Layout) (r : Room) where
       landed_few [] = omega arith
       landed_few (h ∷ hs) = small_temp 1 (temp r hs) _ (λ to. small_if 1 (same_operand (Local to) h) _ _ (omega arith) (omega arith))
 
-  small_joined : (n m : ℕ) (t : Truth) (x y : Made) → Small n x → Small m y → Small (2 + n + m) (joined t x y)
+  pub small_joined : (n m : ℕ) (t : Truth) (x y : Made) → Small n x → Small m y → Small (2 + n + m) (joined t x y)
   small_joined n m t (Refused why) y hx hy = tt
   small_joined n m t (Gives a s) (Refused why) hx hy = tt
   small_joined n m t (Gives a s) (Gives b s1) hx hy =
@@ -385,10 +385,10 @@ module _ (lay : Layout) (r : Room) where
       (small_joined (n + 5) (m + 5) t.truth (landed r (f (only t.homes))) (landed r (g (only t.homes))) (small_landed n (f (only t.homes)) (hf (only t.homes)))
       (small_landed m (g (only t.homes)) (hg (only t.homes))))
 
-  small_where : (n : ℕ) (s : Shape) (made : Made) → Small n made → Small n (where_empty s made)
+  pub small_where : (n : ℕ) (s : Shape) (made : Made) → Small n made → Small n (where_empty s made)
   small_where n s made h = small_if n (is_empty s) made (Refused NotTaken) h tt
 
-  small_repeated : (n m k : ℕ) (x y z : Made) → Small n x → Small m y → Small k z → Small (2 + n + m + k) (repeated x y z)
+  pub small_repeated : (n m k : ℕ) (x y z : Made) → Small n x → Small m y → Small k z → Small (2 + n + m + k) (repeated x y z)
   small_repeated n m k (Refused why) y z hx hy hz = tt
   small_repeated n m k (Gives p s) y z hx hy hz = by_test (tested s)
     where
@@ -405,7 +405,7 @@ module _ (lay : Layout) (r : Room) where
       by_test None = tt
       by_test (Some t) = small_where (2 + n + m + k) (only t.homes) (repeated_body p t.truth y z) (by_body t.truth y hy)
 
-  small_given : (hs : List Operand) → Small 1 (given_back r hs)
+  pub small_given : (hs : List Operand) → Small 1 (given_back r hs)
   small_given [] = tt
   small_given (a ∷ []) = omega arith
   small_given (a ∷ b ∷ hs) = tt
@@ -455,7 +455,7 @@ module _ (lay : Layout) (r : Room) where
 
   -- ---- whole procedures
 
-  zeroes_size : (c i : ℕ) → block_size (zeroes c i) ≤ c
+  pub zeroes_size : (c i : ℕ) → block_size (zeroes c i) ≤ c
   zeroes_size zero i = omega arith
   zeroes_size (suc c) i = let h = zeroes_size c (suc i) in omega (arith, h)
 

@@ -128,7 +128,7 @@ MadeIn L given size (Refused why) = Unit {0}
 -- ---- what was made is in range
 
 module _ (L : Type 0) (lay : Layout) (r : Room) where
-  abbrev size : ℕ
+  abbrev pub size : ℕ
   size = r.locals + r.temps
 
   temp_in : (hs : List Operand) (to : ℕ) → temp r hs ≡ Some to → to < size
@@ -137,30 +137,30 @@ module _ (L : Type 0) (lay : Layout) (r : Room) where
       let lt = (temp_is r hs to e).1 in
       omega (arith, is, lt)
 
-  in_behind : (a : Block) (made : Made) → BlockIn L r.result size a → MadeIn L r.result size made → MadeIn L r.result size (behind a made)
+  pub in_behind : (a : Block) (made : Made) → BlockIn L r.result size a → MadeIn L r.result size made → MadeIn L r.result size (behind a made)
   in_behind a (Gives b s) ha hm = ((ha, hm.0), hm.1)
   in_behind a (Refused why) ha hm = tt
 
-  in_after : (made : Made) (more : Shape → Made) → MadeIn L r.result size made → ((s : Shape) → ShapeIn size s → MadeIn L r.result size (more s))
+  pub in_after : (made : Made) (more : Shape → Made) → MadeIn L r.result size made → ((s : Shape) → ShapeIn size s → MadeIn L r.result size (more s))
       → MadeIn L r.result size (after made more)
   in_after (Gives a s) more hm h = in_behind a (more s) hm.0 (h s hm.1)
   in_after (Refused why) more hm h = tt
 
-  in_by_temp : (hs : List Operand) (go : ℕ → Made) → ((to : ℕ) → to < size → MadeIn L r.result size (go to)) → MadeIn L r.result size (by_temp (temp r hs) go)
+  pub in_by_temp : (hs : List Operand) (go : ℕ → Made) → ((to : ℕ) → to < size → MadeIn L r.result size (go to)) → MadeIn L r.result size (by_temp (temp r hs) go)
   in_by_temp hs go h = by_room (temp r hs) refl
     where
       by_room : (o : Option ℕ) → temp r hs ≡ o → MadeIn L r.result size (by_temp o go)
       by_room (Some to) e = h to (temp_in hs to e)
       by_room None e = tt
 
-  in_settled : (s : Shape) → ShapeIn size s → MadeIn L r.result size (settled r s)
+  pub in_settled : (s : Shape) → ShapeIn size s → MadeIn L r.result size (settled r s)
   in_settled s h = by_truth s.truth h.1
     where
       by_truth : (o : Option Truth) → MayBeIn size o → MadeIn L r.result size (settled_as r o s.homes)
       by_truth None t = (tt, (h.0, tt))
       by_truth (Some x) t = in_by_temp s.homes _ (λ to lt. ((t, (lt, tt), (lt, tt)), ((lt, h.0), tt)))
 
-  in_if : (b : Bool) (x y : Made) → MadeIn L r.result size x → MadeIn L r.result size y → MadeIn L r.result size (if b then x else y)
+  pub in_if : (b : Bool) (x y : Made) → MadeIn L r.result size x → MadeIn L r.result size y → MadeIn L r.result size (if b then x else y)
   in_if true x y hx hy = hx
   in_if false x y hx hy = hy
 
@@ -689,7 +689,7 @@ module _ (L : Type 0) (lay : Layout) (r : Room) where
       by_width true false d is = tt
       by_width false c d is = tt
 
-  in_stepped : (q : Step) (hs : List Operand) → AreIn size hs → MadeIn L r.result size (stepped lay r q hs)
+  pub in_stepped : (q : Step) (hs : List Operand) → AreIn size hs → MadeIn L r.result size (stepped lay r q hs)
   in_stepped (Number v) hs h = in_number v hs h
   in_stepped (GetLocal i) hs h = in_at_local (r.receiver + i) hs h
   in_stepped (SetLocal i) hs h = in_set i hs h
@@ -727,14 +727,14 @@ module _ (L : Type 0) (lay : Layout) (r : Room) where
   in_landed : (made : Made) → MadeIn L r.result size made → MadeIn L r.result size (landed r made)
   in_landed made h = in_after made _ h (λ s hs. in_after (settled r s) _ (in_settled s hs) (λ s1 h1. in_landed_as s1.homes h1.0))
 
-  in_joined : (t : Truth) (x y : Made) → IsTruthIn size t → MadeIn L r.result size x → MadeIn L r.result size y → MadeIn L r.result size (joined t x y)
+  pub in_joined : (t : Truth) (x y : Made) → IsTruthIn size t → MadeIn L r.result size x → MadeIn L r.result size y → MadeIn L r.result size (joined t x y)
   in_joined t (Refused why) y ht hx hy = tt
   in_joined t (Gives a s) (Refused why) ht hx hy = tt
   in_joined t (Gives a s) (Gives b s1) ht hx hy = in_if (same_homes (reverse s.homes) (reverse s1.homes)) (Gives (Choice t a b) s) (Refused NotTaken)
       ((ht, hx.0, hy.0), hx.1) tt
 
   -- the test that waits
-  in_tested : (s : Shape) (t : Tested) → ShapeIn size s → tested s ≡ Some t → IsTruthIn size t.truth × AreIn size t.homes
+  pub in_tested : (s : Shape) (t : Tested) → ShapeIn size s → tested s ≡ Some t → IsTruthIn size t.truth × AreIn size t.homes
   in_tested s t h e = by_shape s.truth s.homes h e
     where
       by_shape : (o : Option Truth) (hs : List Operand) → AreIn size hs × MayBeIn size o → tested_as o hs ≡ Some t
@@ -765,7 +765,7 @@ module _ (L : Type 0) (lay : Layout) (r : Room) where
   in_body l p t (Refused why) z hp ht hy hz = tt
   in_body l p t (Gives b s) z hp ht hy hz = in_if (is_empty s) (repeated_next p t b z) (Refused NotTaken) (in_next l p t b z hp ht hy.0 hz) tt
 
-  in_repeated : L → (x y z : Made) → MadeIn L r.result size x → MadeIn L r.result size y → MadeIn L r.result size z → MadeIn L r.result size (repeated x y z)
+  pub in_repeated : L → (x y z : Made) → MadeIn L r.result size x → MadeIn L r.result size y → MadeIn L r.result size z → MadeIn L r.result size (repeated x y z)
   in_repeated l (Refused why) y z hx hy hz = tt
   in_repeated l (Gives p s) y z hx hy hz = by_test (tested s) refl
     where
@@ -774,19 +774,19 @@ module _ (L : Type 0) (lay : Layout) (r : Room) where
       by_test (Some t) e = in_if (is_empty (only t.homes)) (repeated_body p t.truth y z) (Refused NotTaken) (in_body l p t.truth y z hx.0
           (in_tested s t hx.1 e).0 hy hz) tt
 
-  in_given_back : (hs : List Operand) → AreIn size hs → MadeIn L r.result size (given_back r hs)
+  pub in_given_back : (hs : List Operand) → AreIn size hs → MadeIn L r.result size (given_back r hs)
   in_given_back [] h = tt
   in_given_back (a ∷ []) h = ((refl, h.0), (tt, tt))
   in_given_back (a ∷ b ∷ hs) h = tt
 
-  first_of : (x y : Bool) → ((x || y) ≡ true → L) → x ≡ true → L
+  pub first_of : (x y : Bool) → ((x || y) ≡ true → L) → x ≡ true → L
   first_of true y h e = h refl
   first_of false y h e = absurd (false_is e)
     where
       false_is : false ≡ true → ⊥
       false_is e1 = grind arith
 
-  rest_of : (x y : Bool) → ((x || y) ≡ true → L) → y ≡ true → L
+  pub rest_of : (x y : Bool) → ((x || y) ≡ true → L) → y ≡ true → L
   rest_of true y h e = h refl
   rest_of false y h e = h e
 

@@ -4,7 +4,8 @@ use Rattle.std.proofs.Common.{◌≡◌, ◌≢◌, refl, sym, subst, arith}
 use Rattle.vg_lin.specs.declared.instr.Instr.{Instr}
 use Rattle.std.specs.List.{AllByRecursion}
 use Rattle.vg_lin.specs.Meaning.{operands}
-use Rattle.vg_lin.specs.Sound.{IsPassed, AreOperands, Waits, IsSound}
+use Rattle.vg_lin.specs.Sound.{IsPassed, AreOperands, behind, Waits, IsSound}
+use Rattle.vg_lin.proofs.Scanned.{sound_by}
 use Rattle.vg_flatten.specs.Flattened.{main_args, start_of}
 use Rattle.vg_flatten_shapes.proofs.Temps.{some_is, none_is_not}
 
@@ -27,18 +28,24 @@ module _ (main : ℕ) (receives : Bool) where
       (let ne : 1 ≢ 2 = omega arith in ne, (omega arith, refl))
   goes_on (suc (suc (suc at))) i e = none_is_not i e
 
+  marked : (at : ℕ) (i : Instr) → slice_get (start_of main receives).code at ≡ Some i → [] ≡ behind i []
+  marked zero i e = subst (λ z. [] ≡ behind z []) (some_is _ i e) refl
+  marked (suc zero) i e = subst (λ z. [] ≡ behind z []) (some_is _ i e) refl
+  marked (suc (suc zero)) i e = subst (λ z. [] ≡ behind z []) (some_is _ i e) refl
+  marked (suc (suc (suc at))) i e = none_is_not i e
+
   pub start_sound : IsSound (start_of main receives)
   start_sound =
-      record {
+      sound_by (start_of main receives) (λ z. []) (record {
         few = omega arith;
         params = omega arith;
         result = omega arith;
         widths = tt;
         operands = operands_in;
-        waits = λ z. [];
         begins = (omega arith, refl);
         goes_on = goes_on;
-      }
+        marked = marked;
+      })
 
 -- The same of parts that are equal.
 pub start_as : (main : ℕ) (receives : Bool) (ws : List ℕ) (code : List Instr) → ws ≡ [] → code ≡ (start_of main receives).code

@@ -105,10 +105,10 @@ drops under own n y e g = record { own = own; homes = refl; count = omega (arith
 tests : (under own : List Operand) (t : Truth) (n y : ℕ) → length own ≡ n → y ≡ 1 + n → Waits under y (record { truth = Some t; homes = own ++ under })
 tests under own t n y e g = record { own = own; homes = refl; count = omega (arith, e, g) }
 
-lt_true : (a b : ℕ) → a < b → nat_lt a b ≡ true
+pub lt_true : (a b : ℕ) → a < b → nat_lt a b ≡ true
 lt_true a b h = grind arith
 
-le_true : (a b : ℕ) → a ≤ b → nat_le a b ≡ true
+pub le_true : (a b : ℕ) → a ≤ b → nat_le a b ≡ true
 le_true a b h = grind arith
 
 width_true : (w : ℕ) → IsWidth w → is_width w ≡ true
@@ -117,10 +117,10 @@ width_true w h = both_true (nat_lt 0 w) (nat_lt w 5) (lt_true 0 w h.0) (lt_true 
     both_true : (a b : Bool) → a ≡ true → b ≡ true → (a && b) ≡ true
     both_true a b e g = ap (λ z. z && b) e ∙ g
 
-same_true : (a b : ℕ) → a ≡ b → (a == b) ≡ true
+pub same_true : (a b : ℕ) → a ≡ b → (a == b) ≡ true
 same_true a b e = grind arith
 
-by_if : (P : Made → Type 0) (b : Bool) (x y : Made) → b ≡ true → P x → P (if b then x else y)
+pub by_if : (P : Made → Type 0) (b : Bool) (x y : Made) → b ≡ true → P x → P (if b then x else y)
 by_if P true x y e h = h
 by_if P false x y e h = absurd (not_both e)
   where
@@ -140,22 +140,22 @@ three_true a b c e g h = grind arith
 none_more : (a b : ℕ) → a ≡ 0 + b → a ≡ b
 none_more a b e = omega (arith, e)
 
-not_true : false ≡ true → ⊥
+pub not_true : false ≡ true → ⊥
 not_true e = grind arith
 
-nil_is : (xs : List Operand) → length xs ≡ 0 → xs ≡ []
+pub nil_is : (xs : List Operand) → length xs ≡ 0 → xs ≡ []
 nil_is [] e = refl
 nil_is (x ∷ xs) e = absurd (omega (arith, e))
 
 -- the temporary above these
-at_temp : (r : Room) (P : Made → Type 0) (hs : List Operand) (go : ℕ → Made) → length hs < r.temps → P (go (r.locals + length hs)) → P (by_temp (temp r hs) go)
+pub at_temp : (r : Room) (P : Made → Type 0) (hs : List Operand) (go : ℕ → Made) → length hs < r.temps → P (go (r.locals + length hs)) → P (by_temp (temp r hs) go)
 at_temp r P hs go lt h = by_room (nat_lt (length hs) r.temps) (lt_true (length hs) r.temps lt)
   where
     by_room : (b : Bool) → b ≡ true → P (by_temp (if b then Some (r.locals + length hs) else None) go)
     by_room true e = h
     by_room false e = absurd (not_true e)
 
-with_temp : (r : Room) (P : Made → Type 0) (hs : List Operand) (go : ℕ → Made) → length hs < r.temps → ((to : ℕ) → P (go to)) → P (by_temp (temp r hs) go)
+pub with_temp : (r : Room) (P : Made → Type 0) (hs : List Operand) (go : ℕ → Made) → length hs < r.temps → ((to : ℕ) → P (go to)) → P (by_temp (temp r hs) go)
 with_temp r P hs go lt h = at_temp r P hs go lt (h (r.locals + length hs))
 
 -- so many of the newest
@@ -170,7 +170,7 @@ with_front P n xs ys go e h = subst (λ z. P (with_taken z go)) (sym (ap (λ z. 
         ∙ ap (λ z. Some (record { args = reverse z; rest = drop (length xs) (xs ++ ys) })) (take-append_seam xs ys)
         ∙ ap (λ z. Some (record { args = reverse xs; rest = z })) (drop-append_seam xs ys)
 
-one_of : (Q : List Operand → Type 0) (own : List Operand) (n : ℕ) → length own ≡ 1 + n
+pub one_of : (Q : List Operand → Type 0) (own : List Operand) (n : ℕ) → length own ≡ 1 + n
     → ((h : Operand) (rest : List Operand) → length rest ≡ n → Q (h ∷ rest)) → Q own
 one_of Q [] n e g = absurd (omega (arith, e))
 one_of Q (h ∷ rest) n e g = g h rest (omega (arith, e))
@@ -555,7 +555,7 @@ module _ (lay : Layout) (r : Room) (looped : Bool) (under : List Operand) where
 
 -- ---- truth values
 
-fine_behind : (looped : Bool) (under : List Operand) (y : ℕ) (a : Block) (m : Made) → Stays looped a → Fine looped under y m → Fine looped under y (behind a m)
+pub fine_behind : (looped : Bool) (under : List Operand) (y : ℕ) (a : Block) (m : Made) → Stays looped a → Fine looped under y m → Fine looped under y (behind a m)
 fine_behind looped under y a (Gives b s) ha hm = ((ha, hm.0), hm.1)
 fine_behind looped under y a (Refused why) ha hm = absurd hm
 
@@ -564,12 +564,12 @@ abbrev pub Lands : (looped : Bool) → List Operand → Made → Type 0
 Lands looped hs (Gives b s) = Stays looped b × (s ≡ only hs)
 Lands looped hs (Refused why) = ⊥
 
-lands_behind : (looped : Bool) (hs : List Operand) (a : Block) (m : Made) → Stays looped a → Lands looped hs m → Lands looped hs (behind a m)
+pub lands_behind : (looped : Bool) (hs : List Operand) (a : Block) (m : Made) → Stays looped a → Lands looped hs m → Lands looped hs (behind a m)
 lands_behind looped hs a (Gives b s) ha hm = ((ha, hm.0), hm.1)
 lands_behind looped hs a (Refused why) ha hm = absurd hm
 
 -- what is made behind a truth value that became a number
-after_settled : (r : Room) (looped : Bool) (P : Made → Type 0) → ((a : Block) (m : Made) → Stays looped a → P m → P (behind a m))
+pub after_settled : (r : Room) (looped : Bool) (P : Made → Type 0) → ((a : Block) (m : Made) → Stays looped a → P m → P (behind a m))
     → (under : List Operand) (x : ℕ) (s : Shape) (more : Shape → Made) → Waits under x s → length under + x ≤ r.temps
     → ((s1 : Shape) → Rests under x s1.homes → P (more s1)) → P (after (settled r s) more)
 after_settled r looped P closed under x s more w room go = by_truth s.truth w.count
@@ -585,7 +585,7 @@ after_settled r looped P closed under x s more w room go = by_truth s.truth w.co
         short e1 = let l = ap length w.homes ∙ length-append w.own under in omega (arith, e1, l, room)
 
 -- the truth value that waits is taken
-with_tested : (P : Option Tested → Type 0) (under : List Operand) (z : ℕ) (s : Shape) → Waits under (suc z) s
+pub with_tested : (P : Option Tested → Type 0) (under : List Operand) (z : ℕ) (s : Shape) → Waits under (suc z) s
     → ((t : Tested) → Rests under z t.homes → P (Some t)) → P (tested s)
 with_tested P under z s w go = by_truth s.truth s.homes w.own w.homes w.count
   where
@@ -607,7 +607,7 @@ operand_same : (a : Operand) → same_operand a a ≡ true
 operand_same (Local i) = same_true i i refl
 operand_same (Known v) = same_true v v refl
 
-homes_same : (hs : List Operand) → same_homes hs hs ≡ true
+pub homes_same : (hs : List Operand) → same_homes hs hs ≡ true
 homes_same [] = refl
 homes_same (h ∷ hs) = two_true (same_operand h h) (same_homes hs hs) (operand_same h) (homes_same hs)
 
@@ -642,7 +642,7 @@ landed_none r looped (Gives b s) h =
     none : (hs : List Operand) → Rests [] 0 hs → hs ≡ []
     none hs w = nil_is hs (let l = ap length w.homes ∙ length-append w.own [] in let c = w.count in omega (arith, l, c))
 
-joined_both : (looped : Bool) (hs : List Operand) (t : Truth) (x y : Made) → Lands looped hs x → Lands looped hs y → Lands looped hs (joined t x y)
+pub joined_both : (looped : Bool) (hs : List Operand) (t : Truth) (x y : Made) → Lands looped hs x → Lands looped hs y → Lands looped hs (joined t x y)
 joined_both looped hs t (Refused why) y hx hy = absurd hx
 joined_both looped hs t (Gives a s) (Refused why) hx hy = absurd hy
 joined_both looped hs t (Gives a s) (Gives b s1) hx hy =
@@ -660,14 +660,14 @@ lands_fine looped under hs own y (Gives b s) e c h =
 
 -- ---- loops and ends
 
-empty_is : (s : Shape) → Waits [] 0 s → is_empty s ≡ true
+pub empty_is : (s : Shape) → Waits [] 0 s → is_empty s ≡ true
 empty_is s w = by_truth s.truth w.count
   where
     by_truth : (o : Option Truth) → length w.own + counted o ≡ 0 → (is_none o && (length s.homes == 0)) ≡ true
     by_truth (Some t) c = absurd (omega (arith, c))
     by_truth None c = same_true (length s.homes) 0 (let l = ap length w.homes ∙ length-append w.own [] in omega (arith, l, c))
 
-nothing_waits : (under : List Operand) (x : ℕ) (s : Shape) → Waits under x s → length under + x ≡ 0 → is_empty s ≡ true
+pub nothing_waits : (under : List Operand) (x : ℕ) (s : Shape) → Waits under x s → length under + x ≡ 0 → is_empty s ≡ true
 nothing_waits under x s w e =
     empty_is s (record {
       own = [];
@@ -675,10 +675,10 @@ nothing_waits under x s w e =
       count = let c = w.count in omega (arith, c, e);
     })
 
-nothing : (under : List Operand) (n : ℕ) → length under + n ≡ 0 → Waits under 0 empty
+pub nothing : (under : List Operand) (n : ℕ) → length under + n ≡ 0 → Waits under 0 empty
 nothing under n e = record { own = []; homes = sym (nil_is under (omega (arith, e))); count = refl }
 
-repeated_fine : (looped : Bool) (x y z : Made) → Fine looped [] 1 x → Fine true [] 0 y → Fine looped [] 0 z → Fine looped [] 0 (repeated x y z)
+pub repeated_fine : (looped : Bool) (x y z : Made) → Fine looped [] 1 x → Fine true [] 0 y → Fine looped [] 0 z → Fine looped [] 0 (repeated x y z)
 repeated_fine looped (Refused why) y z hx hy hz = absurd hx
 repeated_fine looped (Gives p s) (Refused why) z hx hy hz = absurd hy
 repeated_fine looped (Gives p s) (Gives b s1) (Refused why) hx hy hz = absurd hz
@@ -689,7 +689,7 @@ repeated_fine looped (Gives p s) (Gives b s1) (Gives n s2) hx hy hz =
     (by_if (Fine looped [] 0) (is_empty s1) _ _ (empty_is s1 hy.1)
     (by_if (Fine looped [] 0) (is_empty s2) _ _ (empty_is s2 hz.1) ((hx.0, hz.0), nothing [] 0 refl))))
 
-given_fine : (r : Room) (looped : Bool) (hs : List Operand) → length hs ≡ 1 → Fine looped [] 0 (given_back r hs)
+pub given_fine : (r : Room) (looped : Bool) (hs : List Operand) → length hs ≡ 1 → Fine looped [] 0 (given_back r hs)
 given_fine r looped [] e = absurd (omega (arith, e))
 given_fine r looped (h ∷ []) e = (tt, nothing [] 0 refl)
 given_fine r looped (h ∷ i ∷ hs) e = absurd (omega (arith, e))
@@ -819,26 +819,26 @@ stays_set (Repeat p t body next) at h =
 
 -- ---- whole procedures
 
-stays_zeroes : (c i : ℕ) → Stays false (zeroes c i)
+pub stays_zeroes : (c i : ℕ) → Stays false (zeroes c i)
 stays_zeroes zero i = tt
 stays_zeroes (suc c) i = (tt, stays_zeroes c (suc i))
 
 module _ (lay : Layout) (m : Procedure) (typed : IsTyped lay m) where
-  receiver_few : (b : Bool) (ws : List ℕ) → length (with_receiver_width b ws) ≡ receivers b + length ws
+  pub receiver_few : (b : Bool) (ws : List ℕ) → length (with_receiver_width b ws) ≡ receivers b + length ws
   receiver_few true ws = omega arith
   receiver_few false ws = omega arith
 
-  few : length (own_widths m) ≤ 61
+  pub few : length (own_widths m) ≤ 61
   few = let l = receiver_few m.receives m.widths in let o = one m.receives in let t = typed.few in omega (arith, l, o, t)
     where
       one : (b : Bool) → receivers b ≤ 1
       one true = omega arith
       one false = omega arith
 
-  temps : 191 ≤ temps_for (length (own_widths m))
+  pub temps : 191 ≤ temps_for (length (own_widths m))
   temps = let le = few in omega (arith, le)
 
-  itself : (b : Bool) (ws : List ℕ) → ((receivers b == 0) ≡ true) ⊎ (0 < length (with_receiver_width b ws))
+  pub itself : (b : Bool) (ws : List ℕ) → ((receivers b == 0) ≡ true) ⊎ (0 < length (with_receiver_width b ws))
   itself true ws = inr (omega arith)
   itself false ws = inl refl
 

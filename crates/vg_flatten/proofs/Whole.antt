@@ -20,7 +20,8 @@ use Rattle.vg_lin.specs.declared.instr.Instr.{Instr}
 use Rattle.vg_lin.specs.declared.instr.Instr.TheVariants.{Plain, When, Unless, Jump, Call, Return, Idle}
 use Rattle.vg_lin.specs.Meaning.{operands}
 use Rattle.vg_lin.specs.Program.{Procedure}
-use Rattle.vg_lin.specs.Sound.{IsWidth, IsOperand, IsPassed, IsTest, IsTo, IsCallee, IsPlain, AreOperands, PlainWaits, Waits, IsSound}
+use Rattle.vg_lin.specs.Sound.{IsWidth, IsOperand, IsPassed, IsTest, IsTo, IsCallee, IsPlain, AreOperands, behind_plain as left_by_plain, behind as left_by, PlainWaits, Waits, IsSound}
+use Rattle.vg_lin.proofs.Scanned.{sound_by}
 use Rattle.vg_flatten_shapes.specs.declared.open.Truth.{Truth}
 use Rattle.vg_flatten_shapes.specs.declared.open.Truth.TheVariants.{Holds, Fails}
 use Rattle.vg_flatten_shapes.specs.declared.open.Open.{Open}
@@ -299,6 +300,33 @@ module _ (p : Procedure) where
   waits_for w (Return r a) at h high hl f k n = f
   waits_for w Idle at h high hl f k n = (next Idle at (λ e. e) n, k ∙ sym f)
 
+  -- what waits behind the instruction, by what waits before it
+  plain_leaves : (w : ℕ → List ℕ) (i : PlainInstr) (at : ℕ) → PlainOrPush (length p.widths) i → PlainWithin w at i
+      → w (suc at) ≡ behind_plain i (w at) → w (suc at) ≡ left_by_plain i (w at)
+  plain_leaves w (Copy to a) at h f k = k ∙ sym f
+  plain_leaves w (Compute c) at h f k = k ∙ sym f
+  plain_leaves w (ReadDevice to address) at h f k = k ∙ sym f
+  plain_leaves w (WriteDevice address a) at h f k = k ∙ sym f
+  plain_leaves w (Product to a b) at h f k = absurd h
+  plain_leaves w (DivideStep a b c) at h f k = absurd h
+  plain_leaves w (Load m v to a) at h f k = k ∙ sym f
+  plain_leaves w (Store v a from) at h f k = k ∙ sym f
+  plain_leaves w (Push v a) at h f k = k
+  plain_leaves w (Pop v to) at h f k = absurd h
+  plain_leaves w (Find d to a) at h f k = k ∙ sym f
+  plain_leaves w (CodeOf q to) at h f k = k ∙ sym f
+  plain_leaves w (Stop code) at h f k = k ∙ sym f
+
+  leaves : (w : ℕ → List ℕ) (i : Instr) (at : ℕ) → InstrIn p.result (length p.widths) (Set i) → (high : ℕ) → JumpsWithin w high at (Set i)
+      → w (suc at) ≡ behind (Set i) (w at) → w (suc at) ≡ left_by i (w at)
+  leaves w (Plain i) at h high f k = plain_leaves w i at h f k
+  leaves w (When t to) at h high f k = k ∙ sym f.1
+  leaves w (Unless t to) at h high f k = k ∙ sym f.1
+  leaves w (Jump to) at h high f k = k ∙ sym f.1
+  leaves w (Call c) at h high f k = k ∙ sym (drop-length (w at)) ∙ ap (λ z. drop z (w at)) f
+  leaves w (Return r a) at h high f k = k ∙ sym f
+  leaves w Idle at h high f k = k ∙ sym f
+
 -- A flattened procedure, of a block in range.
 pub whole_sound : (m : FirmProcedure) (b : Block) (temps : ℕ) (method : Option ℕ) (code : List Instr) → m.params ≤ length m.widths
     → AllByRecursion IsWidth m.widths → m.result ≤ 4 → length (own_widths m) + temps ≤ 252
@@ -306,18 +334,17 @@ pub whole_sound : (m : FirmProcedure) (b : Block) (temps : ℕ) (method : Option
     → AllSet (open_code (whole m b) 0) → code ≡ map (set_in 0 0) (open_code (whole m b) 0)
     → IsSound (record { method = method; params = own_params m; result = result_width m; widths = all_widths m ++ replicate temps 4; code = code })
 whole_sound m b temps method code hp hw hr few hb set is =
-    record {
+    sound_by p w (record {
       few = omega (arith, few, size_is);
       params = omega (arith, hp, size_is, own);
       result = small m.receives;
       widths = with_temps (all_widths m) temps (widened_widths (wide_params m) (own_widths m) (receiver_widths m.receives m.widths hw));
       operands = λ at i e. instr_in p i (instr_at at i e);
-      waits = w;
       begins = (omega (arith, code_is), refl);
-      goes_on = λ at i e. waits_for p w i at (instr_at at i e) (length front) (omega (arith, code_is)) (jumps_at at i e)
-          (subst (λ z. w (suc z) ≡ behind (Set i) (w z)) (omega arith) (marks_at w os 0 at (Set i) marks (place at i e)))
+      goes_on = λ at i e. waits_for p w i at (instr_at at i e) (length front) (omega (arith, code_is)) (jumps_at at i e) (marked_at at i e)
           (behind_it at i (before_last front (Set (Return (result_width m) (Known 0))) (Set i) at (place at i e)));
-    }
+      marked = λ at i e. leaves p w i at (instr_at at i e) (length front) (jumps_at at i e) (marked_at at i e);
+    })
   where
     p : Procedure
     p = record { method = method; params = own_params m; result = result_width m; widths = all_widths m ++ replicate temps 4; code = code }
@@ -394,6 +421,9 @@ whole_sound m b temps method code hp hw hr few hb set is =
     jumps_at : (at : ℕ) (i : Instr) → slice_get code at ≡ Some i → JumpsWithin w (length front) at (Set i)
     jumps_at at i e = subst (λ z. JumpsWithin w (length front) z (Set i)) (omega arith) (within_at w (length front) (front ++ last ∷ []) 0 at (Set i) jumps
         (place at i e))
+
+    marked_at : (at : ℕ) (i : Instr) → slice_get code at ≡ Some i → w (suc at) ≡ behind (Set i) (w at)
+    marked_at at i e = subst (λ z. w (suc z) ≡ behind (Set i) (w z)) (omega arith) (marks_at w os 0 at (Set i) marks (place at i e))
 
     behind_it : (at : ℕ) (i : Instr) → (at < length front) ⊎ (last ≡ Set i) → (suc at < length code) ⊎ (Return (result_width m) (Known 0) ≡ i)
     behind_it at i (inl lt) = inl (omega (arith, lt, code_is))

@@ -74,7 +74,7 @@ rest_lays at place m more p res e n r h en ep f =
 
 -- ---- choices
 
-long_both : (at : ℕ) (t : Truth) (m1 m2 : Made) → ((a b : Block) (s s1 : Shape) → m1 ≡ Gives a s → m2 ≡ Gives b s1 → 65519 < at + (2 + block_size a + block_size b))
+pub long_both : (at : ℕ) (t : Truth) (m1 m2 : Made) → ((a b : Block) (s s1 : Shape) → m1 ≡ Gives a s → m2 ≡ Gives b s1 → 65519 < at + (2 + block_size a + block_size b))
     → IsLong at (joined t m1 m2)
 long_both at t (Refused why) m2 h = tt
 long_both at t (Gives a s) (Refused why) h = tt
@@ -99,19 +99,19 @@ refused_rest t p at (Gives a s) why h = refl
 refused_rest t p at (Refused why') why h = absurd h
 
 module _ (at : ℕ) (t : Truth) (m1 m2 : Made) where
-  first_of : (first_at : ℕ) (e : Refusal Fault) → first_at ≡ at + 1 → Fails e first_at m1 → Fails e at (joined t m1 m2)
+  pub first_of : (first_at : ℕ) (e : Refusal Fault) → first_at ≡ at + 1 → Fails e first_at m1 → Fails e at (joined t m1 m2)
   first_of first_at Memory ep f = tt
   first_of first_at (Faulty TooLong) ep f = long_both at t m1 m2 (λ a b s s1 ea eb. let l = long_at first_at m1 a s f ea in omega (arith, l, ep))
   first_of first_at (Faulty NotTaken) ep f = ap (λ z. joined t z m2) f
   first_of first_at (Faulty TooHigh) ep f = ap (λ z. joined t z m2) f
 
-  place_of' : (first_at : ℕ) (p : Piece) (e : Refusal Fault) → first_at ≡ at + 1 → IsPiece p first_at m1
+  pub place_of' : (first_at : ℕ) (p : Piece) (e : Refusal Fault) → first_at ≡ at + 1 → IsPiece p first_at m1
       → (e ≡ Faulty TooLong) × (65535 < at + 1 + length p.code + 1) → Fails e at (joined t m1 m2)
   place_of' first_at p e ep h f =
       subst (λ z. Fails z at (joined t m1 m2)) (sym f.0) (long_both at t m1 m2 (λ a b s s1 ea eb.
       let l = fits p first_at m1 a s h ea in let far = f.1 in omega (arith, l, far)))
 
-  rest_of : (first_at rest_at : ℕ) (p : Piece) (e : Refusal Fault) → IsPiece p first_at m1 → rest_at ≡ at + 1 + length p.code + 1 → Fails e rest_at m2
+  pub rest_of : (first_at rest_at : ℕ) (p : Piece) (e : Refusal Fault) → IsPiece p first_at m1 → rest_at ≡ at + 1 + length p.code + 1 → Fails e rest_at m2
       → Fails e at (joined t m1 m2)
   rest_of first_at rest_at p Memory h ep f = tt
   rest_of first_at rest_at p (Faulty TooLong) h ep f =
@@ -134,7 +134,7 @@ unlike t (Gives a s) (Gives b s1) p q u v h g e =
     (ap (λ z. same_homes (reverse z.homes) (reverse s1.homes)) (sym h.1) ∙ ap (λ z. same_homes (reverse p.homes.homes) (reverse z.homes)) (sym g.1) ∙ e)
 
 -- what was joined, or why nothing was
-joined_laid : (at first_at rest_at : ℕ) (t : Truth) (m1 m2 : Made) (p q : Piece) (res : Result Piece (Refusal Fault)) → first_at ≡ at + 1
+pub joined_laid : (at first_at rest_at : ℕ) (t : Truth) (m1 m2 : Made) (p q : Piece) (res : Result Piece (Refusal Fault)) → first_at ≡ at + 1
     → rest_at ≡ at + 1 + length p.code + 1 → IsPiece p first_at m1 → IsPiece q rest_at m2 → Joins res t at p q → Lays res at (joined t m1 m2)
 joined_laid at first_at rest_at t (Refused why) m2 p q res e1 e2 h g j = absurd h
 joined_laid at first_at rest_at t (Gives a s) (Refused why) p q res e1 e2 h g j = absurd g
@@ -160,7 +160,7 @@ joined_laid at first_at rest_at t (Gives a s) (Gives b s1) p q (Ok x) e1 e2 h g 
     code_is : x.code ≡ open_code (Choice t a b) at
     code_is = j.1 ∙ ap (λ z. choice_code t at z q.code) first_is ∙ ap (choice_code t at (open_code a (at + 1))) rest_is
 
-only_is : (left : Shape) → left.truth ≡ None → only left.homes ≡ left
+pub only_is : (left : Shape) → left.truth ≡ None → only left.homes ≡ left
 only_is left e = ap (λ z. record { truth = z; homes = left.homes }) (sym e)
 
 -- The two ways of a choice whose truth value was taken.

@@ -21,8 +21,8 @@ use vg_flatten_steps::stepped;
 use vg_flatten_values::{is_zero, temp};
 use vg_lin::{Instr, Operand, Plain};
 
-/// A truth value that waits as a test becomes a number.
-fn settle(alloc: Global, room: Room, at: u16, homes: Homes) -> Result<Piece, Refusal<Fault>>
+/// A truth value that waits as a test becomes a number, in the temporary of its height; `TooHigh` where there is none.
+pub fn settle(alloc: Global, room: Room, at: u16, homes: Homes) -> Result<Piece, Refusal<Fault>>
     requires { room.locals + room.temps ≤ 252 }
     ensures { Lays result at (settled room homes) }
 {
@@ -75,8 +75,8 @@ fn land(alloc: Global, room: Room, at: u16, homes: Homes) -> Result<Piece, Refus
     }
 }
 
-/// The truth value that waits is taken.
-fn take_truth(homes: &mut Homes) -> Option<Truth>
+/// The truth value that waits is taken: the test, or that the newest value is not 0.
+pub fn take_truth(homes: &mut Homes) -> Option<Truth>
     ensures { Tests result (tested homes.old) homes.new }
 {
     match homes.truth() {
@@ -91,8 +91,8 @@ fn take_truth(homes: &mut Homes) -> Option<Truth>
     }
 }
 
-/// The code of a loop, from a place on, of the codes of its parts at their places.
-fn repetition(
+/// The code of a loop, from a place on, of the codes of its parts at their places; `TooLong` where it leads to a place above 65,535.
+pub fn repetition(
     at: u16,
     before: Row<Open>,
     truth: Truth,
@@ -140,8 +140,8 @@ fn closed(jump: Open, end: u16, again: u16) -> Open
     }
 }
 
-/// The end of a body gives a value back.
-fn give_back(alloc: Global, room: Room, at: u16, homes: Homes) -> Result<Piece, Refusal<Fault>>
+/// The end of a body gives a value back; `NotTaken` where not just one value waits.
+pub fn give_back(alloc: Global, room: Room, at: u16, homes: Homes) -> Result<Piece, Refusal<Fault>>
     requires { homes.truth ≡ None }
     ensures { Lays result at (given_back room homes.homes) }
 {
@@ -176,8 +176,8 @@ fn landed_nothing(alloc: Global, room: Room, at: u16, homes: Homes) -> Result<Pi
     landing(alloc, room, at, homes)
 }
 
-/// The place of what is done where a truth value is false, behind the branch, the other way and the jump.
-fn rest_place(at: u16, first: usize) -> Result<u16, Refusal<Fault>>
+/// The place of what is done where a truth value is false, behind the branch, the other way of so many instructions, and the jump.
+pub fn rest_place(at: u16, first: usize) -> Result<u16, Refusal<Fault>>
     ensures { Places result (at + 1 + first + 1) }
 {
     let first_at = place_behind(at, 1)?;
@@ -185,8 +185,8 @@ fn rest_place(at: u16, first: usize) -> Result<u16, Refusal<Fault>>
     place_behind(jump_at, 1)
 }
 
-/// Both ways of a choice join, where they leave the values in the same homes.
-fn join(
+/// Both ways of a choice join, where they leave the values in the same homes; `NotTaken` where they don't.
+pub fn join(
     alloc: Global,
     at: u16,
     truth: Truth,

@@ -51,7 +51,7 @@ use Rattle.vg_flattened.proofs.ColumnRight.{right_load, right_load_at, right_len
 use Rattle.vg_flattened.proofs.CallRight.{AlikeCalls, AlikeHandling}
 use Rattle.vg_flattened.proofs.CallSteps.{right_called, right_called_for, right_called_value, right_bound, right_bound_for}
 
-and_then-and_then : {S : Type 0} (a : Answer S History) (g h : Piece S History) → and_then (and_then a g) h ≡ and_then a (λ s w. and_then (g s w) h)
+pub and_then-and_then : {S : Type 0} (a : Answer S History) (g h : Piece S History) → and_then (and_then a g) h ≡ and_then a (λ s w. and_then (g s w) h)
 and_then-and_then (Gives s w) g h = refl
 and_then-and_then (Ends why s w) g h = refl
 
@@ -118,7 +118,7 @@ module _ (k : Codes) (f : FirmProgram) (m : FirmProcedure) (call : FirmCaller Hi
         (λ vector. lin_handle (language p) go ((language p).handler vector)) (handling hs) s d w i q,
   )
 
-  right_stepped : (q : Step) (hs : List Operand) → ArePlaced r.locals hs → Right' (only hs) (stepped lay r q hs) (packed' (Do q))
+  pub right_stepped : (q : Step) (hs : List Operand) → ArePlaced r.locals hs → Right' (only hs) (stepped lay r q hs) (packed' (Do q))
   right_stepped (Number v) hs placed = right_number k f m call handle p go lay r ws wide v hs placed
   right_stepped (GetLocal i) hs placed = right_local k f m call handle p go lay r ws wide i hs placed
   right_stepped (SetLocal i) hs placed = right_set k f m call handle p go lay r ws wide i hs placed
@@ -284,7 +284,7 @@ module _ (k : Codes) (f : FirmProgram) (m : FirmProcedure) (call : FirmCaller Hi
           (sym (picks k f m call handle p go lay r ws wide t.truth x.b d1 w1 x.says))
           (by_way s1 d1 w1 i1 x.b (record s1 { values = x.vs }) (subst (λ z. AreSame lay r ws z (record s1 { values = x.vs }) d1.state) none x.rest)))
 
-  right_loop : (before body next : Block) (s0 s1 s2 : Shape) (t : Tested) (gc gb gn : Piece Firm History) → tested s0 ≡ Some t → t.homes ≡ [] → s1 ≡ empty
+  pub right_loop : (before body next : Block) (s0 s1 s2 : Shape) (t : Tested) (gc gb gn : Piece Firm History) → tested s0 ≡ Some t → t.homes ≡ [] → s1 ≡ empty
       → s2 ≡ empty → Does' empty s0 gc before → Does' empty s1 gb body
       → Does' empty s2 gn next
       → Right' empty (Makes (Repeat before t.truth body next) empty) (λ s w. turns full w.clock (where_holds gc firm_truth) gb gn s w)
@@ -350,7 +350,7 @@ module _ (k : Codes) (f : FirmProgram) (m : FirmProcedure) (call : FirmCaller Hi
       by_empty false e = tt
 
   -- the end of a body
-  right_given_back : (hs : List Operand) → ArePlaced r.locals hs → Right' (only hs) (given_back r hs) (packed' Return)
+  pub right_given_back : (hs : List Operand) → ArePlaced r.locals hs → Right' (only hs) (given_back r hs) (packed' Return)
   right_given_back [] placed = tt
   right_given_back (h ∷ a ∷ hs) placed = tt
   right_given_back (h ∷ []) placed = (tt, λ s d w i q. by_values s d w i q s.values refl q.waits)

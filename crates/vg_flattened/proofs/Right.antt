@@ -112,7 +112,7 @@ module _ (k : Codes) (f : FirmProgram) (m : FirmProcedure) (call : FirmCaller Hi
       (picks x false d w e)
 
   -- a test becomes a number
-  number_made : (x : Truth) (hs : List Operand) (to : ℕ) → temp r hs ≡ Some to → ArePlaced r.locals hs
+  pub number_made : (x : Truth) (hs : List Operand) (to : ℕ) → temp r hs ≡ Some to → ArePlaced r.locals hs
       → Does (record { truth = Some x; homes = hs }) (only (Local to ∷ hs)) go_on (Choice x (One (Copy to (Known 1))) (One (Copy to (Known 0))))
   number_made x hs to e placed s d w i q = by_truth q.b q.says q.newest
     where

@@ -4,20 +4,17 @@ use Rattle.std.proofs.Common.{◌≡◌, refl, sym, subst, arith}
 use Rattle.vg_lin.specs.declared.instr.Operand.TheVariants.{Known}
 use Rattle.vg_lin.specs.declared.instr.Instr.{Instr}
 use Rattle.vg_lin.specs.declared.instr.Instr.TheVariants.{Return}
-use Rattle.vg_lin.specs.Sound.{AreOperands, Waits, IsSound}
+use Rattle.vg_lin.specs.Sound.{AreOperands, Waits, IsSound, waits_of}
 use Rattle.vg_arith.proofs.ShiftRoutines.{some_is}
 use Rattle.vg_arith.proofs.Keeping.{sound, a_width}
 use Rattle.vg_lin_rows.specs.Smallest.{smallest}
 use Rattle.vg_lin_rows.specs.Sample.{sample}
 
-abbrev waits : ℕ → List ℕ
-waits at = []
-
 operands : (at : ℕ) (i : Instr) → slice_get smallest.code at ≡ Some i → AreOperands smallest i
 operands zero i e = subst (AreOperands smallest) (some_is (Return 0 (Known 0)) i e) (refl, tt {0})
 operands (suc at) i e = grind arith
 
-goes_on : (at : ℕ) (i : Instr) → slice_get smallest.code at ≡ Some i → Waits smallest waits at i
+goes_on : (at : ℕ) (i : Instr) → slice_get smallest.code at ≡ Some i → Waits smallest (waits_of smallest) at i
 goes_on zero i e = grind arith
 goes_on (suc at) i e = grind arith
 
@@ -29,7 +26,6 @@ smallest_sound =
       result = omega arith;
       widths = tt {0};
       operands = operands;
-      waits = waits;
       begins = (omega arith, refl);
       goes_on = goes_on;
     }

@@ -1,0 +1,5 @@
+pub mod Straight
+pub mod Held
+pub mod Popping
+pub mod StepRight
+pub mod CodeRight

@@ -1,0 +1,4 @@
+//! A law of linear code: what waits below is left alone.
+#![tactic(auto)]
+
+pub mod framing;
