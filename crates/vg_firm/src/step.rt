@@ -118,11 +118,11 @@ pub enum Step {
     /// A delegate of a component's method.
     Bind(u16),
     /// A delegate of the method that a dispatch has for the object whose number waits.
-    BindFor(u16),
+    BindFor(u32),
     /// Calls a procedure with so many arguments.
     Call(u16, u8),
     /// Calls the procedure that a dispatch has for the object below so many arguments.
-    CallFor(u16, u8),
+    CallFor(u32, u8),
     /// Calls the delegate below so many arguments.
     CallValue(u8),
     /// Takes an interrupt, or ends the run where none is left.

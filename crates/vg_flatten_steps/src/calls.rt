@@ -242,7 +242,7 @@ pub(crate) fn called_for(
     alloc: Global,
     room: Room,
     at: u16,
-    dispatch: u16,
+    dispatch: u32,
     count: u8,
     homes: Homes,
 ) -> Result<Piece, Refusal<Fault>>
@@ -263,7 +263,7 @@ fn called_on(
     alloc: Global,
     room: Room,
     at: u16,
-    dispatch: u16,
+    dispatch: u32,
     code: u8,
     args: &[Operand],
     homes: Homes,

@@ -30,7 +30,7 @@ pub(crate) fn bound(
 fn found_and_bound(
     alloc: Global,
     at: u16,
-    dispatch: u16,
+    dispatch: u32,
     to: u8,
     above: u8,
     home: Operand,
@@ -64,7 +64,7 @@ pub(crate) fn bound_for(
     alloc: Global,
     room: Room,
     at: u16,
-    dispatch: u16,
+    dispatch: u32,
     homes: Homes,
 ) -> Result<Piece, Refusal<Fault>>
     requires room { room.locals + room.temps ≤ 252 }

@@ -100,7 +100,7 @@ pub enum Plain {
     /// The newest value that waits, which has so many bytes, goes to a local and waits no more.
     Pop(u8, u8),
     /// The code number of the procedure that a dispatch has for the number of an object goes to a local.
-    Find(u16, u8, Operand),
+    Find(u32, u8, Operand),
     /// The code number of the procedure with this number goes to a local.
     CodeOf(u16, u8),
     /// The run ends with an exception of this code.

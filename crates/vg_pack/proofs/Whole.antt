@@ -135,9 +135,6 @@ module _ (p : Program) (h : Heap) (s : LiveSet) (n : Numbers) (c : Columns) (g :
 
     -- ---- as the code has these parts
 
-    pub few_pairs : length x.plan.asked < 65536
-    few_pairs = subst (λ z. length z < 65536) (sym plans.tables.asked) g.few_asked
-
     pub starts_there : (cells : List Cell) (live : List (Option Reason)) (starts : List ℕ) → cells ≡ h.cells → live ≡ s.cells → starts ≡ x.plan.starts
         → HasStarts (map kind_of cells) (has_reason live) (length cells) starts
     starts_there cells live starts ec el es =

@@ -16,7 +16,7 @@ use vg_pack_code::{Plan, packed_code, width_of};
 
 /// The procedures of the methods that have one by the plan, in order of the text.
 ///
-/// A method has at most 255 parameters, and at most 65,535 pairs of a class and a selector are asked for.
+/// A method has at most 255 parameters, and fewer than 4,294,967,296 pairs of a class and a selector are asked for.
 pub fn procedures(
     alloc: Global,
     program: &Program,
@@ -25,7 +25,7 @@ pub fn procedures(
 ) -> Result<Vec<Procedure>, NoMemory>
     requires methods { length program.now.tables.methods < 65536 }
     requires params { HaveFewParameters program.now.tables.methods }
-    requires asked { length plan.now.asked < 65536 }
+    requires asked { length plan.now.asked < 4294967296 }
     ensures { IfOk result (λ v. map procedure_of v.items
         ≡ packed_methods program.now.tables numbers.now plan.now 0 program.now.tables.methods (map body_at program.now.methods)) }
 {
@@ -56,7 +56,7 @@ fn push_method(
     method: &Method,
 ) -> Result<(), NoMemory>
     requires params { length method.now.params < 256 }
-    requires asked { length plan.now.asked < 65536 }
+    requires asked { length plan.now.asked < 4294967296 }
     ensures { OnOk result (map procedure_of rows.new.items ≡ map procedure_of rows.old.items
         ++ packed_at program.now.tables numbers.now plan.now number method.now (slice_get (map body_at program.now.methods) number)) }
 {
@@ -95,7 +95,7 @@ fn push_if_live(
     body: &Body,
 ) -> Result<(), NoMemory>
     requires params { length method.now.params < 256 }
-    requires asked { length plan.now.asked < 65536 }
+    requires asked { length plan.now.asked < 4294967296 }
     ensures { OnOk result (map procedure_of rows.new.items ≡ map procedure_of rows.old.items
         ++ packed_if tables.now numbers.now plan.now number method.now (body_at body.now)) }
 {
@@ -130,7 +130,7 @@ fn procedure(
     body: &Body,
 ) -> Result<Procedure, NoMemory>
     requires params { length method.now.params < 256 }
-    requires asked { length plan.now.asked < 65536 }
+    requires asked { length plan.now.asked < 4294967296 }
     ensures { IfOk result (λ r. procedure_of r ≡ packed_here tables.now numbers.now plan.now number method.now (body_at body.now)) }
 {
     let widths = widths(alloc, method.params.as_slice(), body.others.as_slice())?;

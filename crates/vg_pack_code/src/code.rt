@@ -26,7 +26,7 @@ pub fn packed_code(
     plan: &Plan,
     code: &Code,
 ) -> Result<vg_firm::Code, NoMemory>
-    requires asked { length plan.now.asked < 65536 }
+    requires asked { length plan.now.asked < 4294967296 }
     ensures code { IfOk result (λ c. firm.code_of c ≡ replaced (moved tables.now numbers.now plan.now) (code_of code.now)) }
     ensures arm { IfOk result (λ c. is_arm c ≡ false) }
 {
@@ -69,7 +69,7 @@ fn step_code(
     plan: &Plan,
     step: Step,
 ) -> Result<vg_firm::Code, NoMemory>
-    requires asked { length plan.now.asked < 65536 }
+    requires asked { length plan.now.asked < 4294967296 }
     ensures code { IfOk result (λ c. firm.code_of c ≡ moved tables.now numbers.now plan.now step) }
     ensures arm { IfOk result (λ c. is_arm c ≡ false) }
 {
@@ -88,7 +88,7 @@ fn boxed(
     plan: &Plan,
     code: &Code,
 ) -> Result<Box<vg_firm::Code>, NoMemory>
-    requires asked { length plan.now.asked < 65536 }
+    requires asked { length plan.now.asked < 4294967296 }
     ensures { IfOk result (λ b. firm.code_of b.value ≡ replaced (moved tables.now numbers.now plan.now) (code_of code.now)) }
 {
     Ok(Box::new(alloc, packed_code(alloc, tables, numbers, plan, code)?)?)
@@ -103,7 +103,7 @@ fn row(
     plan: &Plan,
     codes: &[Code],
 ) -> Result<vg_firm::Code, NoMemory>
-    requires asked { length plan.now.asked < 65536 }
+    requires asked { length plan.now.asked < 4294967296 }
     ensures code { IfOk result (λ c. firm.code_of c ≡ replaced (moved tables.now numbers.now plan.now) (code_row codes.now)) }
     ensures arm { IfOk result (λ c. is_arm c ≡ false) }
 {
@@ -124,7 +124,7 @@ fn chain(
     plan: &Plan,
     codes: &[Code],
 ) -> Result<vg_firm::Code, NoMemory>
-    requires asked { length plan.now.asked < 65536 }
+    requires asked { length plan.now.asked < 4294967296 }
     ensures code { IfOk result (λ c. firm.code_of c ≡ replaced (moved tables.now numbers.now plan.now) (code_chain codes.now)) }
     ensures arm { IfOk result (λ c. is_arm c ≡ false) }
 {
@@ -150,7 +150,7 @@ fn arms(
     plan: &Plan,
     codes: &[Code],
 ) -> Result<Vec<vg_firm::Code>, NoMemory>
-    requires asked { length plan.now.asked < 65536 }
+    requires asked { length plan.now.asked < 4294967296 }
     ensures { IfOk result (λ v. (rest : Structured CoreStep) → packed_arms v.items (replaced (moved tables.now numbers.now plan.now) rest)
         ≡ replaced (moved tables.now numbers.now plan.now) (arms_list codes.now rest)) }
 {
@@ -171,7 +171,7 @@ fn arm(
     plan: &Plan,
     code: &Code,
 ) -> Result<vg_firm::Code, NoMemory>
-    requires asked { length plan.now.asked < 65536 }
+    requires asked { length plan.now.asked < 4294967296 }
     ensures { IfOk result (λ c. (rest : Structured CoreStep) → packed_arm c (replaced (moved tables.now numbers.now plan.now) rest)
         ≡ replaced (moved tables.now numbers.now plan.now) (arm_then code.now rest)) }
 {

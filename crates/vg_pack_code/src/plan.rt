@@ -84,8 +84,8 @@ impl Plan {
     }
 
     /// The dispatch of a static class and a selector.
-    pub fn dispatch(&self, class: u16, selector: u16) -> u16
-        requires { length self.now.asked < 65536 }
+    pub fn dispatch(&self, class: u16, selector: u16) -> u32
+        requires { length self.now.asked < 4294967296 }
         ensures { result ≡ place_of self.now.asked class selector }
     {
         place(self.asked.as_slice(), class, selector)
@@ -93,11 +93,11 @@ impl Plan {
 }
 
 // The place of the first of these that asks for a selector on a class; how many there are, where none does.
-fn place(asked: &[Asked], class: u16, selector: u16) -> u16
-    requires { length asked.now < 65536 }
+fn place(asked: &[Asked], class: u16, selector: u16) -> u32
+    requires { length asked.now < 4294967296 }
     ensures { result ≡ place_of asked.now class selector }
 {
-    let mut place = 0u16;
+    let mut place = 0u32;
     for one in asked {
         if one.class == class && one.selector == selector {
             return place;

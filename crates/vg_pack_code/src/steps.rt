@@ -22,7 +22,7 @@ pub fn step_for(
     plan: &Plan,
     step: Step,
 ) -> Option<vg_firm::Step>
-    requires asked { length plan.now.asked < 65536 }
+    requires asked { length plan.now.asked < 4294967296 }
     ensures { delegate_arguments step ≡ None → done result ≡ pass.move tables.now (layout_by [] numbers.now plan.now) no_codes (few_step step) }
 {
     match step {

@@ -1,5 +1,5 @@
 -- What is known where a program is packed.
-use Rattle.std.specs.Prelude.{◌≡◌, ℕ, ◌<◌, ◌≤◌, ◌^◌, List, [], length, Some, slice_get}
+use Rattle.std.specs.Prelude.{◌≡◌, ℕ, ◌<◌, ◌≤◌, ◌^◌, List, length, Some, slice_get}
 use Rattle.vg_core.specs.declared.heap.Heap.{Heap}
 use Rattle.vg_core.specs.declared.program.Tables.{Tables}
 use Rattle.vg_core.specs.declared.types.CoreType.{CoreType}
@@ -17,7 +17,6 @@ use Rattle.vg_placement.specs.Needs.{needs}
 use Rattle.vg_place.specs.declared.placing.Columns.{Columns}
 use Rattle.vg_place.specs.Placing.{ArePlaced}
 use Rattle.vg_pack_bodies.specs.Procedures.{HaveFewParameters}
-use Rattle.vg_pack_calls.specs.Asked.{asked_from, steps_from}
 
 -- The elements of arrays take at least one byte.
 abbrev pub HaveWidth : Tables → List Kind → Type 0
@@ -38,4 +37,3 @@ pub record IsGiven (p : Program) (h : Heap) (s : LiveSet) (n : Numbers) (c : Col
   pub few_classes : length p.tables.classes < 65536
   pub few_methods : length p.tables.methods < 65536
   pub few_parameters : HaveFewParameters p.tables.methods
-  pub few_asked : length (asked_from [] (steps_from p 0 s.methods)) < 65536

@@ -1,10 +1,9 @@
 // The plan.
-ghost use Rattle.std.specs.Prelude.{◌<◌, ◌≤◌, ◌≡◌, ◌^◌, [], IfOk, length, map};
+ghost use Rattle.std.specs.Prelude.{◌<◌, ◌≤◌, ◌≡◌, ◌^◌, IfOk, length, map};
 ghost use Rattle.vg_core.specs.HeldProgram.{program_at};
 ghost use Rattle.vg_core.specs.Heap.{kind_of};
 ghost use Rattle.vg_number.specs.Numbering.{kinds_of, AreFew, AreListed};
 ghost use Rattle.vg_numbers.specs.Numbers.{AreChains};
-ghost use Rattle.vg_pack_calls.specs.Asked.{asked_from, steps_from};
 ghost use Rattle.vg_place.specs.Counting.{elements_in};
 ghost use Rattle.vg_plan.specs.Planned.{tables_alone, HasTables, Plans};
 
@@ -16,7 +15,7 @@ use vg_core::{Cell, Program, Step, Tables};
 use vg_live::LiveSet;
 use vg_number::Numbers;
 use vg_pack_calls::{asked_by, dispatches, live_steps, procedure_numbers, receivers};
-use vg_pack_code::Plan;
+use vg_pack_code::{Asked, Plan};
 use vg_placement::Column;
 use vg_plan_columns::{field_places, item_places, starts};
 use vg_plan_uses::{bindable, edges};
@@ -47,8 +46,8 @@ pub fn plan(
     requires live { length live.now.methods < 65536 }
     requires fields { length program.now.tables.fields < 2 ^ 32 }
     requires columns { length columns.now < 65536 }
-    requires asked { length (asked_from [] (steps_from (program_at program.now) 0 live.now.methods)) < 65536 }
-    ensures { IfOk result (Plans (program_at program.now) heap.now live.now numbers.now columns.now) }
+    ensures plans { IfOk result (Plans (program_at program.now) heap.now live.now numbers.now columns.now) }
+    ensures asked { IfOk result (λ planned. length planned.plan.asked < 4294967296) }
 {
     let tables = &program.tables;
     let methods = live.methods.as_slice();
@@ -89,12 +88,13 @@ fn of_tables(
     requires columns { length columns.now < 65536 }
     ensures tables { IfOk result (HasTables tables.now (map kind_of cells.now) live.now columns.now steps.now) }
     ensures alone { IfOk result (λ plan. plan ≡ tables_alone plan) }
+    ensures asked { IfOk result (λ plan. length plan.asked < 4294967296) }
 {
     let procedures = procedure_numbers(alloc, live.methods.as_slice())?;
     let fields = field_places(alloc, tables.fields.len(), columns)?;
     let items = item_places(alloc, tables.types.as_slice(), columns)?;
     let starts = starts(alloc, tables, cells, live.cells.as_slice())?;
-    let asked = asked_by(alloc, steps)?;
+    let asked = countable(asked_by(alloc, steps)?)?;
     Ok(Plan {
         procedures,
         bindable: Row::new(alloc),
@@ -105,4 +105,15 @@ fn of_tables(
         asked,
         edges: Row::new(alloc),
     })
+}
+
+// What is asked for, where four bytes count it. The error is want of memory.
+fn countable(asked: Row<Asked>) -> Result<Row<Asked>, NoMemory>
+    ensures same { IfOk result (λ rows. rows ≡ asked) }
+    ensures few { IfOk result (λ rows. length rows < 4294967296) }
+{
+    if asked.len() < 4294967296 {
+        return Ok(asked);
+    }
+    Err(NoMemory)
 }

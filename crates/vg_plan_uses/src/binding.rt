@@ -27,7 +27,7 @@ pub fn bindable(
     room: usize,
     steps: &[Step],
 ) -> Result<Row<bool>, NoMemory>
-    requires asked { length plan.now.asked < 65536 }
+    requires asked { length plan.now.asked < 4294967296 }
     requires fields { length tables.now.fields < 2 ^ 32 }
     requires cells { length heap.now.cells < 2 ^ 32 }
     ensures { IfOk result (λ row. row ≡ map (is_bound room (bound_by tables.now heap.now live.now plan.now dispatches.now room steps.now)) plan.now.procedures) }
@@ -47,7 +47,7 @@ fn note_steps(
     steps: &[Step],
 ) -> Result<(), NoMemory>
     requires set { IsSet set.old }
-    requires asked { length plan.now.asked < 65536 }
+    requires asked { length plan.now.asked < 4294967296 }
     ensures is { OnOk result (IsSet set.new) }
     ensures room { OnOk result (length set.new.marks ≡ length set.old.marks) }
     ensures list { OnOk result (set.new.list ≡ with_all (length set.old.marks) set.old.list (named plan.now dispatches.now steps.now)) }
@@ -66,7 +66,7 @@ fn note_step(
     step: Step,
 ) -> Result<(), NoMemory>
     requires set { IsSet set.old }
-    requires asked { length plan.now.asked < 65536 }
+    requires asked { length plan.now.asked < 4294967296 }
     ensures is { OnOk result (IsSet set.new) }
     ensures room { OnOk result (length set.new.marks ≡ length set.old.marks) }
     ensures list { OnOk result (set.new.list ≡ with_all (length set.old.marks) set.old.list (named_by plan.now dispatches.now step)) }

@@ -33,7 +33,7 @@ pub fn edges(
     dispatches: &[Row<Case>],
     room: usize,
 ) -> Result<Row<Row<u16>>, NoMemory>
-    requires asked { length plan.now.asked < 65536 }
+    requires asked { length plan.now.asked < 4294967296 }
     requires methods { length program.now.tables.methods < 65536 }
     ensures { IfOk result (λ rows. rows ≡ edges_from (program_at program.now) plan.now dispatches.now room live.now 0 program.now.tables.methods) }
 {
@@ -64,7 +64,7 @@ fn edges_if(
     room: usize,
     method: u16,
 ) -> Result<Row<u16>, NoMemory>
-    requires asked { length plan.now.asked < 65536 }
+    requires asked { length plan.now.asked < 4294967296 }
     requires methods { length program.now.tables.methods < 65536 }
     ensures { IfOk result (λ row. row ≡ (if live then with_all room [] (called program.now.tables plan.now dispatches.now (uses.steps_of (program_at program.now) method)) else [])) }
 {
@@ -92,7 +92,7 @@ fn note_steps(
     steps: &[Step],
 ) -> Result<(), NoMemory>
     requires set { IsSet set.old }
-    requires asked { length plan.now.asked < 65536 }
+    requires asked { length plan.now.asked < 4294967296 }
     requires methods { length tables.now.methods < 65536 }
     ensures is { OnOk result (IsSet set.new) }
     ensures room { OnOk result (length set.new.marks ≡ length set.old.marks) }
@@ -113,7 +113,7 @@ fn note_step(
     step: Step,
 ) -> Result<(), NoMemory>
     requires set { IsSet set.old }
-    requires asked { length plan.now.asked < 65536 }
+    requires asked { length plan.now.asked < 4294967296 }
     requires methods { length tables.now.methods < 65536 }
     ensures is { OnOk result (IsSet set.new) }
     ensures room { OnOk result (length set.new.marks ≡ length set.old.marks) }

@@ -23,10 +23,10 @@ use vg_put_plain::{
 };
 
 // The cases of a dispatch; none where the program has no such dispatch.
-fn cases_at(dispatches: &[Row<Case>], place: u16) -> &[Case]
+fn cases_at(dispatches: &[Row<Case>], place: u32) -> &[Case]
     ensures { result.now ≡ cases_of (slice_get dispatches.now place) }
 {
-    match dispatches.get(usize::from(place)) {
+    match dispatches.get(place as usize) {
         Some(cases) => cases.as_slice(),
         None => &[],
     }
