@@ -12,6 +12,7 @@ use Rattle.vg_pack_code.specs.Plans.{holds, row_in, moved}
 use Rattle.vg_coded.specs.Widths.{width_of}
 use Rattle.vg_meaning.specs.Code.{Code, replaced}
 use Rattle.vg_firm.specs.declared.step.Step.{Step as FirmStep}
+use Rattle.vg_pairs.specs.Pairs.{without_pairs}
 use Rattle.vg_pack_bodies.specs.Procedures.{packed_at, packed_here, packed_if, packed_methods}
 
 -- a list turned twice is as it was
@@ -23,7 +24,7 @@ turned (x ∷ xs) acc more = turned xs (x ∷ acc) more
 pub made : (p : Tables) (n : Numbers) (x : Plan) (m : ℕ) (y : Method) (b : Body) (count : ℕ) (receives : Bool) (widths : List ℕ) (result : ℕ)
     (calls : List ℕ) (body : Code FirmStep) → count ≡ length y.params → receives ≡ holds (slice_get x.receives m)
     → widths ≡ map width_of (y.params ++ b.others) → result ≡ width_of y.result → calls ≡ row_in (slice_get x.edges m)
-    → body ≡ replaced (moved p n x) b.code
+    → body ≡ replaced (moved p n x) (without_pairs b.code)
     → record { method = m; params = count; receives = receives; widths = widths; result = result; calls = calls; body = body } ≡ packed_here p n x m y b
 made p n x m y b count receives widths result calls body e1 e2 e3 e4 e5 e6 =
     ap (λ z. part z receives widths result calls body) e1

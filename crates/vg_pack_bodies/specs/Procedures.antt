@@ -7,6 +7,7 @@ use Rattle.vg_core.specs.Program.{Body, Signature}
 use Rattle.vg_firm.specs.Program.{Procedure}
 use Rattle.vg_live.specs.Sets.{flat}
 use Rattle.vg_number.specs.declared.numbers.Numbers.{Numbers}
+use Rattle.vg_pairs.specs.Pairs.{without_pairs}
 use Rattle.vg_packing.specs.Pass.{packed}
 use Rattle.vg_pack_code.specs.declared.plan.Plan.{Plan}
 use Rattle.vg_pack_code.specs.Plans.{layout_by, no_codes, moved}
@@ -15,10 +16,10 @@ use Rattle.vg_pack_code.specs.Plans.{layout_by, no_codes, moved}
 abbrev pub signature : Method → Signature
 signature y = record { owner = y.owner; params = y.params; result = y.result }
 
--- What the method of a number becomes: what the pass makes of it, where calls have at most 255 arguments.
+-- What the method of a number becomes: what the pass makes of it, where calls of methods have at most 255 arguments.
 abbrev pub packed_here : Tables → Numbers → Plan → (m : ℕ) → Method → Body → Procedure
 packed_here p n x m y b =
-    record (packed p (layout_by [] n x) no_codes m (signature y) b) { body = replaced (moved p n x) b.code }
+    record (packed p (layout_by [] n x) no_codes m (signature y) b) { body = replaced (moved p n x) (without_pairs b.code) }
 
 -- It is there where the method has a procedure.
 abbrev pub unless_none : Option ℕ → Procedure → List Procedure

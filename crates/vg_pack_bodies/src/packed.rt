@@ -13,6 +13,7 @@ use vg_core::{Body, Method, Program, Tables};
 use vg_firm::Procedure;
 use vg_number::Numbers;
 use vg_pack_code::{Plan, packed_code, width_of};
+use vg_pairs::without_pairs;
 
 /// The procedures of the methods that have one by the plan, in order of the text.
 ///
@@ -135,7 +136,8 @@ fn procedure(
 {
     let widths = widths(alloc, method.params.as_slice(), body.others.as_slice())?;
     let calls = copied(alloc, edges(plan, number))?;
-    let body = packed_code(alloc, tables, numbers, plan, &body.code)?;
+    let code = without_pairs(alloc, &body.code)?;
+    let body = packed_code(alloc, tables, numbers, plan, &code)?;
     Ok(Procedure {
         method: number,
         params: method.params.len() as u8,

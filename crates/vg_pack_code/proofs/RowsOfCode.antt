@@ -1,5 +1,6 @@
 -- Rows of code as lists, in the typed program and in the packed one.
-use Rattle.std.proofs.Common.{◌≡◌, refl, sym, ap, subst, ◌∙◌, arith, ℕ, zero, suc, ◌+◌, ◌<◌, false, List, [], ◌∷◌, ◌++◌, drop, length, get_or, Vec, Box, Global, Some, None}
+use Rattle.std.proofs.Common.{◌≡◌, refl, sym, ap, subst, ◌∙◌, arith, ℕ, zero, suc, ◌+◌, ◌<◌, false, List, [], ◌∷◌, ◌++◌}
+use Rattle.std.proofs.Common.{drop, length, get_or, Vec, Box, Global, Some, None}
 use Rattle.std.proofs.lemmas.List.{drop_more}
 use Rattle.vg_meaning.specs.Code.{Code, Nothing, Then, Do, replaced}
 use Rattle.vg_core.specs.declared.program.Tables.{Tables}

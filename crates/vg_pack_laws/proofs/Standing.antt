@@ -19,7 +19,7 @@ use Rattle.vg_pack_code.specs.Plans.{layout_by, moved}
 use Rattle.vg_pack_bodies.specs.Procedures.{packed_here, packed_methods, signature, unless_none}
 use Rattle.vg_pack_calls.specs.Procedures.{procedures_from}
 use Rattle.vg_pack_laws.specs.Few.{HaveFewArguments}
-use Rattle.vg_pack_laws.proofs.Moves.{same_move, same_code}
+use Rattle.vg_pack_laws.proofs.Moves.{same_move, same_unpaired}
 
 some_same : {A : Type 0} (a b : A) → Some a ≡ Some b → a ≡ b
 some_same a b e = grind (arith, e)
@@ -82,7 +82,8 @@ module _ (p : Program) (κ : List Kind) (n : Numbers) (x : Plan) (k : Codes) (pl
       → packed_here p.tables n x m y b ≡ packed p.tables (layout_by κ n x) k m (signature y) b
   same_packed m y b eb =
       ap (λ z. record (packed p.tables (layout_by κ n x) k m (signature y) b) { body = z })
-      (sym (same_code (move p.tables (layout_by κ n x) k) (moved p.tables n x) b.code (λ i s e. same_move p.tables κ n x k s (plain.steps m i s (there i s e)) (few m i s (there i s e)))))
+      (sym (same_unpaired (move p.tables (layout_by κ n x) k) (moved p.tables n x) b.code None tt
+      (λ i s e. same_move p.tables κ n x k s (plain.steps m i s (there i s e)) (few m i s (there i s e)))))
     where
       there : (i : ℕ) (s : Step) → slice_get (steps_in (Some b)) i ≡ Some s → slice_get (steps_of p m) i ≡ Some s
       there i s e = ap (λ o. slice_get (steps_in o) i) eb ∙ e

@@ -15,6 +15,7 @@ use Rattle.vg_core.specs.declared.step.Step.{Step}
 use Rattle.vg_core.specs.declared.step.Step.TheVariants.{Put, Literal, This, Local, ComponentField, Register, ComponentMethod, Apply, Operate, CastTo}
 use Rattle.vg_core.specs.declared.step.Step.TheVariants.{IsBelow, Field, Item, Length, MethodOf, CallMethod, CallValue, CallComponent, NewObject, NewArray}
 use Rattle.vg_core.specs.declared.step.Step.TheVariants.{SetLocal, SetComponentField, SetRegister, SetField, SetItem, Forget, Super}
+use Rattle.vg_core.specs.declared.operator.Prefix.{Prefix as Operation}
 use Rattle.vg_core.specs.Program.{Signature, Body}
 use Rattle.vg_core.specs.Tables.{field_type}
 use Rattle.vg_core.specs.Typing.{Takes, locals_of, t_local, t_set_local, t_item, t_set_item}
@@ -32,6 +33,8 @@ use Rattle.vg_coded.specs.Widths.{width_of}
 use Rattle.vg_coded.specs.Operators.{operator_for, prefix_for, cut_for}
 use Rattle.vg_packing.specs.Layout.{Column, Layout, first_with}
 use Rattle.vg_packing.specs.Pass.{width_in, load, store, load_at, store_at, cut, cast, forgets, call_value, move, packed}
+use Rattle.vg_pairs.specs.Pairs.{prefix_in, behind, paired, unpaired, without_pairs}
+use Rattle.vg_pairs.proofs.Doing.{prefix_is}
 use Rattle.vg_packing.specs.Allowed.{IsWritten, Allowed, allowing}
 use Rattle.vg_packed_typed.specs.Counted.{takes, leaves, IsAlone, Counts, Counted}
 use Rattle.vg_packed_typed.specs.Suits.{Suits}
@@ -176,26 +179,67 @@ module _ (p : Tables) (l : Layout) (k : Codes) (f : FirmProgram) (lay : Placed) 
   step_typed looped calls o below x y xs ys Forget t a c = one_step below x y Forget firm.Forget refl refl (λ n z. tt) tt c
   step_typed looped calls o below x y xs ys (Super d count) t a c = absurd a
 
-  code_typed : (calls : List ℕ) (o : Owner) (result : CoreType) (c : Code Step) (looped : Bool) (below x y : ℕ) (xs ys : List CoreType)
-      → Fits (allowing p l f calls ts o result) looped c xs ys → Counted 191 looped below c x y → Typed knows looped below (replaced (move p l k) c) x y
-  code_typed calls o result Nothing looped below x y xs ys h c = c
-  code_typed calls o result (Then a b) looped below x y xs ys (zs, ha, hb) (z, ca, cb) =
-      (z, code_typed calls o result a looped below x z xs zs ha ca, code_typed calls o result b looped below z y zs ys hb cb)
-  code_typed calls o result (Do s) looped below x y xs ys h c = step_typed looped calls o below x y xs ys s h.0 h.1 c
-  code_typed calls o result (If a b) looped below x y xs ys (zs, t, ha, hb) (z, ex, room, inl (e, ey, ca, cb)) =
-      (z, ex, room, inl (e, ey, code_typed calls o result a looped 0 0 0 zs ys ha ca, code_typed calls o result b looped 0 0 0 zs ys hb cb))
-  code_typed calls o result (If a b) looped below x y xs ys (zs, t, ha, hb) (z, ex, room, inr (ey, ca, cb)) =
-      (z, ex, room, inr (ey, code_typed calls o result a looped (below + z) 0 1 zs ys ha ca, code_typed calls o result b looped (below + z) 0 1 zs ys hb cb))
-  code_typed calls o result (Loop c body next) looped below x y xs ys (ex, ey, zs, hc, t, hb, hn) (e, e', cc, cb, cn) = (
-    e,
-    e',
-    code_typed calls o result c looped 0 0 1 [] zs hc cc,
-    code_typed calls o result body true 0 0 0 [] [] hb cb,
-    code_typed calls o result next looped 0 0 0 [] [] hn cn,
-  )
-  code_typed calls o result Break looped below x y xs ys h c = c
-  code_typed calls o result Continue looped below x y xs ys h c = c
-  code_typed calls o result Return looped below x y xs ys h c = c
+  -- ---- code
+
+  module _ (calls : List ℕ) (o : Owner) (result : CoreType) where
+    -- What stands for the second code takes and leaves what the first does.
+    abbrev Types : Bool → Code Step → Code Step → Type 0
+    Types looped c d =
+        (below x y : ℕ) (xs ys : List CoreType) → Fits (allowing p l f calls ts o result) looped c xs ys → Counted 191 looped below c x y
+        → Typed knows looped below (replaced (move p l k) d) x y
+
+    behind_typed : (looped : Bool) (w : Option (Operation × CoreType)) (c d : Code Step) → Types looped c d → Types looped (behind w c) (behind w d)
+    behind_typed looped None c d h below x y xs ys f n = h below x y xs ys f n
+    behind_typed looped (Some (op, t)) c d h below x y xs ys (zs, fa, fb) (z, na, nb) =
+        (z, step_typed looped calls o below x z xs zs (Apply op t) fa.0 fa.1 na, h below z y zs ys fb nb)
+
+    paired_typed : (looped : Bool) (a b : Code Step) (w this : Option (Operation × CoreType)) → prefix_in a ≡ this → Types looped a (unpaired None a)
+        → ((w : Option (Operation × CoreType)) → Types looped (behind w b) (unpaired w b))
+        → Types looped (behind w (Then a b)) (paired w this (unpaired None a) (λ this. unpaired this b))
+    paired_typed looped a b None None e ha hb below x y xs ys (zs, fa, fb) (z, na, nb) =
+        (z, ha below x z xs zs fa na, hb None below z y zs ys fb nb)
+    paired_typed looped a b None (Some (op, t)) e ha hb below x y xs ys (zs, fa, fb) (z, na, nb) =
+        let is = prefix_is a op t e in
+        hb (Some (op, t)) below x y xs ys (zs, subst (λ c. Fits (allowing p l f calls ts o result) looped c xs zs) is fa, fb)
+        (z, subst (λ c. Counted 191 looped below c x z) is na, nb)
+    paired_typed looped a b (Some (op, t)) None e ha hb below x y xs ys (zs, fo, (vs, fa, fb)) (z, n1, (v, na, nb)) =
+        (z, step_typed looped calls o below x z xs zs (Apply op t) fo.0 fo.1 n1, (v, ha below z v zs vs fa na, hb None below v y vs ys fb nb))
+    paired_typed looped a b (Some (op, t)) (Some (op', t')) e ha hb below x y xs ys (zs, fo, (vs, fa, fb)) (z, n1, (v, na, nb)) =
+        let is = prefix_is a op' t' e in
+        let one = no_step below x z (Apply op t) refl n1 in
+        let other = no_step below z v (Apply op' t') refl (subst (λ c. Counted 191 looped below c z v) is na) in (
+          x,
+          refl,
+          subst (λ n. Typed knows looped below (replaced (move p l k) (unpaired None b)) n y) (sym (one ∙ other)) (hb None below v y vs ys fb nb),
+        )
+
+    if_typed : (looped : Bool) (a b a' b' : Code Step) → Types looped a a' → Types looped b b' → Types looped (If a b) (If a' b')
+    if_typed looped a b a' b' ha hb below x y xs ys (zs, t, fa, fb) (z, ex, room, inl (e, ey, na, nb)) =
+        (z, ex, room, inl (e, ey, ha 0 0 0 zs ys fa na, hb 0 0 0 zs ys fb nb))
+    if_typed looped a b a' b' ha hb below x y xs ys (zs, t, fa, fb) (z, ex, room, inr (ey, na, nb)) =
+        (z, ex, room, inr (ey, ha (below + z) 0 1 zs ys fa na, hb (below + z) 0 1 zs ys fb nb))
+
+    loop_typed : (looped : Bool) (a b c a' b' c' : Code Step) → Types looped a a' → Types true b b' → Types looped c c'
+        → Types looped (Loop a b c) (Loop a' b' c')
+    loop_typed looped a b c a' b' c' ha hb hc below x y xs ys (ex, ey, zs, fa, t, fb, fc) (e, e', na, nb, nc) =
+        (e, e', ha 0 0 1 [] zs fa na, hb 0 0 0 [] [] fb nb, hc 0 0 0 [] [] fc nc)
+
+    code_typed : (c : Code Step) (looped : Bool) (w : Option (Operation × CoreType)) → Types looped (behind w c) (unpaired w c)
+    code_typed Nothing looped w = behind_typed looped w Nothing Nothing (λ below x y xs ys h c. c)
+    code_typed (Then a b) looped w =
+        paired_typed looped a b w (prefix_in a) refl (code_typed a looped None) (λ v. code_typed b looped v)
+    code_typed (Do s) looped w =
+        behind_typed looped w (Do s) (Do s) (λ below x y xs ys h c. step_typed looped calls o below x y xs ys s h.0 h.1 c)
+    code_typed (If a b) looped w =
+        behind_typed looped w (If a b) (If (unpaired None a) (unpaired None b))
+        (if_typed looped a b (unpaired None a) (unpaired None b) (code_typed a looped None) (code_typed b looped None))
+    code_typed (Loop a b c) looped w =
+        behind_typed looped w (Loop a b c) (Loop (unpaired None a) (unpaired None b) (unpaired None c))
+        (loop_typed looped a b c (unpaired None a) (unpaired None b) (unpaired None c) (code_typed a looped None) (code_typed b true None)
+        (code_typed c looped None))
+    code_typed Break looped w = behind_typed looped w Break Break (λ below x y xs ys h c. c)
+    code_typed Continue looped w = behind_typed looped w Continue Continue (λ below x y xs ys h c. c)
+    code_typed Return looped w = behind_typed looped w Return Return (λ below x y xs ys h c. c)
 
 pub is_typed : (p : Tables) (l : Layout) (k : Codes) (f : FirmProgram) (lay : Placed) (calls : List ℕ) (m : ℕ) (g : Signature) (b : Body) → Suits p l k lay
     → Fits (allowing p l f calls (locals_of g b) g.owner g.result) false b.code [] [] → length (locals_of g b) ≤ 60 → Counted 191 false 0 b.code 0 0
@@ -204,6 +248,6 @@ is_typed p l k f lay calls m g b suits h few c =
     record {
       few = let e = length-map (locals_of g b) width_of in omega (arith, e, few);
       code =
-          subst (λ n. Typed (record { layout = lay; locals = n; most = 191 }) false 0 (replaced (move p l k) b.code) 0 0)
-          (sym (length-map (locals_of g b) width_of)) (code_typed p l k f lay suits (locals_of g b) calls g.owner g.result b.code false 0 0 0 [] [] h c);
+          subst (λ n. Typed (record { layout = lay; locals = n; most = 191 }) false 0 (replaced (move p l k) (without_pairs b.code)) 0 0)
+          (sym (length-map (locals_of g b) width_of)) (code_typed p l k f lay suits (locals_of g b) calls g.owner g.result b.code false None 0 0 0 [] [] h c);
     }

@@ -10,13 +10,13 @@ use Rattle.vg_meaning.specs.World.{World}
 use Rattle.vg_meaning.specs.Outside.{AreReads}
 use Rattle.vg_meaning.specs.Answer.{Signal, Answer, Gives, Piece, go_on}
 use Rattle.vg_meaning.specs.Calls.{opened}
-use Rattle.vg_meaning.specs.Code.{performed, replaced}
+use Rattle.vg_meaning.specs.Code.{Code, Then, Do, performed, replaced}
 use Rattle.vg_meaning.specs.Same.{Nowhere, SameTest, Left}
 use Rattle.vg_meaning.specs.Safe.{Safe, NoWay, IsRight}
 use Rattle.vg_meaning.specs.Safe as safety
 use Rattle.vg_meaning.proofs.Safe.{safe_then}
 use Rattle.vg_fair.specs.Fair.{IsFair, Alike, gives, leaves, overs, wrong, AlikePiece}
-use Rattle.vg_fair.proofs.Fair.{alike_then, alike_opened, alike_returned, alike_performed, alike_idles}
+use Rattle.vg_fair.proofs.Fair.{alike_then, alike_opened, alike_returned, alike_idles}
 use Rattle.vg_source.specs.Session.{running_world}
 use Rattle.vg_codes.specs.Codes.{Codes}
 use Rattle.vg_core.specs.declared.types.CoreType.{CoreType}
@@ -26,6 +26,8 @@ use Rattle.vg_core.specs.declared.value.CoreValue.{CoreValue}
 use Rattle.vg_core.specs.declared.value.CoreValue.TheVariants.{Int, Bool as Truth, Char, Raw, Null, Obj, Arr, Bound}
 use Rattle.vg_core.specs.declared.heap.Cell.{Cell}
 use Rattle.vg_core.specs.declared.heap.Heap.{Heap}
+use Rattle.vg_core.specs.declared.operator.Prefix.{Prefix}
+use Rattle.vg_core.specs.declared.step.Step.TheVariants.{Apply}
 use Rattle.vg_core.specs.declared.program.Handler.{Handler}
 use Rattle.vg_core.specs.declared.program.Owner.{Owner}
 use Rattle.vg_core.specs.declared.program.Owner.TheVariants.{InComponent}
@@ -36,7 +38,7 @@ use Rattle.vg_core.specs.Session.{call_alone, with_heap, handler_of, running}
 use Rattle.vg_core.specs.Session as session
 use Rattle.vg_core.specs.State.{State, is_of, are_of, onto, entered}
 use Rattle.vg_core.specs.Types.{HasTypes, AreKinds, SelfOf}
-use Rattle.vg_core.specs.Typing.{Holds as HoldsTruth, Subs, locals_of, TypedBody, IsEntry, AreEntries, WellTyped}
+use Rattle.vg_core.specs.Typing.{Holds as HoldsTruth, Subs, locals_of, TypedBody, IsEntry, AreEntries, WellTyped, Takes, t_apply}
 use Rattle.vg_core.specs.Meaning as core
 use Rattle.vg_sound.specs.Good.{TypedHeap, Good, CallsRight, HasTypedHeap}
 use Rattle.vg_sound.proofs.Values.{defaults_typed, front, turned_round, all_fit as all_fit_types, subs_length, onto_length}
@@ -46,21 +48,27 @@ use Rattle.vg_sound.proofs.Steps.{safe_step}
 use Rattle.vg_sound.proofs.Calls.{safe_called}
 use Rattle.vg_sound.proofs.Runs.{kinds_of_heap, right_running}
 use Rattle.vg_firm.specs.Program.{Procedure, Program as FirmProgram}
+use Rattle.vg_firm.specs.declared.step.Step.{Step as FirmStep}
+use Rattle.vg_firm.specs.declared.step.Step.TheVariants as steps
 use Rattle.vg_firm.specs.Meaning as firm
 use Rattle.vg_firm.specs.Meaning.{State as FirmState}
 use Rattle.vg_firm.specs.Session as calls
 use Rattle.vg_firm.specs.Session.{all_fit, guarded, may_receive, may_enter}
 use Rattle.vg_coded.specs.Numbers.{coded}
 use Rattle.vg_coded.specs.Kept.{IsKept}
+use Rattle.vg_coded.specs.Operators.{prefix_for}
 use Rattle.vg_coded.specs.Widths.{width_of}
 use Rattle.vg_coded.proofs.Fitting.{value_fits}
 use Rattle.vg_packing.specs.Layout.{Layout}
+use Rattle.vg_pairs.specs.Pairs.{without_pairs}
 use Rattle.vg_packing.specs.Pass.{move, packed}
 use Rattle.vg_packing.specs.Allowed.{IsSmall, AreSmall, allowing}
 use Rattle.vg_packing.specs.Packs.{AreKept, Holds, Receiver, Packs, packs}
 use Rattle.vg_packing.specs.Laid.{SameEntry, IsPacked, Laid}
 use Rattle.vg_packing.proofs.Lists.{kept_take, kept_drop, kept_onto, onto_is, map_reverse}
 use Rattle.vg_packing.proofs.Pieces.{Typed, Any, SameFrom, same_put, same_checked}
+use Rattle.vg_pairs.proofs.Doing.{does_unpaired}
+use Rattle.vg_packing.proofs.Twice.{undoes, one_prefix, done_twice}
 use Rattle.vg_packing.proofs.Steps.{MayGet, SameCalls, same_step, below, both}
 
 -- ---- defaults
@@ -298,19 +306,44 @@ module _ (p : Program) (good : WellTyped p) (l : Layout) (k : Codes) (f : FirmPr
       abbrev Both : List CoreType → State → FirmState → Type 0
       Both x s t = Packs p.tables l k f g.owner s t × Typed p l.kinds (locals_of g b) g.owner x s
 
+      -- two operators, one behind the other, are one of one type, and leave what was there
+      twice : (op op' : Prefix) (a a' : CoreType) (x y z : List CoreType) → Takes p.tables (locals_of g b) g.owner (Apply op a) x y
+          → Takes p.tables (locals_of g b) g.owner (Apply op' a') y z → (c : Code FirmStep) (s : State) (t : FirmState) (w : World K)
+          → Packs p.tables l k f g.owner s t → HasTypes p.tables l.kinds s.values x
+          → performed r (firm.step k f (packed p.tables l k m g b) (guarded (l.edges m) call') handle) firm.truth
+          (Then (move p.tables l k (Apply op a)) (Then (move p.tables l k (Apply op' a')) c)) t w
+          ≡ performed r (firm.step k f (packed p.tables l k m g b) (guarded (l.edges m) call') handle) firm.truth c t w
+      twice op op' a a' _ _ _ (t_apply h) (t_apply h') c _ _ w (packs {vs = []} y z ks rs q) j = absurd j
+      twice op op' a a' _ _ _ (t_apply h) (t_apply h') c _ _ w (packs {vs = v ∷ vs} {ls = ls} {number = number} {cols = cols} (kept, y) z ks rs q) (ty, j) =
+          subst (λ n. performed r (firm.step k f (packed p.tables l k m g b) (guarded (l.edges m) call') handle) firm.truth
+          (Then (Do (steps.Apply (prefix_for op a))) (Then (Do (steps.Apply (prefix_for n a))) c)) (before (coded l.numbering k v)) w
+          ≡ performed r (firm.step k f (packed p.tables l k m g b) (guarded (l.edges m) call') handle) firm.truth c (before (coded l.numbering k v)) w)
+          (sym (one_prefix op op' a h h'))
+          (done_twice r k f (packed p.tables l k m g b) (guarded (l.edges m) call') handle (prefix_for op a) (coded l.numbering k v)
+          (undoes p.tables l.kinds l.numbering k op a h v kept ty) c below_it w)
+        where
+          below_it : FirmState
+          below_it =
+              record { values = map (coded l.numbering k) vs; locals = map (coded l.numbering k) ls; self = number; columns = cols }
+
+          before : ℕ → FirmState
+          before n =
+              record { values = n ∷ map (coded l.numbering k) vs; locals = map (coded l.numbering k) ls; self = number; columns = cols }
+
       code_alike : AlikePiece (Both []) (Both [])
           (Left (allowing p.tables l f (l.edges m) (locals_of g b) g.owner g.result) Both (Packs p.tables l k f g.owner))
           (performed r (core.step p.tables call) core.truth b.code)
-          (performed r (firm.step k f (packed p.tables l k m g b) (guarded (l.edges m) call') handle) firm.truth (replaced (move p.tables l k) b.code))
+          (performed r (firm.step k f (packed p.tables l k m g b) (guarded (l.edges m) call') handle) firm.truth (replaced (move p.tables l k) (without_pairs b.code)))
       code_alike =
-          alike_performed r (core.step p.tables call) core.truth (firm.step k f (packed p.tables l k m g b) (guarded (l.edges m) call') handle) firm.truth
+          does_unpaired r (core.step p.tables call) core.truth (firm.step k f (packed p.tables l k m g b) (guarded (l.edges m) call') handle) firm.truth
           (move p.tables l k) (allowing p.tables l f (l.edges m) (locals_of g b) g.owner g.result) Both (Packs p.tables l k f g.owner)
           (λ st x y h s t w i z. both_hold
           (same_step p good.tables l k f laid Nowhere r (l.edges m) g.owner (locals_of g b) (packed p.tables l k m g b) refl call
           (guarded (l.edges m) call') handle same st x y h.0 h.1 s t w i z.0 z.1)
           (safe_step p.tables good.tables l.kinds (locals_of g b) g.owner call right st x y h.0 s w (good_of (locals_of g b) g.owner x s z.1))
           (λ s1 t1 h1 a c. (a, typed_of l.kinds (locals_of g b) g.owner y s1 (shape_of g.owner s1 t1 a) c)))
-          (λ x y h s t z. same_truth (locals_of g b) g.owner x y h s t z.0 z.1) (λ x h s t z. z.0) false b.code [] [] is.code
+          (λ x y h s t z. same_truth (locals_of g b) g.owner x y h s t z.0 z.1) (λ x h s t z. z.0)
+          (λ op op' a a' x y z ha hb c s t w q. twice op op' a a' x y z ha.0 hb.0 c s t w q.0 q.1.values) false b.code None [] [] is.code
 
       -- back at the caller
       back_alike : (o : Owner) (count : ℕ) (s : State) (t : FirmState) → Packs p.tables l k f o s t

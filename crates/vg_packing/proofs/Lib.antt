@@ -5,4 +5,5 @@ pub mod Places
 pub mod References
 pub mod Signatures
 pub mod Steps
+pub mod Twice
 pub mod Calls

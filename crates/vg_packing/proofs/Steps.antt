@@ -771,7 +771,8 @@ module _ {K : Type 0} (p : Program) (formed : WellFormed p.tables) (l : Layout) 
     step_call_null : (x : List CoreType) (at t ps rt : ℕ) (params us : List CoreType) → IsRow p.tables params ps → Subs p.tables us (onto params [])
         → nat_lt (length us) 256 ≡ false
         → StandsFor' (us ++ FunctionType ps rt ∷ x) (CallValue at (length us) t) (forgets (length us) (Do steps.LoadNothing))
-    step_call_null x at t ps rt params us row subs many _ _ w i (packs {vs = vs} {ls = ls} {self = self} {h = heap} {number = number} {cols = cols} y z ks rec q) j =
+    step_call_null x at t ps rt params us row subs many _ _ w i
+        (packs {vs = vs} {ls = ls} {self = self} {h = heap} {number = number} {cols = cols} y z ks rec q) j =
         by (slice_get vs (length us)) refl
       where
         before : State

@@ -20,6 +20,7 @@ use Rattle.vg_coded.specs.Numbers.{coded, known}
 use Rattle.vg_coded.specs.Widths.{width_of}
 use Rattle.vg_coded.specs.Operators.{operator_for, prefix_for, cut_for}
 use Rattle.vg_packing.specs.Layout.{Column, Layout, first_with}
+use Rattle.vg_pairs.specs.Pairs.{without_pairs}
 
 -- The bytes of a field in its column.
 abbrev pub width_in : Layout → Option CoreType → ℕ
@@ -97,7 +98,7 @@ move p l k (NewObject at c count) = Nothing
 move p l k (NewArray at t) = Nothing
 move p l k (Super c count) = Nothing
 
--- The procedure of a method.
+-- The procedure of a method: each two operators, one behind the other, are dropped, and then each step is replaced.
 abbrev pub packed : Tables → Layout → Codes → (m : ℕ) → Signature → Body → Procedure
 packed p l k m g b =
     record {
@@ -107,5 +108,5 @@ packed p l k m g b =
       widths = map width_of (locals_of g b);
       result = width_of g.result;
       calls = l.edges m;
-      body = replaced (move p l k) b.code;
+      body = replaced (move p l k) (without_pairs b.code);
     }
