@@ -45,7 +45,7 @@ least_made_same n p (s ∷ ss) =
 
 module _ (n : Naming) (p : Program) (tell : NamesTell n p) (good : WellTyped p) where
   -- the least node at which a method makes something
-  made_named : (m : ℕ) (y : program.Method) → slice_get p.tables.methods m ≡ Some y
+  pub made_named : (m : ℕ) (y : program.Method) → slice_get p.tables.methods m ≡ Some y
       → source_making.made_in (named n p) (n.method m).owner (n.method m).name ≡ made_in p m
   made_named m y e = ap source_making.least_made (steps_named n p tell good m y e) ∙ least_made_same n p.tables (steps_of p m)
 

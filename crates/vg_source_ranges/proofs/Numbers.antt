@@ -15,7 +15,8 @@ use Rattle.vg_source.specs.Types.{StaticType, IntType, BoolType, CharType, RawTy
 use Rattle.vg_source.specs.Values.{Raw, default}
 use Rattle.vg_rules.specs.Bodies.{number_keeps}
 use Rattle.vg_rules.specs.Written.{levels, type_keeps}
-use Rattle.vg_source_ranges.specs.Ranges.{IsSmall, IsConstant}
+use Rattle.vg_source_ranges.specs.Ranges.{IsSmall, IsWide, IsConstant}
+use Rattle.vg_source_ranges.specs.Spelled.{IsProper}
 
 pub both : (a b : Bool) → (a && b) ≡ true → (a ≡ true) × (b ≡ true)
 both true true e = (refl, refl)
@@ -39,8 +40,24 @@ small_type ds (tree.FunctionType ps r) e = tt
 small_type ds tree.NoType e = tt
 small_type ds (tree.MoreTypes t ts) e = tt
 
+pub wide_type : (ds : Node) (t : TypeTree) → type_keeps ds t ≡ true → IsProper t → IsWide (written_type t)
+wide_type ds (tree.RawType width) e h =
+    let q = both (not (is_hexadecimal width) && nat_le 1 (number_of width)) (nat_le (number_of width) 32) e in
+    at_most 1 (number_of width) (both (not (is_hexadecimal width)) (nat_le 1 (number_of width)) q.0).1
+wide_type ds tree.IntType e h = tt
+wide_type ds tree.BoolType e h = tt
+wide_type ds tree.CharType e h = tt
+wide_type ds (tree.ClassType n) e h = tt
+wide_type ds (tree.ArrayType t) e h = tt
+wide_type ds (tree.FunctionType ps r) e h = tt
+wide_type ds tree.NoType e h = absurd h
+wide_type ds (tree.MoreTypes t ts) e h = absurd h
+
+pub element_keeps : (ds : Node) (t : TypeTree) → type_keeps ds (tree.ArrayType t) ≡ true → type_keeps ds t ≡ true
+element_keeps ds t e = (both (nat_le (levels (tree.ArrayType t)) 4) (type_keeps ds t) e).1
+
 pub small_element : (ds : Node) (t : TypeTree) → type_keeps ds (tree.ArrayType t) ≡ true → IsSmall (written_type t)
-small_element ds t e = small_type ds t (both (nat_le (levels (tree.ArrayType t)) 4) (type_keeps ds t) e).1
+small_element ds t e = small_type ds t (element_keeps ds t e)
 
 pub default_in_range : (t : StaticType) → IsSmall t → IsConstant (default t)
 default_in_range IntType h = int 0 (omega arith)
@@ -49,7 +66,7 @@ default_in_range IntType h = int 0 (omega arith)
     int n l = omega (arith, l)
 default_in_range (RawType k) h = (h, pow_pos k)
 default_in_range BoolType h = tt
-default_in_range CharType h = tt
+default_in_range CharType h = omega arith
 default_in_range NullType h = tt
 default_in_range (ClassType c) h = tt
 default_in_range (ArrayType t) h = tt

@@ -1,11 +1,13 @@
 -- What is ranged under names is ranged under numbers.
-use Rattle.std.proofs.Common.{◌≡◌, ◌⊎◌, refl, ap, subst, ◌∙◌, arith, ℕ, zero, suc, ◌&&◌, Bool, true, false, List, [], ◌∷◌, ◌++◌, map, Option, Some}
+use Rattle.std.proofs.Common.{◌≡◌, ◌⊎◌, refl, ap, subst, ◌∙◌, arith, ℕ, zero, suc, ◌<◌, ◌≤◌, ◌/◌, ◌+◌, ◌^◌, ◌&&◌, Bool, true, false, List, [], ◌∷◌, ◌++◌, length, map, flat_map, Option, Some}
 use Rattle.std.proofs.Common.{None, slice_get}
+use Rattle.std.specs.List.{AllByRecursion}
 use mathlib.Core.Logic.{inl, inr}
 use Rattle.vg_syntax.specs.Tree.{Node, Spot, Text}
 use Rattle.vg_syntax.specs.Tree as tree
 use Rattle.vg_meaning.specs.Code.{Code, Nothing, Then, Do, If, Loop, Break, Continue, Return}
 use Rattle.vg_source.specs.Steps as source
+use Rattle.vg_source.specs.Nodes.{nodes, literal_bytes}
 use Rattle.vg_source.specs.Program.{source_of}
 use Rattle.vg_rules.specs.Legal.{Legal}
 use Rattle.vg_core.specs.declared.types.CoreType.{CoreType}
@@ -23,10 +25,13 @@ use Rattle.vg_live.specs.Uses.{uses, steps_in}
 use Rattle.vg_packing.specs.Allowed.{IsSmall, AreSmall}
 use Rattle.vg_renamed.specs.NamesTell.{NamesTell}
 use Rattle.vg_source_ranges.specs.Ranges as named
+use Rattle.vg_source_ranges.specs.Spelled.{IsSpelled, AreSpelled}
 use Rattle.vg_source_ranges.specs.Routines.{AreConstants, IsRangedRoutine, MayRunAbove, AreMembers, HaveMembers}
 use Rattle.vg_source_ranges.proofs.Routines.{ranged_routine}
 use Rattle.vg_types_declared.specs.Apart.{are_members, have_members}
-use Rattle.vg_ranged.specs.Ranges.{IsRangedStep, HaveRanges}
+use Rattle.vg_placement.specs.Columns.{column_width}
+use Rattle.vg_text_limits.proofs.Standing.{stands_at}
+use Rattle.vg_ranged.specs.Ranges.{AreBytes, IsRangedStep, HaveRanges}
 use Rattle.vg_text_ranges.specs.Beside.{IsSafeBeside}
 
 -- ---- lists
@@ -41,10 +46,6 @@ one_of_both (x ∷ xs) ys (suc i) s e = by (one_of_both xs ys i s e)
         → ((j : ℕ) × (slice_get (x ∷ xs) j ≡ Some s)) ⊎ ((j : ℕ) × (slice_get ys j ≡ Some s))
     by (inl (j, h)) = inl (suc j, h)
     by (inr h) = inr h
-
-behind : {A : Type 0} (xs ys : List A) (i : ℕ) (y : A) → slice_get ys i ≡ Some y → (j : ℕ) × (slice_get (xs ++ ys) j ≡ Some y)
-behind [] ys i y e = (i, e)
-behind (x ∷ xs) ys i y e = let r = behind xs ys i y e in (suc r.0, r.1)
 
 -- ---- members
 
@@ -71,10 +72,27 @@ declarations_only (tree.Then (tree.ComponentDecl at c members) rest) h =
 declarations_only (tree.Then _ rest) h = declarations_only rest h
 declarations_only _ h = tt
 
+-- ---- literals
+
+are_bytes : (bs : List ℕ) → AllByRecursion (λ b. b < 256) bs → AreBytes bs
+are_bytes [] h = tt
+are_bytes (b ∷ bs) (a, h) = (a, are_bytes bs h)
+
+literal_spelled : (most : ℕ) (ns : List Node) → AllByRecursion (IsSpelled most) ns → (k : ℕ) (bytes : List ℕ)
+    → slice_get (flat_map literal_bytes ns) k ≡ Some bytes → AreBytes bytes × (length bytes ≤ most)
+literal_spelled most [] h k bytes e = absurd (grind (arith, e))
+literal_spelled most (tree.StringLit at spelled ∷ ns) (a, h) zero bytes e =
+    (subst AreBytes (same _ bytes e) (are_bytes _ a.0), subst (λ z. length z ≤ most) (same _ bytes e) a.1)
+  where
+    same : (xs ys : List ℕ) → Some xs ≡ Some ys → xs ≡ ys
+    same xs ys q = cc
+literal_spelled most (tree.StringLit at spelled ∷ ns) (a, h) (suc k) bytes e = literal_spelled most ns h k bytes e
+literal_spelled most (_ ∷ ns) (a, h) k bytes e = literal_spelled most ns h k bytes e
+
 -- ---- types and steps
 
 module _ (n : Naming) (p : Program) where
-  small_type : (t : CoreType) → named.IsSmall (named_type n p.tables t) → IsSmall t
+  pub small_type : (t : CoreType) → named.IsSmall (named_type n p.tables t) → IsSmall t
   small_type (types.RawType k) h = h
   small_type types.IntType h = tt
   small_type types.BoolType h = tt
@@ -85,6 +103,21 @@ module _ (n : Naming) (p : Program) where
   small_type (types.FunctionType ps r) h = tt
   small_type types.NoType h = tt
   small_type (types.MoreTypes t ts) h = tt
+
+  raw_width : (k : ℕ) → 0 < k → 0 < (k + 7) / 8
+  raw_width k h = omega (arith, h)
+
+  pub wide_type : (t : CoreType) → named.IsWide (named_type n p.tables t) → 0 < column_width t
+  wide_type (types.RawType k) h = raw_width k h
+  wide_type types.IntType h = omega arith
+  wide_type types.BoolType h = omega arith
+  wide_type types.CharType h = omega arith
+  wide_type types.NullType h = omega arith
+  wide_type (types.ClassType c) h = omega arith
+  wide_type (types.ArrayType t) h = omega arith
+  wide_type (types.FunctionType ps r) h = omega arith
+  wide_type types.NoType h = absurd h
+  wide_type (types.MoreTypes t ts) h = absurd h
 
   small_default : (t : CoreType) → named.IsConstant (named_value n p.tables (default t)) → IsSmall t
   small_default (types.RawType k) h = h.0
@@ -130,30 +163,14 @@ module _ (n : Naming) (p : Program) where
 
   -- ---- what runs
 
-  stands_at : (t : Target) (g : Signature) (b : Body) → signature_of p.tables t ≡ Some g → body_of p t ≡ Some b → (ts : List Target) (j : ℕ)
-      → slice_get ts j ≡ Some t → (i : ℕ) × (slice_get (naming.routines_at n p ts) i ≡ Some (named_routine n p.tables t g b))
-  stands_at t g b eg eb [] j e = absurd (grind (arith, e))
-  stands_at t g b eg eb (u ∷ ts) zero e = (
-    0,
-    ap (λ z. slice_get (naming.routine_at n p z (signature_of p.tables z) (body_of p z) ++ naming.routines_at n p ts) 0) (same u t e)
-        ∙ (ap (λ o. slice_get (naming.routine_at n p t o (body_of p t) ++ naming.routines_at n p ts) 0) eg
-        ∙ ap (λ o. slice_get (naming.routine_at n p t (Some g) o ++ naming.routines_at n p ts) 0) eb),
-  )
-    where
-      same : (a c : Target) → Some a ≡ Some c → a ≡ c
-      same a c q = cc
-  stands_at t g b eg eb (u ∷ ts) (suc j) e =
-      let r = stands_at t g b eg eb ts j e in
-      behind (naming.routine_at n p u (signature_of p.tables u) (body_of p u)) (naming.routines_at n p ts) r.0 (named_routine n p.tables t g b) r.1
-
-  module _ (at : Spot) (ds : Node) (is : source_of (Text at ds) ≡ naming.named n p) (told : NamesTell n p) (legal : Legal (Text at ds))
-      (have : HaveMembers ds) (beside : IsSafeBeside p) where
+  module _ (at : Spot) (ds : Node) (most : ℕ) (is : source_of (Text at ds) ≡ naming.named n p) (told : NamesTell n p) (legal : Legal (Text at ds))
+      (have : HaveMembers ds) (spelled : AreSpelled most ds) (short : most < 2 ^ 31) (beside : IsSafeBeside p) where
     routine : (t : Target) (g : Signature) (b : Body) → signature_of p.tables t ≡ Some g → body_of p t ≡ Some b
         → IsRangedRoutine (MayRunAbove (named_target n p.tables t)) (named_routine n p.tables t g b)
     routine t g b eg eb =
         let k = told.targets t g b eg eb in
-        let r = stands_at t g b eg eb p.tables.targets k.0 k.1 in
-        ranged_routine at ds legal have r.0 (named_routine n p.tables t g b) (ap (λ s. slice_get (source.Source.routines s) r.0) is ∙ r.1)
+        let r = stands_at n p t g b eg eb p.tables.targets k.0 k.1 in
+        ranged_routine most at ds legal have spelled r.0 (named_routine n p.tables t g b) (ap (λ s. slice_get (source.Source.routines s) r.0) is ∙ r.1)
 
     its_steps : (t : Target) (b : Body) (i : ℕ) (s : Step) → body_of p t ≡ Some b → slice_get (uses b.code) i ≡ Some s
         → named.IsRanged (MayRunAbove (named_target n p.tables t)) (named_step n p.tables s)
@@ -165,7 +182,7 @@ module _ (n : Naming) (p : Program) where
         → named.IsRanged above (named_step n p.tables s) → IsRangedStep p.tables s
     ranged_step above t b i (Put (Int z)) eb e h = h
     ranged_step above t b i (Put (Truth x)) eb e h = tt
-    ranged_step above t b i (Put (Char c)) eb e h = beside.chars t b i c eb e
+    ranged_step above t b i (Put (Char c)) eb e h = h
     ranged_step above t b i (Put (Raw k x)) eb e h = h
     ranged_step above t b i (Put Null) eb e h = tt
     ranged_step above t b i (Put (Obj k)) eb e h = absurd h
@@ -173,7 +190,10 @@ module _ (n : Naming) (p : Program) where
     ranged_step above t b i (Put (Bound r m)) eb e h = absurd h
     ranged_step above t b i (CastTo a x u) eb e h = small_type u h
     ranged_step above t b i (NewArray a u) eb e h =
-        λ x ex. (small_type x (subst named.IsSmall (ap (type_named n p.tables) ex) h), beside.items t b i a u x eb e ex)
+        λ x ex. (
+          small_type x (subst named.IsSmall (ap (type_named n p.tables) ex) h.0),
+          wide_type x (subst named.IsWide (ap (type_named n p.tables) ex) h.1),
+        )
     ranged_step above t b i _ eb e h = tt
 
     no_construction : (m i c count : ℕ) (o : Option Body) → body_of p (Run m) ≡ o → slice_get (steps_in o) i ≡ Some (Super c count) → ⊥
@@ -183,6 +203,11 @@ module _ (n : Naming) (p : Program) where
     result_small : (t : Target) (g : Signature) → signature_of p.tables t ≡ Some g → IsSmall g.result
     result_small t g eg = let b = told.bodies t g eg in small_default g.result (routine t g b.0 eg b.1).missing
 
+    its_literals : (k : ℕ) (bytes : List ℕ) → slice_get p.tables.literals k ≡ Some bytes → AreBytes bytes × (length bytes < 2 ^ 31)
+    its_literals k bytes e =
+        let q = literal_spelled most (nodes ds) spelled k bytes (ap (λ z. slice_get (source.Source.literals z) k) is ∙ e) in
+        (q.0, (let a = q.1 in let b = short in omega (arith, a, b)))
+
     pub have_ranges : HaveRanges p
     have_ranges =
         record {
@@ -190,7 +215,7 @@ module _ (n : Naming) (p : Program) where
           others = λ t b eb. let g = beside.signatures t b eb in small_defaults b.others (routine t g.0 b g.1 eb).others;
           results = result_small;
           fields = beside.fields;
-          literals = beside.literals;
+          literals = its_literals;
           wide = beside.wide;
           constructors = λ m i c count e. no_construction m i c count (body_of p (Run m)) refl e;
           few_arguments = beside.few_arguments;

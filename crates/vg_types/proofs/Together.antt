@@ -1,5 +1,5 @@
 -- Tables, entries and bodies of a text, put together, are its typed program.
-use Rattle.std.proofs.Common.{◌≡◌, ℕ, true, List, map, Option, None, sym, ap, ◌∙◌, subst}
+use Rattle.std.proofs.Common.{◌≡◌, ℕ, true, List, map, Option, Some, None, sym, ap, ◌∙◌, subst}
 use Rattle.vg_syntax.specs.Tree.{Node}
 use Rattle.vg_tree.specs.declared.node.Node as held_node
 use Rattle.vg_source.specs.Program.{declarations_of, program_of, entries_in, main_of, handlers_in}
@@ -12,7 +12,8 @@ use Rattle.vg_core.specs.declared.program.Method.{Method}
 use Rattle.vg_core.specs.declared.program.Target.TheVariants.{Run}
 use Rattle.vg_core.specs.HeldProgram.{body_at, program_at}
 use Rattle.vg_core.specs.Naming.{naming_of, named, named_target, named_handler}
-use Rattle.vg_core.specs.Program.{Program}
+use Rattle.vg_core.specs.declared.program.Target.{Target}
+use Rattle.vg_core.specs.Program.{Body, Program, Signature, signature_of, body_of}
 use Rattle.vg_core.specs.Typing.{IsEntry, AreEntries, WellFormed, WellTyped}
 use Rattle.vg_renamed.specs.NamesTell.{NamesTell}
 use Rattle.vg_written.specs.Written.{AreWritten, IsWritten, is_written}
@@ -33,6 +34,7 @@ use Rattle.vg_types_routines.specs.Bodies.{AllBodies}
 use Rattle.vg_types_assembled.specs.Assembled.{IsOf}
 use Rattle.vg_types_assembled.proofs.Assembling.{all_typed, program_named, names_told}
 use Rattle.vg_types.specs.Passes.{IsMovedFrom, IsProgramFor}
+use Rattle.vg_types.proofs.Counted.{all_called}
 
 module _ (texts : List (List ℕ)) (root : held_node.Node) (d : Declared) (e : ProgramEntries) (b : Bodies) (q : HeldProgram)
     (kept : Keeps (declarations_at texts root)) (signed : signatures_breach (declarations_at texts root) (declarations_at texts root) ≡ None)
@@ -91,6 +93,11 @@ module _ (texts : List (List ℕ)) (root : held_node.Node) (d : Declared) (e : P
   fields_kept : (tree : Node) → declarations_of tree ≡ ds → IsWritten texts tree p.tables
   fields_kept tree same = is_written (subst (AreWritten texts tree) (sym moved.tables) (written texts ds d kept left tree same))
 
+  bodies_called : (t : Target) (b : Body) → body_of p t ≡ Some b → (g : Signature) × (signature_of p.tables t ≡ Some g)
+  bodies_called =
+      all_called texts root d ds b.methods.items b.makings.items b.starts.items (naming_of texts p.tables) p bodies is_of.methods is_of.makings is_of.starts
+      source_named (ap (λ t. map (λ (m : Method). m.nodes) t.methods) moved.tables ∙ nodes_sized texts ds d left)
+
   pub is_program : IsProgramFor texts ds p
   is_program tree same =
       record {
@@ -99,6 +106,8 @@ module _ (texts : List (List ℕ)) (root : held_node.Node) (d : Declared) (e : P
         told = names_tell;
         nodes = nodes_kept tree same;
         written = fields_kept tree same;
+        called = bodies_called;
+        members = ap have_members same ∙ members;
       }
 
 -- where three parts have no breach there is none

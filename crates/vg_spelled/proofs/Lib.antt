@@ -1,0 +1,5 @@
+mod Words
+mod Kids
+mod Made
+mod Renumbered
+pub mod Texts
