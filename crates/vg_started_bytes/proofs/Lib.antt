@@ -1,4 +1,4 @@
 mod Rows
 mod Placed
 mod Whole
-mod Ends
+pub mod Ends
