@@ -89,10 +89,10 @@ pub(crate) fn step_at(steps: &[Step], place: usize) -> Step
 }
 
 // The cases of a dispatch.
-pub(crate) fn cases_at(dispatches: &[Row<Case>], place: u16) -> &[Case]
+pub(crate) fn cases_at(dispatches: &[Row<Case>], place: u32) -> &[Case]
     ensures { result.now ≡ cases_of (slice_get dispatches.entry.now place) }
 {
-    match dispatches.get(usize::from(place)) {
+    match dispatches.get(place as usize) {
         Some(row) => row.as_slice(),
         None => &[],
     }
