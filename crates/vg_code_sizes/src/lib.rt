@@ -1,0 +1,2 @@
+//! How large structured code is, by the weights of its steps, as definitions.
+#![tactic(auto)]

@@ -1,0 +1,4 @@
+mod Pairs
+mod Pieces
+mod Bodies
+mod Methods
