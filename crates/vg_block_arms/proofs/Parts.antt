@@ -9,7 +9,6 @@ use Rattle.vg_syntax.specs.declared.grammar.Part.{Part}
 use Rattle.vg_syntax.specs.declared.grammar.Part.TheVariants as part
 use Rattle.vg_syntax.specs.Grammar.{rules}
 use Rattle.vg_syntax.specs.Parses.{nth}
-use Rattle.vg_syntax.specs.Tree.{Node}
 use Rattle.vg_syntax.specs.Made.{Made, Word, Value, kind_in, node_in}
 use Rattle.vg_syntax.specs.Reads as reads
 use Rattle.vg_syntax.specs.Reads.{kids_of, made}

@@ -1,6 +1,6 @@
 -- Numbers of nodes are nothing to arms.
 use Rattle.std.proofs.Common.{ℕ, ◌+◌}
-use Rattle.vg_syntax.specs.Tree.{Node, Nothing, Then, Arm, Text, ClassDecl, ComponentDecl, DeviceDecl, ProgramDecl, FieldDecl, MethodDecl}
+use Rattle.vg_syntax.specs.Tree.{Node, Then, Arm, Text, ClassDecl, ComponentDecl, DeviceDecl, ProgramDecl, FieldDecl, MethodDecl}
 use Rattle.vg_syntax.specs.Tree.{ConstructorDecl, Block, Local, If, While, For, Return, Assign, Eval, NewObject, NewArray, Unary, Chain, Part, Postfix}
 use Rattle.vg_syntax.specs.Tree.{Index, Call}
 use Rattle.vg_syntax.specs.Numbering.{count_nodes, numbered}

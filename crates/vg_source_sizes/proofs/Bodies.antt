@@ -56,7 +56,8 @@ module _ (ds : Node) (o : Owner) where
       (settles_does m (count_nodes a + 0) (fits a Fresh ls 0 s tt)) (fits rest Fresh (settled m).scope n t tt))
   fits (tree.Then a rest) (Otherwise last) ls n (s, t) k =
       let m = resolved ds o a Fresh ls in
-      wider (resolved ds o (tree.Then a rest) (Otherwise last) ls) (count_nodes a + 0 + (count_nodes rest + n)) (count_nodes (tree.Then a rest) + n) (omega arith)
+      wider (resolved ds o (tree.Then a rest) (Otherwise last) ls) (count_nodes a + 0 + (count_nodes rest + n)) (count_nodes (tree.Then a rest) + n)
+      (omega arith)
       (front (settled m).does (resolved ds o rest Fresh (settled m).scope) (count_nodes a + 0) (count_nodes rest + n)
       (settles_does m (count_nodes a + 0) (fits a Fresh ls 0 s tt)) (fits rest Fresh (settled m).scope n t tt))
   fits (tree.Arm c (tree.Block at body) rest) b ls n (s, (i, t), u) k =
@@ -129,10 +130,12 @@ module _ (ds : Node) (o : Owner) where
   fits (tree.False at) b ls n s k = (omega arith, omega arith)
   fits (tree.Null at) b ls n s k = (omega arith, omega arith)
   fits (tree.This at) b ls n s k = wider (resolved ds o (tree.This at) b ls) 1 (count_nodes (tree.This at) + n) (omega arith) (this_within o ls)
-  fits (tree.Name at x) b ls n s k = wider (resolved ds o (tree.Name at x) b ls) 1 (count_nodes (tree.Name at x) + n) (omega arith) (name_within ds o at.id x ls)
+  fits (tree.Name at x) b ls n s k =
+      wider (resolved ds o (tree.Name at x) b ls) 1 (count_nodes (tree.Name at x) + n) (omega arith) (name_within ds o at.id x ls)
   fits (tree.NewObject at c args) b ls n s k =
       wider (resolved ds o (tree.NewObject at c args) b ls) (1 + (count_nodes args + 0)) (count_nodes (tree.NewObject at c args) + n) (omega arith)
-      (stepped (resolved ds o args Fresh ls).does (step.NewObject at.id c (length_of args)) (IsValue (ClassType c)) (resolved ds o args Fresh ls).scope (count_nodes args + 0) refl
+      (stepped (resolved ds o args Fresh ls).does (step.NewObject at.id c (length_of args)) (IsValue (ClassType c)) (resolved ds o args Fresh ls).scope
+      (count_nodes args + 0) refl
       (does_within (resolved ds o args Fresh ls) (count_nodes args + 0) (fits args Fresh ls 0 s tt)))
   fits (tree.NewArray at t e) b ls n s k =
       wider (resolved ds o (tree.NewArray at t e) b ls) (1 + (count_nodes e + 0)) (count_nodes (tree.NewArray at t e) + n) (omega arith)

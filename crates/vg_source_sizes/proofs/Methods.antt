@@ -44,7 +44,8 @@ declaration ds _ h = tt
 
 declarations : (ds rest : Node) → ArmsHaveBlocks rest → AreWithin (methods_among (routines_in ds rest)) (sizes_in rest)
 declarations ds (Then d rest) (h, g) =
-    subst (λ z. AreWithin z (sizes_in (Then d rest))) (sym (flat_map-append (λ (r : Routine). if_method r.target r) (declared_routines ds d) (routines_in ds rest)))
+    subst (λ z. AreWithin z (sizes_in (Then d rest)))
+    (sym (flat_map-append (λ (r : Routine). if_method r.target r) (declared_routines ds d) (routines_in ds rest)))
     (subst (AreWithin (methods_among (declared_routines ds d) ++ methods_among (routines_in ds rest)))
     (sym (flat_map-append size_at (members_at d) (flat_map members_at (in_row rest))))
     (beside (methods_among (declared_routines ds d)) (methods_among (routines_in ds rest)) (flat_map size_at (members_at d)) (sizes_in rest)
