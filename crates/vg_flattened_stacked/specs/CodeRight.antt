@@ -477,3 +477,15 @@ module _ (k : Codes) (f : FirmProgram) (m : FirmProcedure) (call : FirmCaller Hi
   right_stacked Break s = right_where s (Makes BreakOut empty) (packed' Break) (λ s1 d w i q. leaves i (to_held lay r ws s1 d q))
   right_stacked Continue s = right_where s (Makes GoOn empty) (packed' Continue) (λ s1 d w i q. leaves i (to_held lay r ws s1 d q))
   right_stacked Return s = right_return s
+
+  -- The body of a procedure: nothing waits before it, nor behind it.
+  pub stacked_body : (block : Block) (shape : Shape) → stacked lay r m.body empty ≡ Makes block shape → is_empty shape ≡ true → (s : Firm) (d : Deciding State)
+      (w : World History) → IsFair w → Held lay r ws empty s d
+      → Alike (Held lay r ws empty) (Leaves lay r ws) (packed' m.body s w) (run p go block d w)
+  stacked_body block shape made done s d w i q = right_body block shape done (subst (λ z. RightOn' empty z (packed' m.body)) made (right_stacked m.body empty)) s d w i q
+    where
+      right_body : (b : Block) (s1 : Shape) → is_empty s1 ≡ true → RightOn' empty (Makes b s1) (packed' m.body) → (s : Firm) (d : Deciding State) (w : World History)
+          → IsFair w → Held lay r ws empty s d → Alike (Held lay r ws empty) (Leaves lay r ws) (packed' m.body s w) (run p go b d w)
+      right_body b s1 e h s d w i q =
+          alike_map (to_held lay r ws)
+          (subst (λ z. Alike (On z) (Leaves lay r ws) (packed' m.body s w) (run p go b d w)) (empty_is s1 e) (h s d w i (from_held lay r ws s d q)))
