@@ -17,7 +17,7 @@ use Rattle.vg_flatten_shapes.specs.declared.open.Open.TheVariants.{Set, Break, C
 use Rattle.vg_flatten_shapes.proofs.Choices.{alone, with_jump, choice_cases}
 use Rattle.vg_flatten_shapes.specs.Blocks.{Block, Skip, One, CallTo, TakeInterrupt, GiveBack, BreakOut, GoOn, Both, Choice, Repeat, branch, closed, loop_code, call_code, open_code}
 use Rattle.vg_flatten.proofs.Sound.{IsPlainIn}
-use Rattle.vg_stacked_sound.specs.Blocks.{PlainOn, BlockOn}
+use Rattle.vg_flatten.proofs.PushedBlocks.{PlainOn, BlockOn}
 
 abbrev pub fours : ℕ → List ℕ
 fours zero = []

@@ -23,8 +23,8 @@ use Rattle.vg_flatten_pushed.specs.Pushed.{pops, popped, pushed_on, put_back, wo
 use Rattle.vg_flatten_pushed.specs.Stacked.{levelled, ways, stacked}
 use Rattle.vg_flatten.specs.Loops.{has_loop}
 use Rattle.vg_flatten.proofs.Sound.{IsIn, AreIn, IsTruthIn, ShapeIn, BlockIn, MadeIn, in_stepped, in_settled, first_of, rest_of}
-use Rattle.vg_stacked_sound.specs.Steady.{steady, IsSteady, steady_step, steady_settled}
-use Rattle.vg_stacked_sound.specs.Blocks.{BlockOn, MadeOn, steady_on}
+use Rattle.vg_flatten.proofs.Steady.{steady, IsSteady, steady_step, steady_settled}
+use Rattle.vg_flatten.proofs.PushedBlocks.{BlockOn, MadeOn, steady_on}
 
 le_of : (a b : ℕ) → nat_le a b ≡ true → a ≤ b
 le_of a b e = grind arith
@@ -55,7 +55,7 @@ second_of false b e = absurd (grind arith)
 some_wait : (a : Operand) (hs : List Operand) → is_empty (only (a ∷ hs)) ≡ false
 some_wait a hs = grind arith
 
-none_waits : (s : Shape) → is_empty s ≡ true → length s.homes ≡ 0
+pub none_waits : (s : Shape) → is_empty s ≡ true → length s.homes ≡ 0
 none_waits s e = no_more (length s.homes) (second_of (is_none s.truth) (length s.homes == 0) e)
 
 module _ (L : Type 0) (lay : Layout) (r : Room) where

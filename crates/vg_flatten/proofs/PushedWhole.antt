@@ -31,8 +31,8 @@ use Rattle.vg_flatten.specs.Closing.{AllSet}
 use Rattle.vg_flatten.specs.Flattened.{zeroes, receivers, with_receiver_width, own_widths, own_params, widened, wide_params, all_widths, result_width, whole}
 use Rattle.vg_flatten.proofs.Sound.{IsIn, ArePassedIn, IsTestIn, IsTruthIn, IsPlainIn, IsToIn, IsCalleeIn}
 use Rattle.vg_flatten.proofs.Whole.{own_long, widened_long}
-use Rattle.vg_stacked_sound.specs.Blocks.{PlainOn, BlockOn}
-use Rattle.vg_stacked_sound.specs.Waits.{fours, left, Marks, GoesTo, PlainHas, Has, AllHave, marks_front, have_both, ends, have}
+use Rattle.vg_flatten.proofs.PushedBlocks.{PlainOn, BlockOn}
+use Rattle.vg_flatten.proofs.PushedWaits.{fours, left, Marks, GoesTo, PlainHas, Has, AllHave, marks_front, have_both, ends, have}
 
 -- ---- operands
 

@@ -9,7 +9,7 @@ use Rattle.vg_flatten_shapes.specs.Shapes.{Shape}
 use Rattle.vg_flatten_shapes.specs.Blocks.{Block, Skip, One, CallTo, TakeInterrupt, GiveBack, BreakOut, GoOn, Both, Choice, Repeat}
 use Rattle.vg_flatten_shapes.specs.Made.{Made, Gives, Refused}
 use Rattle.vg_flatten.proofs.Sound.{IsIn, ArePassedIn, IsTruthIn, IsPlainIn, IsToIn, IsCalleeIn, BlockIn}
-use Rattle.vg_stacked_sound.specs.Steady.{steady}
+use Rattle.vg_flatten.proofs.Steady.{steady}
 
 abbrev pub PlainOn : (size n m : ℕ) → PlainInstr → Type 0
 PlainOn size n m (Push w a) = (w ≡ 4) × IsIn size a × (m ≡ suc n)

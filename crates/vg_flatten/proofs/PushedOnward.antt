@@ -12,7 +12,7 @@ use Rattle.vg_flatten_shapes.specs.declared.open.Open.TheVariants.{Set, Break, C
 use Rattle.vg_flatten_shapes.proofs.Choices.{alone, with_jump, choice_cases}
 use Rattle.vg_flatten_shapes.specs.Blocks.{Block, Skip, One, CallTo, TakeInterrupt, GiveBack, BreakOut, GoOn, Both, Choice, Repeat, branch, set_in, call_code, open_code}
 use Rattle.vg_flatten.specs.Closing.{AllSet}
-use Rattle.vg_stacked_sound.specs.Blocks.{BlockOn}
+use Rattle.vg_flatten.proofs.PushedBlocks.{BlockOn}
 
 -- A jump at a place leads on; one out of a loop is not asked for.
 abbrev GoesOn : (at : ℕ) → Open → Type 0
