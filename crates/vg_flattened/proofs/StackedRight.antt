@@ -49,9 +49,9 @@ use Rattle.vg_flattened.proofs.Free.{homes_same}
 use Rattle.vg_flattened.proofs.Right.{Right, Does, chooses, way, unit_behind}
 use Rattle.vg_flattened.proofs.CallRight.{AlikeCalls, AlikeHandling}
 use Rattle.vg_flattened.proofs.CodeRight.{empty_is, right_stepped, right_loop, right_given_back}
-use Rattle.vg_flattened_stacked.specs.Held.{in_four, AreSmall, Stands, OnStack, none_is, to_held, from_held}
-use Rattle.vg_flattened_stacked.specs.Popping.{run}
-use Rattle.vg_flattened_stacked.specs.StepRight.{RightOn, right_done}
+use Rattle.vg_flattened.proofs.StackHeld.{in_four, AreSmall, Stands, OnStack, none_is, to_held, from_held}
+use Rattle.vg_flattened.proofs.Popping.{run}
+use Rattle.vg_flattened.proofs.PushedRight.{RightOn, right_done}
 
 some_wait : (a : Operand) (hs : List Operand) → is_empty (only (a ∷ hs)) ≡ false
 some_wait a hs = grind arith
