@@ -504,12 +504,3 @@ module _ (lay : Layout) (r : Room) where
   whole_calls m b s e =
       block_has (whole m b) 0 ∙ ap (λ z. z ++ (block_calls b ++ [])) (zeroes_quiet (length m.widths - m.params) (own_params m)) ∙ append-nil (block_calls b)
       ∙ subst (HasCalls (calls_of m.body)) e (calls_flat m.body empty)
-
-flat_calls : (lay : Layout) (m : Procedure) (p : LinProcedure) → IsFlat lay m p → calls_in p.code ≡ calls_of m.body
-flat_calls lay m p f =
-    ap calls_in f.code ∙ in_set 0 0 (open_code (whole m f.block) 0) ∙ whole_calls lay f.room m f.block f.shape f.made
-
-pub has_calls : (lay : Layout) (m : Procedure) (answer : Result LinProcedure (Refusal Fault)) → IfOk answer (λ p. IsFlat lay m p)
-    → IfOk answer (λ p. calls_in p.code ≡ calls_of m.body)
-has_calls lay m (Ok p) f = flat_calls lay m p f
-has_calls lay m (Err e) f = tt

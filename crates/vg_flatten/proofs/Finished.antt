@@ -4,7 +4,7 @@ use Rattle.std.specs.List.{AllByRecursion}
 use Rattle.std.specs.Prelude.{Result, Ok, Err}
 use Rattle.std.specs.Result.{IsErrAnd}
 use Rattle.std.proofs.lemmas.List.{append_assoc}
-use Rattle.std.proofs.Common.{refl, sym, ap, ◌∙◌, subst, arith}
+use Rattle.std.proofs.Common.{inl, inr, refl, sym, ap, ◌∙◌, subst, arith}
 use Rattle.vg_firm.specs.Program.{Procedure as FirmProcedure}
 use Rattle.vg_lin.specs.declared.instr.Instr.{Instr}
 use Rattle.vg_lin.specs.Program.{Procedure}
@@ -159,7 +159,7 @@ module _ (lay : Layout) (m : FirmProcedure) (r : Room) (receiver : r.receiver �
         room = r;
         block = b;
         shape = s;
-        made = e;
+        made = inl e;
         done = h.0;
         receiver = receiver;
         locals = locals;

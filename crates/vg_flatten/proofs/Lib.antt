@@ -8,3 +8,12 @@ pub mod Starting
 pub mod Finished
 pub mod Causes
 pub mod Onward
+pub mod Steady
+pub mod PushedBlocks
+pub mod StackedBlocks
+pub mod PushedWaits
+pub mod PushedWhole
+pub mod PushedOnward
+pub mod PushedSizes
+pub mod PushedCalls
+pub mod PushedFinished

@@ -459,20 +459,10 @@ module _ (lay : Layout) (r : Room) where
   zeroes_size zero i = omega arith
   zeroes_size (suc c) i = let h = zeroes_size c (suc i) in omega (arith, h)
 
-  pub whole_long : (m : Procedure) (b : Block) (s : Shape) → flat lay r m.body empty ≡ Gives b s → length (open_code (whole m b) 0) ≤ procedure_size m
+  pub whole_long : (m : Procedure) (b : Block) (s : Shape) → flat lay r m.body empty ≡ Gives b s
+      → length (open_code (whole m b) 0) ≤ length m.widths - m.params + code_size m.body + 1
   whole_long m b s e =
       let h = block_long (whole m b) 0 in
       let f : block_size b ≤ code_size m.body = subst (Small (code_size m.body)) e (small_flat m.body empty) in
       let z = zeroes_size (length m.widths - m.params) (own_params m) in
       omega (arith, h, f, z)
-
-flat_short : (lay : Layout) (m : Procedure) (p : LinProcedure) → IsFlat lay m p → length p.code ≤ procedure_size m
-flat_short lay m p f =
-    let l = ap length f.code ∙ length-map (open_code (whole m f.block) 0) (set_in 0 0) in
-    let w = whole_long lay f.room m f.block f.shape f.made in
-    omega (arith, l, w)
-
-pub is_short : (lay : Layout) (m : Procedure) (answer : Result LinProcedure (Refusal Fault)) → IfOk answer (λ p. IsFlat lay m p)
-    → IfOk answer (λ p. length p.code ≤ procedure_size m)
-is_short lay m (Ok p) f = flat_short lay m p f
-is_short lay m (Err e) f = tt

@@ -859,7 +859,7 @@ module _ (lay : Layout) (m : Procedure) (typed : IsTyped lay m) where
 
   not_high : IsTooHigh lay m → ⊥
   not_high (inl lt) = let f = few in omega (arith, lt, f)
-  not_high (inr e) = high_by (made_of lay m) body_fine e
+  not_high (inr e) = high_by (made_of lay m) body_fine e.0
 
   long_by : (made : Made) → Fine false [] 0 made → IsTooLong m made → IsMadeTooLong m made
   long_by (Gives b s) h g = g
@@ -868,9 +868,11 @@ module _ (lay : Layout) (m : Procedure) (typed : IsTyped lay m) where
   -- the cause of a refusal is none that typed procedures have
   pub no_cause : (e : Refusal Fault) → IsCause e lay m → IsLeft e lay m
   no_cause OutOfMemory h = tt
-  no_cause (Faulty TooLong) h = long_by (made_of lay m) body_fine h
+  no_cause (Faulty TooLong) (inl h) = long_by (made_of lay m) body_fine h
+  no_cause (Faulty TooLong) (inr h) = absurd (high_by (made_of lay m) body_fine h.0)
   no_cause (Faulty TooHigh) h = not_high h
-  no_cause (Faulty NotTaken) h = taken_by (made_of lay m) body_fine h
+  no_cause (Faulty NotTaken) (inl h) = taken_by (made_of lay m) body_fine h
+  no_cause (Faulty NotTaken) (inr h) = high_by (made_of lay m) body_fine h.0
 
   pub is_taken : (answer : Result LinProcedure (Refusal Fault)) → IsRefusedFor answer lay m → IsTaken answer lay m
   is_taken (Ok p) h = tt

@@ -1,5 +1,5 @@
 -- What it means that a procedure of linear code is a packed one, flattened.
-use Rattle.std.specs.Prelude.{◌≡◌, ℕ, zero, suc, ◌+◌, ◌-◌, ◌≤◌, Bool, true, false, List, [], ◌∷◌, ◌++◌, length, map, replicate, take, Some, None, slice_get, if◌then◌else◌}
+use Rattle.std.specs.Prelude.{◌≡◌, ◌⊎◌, ℕ, zero, suc, ◌+◌, ◌-◌, ◌≤◌, Bool, true, false, List, [], ◌∷◌, ◌++◌, length, map, replicate, take, Some, None, slice_get, if◌then◌else◌}
 use Rattle.vg_firm.specs.Program.{Procedure as FirmProcedure, Program as FirmProgram}
 use Rattle.vg_codes.specs.Codes.{Codes, AreCodes}
 use Rattle.vg_lin.specs.declared.instr.Operand.TheVariants.{Known}
@@ -21,6 +21,7 @@ use Rattle.vg_flatten_shapes.specs.Shapes.{Shape, empty, is_empty}
 use Rattle.vg_flatten_shapes.specs.Blocks.{Block, Skip, One, GiveBack, Both, open_code}
 use Rattle.vg_flatten_shapes.specs.Made.{Gives}
 use Rattle.vg_flatten_control.specs.Flat.{flat}
+use Rattle.vg_flatten_pushed.specs.Stacked.{stacked}
 use Rattle.vg_flatten.specs.Columns.{FlashStands, RamStands}
 use Rattle.vg_flatten_shapes.specs.Blocks.{set_in}
 
@@ -67,12 +68,12 @@ result_width m = if m.receives then 4 else m.result
 abbrev pub whole : FirmProcedure → Block → Block
 whole m b = Both (zeroes (length m.widths - m.params) (own_params m)) (Both b (GiveBack (result_width m) (Known 0)))
 
--- The procedure of linear code is the flattened one.
+-- The procedure of linear code is the flattened one: each waiting value has a home of its own, or each is pushed.
 pub record IsFlat (lay : Layout) (m : FirmProcedure) (p : Procedure) : Type 0 where
   pub room : Room
   pub block : Block
   pub shape : Shape
-  pub made : flat lay room m.body empty ≡ Gives block shape
+  pub made : (flat lay room m.body empty ≡ Gives block shape) ⊎ (stacked lay room m.body empty ≡ Gives block shape)
   pub done : is_empty shape ≡ true
   pub receiver : room.receiver ≡ receivers m.receives
   pub locals : room.locals ≡ length (own_widths m)

@@ -10,19 +10,23 @@ ghost use Rattle.vg_flatten_shapes.specs.Blocks.{set_in};
 ghost use Rattle.vg_flatten.specs.Sealing.{Seals, Wholes};
 ghost use Rattle.vg_lin.specs.Onward.{all_lead_on};
 ghost use Rattle.vg_flatten.specs.Loops.{has_loop};
-ghost use Rattle.vg_flatten.specs.Refusals.{temps_for, IsRefusedFor};
+ghost use Rattle.vg_flatten.specs.Refusals.{temps_for, made_of, stacked_of, IsRefusedIn, IsRefusedFor};
 ghost use Rattle.vg_flatten.specs.Taking.{IsTaken};
 ghost use Rattle.vg_flatten.specs.Sizes.{procedure_size};
 ghost use Rattle.vg_flatten.specs.Calls.{calls_in, calls_of};
 ghost use Rattle.vg_firm_typed.specs.Typed.{IsTyped};
 ghost use Rattle.vg_flatten_control.specs.Flat.{flat};
+ghost use Rattle.vg_flatten_pushed.specs.Stacked.{stacked};
 ghost use Rattle.vg_flatten_shapes.specs.Shapes.{empty};
+ghost use Rattle.vg_flatten_shapes.specs.Made.{Refused};
+ghost use Rattle.vg_flatten_shapes.specs.declared.fault.Fault.TheVariants.{TooHigh};
 
 use std::alloc::Global;
 use vg_base::{NoMemory, Refusal, Row};
 use vg_firm::Procedure;
 use vg_flatten_control::flat::flat;
 use vg_flatten_shapes::{Fault, Homes, Layout, Open, Room, append, place_behind};
+use vg_flatten_stacked::stacked;
 use vg_lin::{Call, Callee, Instr, LinProc, Operand, Passed, Plain, Registers};
 
 /// The procedure with which a run begins: it calls main, and then idles for ever. Main may get a receiver, which it does not use.
@@ -107,6 +111,32 @@ fn whole_code(
     Ok(append(first, rest.as_slice())?)
 }
 
+/// The same where each waiting value is pushed.
+fn pushed_code(
+    alloc: Global,
+    layout: &Layout,
+    room: Room,
+    procedure: &Procedure,
+) -> Result<Row<Open>, Refusal<Fault>>
+    requires room { room.locals + room.temps ≤ 252 }
+    requires receiver { room.receiver ≡ receivers procedure.now.receives }
+    requires locals { room.locals ≡ length (own_widths (procedure_of procedure.now)) }
+    requires given { room.result ≡ result_width (procedure_of procedure.now) }
+    requires params { procedure.now.params ≤ length procedure.now.widths }
+    ensures { Wholes result (stacked layout.now room (code_of procedure.now.body) empty) (procedure_of procedure.now) }
+{
+    let params = room.receiver + procedure.params;
+    let first = zeroes(alloc, room.locals - params, params)?;
+    let at = place_behind(0, first.len())?;
+    let body = stacked(alloc, layout, room, at, &procedure.body, Homes::new(alloc))?;
+    if !body.homes.is_empty() {
+        return Err(Refusal::Fault(Fault::NotTaken));
+    }
+    let mut rest = body.code;
+    rest.push(Open::Set(Instr::Return(room.result, Operand::Known(0))))?;
+    Ok(append(first, rest.as_slice())?)
+}
+
 /// How many of the first locals are a receiver.
 fn receivers(receives: bool) -> u8
     ensures { result ≡ receivers receives }
@@ -176,9 +206,11 @@ fn temps_beside(locals: u8) -> u8
 
 /// A procedure as linear code, in a program whose columns stand so and of whose procedures these get a receiver.
 ///
-/// It refuses what it does not take. Of a typed procedure it takes each step, and each value finds a temporary: then the only cause but
-/// want of memory is that there would be more than 65,519 instructions. The calls of the procedure stand in its code, each once and in
-/// their order, and no other; it has at most 252 locals, and a jump back only where its body has a loop.
+/// It refuses what it does not take. Where more values wait at one time than there are temporaries, which are 252 less the locals, each value
+/// that waits is pushed: `TooHigh` is left for more than 252 locals, or for a step that then takes more values than there are temporaries
+/// less two. Of a typed procedure it takes each step, and each value finds a temporary: then the only cause but want of memory is that there
+/// would be more than 65,519 instructions. The calls of the procedure stand in its code, each once and in their order, and no other; it has at
+/// most 252 locals, and a jump back only where its body has a loop.
 pub fn flatten(
     alloc: Global,
     layout: &Layout,
@@ -219,7 +251,7 @@ fn flattened(
     let most = temps_beside(count as u8);
     match with_fewest(alloc, layout, procedure, own.as_slice(), 0, most, None) {
         Some(made) => Ok(made),
-        None => flattened_with(alloc, layout, procedure, own.as_slice(), most),
+        None => with_most(alloc, layout, procedure, own.as_slice(), most),
     }
 }
 
@@ -256,6 +288,59 @@ fn with_fewest(
     }
 }
 
+/// The procedure with all temporaries that there is room for; where more values wait, each is pushed.
+fn with_most(
+    alloc: Global,
+    layout: &Layout,
+    procedure: &Procedure,
+    own: &[u8],
+    temps: u8,
+) -> Result<LinProc, Refusal<Fault>>
+    requires params { procedure.now.params ≤ length procedure.now.widths }
+    requires widths { AllByRecursion IsWidth procedure.now.widths }
+    requires given { procedure.now.result ≤ 4 }
+    requires own { own.now ≡ own_widths (procedure_of procedure.now) }
+    requires room { length own.now + temps ≤ 252 }
+    requires all { temps ≡ temps_for (length own.now) }
+    ensures flat { IfOk result (λ p. IsFlat layout.now (procedure_of procedure.now) p) }
+    ensures onward { IfOk result (λ p. has_loop (code_of procedure.now.body) ≡ false → all_lead_on 0 p.code ≡ true) }
+    ensures few { IfOk result (λ p. length p.widths ≤ 252) }
+    ensures refusal { IsRefusedFor result layout.now (procedure_of procedure.now) }
+{
+    match flattened_with(alloc, layout, procedure, own, temps) {
+        Ok(made) => Ok(made),
+        Err(Refusal::NoMemory) => Err(Refusal::NoMemory),
+        Err(Refusal::Fault(Fault::NotTaken)) => Err(Refusal::Fault(Fault::NotTaken)),
+        Err(Refusal::Fault(Fault::TooLong)) => Err(Refusal::Fault(Fault::TooLong)),
+        Err(Refusal::Fault(Fault::TooHigh)) => {
+            pushed_with_most(alloc, layout, procedure, own, temps)
+        }
+    }
+}
+
+/// The same where more values wait than there are temporaries.
+fn pushed_with_most(
+    alloc: Global,
+    layout: &Layout,
+    procedure: &Procedure,
+    own: &[u8],
+    temps: u8,
+) -> Result<LinProc, Refusal<Fault>>
+    requires params { procedure.now.params ≤ length procedure.now.widths }
+    requires widths { AllByRecursion IsWidth procedure.now.widths }
+    requires given { procedure.now.result ≤ 4 }
+    requires own { own.now ≡ own_widths (procedure_of procedure.now) }
+    requires room { length own.now + temps ≤ 252 }
+    requires all { temps ≡ temps_for (length own.now) }
+    requires high { made_of layout.now (procedure_of procedure.now) ≡ Refused TooHigh }
+    ensures flat { IfOk result (λ p. IsFlat layout.now (procedure_of procedure.now) p) }
+    ensures onward { IfOk result (λ p. has_loop (code_of procedure.now.body) ≡ false → all_lead_on 0 p.code ≡ true) }
+    ensures few { IfOk result (λ p. length p.widths ≤ 252) }
+    ensures refusal { IsRefusedFor result layout.now (procedure_of procedure.now) }
+{
+    pushed_with(alloc, layout, procedure, own, temps)
+}
+
 /// The procedure with so many temporaries behind its own locals.
 fn flattened_with(
     alloc: Global,
@@ -272,7 +357,7 @@ fn flattened_with(
     ensures flat { IfOk result (λ p. IsFlat layout.now (procedure_of procedure.now) p) }
     ensures onward { IfOk result (λ p. has_loop (code_of procedure.now.body) ≡ false → all_lead_on 0 p.code ≡ true) }
     ensures few { IfOk result (λ p. length p.widths ≤ 252) }
-    ensures refusal { temps ≡ temps_for (length own.now) → IsRefusedFor result layout.now (procedure_of procedure.now) }
+    ensures refusal { temps ≡ temps_for (length own.now) → IsRefusedIn result (procedure_of procedure.now) (made_of layout.now (procedure_of procedure.now)) }
 {
     let receiver = receivers(procedure.receives);
     let count = own.len();
@@ -285,6 +370,44 @@ fn flattened_with(
         result: given,
     };
     let code = whole_code(alloc, layout, room, procedure)?;
+    let instrs = sealed(alloc, code.as_slice())?;
+    let params = receiver + procedure.params;
+    let wide = wide_params(procedure.receives, params);
+    let widths = with_temps(widened(alloc, wide, own)?, temps)?;
+    let made = LinProc::new(Some(procedure.method), params, given, widths, instrs);
+    made.keeps();
+    Ok(made)
+}
+
+/// The same where each waiting value is pushed.
+fn pushed_with(
+    alloc: Global,
+    layout: &Layout,
+    procedure: &Procedure,
+    own: &[u8],
+    temps: u8,
+) -> Result<LinProc, Refusal<Fault>>
+    requires params { procedure.now.params ≤ length procedure.now.widths }
+    requires widths { AllByRecursion IsWidth procedure.now.widths }
+    requires given { procedure.now.result ≤ 4 }
+    requires own { own.now ≡ own_widths (procedure_of procedure.now) }
+    requires room { length own.now + temps ≤ 252 }
+    ensures flat { IfOk result (λ p. IsFlat layout.now (procedure_of procedure.now) p) }
+    ensures onward { IfOk result (λ p. has_loop (code_of procedure.now.body) ≡ false → all_lead_on 0 p.code ≡ true) }
+    ensures few { IfOk result (λ p. length p.widths ≤ 252) }
+    ensures refusal { temps ≡ temps_for (length own.now) → IsRefusedIn result (procedure_of procedure.now) (stacked_of layout.now (procedure_of procedure.now)) }
+{
+    let receiver = receivers(procedure.receives);
+    let count = own.len();
+    let locals = count as u8;
+    let given = result_width(procedure);
+    let room = Room {
+        receiver,
+        locals,
+        temps,
+        result: given,
+    };
+    let code = pushed_code(alloc, layout, room, procedure)?;
     let instrs = sealed(alloc, code.as_slice())?;
     let params = receiver + procedure.params;
     let wide = wide_params(procedure.receives, params);

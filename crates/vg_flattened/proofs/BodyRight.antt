@@ -31,6 +31,11 @@ use Rattle.vg_flattened.proofs.Related.{ArePlaced, AreAt, AreWidths, AreKept, Ar
 use Rattle.vg_flattened.proofs.Right.{Right, Does, linear, packed}
 use Rattle.vg_flattened.proofs.CallRight.{Never, Returned, begins, alike_behind_both, ArePassed, Enters, AlikeCalls, AlikeHandling}
 use Rattle.vg_flattened.proofs.CodeRight.{right_code, empty_is}
+use Rattle.vg_flattened.proofs.StackedRight.{stacked_body}
+use Rattle.vg_flatten_pushed.specs.Stacked.{stacked}
+use Rattle.vg_firm.specs.declared.step.Step.{Step as FirmStep}
+use Rattle.vg_firm_typed.specs.Steps.{takes}
+use Rattle.vg_firm_frames.specs.Frames.{over as over_values, Above as AboveValues}
 use Rattle.vg_flatten_shapes.proofs.Temps.{some_is}
 use Rattle.vg_flatten.specs.Flattened.{zeroes, own_params, all_widths, result_width, whole, IsFlat, IsFit, AreFlat}
 use Rattle.vg_flattened.proofs.Numbers.{low_same, low_within}
@@ -106,7 +111,10 @@ alike_guarded lay f p names call go calls q count self s w ram i held = by_name 
 -- ---- one body
 
 module _ (k : Codes) (lay : Layout) (f : FirmProgram) (p : LinProgram) (flat_all : AreFlat k lay f p) (call : FirmCaller History)
-    (go : LinCaller State) (calls : AlikeCalls lay f p call go) (m : FirmProcedure) (lp : LinProcedure) (fit : IsFit m) (is : IsFlat lay m lp) where
+    (go : LinCaller State) (calls : AlikeCalls lay f p call go) (m : FirmProcedure) (lp : LinProcedure) (fit : IsFit m) (is : IsFlat lay m lp)
+    (frames : (under : List ℕ) (q : FirmStep) (s : Firm) (w : World History) → takes q ≤ length s.values
+    → AboveValues under (firm_step k f m (guarded m.calls call) (λ vector. firm_handled call (f.handler vector)) q s w)
+    (firm_step k f m (guarded m.calls call) (λ vector. firm_handled call (f.handler vector)) q (over_values under s) w)) where
   abbrev r : Room
   r = is.room
 
@@ -197,9 +205,7 @@ module _ (k : Codes) (lay : Layout) (f : FirmProgram) (p : LinProgram) (flat_all
   alike_body count self s xs ram w i enter passed held d ed =
       subst (λ z. Alike (Returned lay m.result count s) Never (run_procedure full k f call handle m count self s w) (returned z (over Wrong)))
       (sym (ap (λ z. and_then z (linear' (Both is.block (GiveBack (result_width m) (Known 0))))) (zeroes_do (length m.widths - m.params) (own_params m) d w)))
-      (finished count s _ _ (does (right_code k f m (guarded m.calls call) handle p go lay r ws wide
-      (alike_guarded lay f p m.calls call go calls) flat_all.passing flat_all.codes flat_all.numbers flat_all.dispatches
-      (alike_handling lay p f call go calls flat_all.handler r ws) flat_all.flash m.body empty tt)))
+      (finished count s _ _ (by_way is.made))
     where
       facts : (count ≡ m.params) × (length (arguments count s) ≡ count) × (all_fit m.widths (arguments count s) ≡ true) × (may_receive m self ≡ true)
       facts = entry_facts count self s enter
@@ -217,13 +223,25 @@ module _ (k : Codes) (lay : Layout) (f : FirmProgram) (p : LinProgram) (flat_all
       begin : Held lay r ws empty (firm_entered m count self s) begun_d
       begin = record { waits = tt; kept = kept; none = ap (λ z. z.state.waiting) ed; ram = subst (λ z. RamStands lay.ram s.columns z.state.ram) (sym ed) held }
 
-      does : Right k f m (guarded m.calls call) handle p go lay r ws wide empty (flat lay r m.body empty)
+      does : flat lay r m.body empty ≡ Makes is.block is.shape → Right k f m (guarded m.calls call) handle p go lay r ws wide empty (flat lay r m.body empty)
           (packed k f m (guarded m.calls call) handle p go lay r ws wide m.body)
           → Alike (Held lay r ws empty) (Leaves lay r ws)
           (performed full (firm_step k f m (guarded m.calls call) handle) firm_truth m.body (firm_entered m count self s) w) (linear' is.block begun_d w)
-      does h =
+      does made h =
           let h1 = subst (λ z. Right k f m (guarded m.calls call) handle p go lay r ws wide empty z
-          (packed k f m (guarded m.calls call) handle p go lay r ws wide m.body)) is.made h in
+          (packed k f m (guarded m.calls call) handle p go lay r ws wide m.body)) made h in
           subst (λ z. Alike (Held lay r ws z) (Leaves lay r ws)
           (performed full (firm_step k f m (guarded m.calls call) handle) firm_truth m.body (firm_entered m count self s) w) (linear' is.block begun_d w))
           (empty_is is.shape is.done) (h1.1 (firm_entered m count self s) begun_d w i begin)
+
+      by_way : (flat lay r m.body empty ≡ Makes is.block is.shape) ⊎ (stacked lay r m.body empty ≡ Makes is.block is.shape)
+          → Alike (Held lay r ws empty) (Leaves lay r ws)
+          (performed full (firm_step k f m (guarded m.calls call) handle) firm_truth m.body (firm_entered m count self s) w) (linear' is.block begun_d w)
+      by_way (inl made) =
+          does made (right_code k f m (guarded m.calls call) handle p go lay r ws wide
+          (alike_guarded lay f p m.calls call go calls) flat_all.passing flat_all.codes flat_all.numbers flat_all.dispatches
+          (alike_handling lay p f call go calls flat_all.handler r ws) flat_all.flash m.body empty tt)
+      by_way (inr made) =
+          stacked_body k f m (guarded m.calls call) handle p go lay r ws wide
+          (alike_guarded lay f p m.calls call go calls) flat_all.passing flat_all.codes flat_all.numbers flat_all.dispatches
+          (alike_handling lay p f call go calls flat_all.handler r ws) flat_all.flash frames is.block is.shape made is.done (firm_entered m count self s) begun_d w i begin

@@ -25,3 +25,8 @@ pub mod Standing
 pub mod BodyRight
 pub mod RunRight
 pub mod Begun
+pub mod Straight
+pub mod StackHeld
+pub mod Popping
+pub mod PushedRight
+pub mod StackedRight

@@ -37,6 +37,7 @@ use Rattle.vg_flatten_shapes.specs.Blocks.{set_in}
 use Rattle.vg_flattened.proofs.Standing.{Lies, stands}
 use Rattle.vg_flatten.specs.Flattened.{receivers, with_receiver_width, widened, main_args, whole, calls_main, start_of, IsFlat, IsFit, AreFlat}
 use Rattle.vg_flatten.specs.Columns.{RamStands}
+use Rattle.vg_firm_frames.proofs.Framed.{step_stays}
 use Rattle.vg_flattened.proofs.BodyRight.{alike_handling, alike_body}
 use Rattle.vg_flattened.specs.Runs.{FollowsPacked}
 
@@ -210,7 +211,7 @@ module _ (k : Codes) (lay : Layout) (f : FirmProgram) (p : LinProgram) (flat : A
       (run_procedure full k f (firm_called full k f n) (λ vector. firm_handled (firm_called full k f n) (f.handler vector)) m count self z w1)
       (lin_body (language p) (lin_called (language p) bodies n) (structured (block_at q (Some m) e)) d1 w1)) (sym st.0)
       (alike_body k lay f p flat (firm_called full k f n) (lin_called (language p) bodies n) hn m (flat.flats q m e).0 (flat.flats q m e).2
-      (flat.flats q m e).3 count self s xs ram w1 i1 enters passed held d1
+      (flat.flats q m e).3 (λ under q1 s2 w2 le. step_stays under k f m n q1 s2 w2 le) count self s xs ram w1 i1 enters passed held d1
       (st.1 ∙ ap (λ z. fresh (record { locals = begun (widths_of z) xs; waiting = []; ram = ram })) (flat.flats q m e).1
       ∙ ap (λ z. fresh (record { locals = begun z xs; waiting = []; ram = ram })) (flat.flats q m e).3.widths)))
       s start w i (refl, refl))

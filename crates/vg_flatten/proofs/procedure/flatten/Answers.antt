@@ -1,7 +1,7 @@
 use Rattle.vg_firm.specs.Held.{procedure_of}
 use Rattle.vg_flatten.proofs.Typed.{is_taken}
-use Rattle.vg_flatten.proofs.Sizes.{is_short}
-use Rattle.vg_flatten.proofs.Calls.{has_calls}
+use Rattle.vg_flatten.proofs.PushedSizes.{is_short}
+use Rattle.vg_flatten.proofs.PushedCalls.{has_calls}
 use Rattle.vg_flatten.proofs.procedure.flatten.Goals as goal
 
 pub returns : goal.returns

@@ -1,6 +1,6 @@
 -- That the calls of code stand in it, each once and in their order, and no other, where each value that waits is pushed.
-use Rattle.std.specs.Prelude.{ℕ, zero, suc, ◌+◌, Bool, true, false, ◌==◌, nat_lt, nat_le, List, [], ◌∷◌, ◌++◌, length, reverse, take, drop, Option, Some, None, if◌then◌else◌}
-use Rattle.std.proofs.Common.{◌≡◌, refl, sym, ap, ◌∙◌, subst}
+use Rattle.std.specs.Prelude.{ℕ, zero, suc, ◌+◌, ◌-◌, Bool, true, false, ◌==◌, nat_lt, nat_le, List, [], ◌∷◌, ◌++◌, length, reverse, take, drop, Option, Some, None, Result, Ok, Err, IfOk, if◌then◌else◌}
+use Rattle.std.proofs.Common.{◌≡◌, ◌⊎◌, inl, inr, refl, sym, ap, ◌∙◌, subst}
 use Rattle.std.proofs.lemmas.List.{append-nil}
 use Rattle.vg_meaning.specs.Code.{Code, Nothing, Then, Do, If, Loop, Break, Continue, Return}
 use Rattle.vg_firm.specs.declared.step.Step.{Step}
@@ -10,13 +10,19 @@ use Rattle.vg_flatten_shapes.specs.declared.fault.Fault.TheVariants.{NotTaken, T
 use Rattle.vg_flatten_shapes.specs.declared.layout.Layout.{Layout}
 use Rattle.vg_flatten_shapes.specs.declared.room.Room.{Room}
 use Rattle.vg_flatten_shapes.specs.Shapes.{Shape, only, empty, temp}
-use Rattle.vg_flatten_shapes.specs.Blocks.{Skip, BreakOut, GoOn}
+use Rattle.vg_flatten_shapes.specs.Blocks.{Block, Skip, BreakOut, GoOn, open_code}
 use Rattle.vg_flatten_shapes.specs.Made.{Made, Gives, Refused, after, settled, Tested, tested}
 use Rattle.vg_flatten_steps.specs.Steps.{stepped}
 use Rattle.vg_flatten_pushed.specs.Pushed.{pops, popped, pushed_on, put_back, worked, drawn, step_on, done, topped, with_newest, lowered, level, raised, pushed_again}
 use Rattle.vg_flatten_pushed.specs.Stacked.{levelled, ways, stacked}
-use Rattle.vg_flatten.specs.Calls.{Called, called_by, calls_of}
-use Rattle.vg_flatten.proofs.Calls.{block_calls, HasCalls, Quiet, calls_behind, calls_after, calls_if, quiet_temp, quiet_settled, calls_step, calls_joined, calls_where, calls_repeated, quiet_given}
+use Rattle.vg_flatten.specs.Calls.{Called, called_by, calls_of, calls_in}
+use Rattle.vg_base.specs.declared.refusal.Refusal.{Refusal}
+use Rattle.vg_firm.specs.Program.{Procedure}
+use Rattle.vg_lin.specs.Program.{Procedure as LinProcedure}
+use Rattle.vg_flatten_shapes.specs.declared.fault.Fault.{Fault}
+use Rattle.vg_flatten_control.specs.Flat.{flat}
+use Rattle.vg_flatten.specs.Flattened.{own_params, whole, IsFlat}
+use Rattle.vg_flatten.proofs.Calls.{open_in, block_calls, block_has, in_set, zeroes_quiet, whole_calls, HasCalls, Quiet, calls_behind, calls_after, calls_if, quiet_temp, quiet_settled, calls_step, calls_joined, calls_where, calls_repeated, quiet_given}
 
 module _ (lay : Layout) (r : Room) where
   pops_quiet : (first n : ℕ) → block_calls (pops first n) ≡ []
@@ -90,3 +96,21 @@ module _ (lay : Layout) (r : Room) where
   calls_stacked Break s = calls_where lay r [] s (Gives BreakOut empty) refl
   calls_stacked Continue s = calls_where lay r [] s (Gives GoOn empty) refl
   calls_stacked Return s = calls_after [] [] (with_newest r s) _ (quiet_topped s.homes) (λ s1. quiet_given lay r s1.homes)
+
+  whole_calls_pushed : (m : Procedure) (b : Block) (s : Shape) → stacked lay r m.body empty ≡ Gives b s → open_in (open_code (whole m b) 0) ≡ calls_of m.body
+  whole_calls_pushed m b s e =
+      block_has (whole m b) 0 ∙ ap (λ z. z ++ (block_calls b ++ [])) (zeroes_quiet lay r (length m.widths - m.params) (own_params m)) ∙ append-nil (block_calls b)
+      ∙ subst (HasCalls (calls_of m.body)) e (calls_stacked m.body empty)
+
+flat_calls : (lay : Layout) (m : Procedure) (p : LinProcedure) → IsFlat lay m p → calls_in p.code ≡ calls_of m.body
+flat_calls lay m p f = ap calls_in f.code ∙ in_set 0 0 (open_code (whole m f.block) 0) ∙ by_way f.made
+  where
+    by_way : (flat lay f.room m.body empty ≡ Gives f.block f.shape) ⊎ (stacked lay f.room m.body empty ≡ Gives f.block f.shape)
+        → open_in (open_code (whole m f.block) 0) ≡ calls_of m.body
+    by_way (inl e) = whole_calls lay f.room m f.block f.shape e
+    by_way (inr e) = whole_calls_pushed lay f.room m f.block f.shape e
+
+pub has_calls : (lay : Layout) (m : Procedure) (answer : Result LinProcedure (Refusal Fault)) → IfOk answer (λ p. IsFlat lay m p)
+    → IfOk answer (λ p. calls_in p.code ≡ calls_of m.body)
+has_calls lay m (Ok p) f = flat_calls lay m p f
+has_calls lay m (Err e) f = tt

@@ -16,7 +16,7 @@ use Rattle.vg_flatten.proofs.Sound.{AreIn}
 use Rattle.vg_flattened.proofs.Numbers.{low_same}
 use Rattle.vg_flattened.proofs.Related.{ArePlaced, AreAt, AreWidths, AreKept}
 use Rattle.vg_flattened.proofs.Locals.{written_is, others_stay, kept_behind_temp}
-use Rattle.vg_flattened_stacked.specs.Held.{in_four, AreSmall}
+use Rattle.vg_flattened.proofs.StackHeld.{in_four, AreSmall}
 
 -- ---- the temporaries
 

@@ -38,10 +38,10 @@ use Rattle.vg_flattened.proofs.Numbers.{low_same}
 use Rattle.vg_flattened.proofs.Locals.{value_of_home, placed_temp}
 use Rattle.vg_flattened.proofs.Right.{Right, Does, right_last, number_made, unit_behind}
 use Rattle.vg_flattened.proofs.CodeRight.{and_then-and_then}
-use Rattle.vg_flattened_stacked.specs.Straight.{AreStraight, stepped_straight}
-use Rattle.vg_flattened_stacked.specs.Held.{in_four, AreSmall, Stands, OnStack, Higher, alike_above}
-use Rattle.vg_flattened_stacked.specs.Popping.{popped_long, popped_placed, popped_in, laid, kept_laid, at_laid, split, take_long, drop_both, small_take, small_drop, run}
-use Rattle.vg_flattened_stacked.specs.Popping.{behind_pops, pops_do}
+use Rattle.vg_flattened.proofs.Straight.{AreStraight, stepped_straight}
+use Rattle.vg_flattened.proofs.StackHeld.{in_four, AreSmall, Stands, OnStack, Higher, alike_above}
+use Rattle.vg_flattened.proofs.Popping.{popped_long, popped_placed, popped_in, laid, kept_laid, at_laid, split, take_long, drop_both, small_take, small_drop, run}
+use Rattle.vg_flattened.proofs.Popping.{behind_pops, pops_do}
 
 le_of : (a b : ℕ) → nat_le a b ≡ true → a ≤ b
 le_of a b e = grind arith

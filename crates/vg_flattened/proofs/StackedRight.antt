@@ -49,9 +49,9 @@ use Rattle.vg_flattened.proofs.Free.{homes_same}
 use Rattle.vg_flattened.proofs.Right.{Right, Does, chooses, way, unit_behind}
 use Rattle.vg_flattened.proofs.CallRight.{AlikeCalls, AlikeHandling}
 use Rattle.vg_flattened.proofs.CodeRight.{empty_is, right_stepped, right_loop, right_given_back}
-use Rattle.vg_flattened_stacked.specs.Held.{in_four, AreSmall, Stands, OnStack, none_is, to_held, from_held}
-use Rattle.vg_flattened_stacked.specs.Popping.{run}
-use Rattle.vg_flattened_stacked.specs.StepRight.{RightOn, right_done}
+use Rattle.vg_flattened.proofs.StackHeld.{in_four, AreSmall, Stands, OnStack, none_is, to_held, from_held}
+use Rattle.vg_flattened.proofs.Popping.{run}
+use Rattle.vg_flattened.proofs.PushedRight.{RightOn, right_done}
 
 some_wait : (a : Operand) (hs : List Operand) → is_empty (only (a ∷ hs)) ≡ false
 some_wait a hs = grind arith
@@ -477,3 +477,15 @@ module _ (k : Codes) (f : FirmProgram) (m : FirmProcedure) (call : FirmCaller Hi
   right_stacked Break s = right_where s (Makes BreakOut empty) (packed' Break) (λ s1 d w i q. leaves i (to_held lay r ws s1 d q))
   right_stacked Continue s = right_where s (Makes GoOn empty) (packed' Continue) (λ s1 d w i q. leaves i (to_held lay r ws s1 d q))
   right_stacked Return s = right_return s
+
+  -- The body of a procedure: nothing waits before it, nor behind it.
+  pub stacked_body : (block : Block) (shape : Shape) → stacked lay r m.body empty ≡ Makes block shape → is_empty shape ≡ true → (s : Firm) (d : Deciding State)
+      (w : World History) → IsFair w → Held lay r ws empty s d
+      → Alike (Held lay r ws empty) (Leaves lay r ws) (packed' m.body s w) (run p go block d w)
+  stacked_body block shape made done s d w i q = right_body block shape done (subst (λ z. RightOn' empty z (packed' m.body)) made (right_stacked m.body empty)) s d w i q
+    where
+      right_body : (b : Block) (s1 : Shape) → is_empty s1 ≡ true → RightOn' empty (Makes b s1) (packed' m.body) → (s : Firm) (d : Deciding State) (w : World History)
+          → IsFair w → Held lay r ws empty s d → Alike (Held lay r ws empty) (Leaves lay r ws) (packed' m.body s w) (run p go b d w)
+      right_body b s1 e h s d w i q =
+          alike_map (to_held lay r ws)
+          (subst (λ z. Alike (On z) (Leaves lay r ws) (packed' m.body s w) (run p go b d w)) (empty_is s1 e) (h s d w i (from_held lay r ws s d q)))

@@ -1,6 +1,6 @@
 -- How many instructions stand at most for code where each value that waits is pushed.
-use Rattle.std.specs.Prelude.{ℕ, zero, suc, ◌+◌, ◌-◌, ◌≤◌, Bool, true, false, ◌==◌, nat_lt, nat_le, List, [], ◌∷◌, length, reverse, take, drop, Option, Some, None, if◌then◌else◌}
-use Rattle.std.proofs.Common.{◌≡◌, refl, sym, ap, ◌∙◌, subst, arith}
+use Rattle.std.specs.Prelude.{ℕ, zero, suc, ◌+◌, ◌-◌, ◌≤◌, Bool, true, false, ◌==◌, nat_lt, nat_le, List, [], ◌∷◌, length, reverse, take, drop, Option, Some, None, Result, Ok, Err, IfOk, if◌then◌else◌}
+use Rattle.std.proofs.Common.{◌≡◌, ◌⊎◌, inl, inr, refl, sym, ap, ◌∙◌, subst, arith}
 use Rattle.vg_meaning.specs.Code.{Code, Nothing, Then, Do, If, Loop, Break, Continue, Return}
 use Rattle.vg_firm.specs.declared.step.Step.{Step}
 use Rattle.vg_firm_typed.specs.Steps.{takes}
@@ -14,25 +14,19 @@ use Rattle.vg_flatten_shapes.specs.Shapes.{Shape, only, empty, is_empty, temp}
 use Rattle.vg_flatten_shapes.specs.Blocks.{Block, Skip, One, BreakOut, GoOn, Both, block_size}
 use Rattle.vg_flatten_shapes.specs.Made.{Made, Gives, Refused, behind, after, by_temp, settled, Tested, tested}
 use Rattle.vg_flatten_steps.specs.Steps.{stepped}
-use Rattle.vg_flatten_control.specs.Flat.{joined, where_empty, repeated, given_back}
+use Rattle.std.proofs.lemmas.List.{length-map}
+use Rattle.vg_base.specs.declared.refusal.Refusal.{Refusal}
+use Rattle.vg_firm.specs.Program.{Procedure}
+use Rattle.vg_lin.specs.Program.{Procedure as LinProcedure}
+use Rattle.vg_flatten_shapes.specs.declared.fault.Fault.{Fault}
+use Rattle.vg_flatten_shapes.proofs.Sizes.{block_long}
+use Rattle.vg_flatten_shapes.specs.Blocks.{open_code, set_in}
+use Rattle.vg_flatten.specs.Flattened.{own_params, whole, IsFlat}
+use Rattle.vg_flatten_control.specs.Flat.{flat, joined, where_empty, repeated, given_back}
 use Rattle.vg_flatten_pushed.specs.Pushed.{pops, popped, pushed_on, put_back, worked, drawn, step_on, done, topped, with_newest, lowered, level, raised, pushed_again}
 use Rattle.vg_flatten_pushed.specs.Stacked.{levelled, ways, stacked}
-use Rattle.vg_flatten.specs.Sizes.{step_size}
-use Rattle.vg_flatten.proofs.Sizes.{Small, fewer, small_behind, small_after, small_temp, small_if, small_settled, small_step, small_joined, small_where, small_repeated, small_given}
-
--- One more for each value that a step takes, and one for the push of what it leaves.
-abbrev pub step_pushed : Step → ℕ
-step_pushed p = takes p + (step_size p - 4) + 5
-
-abbrev pub code_pushed : Code Step → ℕ
-code_pushed Nothing = 0
-code_pushed (Then a b) = code_pushed a + code_pushed b
-code_pushed (Do p) = step_pushed p
-code_pushed (If a b) = 6 + code_pushed a + code_pushed b
-code_pushed (Loop c body next) = 3 + code_pushed c + code_pushed body + code_pushed next
-code_pushed Break = 1
-code_pushed Continue = 1
-code_pushed Return = 2
+use Rattle.vg_flatten.specs.Sizes.{step_size, step_pushed, code_size, code_pushed, larger, procedure_size}
+use Rattle.vg_flatten.proofs.Sizes.{Small, zeroes_size, whole_long, fewer, small_behind, small_after, small_temp, small_if, small_settled, small_step, small_joined, small_where, small_repeated, small_given}
 
 module _ (lay : Layout) (r : Room) where
   pops_size : (first n : ℕ) → block_size (pops first n) ≤ n
@@ -110,3 +104,50 @@ module _ (lay : Layout) (r : Room) where
   small_stacked Break s = small_where lay r 1 s (Gives BreakOut empty) (omega arith)
   small_stacked Continue s = small_where lay r 1 s (Gives GoOn empty) (omega arith)
   small_stacked Return s = small_after 1 1 (with_newest r s) _ (small_topped s.homes) (λ s1. small_given lay r s1.homes)
+
+  pub whole_long_pushed : (m : Procedure) (b : Block) (s : Shape) → stacked lay r m.body empty ≡ Gives b s
+      → length (open_code (whole m b) 0) ≤ length m.widths - m.params + code_pushed m.body + 1
+  whole_long_pushed m b s e =
+      let h = block_long (whole m b) 0 in
+      let f : block_size b ≤ code_pushed m.body = subst (Small (code_pushed m.body)) e (small_stacked m.body empty) in
+      let z = zeroes_size lay r (length m.widths - m.params) (own_params m) in
+      omega (arith, h, f, z)
+
+at_least : (a b n x y : ℕ) → n ≤ x + a + y → n ≤ x + larger a b + y
+at_least a b n x y h = by_test (nat_le a b) refl
+  where
+    by_test : (c : Bool) → nat_le a b ≡ c → n ≤ x + (if c then b else a) + y
+    by_test true e = let le = le_of a b e in omega (arith, h, le)
+      where
+        le_of : (a b : ℕ) → nat_le a b ≡ true → a ≤ b
+        le_of a b e = grind arith
+    by_test false e = h
+
+at_least_second : (a b n x y : ℕ) → n ≤ x + b + y → n ≤ x + larger a b + y
+at_least_second a b n x y h = by_test (nat_le a b) refl
+  where
+    by_test : (c : Bool) → nat_le a b ≡ c → n ≤ x + (if c then b else a) + y
+    by_test true e = h
+    by_test false e = let le = gt_of a b e in omega (arith, h, le)
+      where
+        gt_of : (a b : ℕ) → nat_le a b ≡ false → b ≤ a
+        gt_of a b e = grind arith
+
+flat_short : (lay : Layout) (m : Procedure) (p : LinProcedure) → IsFlat lay m p → length p.code ≤ procedure_size m
+flat_short lay m p f = by_way f.made
+  where
+    l : length p.code ≡ length (open_code (whole m f.block) 0)
+    l = ap length f.code ∙ length-map (open_code (whole m f.block) 0) (set_in 0 0)
+
+    by_way : (flat lay f.room m.body empty ≡ Gives f.block f.shape) ⊎ (stacked lay f.room m.body empty ≡ Gives f.block f.shape) → length p.code ≤ procedure_size m
+    by_way (inl e) =
+        at_least (code_size m.body) (code_pushed m.body) (length p.code) (length m.widths - m.params) 1
+        (let w = whole_long lay f.room m f.block f.shape e in omega (arith, l, w))
+    by_way (inr e) =
+        at_least_second (code_size m.body) (code_pushed m.body) (length p.code) (length m.widths - m.params) 1
+        (let w = whole_long_pushed lay f.room m f.block f.shape e in omega (arith, l, w))
+
+pub is_short : (lay : Layout) (m : Procedure) (answer : Result LinProcedure (Refusal Fault)) → IfOk answer (λ p. IsFlat lay m p)
+    → IfOk answer (λ p. length p.code ≤ procedure_size m)
+is_short lay m (Ok p) f = flat_short lay m p f
+is_short lay m (Err e) f = tt

@@ -1,0 +1,109 @@
+-- That what the code makes of a procedure, where each waiting value is pushed, is the flattened procedure.
+use Rattle.std.specs.Prelude.{◌≡◌, ℕ, zero, suc, ◌+◌, ◌-◌, ◌<◌, ◌≤◌, true, false, List, [], ◌∷◌, ◌++◌, length, drop, map, replicate, Some}
+use Rattle.std.specs.List.{AllByRecursion}
+use Rattle.std.specs.Prelude.{Result, Ok, Err}
+use Rattle.std.specs.Result.{IsErrAnd}
+use Rattle.std.proofs.lemmas.List.{append_assoc}
+use Rattle.std.proofs.Common.{inl, inr, refl, sym, ap, ◌∙◌, subst, arith}
+use Rattle.vg_firm.specs.Program.{Procedure as FirmProcedure}
+use Rattle.vg_lin.specs.declared.instr.Instr.{Instr}
+use Rattle.vg_lin.specs.Program.{Procedure}
+use Rattle.vg_lin.specs.Sound.{IsWidth, IsSound}
+use Rattle.vg_lin.specs.declared.instr.Operand.TheVariants.{Known}
+use Rattle.vg_lin.specs.declared.instr.Plain.TheVariants.{Copy}
+use Rattle.vg_lin.specs.declared.instr.Instr.TheVariants.{Plain, Return}
+use Rattle.vg_flatten_shapes.specs.declared.open.Open.{Open}
+use Rattle.vg_flatten_shapes.specs.declared.open.Open.TheVariants.{Set}
+use Rattle.vg_flatten_shapes.specs.declared.piece.Piece.{Piece}
+use Rattle.vg_flatten_shapes.specs.declared.layout.Layout.{Layout}
+use Rattle.vg_flatten_shapes.specs.declared.room.Room.{Room}
+use Rattle.vg_flatten_shapes.specs.Shapes.{Shape, empty, is_empty}
+use Rattle.vg_flatten_shapes.specs.Blocks.{Block, open_code}
+use Rattle.vg_flatten_shapes.specs.Made.{Made, Gives, Refused}
+use Rattle.vg_flatten_pushed.specs.Stacked.{stacked}
+use Rattle.vg_flatten.specs.Closing.{AllSet}
+use Rattle.vg_flatten_shapes.specs.Blocks.{set_in}
+use Rattle.vg_flatten.specs.Flattened.{zeroes, zero_list, receivers, own_widths, own_params, widened, all_widths, result_width, whole, IsFlat}
+use Rattle.vg_flatten_shapes.specs.Laying.{IsPiece, Fails}
+use Rattle.vg_flatten_shapes.specs.Blocks.{block_size}
+use Rattle.vg_flatten_shapes.proofs.Sizes.{block_long}
+use Rattle.vg_base.specs.declared.refusal.Refusal.{Refusal}
+use Rattle.vg_base.specs.declared.refusal.Refusal.TheVariants.{Fault as Faulty, NoMemory as Memory}
+use Rattle.vg_flatten_shapes.specs.declared.fault.Fault.{Fault}
+use Rattle.vg_flatten_shapes.specs.declared.fault.Fault.TheVariants.{NotTaken, TooHigh, TooLong}
+use Rattle.vg_flatten.specs.Refusals.{IsTooLong}
+use Rattle.vg_flatten.specs.Sealing.{IsNotTaken, IsWhole, WholeFails, Wholes}
+use Rattle.vg_flatten.proofs.PushedBlocks.{BlockOn, MadeOn}
+use Rattle.vg_flatten.proofs.StackedBlocks.{none_waits, stacked_on}
+use Rattle.vg_flatten.proofs.Whole.{own_long}
+use Rattle.vg_flatten.proofs.PushedWhole.{whole_sound, on_zeroes}
+use Rattle.vg_flatten.proofs.PushedOnward.{leads_onward}
+use Rattle.vg_flatten.specs.Loops.{has_loop}
+use Rattle.vg_lin.specs.Onward.{all_lead_on}
+
+module _ (lay : Layout) (m : FirmProcedure) (r : Room) (receiver : r.receiver ≡ receivers m.receives) (locals : r.locals ≡ length (own_widths m))
+    (given : r.result ≡ result_width m) (few : r.locals + r.temps ≤ 252) (hp : m.params ≤ length m.widths)
+    (hw : AllByRecursion IsWidth m.widths) (hr : m.result ≤ 4) (open' : List Open) (code : List Instr) (widths : List ℕ) (is : IsWhole open' (stacked lay r m.body empty) m)
+    (sealed : code ≡ map (set_in 0 0) open') (set : AllSet open') (ws : widths ≡ all_widths m ++ replicate r.temps 4) where
+  abbrev pub procedure : Procedure
+  procedure = record { method = Some m.method; params = own_params m; result = result_width m; widths = widths; code = code }
+
+  block_on : (L : Type 0) (b : Block) (s : Shape) → (has_loop m.body ≡ true → L) → is_empty s ≡ true → stacked lay r m.body empty ≡ Gives b s
+      → BlockOn L (result_width m) (length (own_widths m) + r.temps) 0 0 b
+  block_on L b s l e h =
+      subst (λ n. BlockOn L (result_width m) (length (own_widths m) + r.temps) 0 n b) (none_waits s e)
+      (subst (λ w. BlockOn L w (length (own_widths m) + r.temps) 0 (length s.homes) b) given
+      (subst (λ z. BlockOn L r.result (z + r.temps) 0 (length s.homes) b) locals
+      (subst (λ z. MadeOn L r.result (r.locals + r.temps) 0 z) h (stacked_on L lay r m.body empty l))))
+
+  code_is : (b : Block) → open' ≡ open_code (whole m b) 0 → code ≡ map (set_in 0 0) (open_code (whole m b) 0)
+  code_is b e = sealed ∙ ap (map (set_in 0 0)) e
+
+  sound_by : (x : Made) → stacked lay r m.body empty ≡ x → IsWhole open' x m → IsSound procedure
+  sound_by (Refused why) e h = absurd h
+  sound_by (Gives b s) e h =
+      subst (λ z. IsSound (record { method = Some m.method; params = own_params m; result = result_width m; widths = z; code = code })) (sym ws)
+      (whole_sound m b r.temps (Some m.method) code hp hw hr (omega (arith, few, locals)) (block_on (Unit {0}) b s (λ l. tt) h.0 e) (subst AllSet h.1 set) (code_is b h.1))
+
+  pub pushed_sound : IsSound procedure
+  pushed_sound = sound_by (stacked lay r m.body empty) refl is
+
+  flat_by : (x : Made) → stacked lay r m.body empty ≡ x → IsWhole open' x m → IsFlat lay m procedure
+  flat_by (Refused why) e h = absurd h
+  flat_by (Gives b s) e h =
+      record {
+        room = r;
+        block = b;
+        shape = s;
+        made = inr e;
+        done = h.0;
+        receiver = receiver;
+        locals = locals;
+        given = given;
+        method = refl;
+        parameters = refl;
+        result = refl;
+        widths = ws;
+        code = code_is b h.1;
+      }
+
+  pub pushed_flat : IsFlat lay m procedure
+  pushed_flat = flat_by (stacked lay r m.body empty) refl is
+
+  onward_by : (x : Made) → stacked lay r m.body empty ≡ x → IsWhole open' x m → has_loop m.body ≡ false → all_lead_on 0 code ≡ true
+  onward_by (Refused why) e h none = absurd h
+  onward_by (Gives b s) e h none =
+      let own = own_long m.receives m.widths in
+      ap (all_lead_on 0) (code_is b h.1)
+      ∙ leads_onward (result_width m) (length (own_widths m) + r.temps) 0 0 (whole m b) (
+        0,
+        on_zeroes ⊥ (result_width m) (length (own_widths m) + r.temps) (length m.widths - m.params) (own_params m) (omega (arith, hp, own)),
+        (0, block_on ⊥ b s (λ l. not_both (sym none ∙ l)) h.0 e, (refl, refl, refl, tt)),
+      ) (subst AllSet h.1 set)
+    where
+      not_both : false ≡ true → ⊥
+      not_both l = grind arith
+
+  -- no jump leads back where the body has no loop
+  pub pushed_onward : has_loop m.body ≡ false → all_lead_on 0 code ≡ true
+  pushed_onward none = onward_by (stacked lay r m.body empty) refl is none

@@ -1,5 +1,0 @@
-pub mod Straight
-pub mod Held
-pub mod Popping
-pub mod StepRight
-pub mod CodeRight

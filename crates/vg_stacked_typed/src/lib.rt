@@ -1,2 +1,0 @@
-//! Law: typed code is flattened with each waiting value pushed, however many values wait.
-#![tactic(auto)]
