@@ -9,24 +9,24 @@ use vg_firm::{Code, Operator, Prefix, Procedure, Step};
 use vg_flatten::{Fault, Layout, flatten};
 use vg_lin::{Callee, Instr, LinProc};
 
-// Sixty locals of four bytes.
-fn sixty(alloc: Global) -> Result<Row<u8>, NoMemory>
+// So many locals of four bytes.
+fn wide(alloc: Global, count: u8) -> Result<Row<u8>, NoMemory>
     ensures { IfOk result (λ r. AllByRecursion IsWidth r) }
 {
     let mut widths = Row::new(alloc);
-    for local in 0..60u8 {
+    for local in 0..count {
         widths.push(4)?;
     }
     Ok(widths)
 }
 
-// A procedure of 60 locals, which reads a device so often and adds what it read.
-fn high(alloc: Global, count: u8) -> Result<Procedure, NoMemory>
+// A procedure of so many locals, which reads a device so often and adds what it read.
+fn high(alloc: Global, locals: u8, count: u8) -> Result<Procedure, NoMemory>
     ensures params { IfOk result (λ p. p.params ≤ length p.widths) }
     ensures widths { IfOk result (λ p. AllByRecursion IsWidth p.widths) }
     ensures given { IfOk result (λ p. p.result ≤ 4) }
 {
-    let widths = sixty(alloc)?;
+    let widths = wide(alloc, locals)?;
     let mut steps = Vec::new(alloc);
     for _read in 0..count {
         steps.push(Code::Do(Step::ReadDevice(0x36)))?;
@@ -46,28 +46,36 @@ fn high(alloc: Global, count: u8) -> Result<Procedure, NoMemory>
     })
 }
 
-fn flattened(alloc: Global, count: u8) -> Result<LinProc, Refusal<Fault>> {
+fn flattened(alloc: Global, locals: u8, count: u8) -> Result<LinProc, Refusal<Fault>> {
     let layout = Layout {
         ram: Row::new(alloc),
         flash: Row::new(alloc),
         tables: Row::new(alloc),
         passing: Row::new(alloc),
     };
-    flatten(alloc, &layout, &high(alloc, count)?)
+    flatten(alloc, &layout, &high(alloc, locals, count)?)
 }
 
 // How many instructions and locals there are: no more temporaries than values wait, and 192 beside 60 locals at most.
 #[test]
 fn many_values_wait(rt: HostRuntime) {
     let alloc = rt.alloc();
-    let few = flattened(alloc, 1).map(|p| p.code().len() + p.widths().len());
+    let few = flattened(alloc, 60, 1).map(|p| p.code().len() + p.widths().len());
     assert!(rt; few == Ok(123));
-    let high = flattened(alloc, 48).map(|p| p.code().len() + p.widths().len());
+    let high = flattened(alloc, 60, 48).map(|p| p.code().len() + p.widths().len());
     assert!(rt; high == Ok(264));
-    let highest = flattened(alloc, 192).map(|p| p.code().len() + p.widths().len());
-    assert!(rt;
-        highest == Ok(696) && flattened(alloc, 193).err() == Some(Refusal::Fault(Fault::TooHigh))
-    );
+    let highest = flattened(alloc, 60, 192).map(|p| p.code().len() + p.widths().len());
+    assert!(rt; highest == Ok(696));
+}
+
+// One value more than there are temporaries: each is pushed. 60 zeroes, two instructions for each of 193 reads, four for each of 192 sums, the
+// pop of the last value, and the end; and 252 locals.
+#[test]
+fn more_values_wait(rt: HostRuntime) {
+    let alloc = rt.alloc();
+    let higher = flattened(alloc, 60, 193).map(|p| p.code().len() + p.widths().len());
+    assert!(rt; higher == Ok(1468));
+    assert!(rt; flattened(alloc, 253, 1).err() == Some(Refusal::Fault(Fault::TooHigh)));
 }
 
 // A main with two divisions: PORTB = ((-2147483648 / -1) :: raw.32 >> 24) :: raw.8; and z = 5 % z;

@@ -3,11 +3,8 @@ use Rattle.std.specs.Prelude.{ℕ, zero, suc, [], ◌∷◌, List, Some, None, s
 use Rattle.std.proofs.Common.{◌≡◌, refl, sym, subst, arith}
 use Rattle.vg_lin.specs.declared.instr.Instr.{Instr}
 use Rattle.vg_lin.specs.declared.instr.Instr.TheVariants.{Idle, Jump}
-use Rattle.vg_lin.specs.Sound.{AreOperands, Waits, IsSound}
+use Rattle.vg_lin.specs.Sound.{AreOperands, Waits, IsSound, waits_of}
 use Rattle.vg_put_rows.specs.Sample.{sample}
-
-abbrev waits : ℕ → List ℕ
-waits at = []
 
 same : (x y : Instr) → Some x ≡ Some y → x ≡ y
 same x y e = cc
@@ -17,9 +14,9 @@ operands zero i e = subst (AreOperands sample) (same Idle i e) (tt {0})
 operands (suc zero) i e = subst (AreOperands sample) (same (Jump 0) i e) (tt {0})
 operands (suc (suc at)) i e = grind arith
 
-goes_on : (at : ℕ) (i : Instr) → slice_get sample.code at ≡ Some i → Waits sample waits at i
-goes_on zero i e = subst (Waits sample waits 0) (same Idle i e) (omega arith, refl)
-goes_on (suc zero) i e = subst (Waits sample waits 1) (same (Jump 0) i e) (omega arith, (omega arith, refl))
+goes_on : (at : ℕ) (i : Instr) → slice_get sample.code at ≡ Some i → Waits sample (waits_of sample) at i
+goes_on zero i e = subst (Waits sample (waits_of sample) 0) (same Idle i e) (omega arith, refl)
+goes_on (suc zero) i e = subst (Waits sample (waits_of sample) 1) (same (Jump 0) i e) (omega arith, (omega arith, refl))
 goes_on (suc (suc at)) i e = grind arith
 
 sample_sound : IsSound sample
@@ -30,7 +27,6 @@ sample_sound =
       result = omega arith;
       widths = ((omega arith, omega arith), ((omega arith, omega arith), tt {0}));
       operands = operands;
-      waits = waits;
       begins = (omega arith, refl);
       goes_on = goes_on;
     }
