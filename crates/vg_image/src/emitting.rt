@@ -1,6 +1,7 @@
 // The bytes of an image.
 ghost use Rattle.std.specs.Prelude.{ℕ, ◌≡◌, ◌≤◌, ◌++◌, length, replicate, IfOk, OnOk};
-ghost use Rattle.std.specs.List.{flat_map};
+ghost use Rattle.std.specs.List.{flat_map, AllByRecursion};
+ghost use Rattle.avr_instr.specs.Spelled.{InRange};
 ghost use Rattle.avr_isa.specs.Standing.{word_bytes, instr_bytes};
 ghost use Rattle.vg_image.specs.Image.{slot_code, slot_in, slots_from, filler, code_start, flash_of, parts};
 
@@ -19,7 +20,8 @@ pub fn flash(
     code: &[Instr],
 ) -> Result<Vec<u8>, NoMemory>
     requires { length tables.now ≤ 60000 }
-    ensures { IfOk result (λ flash. flash.items ≡ flash_of (parts slots.now tables.now code.now)) }
+    ensures flash { IfOk result (λ flash. flash.items ≡ flash_of (parts slots.now tables.now code.now)) }
+    ensures ranged { IfOk result (λ flash. AllByRecursion InRange code.now) }
 {
     let mut flash = Vec::new(alloc);
     put(&mut flash, Instr::Jmp(start_of(tables)))?;
@@ -91,7 +93,8 @@ fn put_filler(flash: &mut Vec<u8>, tables: &[u8]) -> Result<(), NoMemory>
 }
 
 fn put_code(flash: &mut Vec<u8>, code: &[Instr]) -> Result<(), NoMemory>
-    ensures { OnOk result (flash.new.items ≡ flash.old.items ++ flat_map instr_bytes code.now) }
+    ensures code { OnOk result (flash.new.items ≡ flash.old.items ++ flat_map instr_bytes code.now) }
+    ensures ranged { OnOk result (AllByRecursion InRange code.now) }
 {
     for instr in code {
         put(flash, *instr)?;
@@ -101,7 +104,8 @@ fn put_code(flash: &mut Vec<u8>, code: &[Instr]) -> Result<(), NoMemory>
 
 // The bytes of an instruction, word by word.
 fn put(flash: &mut Vec<u8>, instr: Instr) -> Result<(), NoMemory>
-    ensures { OnOk result (flash.new.items ≡ flash.old.items ++ instr_bytes instr) }
+    ensures bytes { OnOk result (flash.new.items ≡ flash.old.items ++ instr_bytes instr) }
+    ensures ranged { OnOk result (InRange instr) }
 {
     let (first, second) = encode(instr);
     put_word(flash, first)?;
