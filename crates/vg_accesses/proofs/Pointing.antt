@@ -1,5 +1,6 @@
 -- Loads and stores by X.
-use Rattle.std.proofs.Common.{◌≡◌, ◌≢◌, ℕ, zero, suc, ◌+◌, ◌-◌, ◌*◌, ◌/◌, ◌%◌, ◌^◌, ◌<◌, ◌≤◌, ◌⊎◌, inl, inr, Bool, List, [], ◌∷◌, ◌++◌}
+use Rattle.std.proofs.Common.{◌≡◌, ◌≢◌, ℕ, zero, suc, ◌+◌, ◌-◌, ◌*◌, ◌/◌, ◌%◌, ◌^◌, ◌<◌, ◌≤◌, ◌⊎◌, inl, inr, List, [], ◌∷◌, ◌++◌}
+use Rattle.std.proofs.Common.{Bool, true, false, ◌==◌, if◌then◌else◌}
 use Rattle.std.proofs.Common.{length, Option, Some, None, refl, sym, ap, ◌∙◌, subst, arith, slice_get, slice_index, slice_set}
 use Rattle.std.proofs.lemmas.List.{length-set}
 use Rattle.avr_instr.specs.declared.instr.Instr.{Instr}
@@ -28,7 +29,7 @@ use Rattle.vg_spots.proofs.Accessing.{written_digits}
 use Rattle.vg_spots.proofs.Spotting.{takes_known}
 use Rattle.vg_templates.specs.Outcomes.{Lies, IsKept}
 use Rattle.vg_templates.proofs.Storing.{held_fewer}
-use Rattle.vg_accesses.specs.Accesses.{points_x, loads_x, stores_x, loads_column, stores_column}
+use Rattle.vg_accesses.specs.Accesses.{plus_base, points_x, loads_x, stores_x, loads_column, stores_column}
 
 -- registers that X and a block may have changed; all others are as they were
 abbrev Outside : (d n x : ℕ) → Type 0
@@ -227,9 +228,9 @@ module _ (i : Places) (ok : (m : ℕ) → IsLayout (i.layouts m)) (m : ℕ) (fra
         ram = refl;
       }
 
-  takes_base : (live : ℕ → Bool) (s : State) (base x : ℕ) (v : View) → 0 < base → base + x < 65536 → pair v.regs 26 ≡ x → Held i m live s frames v
+  takes_some : (live : ℕ → Bool) (s : State) (base x : ℕ) (v : View) → 0 < base → base + x < 65536 → pair v.regs 26 ≡ x → Held i m live s frames v
       → Takes e deep v (Subi 26 ((65536 - base) % 256) ∷ Sbci 27 ((65536 - base) / 256) ∷ []) (Pointed i m live s frames (base + x) v)
-  takes_base live s base x v some room at k =
+  takes_some live s base x v some room at k =
       let is = Subi 26 ((65536 - base) % 256) ∷ Sbci 27 ((65536 - base) / 256) ∷ [] in
       let u : View = record v { regs = does_all e.flash is v.regs } in
       let goal = Pointed i m live s frames (base + x) v in
@@ -252,9 +253,20 @@ module _ (i : Places) (ok : (m : ℕ) → IsLayout (i.layouts m)) (m : ℕ) (fra
             same = refl;
           }
 
-  takes_points : (live : ℕ → Bool) (s : State) (base x : ℕ) (a : Operand) (v : View) → 0 < base → base + x < 65536 → IsReady (i.layouts m) live a
+  takes_base : (live : ℕ → Bool) (s : State) (base x : ℕ) (v : View) → base + x < 65536 → pair v.regs 26 ≡ x → Held i m live s frames v
+      → Takes e deep v (plus_base 26 base) (Pointed i m live s frames (base + x) v)
+  takes_base live s base x v room at k = by_test (base == 0) refl
+    where
+      by_test : (b : Bool) → (base == 0) ≡ b
+          → Takes e deep v (if b then [] else Subi 26 ((65536 - base) % 256) ∷ Sbci 27 ((65536 - base) / 256) ∷ []) (Pointed i m live s frames (base + x) v)
+      by_test true q =
+          let none : base ≡ 0 = grind (arith, q) in
+          takes_none e deep v (Pointed i m live s frames (base + x) v) (record { held = k; pointer = omega (arith, at, none); same = refl })
+      by_test false q = let some : 0 < base = grind (arith, q) in takes_some live s base x v some room at k
+
+  takes_points : (live : ℕ → Bool) (s : State) (base x : ℕ) (a : Operand) (v : View) → base + x < 65536 → IsReady (i.layouts m) live a
       → value a s ≡ Some x → Held i m live s frames v → Takes e deep v (points_x (i.layouts m) base a) (Pointed i m live s frames (base + x) v)
-  takes_points live s base x (Known y) v some room ready got k =
+  takes_points live s base x (Known y) v room ready got k =
       let same : y ≡ x = some_same y x got in
       takes_wider e deep v (known 26 2 (base + y)) (Fetched 26 2 (base + y) v) (Pointed i m live s frames (base + x) v)
       (λ u f.
@@ -266,9 +278,9 @@ module _ (i : Places) (ok : (m : ℕ) → IsLayout (i.layouts m)) (m : ℕ) (fra
         same = f.same;
       })
       (takes_known e deep 26 2 (base + y) v)
-  takes_points live s base x (Local j) v some room ready got k =
+  takes_points live s base x (Local j) v room ready got k =
       let l = i.layouts m in
-      let js = Subi 26 ((65536 - base) % 256) ∷ Sbci 27 ((65536 - base) / 256) ∷ [] in
+      let js = plus_base 26 base in
       let goal = Pointed i m live s frames (base + x) v in
       takes_then e deep v (brings l (Local j) 26 2) js (Brought i m live s frames 26 2 x v) goal
       (takes_brings i ok m frames e deep live s (Local j) 26 2 x v ready got (omega arith) (omega arith) k)
@@ -276,15 +288,15 @@ module _ (i : Places) (ok : (m : ℕ) → IsLayout (i.layouts m)) (m : ℕ) (fra
       let holds = b.fetched.holds in
       takes_wider e deep u js (Pointed i m live s frames (base + x) u) goal
       (λ t p. record { held = p.held; pointer = p.pointer; same = p.same ∙ ap (λ (q : View). record q { regs = t.regs }) b.fetched.same })
-      (takes_base live s base x u some room (omega (arith, holds)) b.held))
+      (takes_base live s base x u room (omega (arith, holds)) b.held))
 
   -- ---- a load
 
-  pub takes_loads_column : (live behind : ℕ → Bool) (s : State) (w to base : ℕ) (index : Operand) (x z : ℕ) (v : View) → 0 < w → w ≤ 4 → 0 < base
+  pub takes_loads_column : (live behind : ℕ → Bool) (s : State) (w to base : ℕ) (index : Operand) (x z : ℕ) (v : View) → 0 < w → w ≤ 4
       → 0x100 ≤ base + x → IsReady (i.layouts m) live index → IsSet (i.layouts m) live behind to → value index s ≡ Some x
       → number_at s.ram w (base + x - 0x100) ≡ Some z → Held i m live s frames v
       → Takes e deep v (loads_column (i.layouts m) w to base index) (Lies i m behind (sets to z s) frames v.out)
-  takes_loads_column live behind s w to base index x z v wide small some high ready can got loaded k =
+  takes_loads_column live behind s w to base index x z v wide small high ready can got loaded k =
       let l = i.layouts m in
       let is = points_x l base index in
       let js = loads_x 22 w ++ gives l to 22 w in
@@ -296,7 +308,7 @@ module _ (i : Places) (ok : (m : ℕ) → IsLayout (i.layouts m)) (m : ℕ) (fra
       (λ size.
       let length_is : length v.static ≡ length s.ram = ap length k.ram in
       takes_then e deep v is js (Pointed i m live s frames (base + x) v) goal
-      (takes_points live s base x index v some (omega (arith, size, length_is, inside)) ready got k)
+      (takes_points live s base x index v (omega (arith, size, length_is, inside)) ready got k)
       (λ u p.
       let ram_is : u.static ≡ s.ram = p.held.ram in
       let same_length : length u.static ≡ length s.ram = ap length ram_is in
@@ -317,12 +329,12 @@ module _ (i : Places) (ok : (m : ℕ) → IsLayout (i.layouts m)) (m : ℕ) (fra
   -- ---- a store
 
   -- what a store by X makes of the view
-  pub takes_stores_column : (live behind : ℕ → Bool) (s : State) (w base : ℕ) (index from : Operand) (x y : ℕ) (v : View) → w ≤ 4 → 0 < base
+  pub takes_stores_column : (live behind : ℕ → Bool) (s : State) (w base : ℕ) (index from : Operand) (x y : ℕ) (v : View) → w ≤ 4
       → 0x100 ≤ base + x → base + x - 0x100 + w ≤ length s.ram → IsReady (i.layouts m) live index → IsReady (i.layouts m) live from → IsKept live behind
       → value index s ≡ Some x → value from s ≡ Some y → Held i m live s frames v
       → Takes e deep v (stores_column (i.layouts m) w base index from)
       (Lies i m behind (record s { ram = with_number s.ram w (base + x - 0x100) y }) frames v.out)
-  takes_stores_column live behind s w base index from x y v small some high inside ready ready' kept got got' k =
+  takes_stores_column live behind s w base index from x y v small high inside ready ready' kept got got' k =
       let l = i.layouts m in
       let is = points_x l base index in
       let js = brings l from 22 w ++ stores_x 22 w in
@@ -333,7 +345,7 @@ module _ (i : Places) (ok : (m : ℕ) → IsLayout (i.layouts m)) (m : ℕ) (fra
       (λ size.
       let length_is : length v.static ≡ length s.ram = ap length k.ram in
       takes_then e deep v is js (Pointed i m live s frames (base + x) v) goal
-      (takes_points live s base x index v some (omega (arith, size, length_is, inside)) ready got k)
+      (takes_points live s base x index v (omega (arith, size, length_is, inside)) ready got k)
       (λ u p. takes_then e deep u (brings l from 22 w) (stores_x 22 w) (Brought i m live s frames 22 w y u) goal
       (takes_brings i ok m frames e deep live s from 22 w y u ready' got' (omega arith) (omega arith) p.held)
       (λ t b.

@@ -1,5 +1,5 @@
 -- The code for loads and stores of columns in RAM. X points to the bytes, one behind the other.
-use Rattle.std.specs.Prelude.{ℕ, zero, suc, ◌+◌, ◌-◌, ◌/◌, ◌%◌, List, [], ◌∷◌, ◌++◌}
+use Rattle.std.specs.Prelude.{ℕ, zero, suc, ◌+◌, ◌-◌, ◌/◌, ◌%◌, ◌==◌, List, [], ◌∷◌, ◌++◌, if◌then◌else◌}
 use Rattle.avr_instr.specs.declared.instr.Instr.{Instr}
 use Rattle.avr_instr.specs.declared.instr.Instr.TheVariants.{LdXPlus, Sbci, StXPlus, Subi}
 use Rattle.vg_lin.specs.declared.instr.Operand.{Operand}
@@ -8,10 +8,14 @@ use Rattle.vg_frames.specs.Layouts.{Layout}
 use Rattle.vg_spots.specs.Transfers.{known}
 use Rattle.vg_spots.specs.Held.{brings, gives}
 
+-- a base is added to a pair of registers, as 65,536 less it is taken away; the base 0 costs nothing
+abbrev pub plus_base : (d base : ℕ) → List Instr
+plus_base d base = if base == 0 then [] else Subi d ((65536 - base) % 256) ∷ Sbci (d + 1) ((65536 - base) / 256) ∷ []
+
 -- X is the address of a base with an index added
 abbrev pub points_x : Layout → (base : ℕ) → Operand → List Instr
 points_x l base (Known x) = known 26 2 (base + x)
-points_x l base (Local k) = brings l (Local k) 26 2 ++ Subi 26 ((65536 - base) % 256) ∷ Sbci 27 ((65536 - base) / 256) ∷ []
+points_x l base (Local k) = brings l (Local k) 26 2 ++ plus_base 26 base
 
 abbrev pub loads_x : (d count : ℕ) → List Instr
 loads_x d zero = []

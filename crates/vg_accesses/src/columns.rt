@@ -17,12 +17,12 @@ ghost use Rattle.vg_accesses.specs.Accesses.{loads_column, stores_column};
 /// the low bytes of the value.
 pub fn columns_are_reached()
     ensures load { (e : Run) (i : Places) → ((m : ℕ) → IsLayout (i.layouts m)) → (m : ℕ) (frames : List (Frame State)) (live behind : ℕ → Bool)
-        (s : State) (w to base : ℕ) (index : Operand) (x z : ℕ) (v : View) → 0 < w → w ≤ 4 → 0 < base → 0x100 ≤ base + x
+        (s : State) (w to base : ℕ) (index : Operand) (x z : ℕ) (v : View) → 0 < w → w ≤ 4 → 0x100 ≤ base + x
         → IsReady (i.layouts m) live index → IsSet (i.layouts m) live behind to → value index s ≡ Some x
         → number_at s.ram w (base + x - 0x100) ≡ Some z → Held i m live s frames v
         → Takes e ⊥ v (loads_column (i.layouts m) w to base index) (Lies i m behind (sets to z s) frames v.out) }
     ensures store { (e : Run) (i : Places) → ((m : ℕ) → IsLayout (i.layouts m)) → (m : ℕ) (frames : List (Frame State)) (live behind : ℕ → Bool)
-        (s : State) (w base : ℕ) (index from : Operand) (x y : ℕ) (v : View) → w ≤ 4 → 0 < base → 0x100 ≤ base + x
+        (s : State) (w base : ℕ) (index from : Operand) (x y : ℕ) (v : View) → w ≤ 4 → 0x100 ≤ base + x
         → base + x - 0x100 + w ≤ length s.ram → IsReady (i.layouts m) live index → IsReady (i.layouts m) live from → IsKept live behind
         → value index s ≡ Some x → value from s ≡ Some y → Held i m live s frames v
         → Takes e ⊥ v (stores_column (i.layouts m) w base index from)

@@ -105,9 +105,9 @@ module _ (m : Procedure) (s : IsSound m) (pc : ℕ) where
   plains p (Compute c) h f = computes p c c.operator c.right refl refl h f
   plains p (Product to a b) (ht, ha, hb) f = ((ready a ha, ready b hb), set to ht)
   plains p (DivideStep r d a) h f = divides r d a p h f
-  plains p (Load Ram w to a) (hw, ht, ha) f = ((hw, f), (ready a.index ha, set to ht))
-  plains p (Load Flash w to a) (hw, ht, ha) f = ((hw, f), (ready a.index ha, set to ht))
-  plains p (Store w a from) (hw, ha, hf) f = ((hw, f), ((ready a.index ha, ready from hf), λ k e. e))
+  plains p (Load Ram w to a) (hw, ht, ha) f = (hw, (ready a.index ha, set to ht))
+  plains p (Load Flash w to a) (hw, ht, ha) f = (hw, (ready a.index ha, set to ht))
+  plains p (Store w a from) (hw, ha, hf) f = (hw, ((ready a.index ha, ready from hf), λ k e. e))
   plains p (ReadDevice to address) ht f = (f, set to ht)
   plains p (WriteDevice address a) ha f = (f, (ready a ha, λ k e. e))
   plains p (Push w a) (hw, ha) f = (hw.1, (ready a ha, λ k e. e))

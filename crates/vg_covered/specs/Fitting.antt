@@ -1,5 +1,5 @@
 -- What instructions need beside what every procedure of linear code keeps, so that there is code for them.
-use Rattle.std.specs.Prelude.{◌<◌, slice_get}
+use Rattle.std.specs.Prelude.{slice_get}
 use Rattle.vg_meaning.specs.Device.{IsDeviceAddress}
 use Rattle.vg_codes.specs.Dispatch.{cases_of}
 use Rattle.vg_lin.specs.declared.instr.Operand.{Operand}
@@ -7,7 +7,7 @@ use Rattle.vg_lin.specs.declared.instr.Operand.TheVariants.{Local}
 use Rattle.vg_lin.specs.declared.instr.Operator.{Operator}
 use Rattle.vg_lin.specs.declared.instr.Operator.TheVariants.{Times, Divide, Remainder, ShiftLeft, ShiftRight}
 use Rattle.vg_lin.specs.declared.instr.Plain.{Plain as PlainInstr}
-use Rattle.vg_lin.specs.declared.instr.Plain.TheVariants.{Compute, DivideStep, Load, Store, ReadDevice, WriteDevice, Find}
+use Rattle.vg_lin.specs.declared.instr.Plain.TheVariants.{Compute, DivideStep, ReadDevice, WriteDevice, Find}
 use Rattle.vg_lin.specs.declared.instr.Instr.{Instr}
 use Rattle.vg_lin.specs.declared.instr.Instr.TheVariants.{Plain}
 use Rattle.vg_lin.specs.Program.{Program}
@@ -23,12 +23,10 @@ IsExpanded ShiftLeft (Local i) = ⊥
 IsExpanded ShiftRight (Local i) = ⊥
 IsExpanded op a = Unit {0}
 
--- No column or table begins at address 0, what is read and written are device registers, and the numbers of a dispatch have two bytes.
+-- What is read and written are device registers, a divisor that is known has four bytes, and the numbers of a dispatch have two.
 abbrev pub IsPlainFit : Program → PlainInstr → Type 0
 IsPlainFit p (Compute c) = IsExpanded c.operator c.right
 IsPlainFit p (DivideStep r d a) = IsFourBytes a
-IsPlainFit p (Load m w to a) = 0 < a.base
-IsPlainFit p (Store w a from) = 0 < a.base
 IsPlainFit p (ReadDevice to address) = IsDeviceAddress address
 IsPlainFit p (WriteDevice address a) = IsDeviceAddress address
 IsPlainFit p (Find place to a) = AreCases p.codes.code (cases_of (slice_get p.dispatches place))

@@ -1,7 +1,7 @@
 -- The code that reads tables in flash, and that finds the procedure of a dispatch.
-use Rattle.std.specs.Prelude.{ℕ, zero, suc, ◌+◌, ◌-◌, ◌/◌, ◌%◌, List, [], ◌∷◌, ◌++◌}
+use Rattle.std.specs.Prelude.{ℕ, zero, suc, ◌+◌, List, [], ◌∷◌, ◌++◌}
 use Rattle.avr_instr.specs.declared.instr.Instr.{Instr}
-use Rattle.avr_instr.specs.declared.instr.Instr.TheVariants.{Brbc, LpmZPlus, Movw, Sbci, Subi}
+use Rattle.avr_instr.specs.declared.instr.Instr.TheVariants.{Brbc, LpmZPlus, Movw}
 use Rattle.vg_codes.specs.declared.case.Case.{Case}
 use Rattle.vg_lin.specs.declared.instr.Operand.{Operand}
 use Rattle.vg_lin.specs.declared.instr.Operand.TheVariants.{Local, Known}
@@ -9,12 +9,12 @@ use Rattle.vg_frames.specs.Layouts.{Layout}
 use Rattle.vg_spots.specs.Transfers.{known}
 use Rattle.vg_spots.specs.Held.{brings, gives}
 use Rattle.vg_chains.specs.Chains.{takes_known}
+use Rattle.vg_accesses.specs.Accesses.{plus_base}
 
 -- Z is the address of a base with an index added
 abbrev pub points_z : Layout → (base : ℕ) → Operand → List Instr
 points_z l base (Known x) = known 30 2 (base + x)
-points_z l base (Local k) =
-    brings l (Local k) 26 2 ++ Movw 30 26 ∷ Subi 30 ((65536 - base) % 256) ∷ Sbci 31 ((65536 - base) / 256) ∷ []
+points_z l base (Local k) = brings l (Local k) 26 2 ++ Movw 30 26 ∷ plus_base 30 base
 
 abbrev pub loads_z : (d count : ℕ) → List Instr
 loads_z d zero = []

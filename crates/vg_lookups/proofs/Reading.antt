@@ -1,5 +1,6 @@
 -- Loads by Z from tables in flash.
-use Rattle.std.proofs.Common.{◌≡◌, ◌≢◌, ℕ, zero, suc, ◌+◌, ◌-◌, ◌*◌, ◌/◌, ◌%◌, ◌<◌, ◌≤◌, ◌⊎◌, inl, inr, Bool, List, [], ◌∷◌, ◌++◌}
+use Rattle.std.proofs.Common.{◌≡◌, ◌≢◌, ℕ, zero, suc, ◌+◌, ◌-◌, ◌*◌, ◌/◌, ◌%◌, ◌<◌, ◌≤◌, ◌⊎◌, inl, inr, List, [], ◌∷◌, ◌++◌}
+use Rattle.std.proofs.Common.{Bool, true, false, ◌==◌, if◌then◌else◌}
 use Rattle.std.proofs.Common.{length, Some, refl, sym, ap, ◌∙◌, subst, arith, slice_index}
 use Rattle.avr_instr.specs.declared.instr.Instr.TheVariants.{Movw, Sbci, Subi}
 use Rattle.avr_isa.specs.Cpu.{flash_byte}
@@ -24,6 +25,7 @@ use Rattle.vg_spots.proofs.Composing.{takes_then, takes_wider, takes_bytes, take
 use Rattle.vg_spots.proofs.Holding.{held_scratch, takes_brings, takes_gives}
 use Rattle.vg_spots.proofs.Spotting.{takes_known}
 use Rattle.vg_templates.specs.Outcomes.{Lies}
+use Rattle.vg_accesses.specs.Accesses.{plus_base}
 use Rattle.vg_accesses.proofs.Pointing.{some_there}
 use Rattle.vg_instr_code.specs.Lookups.{points_z, loads_z, loads_table}
 use Rattle.vg_lookups.specs.Tables.{HoldsTables}
@@ -103,9 +105,9 @@ module _ (i : Places) (ok : (m : ℕ) → IsLayout (i.layouts m)) (m : ℕ) (fra
       agree r (inl h) = let up = h.1 in others r (omega arith) (inl up)
       agree r (inr h) = others r h.1 (inr h.0)
 
-  takes_base : (live : ℕ → Bool) (s : State) (base x : ℕ) (v : View) → 0 < base → base + x < 65536 → pair v.regs 26 ≡ x → Held i m live s frames v
+  takes_some : (live : ℕ → Bool) (s : State) (base x : ℕ) (v : View) → 0 < base → base + x < 65536 → pair v.regs 26 ≡ x → Held i m live s frames v
       → Takes e deep v (Movw 30 26 ∷ Subi 30 ((65536 - base) % 256) ∷ Sbci 31 ((65536 - base) / 256) ∷ []) (Pointed i m live s frames (base + x) v)
-  takes_base live s base x v some room at k =
+  takes_some live s base x v some room at k =
       let is = Movw 30 26 ∷ Subi 30 ((65536 - base) % 256) ∷ Sbci 31 ((65536 - base) / 256) ∷ [] in
       let u : View = record v { regs = does_all e.flash is v.regs } in
       let goal = Pointed i m live s frames (base + x) v in
@@ -131,9 +133,38 @@ module _ (i : Places) (ok : (m : ℕ) → IsLayout (i.layouts m)) (m : ℕ) (fra
             out = refl;
           }
 
-  takes_points : (live : ℕ → Bool) (s : State) (base x : ℕ) (a : Operand) (v : View) → 0 < base → base + x < 65536 → IsReady (i.layouts m) live a
+  -- the base 0 is not added
+  takes_none_added : (live : ℕ → Bool) (s : State) (x : ℕ) (v : View) → pair v.regs 26 ≡ x → Held i m live s frames v
+      → Takes e deep v (Movw 30 26 ∷ []) (Pointed i m live s frames x v)
+  takes_none_added live s x v at k =
+      let is = Movw 30 26 ∷ [] in
+      let u : View = record v { regs = does_all e.flash is v.regs } in
+      let goal = Pointed i m live s frames x v in
+      takes_wider e deep v is (λ t. t ≡ u) goal (λ t put. subst goal (sym put) pointed) (takes_plain e deep v is (tt, tt))
+    where
+      pointed : Pointed i m live s frames x v (record v { regs = does_all e.flash (Movw 30 26 ∷ []) v.regs })
+      pointed =
+          record {
+            held =
+                by_scratch live s v (record v { regs = does_all e.flash (Movw 30 26 ∷ []) v.regs })
+                (λ r low beside. put_other (put v.regs 30 _) 31 _ r (omega arith) ∙ put_other v.regs 30 _ r (omega arith)) refl k;
+            pointer = at;
+            out = refl;
+          }
+
+  takes_base : (live : ℕ → Bool) (s : State) (base x : ℕ) (v : View) → base + x < 65536 → pair v.regs 26 ≡ x → Held i m live s frames v
+      → Takes e deep v (Movw 30 26 ∷ plus_base 30 base) (Pointed i m live s frames (base + x) v)
+  takes_base live s base x v room at k = by_test (base == 0) refl
+    where
+      by_test : (b : Bool) → (base == 0) ≡ b
+          → Takes e deep v (Movw 30 26 ∷ (if b then [] else Subi 30 ((65536 - base) % 256) ∷ Sbci 31 ((65536 - base) / 256) ∷ []))
+          (Pointed i m live s frames (base + x) v)
+      by_test true q = let none : base ≡ 0 = grind (arith, q) in takes_none_added live s (base + x) v (omega (arith, at, none)) k
+      by_test false q = let some : 0 < base = grind (arith, q) in takes_some live s base x v some room at k
+
+  takes_points : (live : ℕ → Bool) (s : State) (base x : ℕ) (a : Operand) (v : View) → base + x < 65536 → IsReady (i.layouts m) live a
       → value a s ≡ Some x → Held i m live s frames v → Takes e deep v (points_z (i.layouts m) base a) (Pointed i m live s frames (base + x) v)
-  takes_points live s base x (Known y) v some room ready got k =
+  takes_points live s base x (Known y) v room ready got k =
       let same : y ≡ x = some_same y x got in
       takes_wider e deep v (known 30 2 (base + y)) (Fetched 30 2 (base + y) v) (Pointed i m live s frames (base + x) v)
       (λ u f.
@@ -147,9 +178,9 @@ module _ (i : Places) (ok : (m : ℕ) → IsLayout (i.layouts m)) (m : ℕ) (fra
     where
       some_same : (y x : ℕ) → Some y ≡ Some x → y ≡ x
       some_same y x e1 = cc
-  takes_points live s base x (Local j) v some room ready got k =
+  takes_points live s base x (Local j) v room ready got k =
       let l = i.layouts m in
-      let js = Movw 30 26 ∷ Subi 30 ((65536 - base) % 256) ∷ Sbci 31 ((65536 - base) / 256) ∷ [] in
+      let js = Movw 30 26 ∷ plus_base 30 base in
       let goal = Pointed i m live s frames (base + x) v in
       takes_then e deep v (brings l (Local j) 26 2) js (Brought i m live s frames 26 2 x v) goal
       (takes_brings i ok m frames e deep live s (Local j) 26 2 x v ready got (omega arith) (omega arith) k)
@@ -157,14 +188,14 @@ module _ (i : Places) (ok : (m : ℕ) → IsLayout (i.layouts m)) (m : ℕ) (fra
       let holds = b.fetched.holds in
       takes_wider e deep u js (Pointed i m live s frames (base + x) u) goal
       (λ t p. record { held = p.held; pointer = p.pointer; out = p.out ∙ ap (λ (q : View). q.out) b.fetched.same })
-      (takes_base live s base x u some room (omega (arith, holds)) b.held))
+      (takes_base live s base x u room (omega (arith, holds)) b.held))
 
   pub takes_loads_table : (tables : List ℕ) (live behind : ℕ → Bool) (s : State) (w to base : ℕ) (index : Operand) (x z : ℕ) (v : View)
-      → HoldsTables e.flash tables → 0 < w → w ≤ 4 → 0 < base → first_address Flash ≤ base + x → IsReady (i.layouts m) live index
+      → HoldsTables e.flash tables → 0 < w → w ≤ 4 → first_address Flash ≤ base + x → IsReady (i.layouts m) live index
       → IsSet (i.layouts m) live behind to → value index s ≡ Some x → number_at tables w (base + x - first_address Flash) ≡ Some z
       → Held i m live s frames v
       → Takes e deep v (loads_table (i.layouts m) w to base index) (Lies i m behind (sets to z s) frames v.out)
-  takes_loads_table tables live behind s w to base index x z v holds_them wide small some high ready can got loaded k =
+  takes_loads_table tables live behind s w to base index x z v holds_them wide small high ready can got loaded k =
       let l = i.layouts m in
       let at = base + x - first_address Flash in
       let there = some_there tables w at z wide loaded in
@@ -174,7 +205,7 @@ module _ (i : Places) (ok : (m : ℕ) → IsLayout (i.layouts m)) (m : ℕ) (fra
       let last = gives l to 22 w in
       let goal = Lies i m behind (sets to z s) frames v.out in
       takes_then e deep v (points_z l base index) (is ++ last) (Pointed i m live s frames (base + x) v) goal
-      (takes_points live s base x index v some (omega (arith, room, inside, wide)) ready got k)
+      (takes_points live s base x index v (omega (arith, room, inside, wide)) ready got k)
       (λ u p.
       let pointer = p.pointer in
       let f = loads_z-load e.flash tables holds_them 22 w at u.regs (omega (arith, small)) (λ more. omega (arith, pointer, high)) inside in

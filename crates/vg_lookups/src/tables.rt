@@ -19,7 +19,7 @@ ghost use Rattle.vg_lookups.specs.Tables.{HoldsTables};
 pub fn tables_are_read()
     ensures { (e : Run) (i : Places) → ((m : ℕ) → IsLayout (i.layouts m)) → (m : ℕ) (frames : List (Frame State)) (tables : List ℕ)
         (live behind : ℕ → Bool) (s : State) (w to base : ℕ) (index : Operand) (x z : ℕ) (v : View) → HoldsTables e.flash tables → 0 < w → w ≤ 4
-        → 0 < base → first_address Flash ≤ base + x → IsReady (i.layouts m) live index → IsSet (i.layouts m) live behind to → value index s ≡ Some x
+        → first_address Flash ≤ base + x → IsReady (i.layouts m) live index → IsSet (i.layouts m) live behind to → value index s ≡ Some x
         → number_at tables w (base + x - first_address Flash) ≡ Some z → Held i m live s frames v
         → Takes e ⊥ v (loads_table (i.layouts m) w to base index) (Lies i m behind (sets to z s) frames v.out) }
 {}

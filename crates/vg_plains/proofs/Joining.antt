@@ -225,7 +225,7 @@ module _ (i : Places) (ok : (m : ℕ) → IsLayout (i.layouts m)) (m : ℕ) (fra
           let there = table_there s w (a.base + x) z is' in
           by_takes is v (Lies i m behind s' frames o') pc t
           (ended behind is v (sets to z s) s' v.out o' last
-          (takes_loads_table i ok m frames e deep p.tables live behind s w to a.base a.index x z v tables can.0.0.0 can.0.0.1 can.0.1 there.0 can.1.0 can.1.1 got
+          (takes_loads_table i ok m frames e deep p.tables live behind s w to a.base a.index x z v tables can.0.0 can.0.1 there.0 can.1.0 can.1.1 got
           there.1 k)) stand room some h
       goes_plain live behind (Find place to a) s s' o' v pc t made can front full k stand room some h =
           let cases = cases_of (slice_get p.dispatches place) in

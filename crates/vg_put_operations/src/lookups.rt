@@ -5,32 +5,30 @@ ghost use Rattle.vg_alloc.specs.Locations.{layout};
 ghost use Rattle.vg_put_values.specs.Within.{IsThere};
 ghost use Rattle.vg_put_operations.specs.Coded.{code_from};
 
-use avr_instr::{FlagBit, Instr, NearOffset, RegisterBesideZ, RegisterPair, UpperRegister};
+use avr_instr::{FlagBit, Instr, NearOffset, RegisterBesideZ, RegisterPair};
 use vg_alloc::Locations;
 use vg_base::{NoMemory, Row};
 use vg_codes::Case;
 use vg_lin::{Address, Operand};
 use vg_put_chains::{put_known, put_takes_known};
+use vg_put_plain::put_plus_base;
 use vg_put_values::{put_brings, put_gives};
 
-// Z becomes the address. A base is not 0, so that it can be taken away as 65,536 less it.
+// Z becomes the address.
 fn put_points_z(
     code: &mut Row<Instr>,
     locations: &Locations,
     address: Address,
 ) -> Result<(), NoMemory>
-    requires base { 0 < address.base }
     requires index { IsThere (layout locations.now) address.index }
     ensures { OnOk result (code.new ≡ code.old ++ points_z (layout locations.now) address.base address.index) }
 {
     match address.index {
         Operand::Known(x) => put_known(code, 30, 2, u64::from(address.base) + u64::from(x)),
         Operand::Local(_) => {
-            let less = 65535 - address.base + 1;
             put_brings(code, locations, address.index, 26, 2)?;
             code.push(Instr::Movw(RegisterPair::new(30), RegisterPair::new(26)))?;
-            code.push(Instr::Subi(UpperRegister::new(30), (less % 256) as u8))?;
-            code.push(Instr::Sbci(UpperRegister::new(31), (less / 256) as u8))
+            put_plus_base(code, 30, address.base)
         }
     }
 }
@@ -56,7 +54,6 @@ pub fn put_loads_table(
 ) -> Result<(), NoMemory>
     requires narrow { width ≤ 4 }
     requires there { to < length locations.now.widths }
-    requires base { 0 < address.base }
     requires index { IsThere (layout locations.now) address.index }
     ensures { OnOk result (code.new ≡ code.old ++ loads_table (layout locations.now) width to address.base address.index) }
 {

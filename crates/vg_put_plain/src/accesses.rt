@@ -1,6 +1,6 @@
 // Loads and stores of columns in RAM.
 ghost use Rattle.std.specs.Prelude.{◌≡◌, ◌≤◌, ◌<◌, ◌+◌, ◌++◌, OnOk, length};
-ghost use Rattle.vg_accesses.specs.Accesses.{points_x, loads_x, stores_x, loads_column, stores_column};
+ghost use Rattle.vg_accesses.specs.Accesses.{plus_base, points_x, loads_x, stores_x, loads_column, stores_column};
 ghost use Rattle.vg_alloc.specs.Locations.{layout};
 ghost use Rattle.vg_put_values.specs.Within.{IsThere};
 
@@ -11,23 +11,34 @@ use vg_lin::{Address, Operand};
 use vg_put_chains::put_known;
 use vg_put_values::{put_brings, put_gives};
 
-// X becomes the address. A base is not 0, so that it can be taken away as 65,536 less it.
+/// Adds a base to a pair of upper registers: 65,536 less it is taken away. The base 0 costs no instruction.
+pub fn put_plus_base(code: &mut Row<Instr>, d: u8, base: u16) -> Result<(), NoMemory>
+    requires upper { 16 ≤ d }
+    requires pair { d < 31 }
+    ensures { OnOk result (code.new ≡ code.old ++ plus_base d base) }
+{
+    if base == 0 {
+        return Ok(());
+    }
+    let less = 65535 - base + 1;
+    code.push(Instr::Subi(UpperRegister::new(d), (less % 256) as u8))?;
+    code.push(Instr::Sbci(UpperRegister::new(d + 1), (less / 256) as u8))
+}
+
+// X becomes the address.
 fn put_points_x(
     code: &mut Row<Instr>,
     locations: &Locations,
     address: Address,
 ) -> Result<(), NoMemory>
-    requires base { 0 < address.base }
     requires index { IsThere (layout locations.now) address.index }
     ensures { OnOk result (code.new ≡ code.old ++ points_x (layout locations.now) address.base address.index) }
 {
     match address.index {
         Operand::Known(x) => put_known(code, 26, 2, u64::from(address.base) + u64::from(x)),
         Operand::Local(_) => {
-            let less = 65535 - address.base + 1;
             put_brings(code, locations, address.index, 26, 2)?;
-            code.push(Instr::Subi(UpperRegister::new(26), (less % 256) as u8))?;
-            code.push(Instr::Sbci(UpperRegister::new(27), (less / 256) as u8))
+            put_plus_base(code, 26, address.base)
         }
     }
 }
@@ -64,7 +75,6 @@ pub fn put_loads_column(
 ) -> Result<(), NoMemory>
     requires narrow { width ≤ 4 }
     requires there { to < length locations.now.widths }
-    requires base { 0 < address.base }
     requires index { IsThere (layout locations.now) address.index }
     ensures { OnOk result (code.new ≡ code.old ++ loads_column (layout locations.now) width to address.base address.index) }
 {
@@ -82,7 +92,6 @@ pub fn put_stores_column(
     from: Operand,
 ) -> Result<(), NoMemory>
     requires narrow { width ≤ 4 }
-    requires base { 0 < address.base }
     requires index { IsThere (layout locations.now) address.index }
     requires value { IsThere (layout locations.now) from }
     ensures { OnOk result (code.new ≡ code.old ++ stores_column (layout locations.now) width address.base address.index from) }

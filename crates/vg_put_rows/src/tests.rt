@@ -123,6 +123,32 @@ fn columns_and_tables_are_reached(rt: HostRuntime) {
     assert!(rt; holds);
 }
 
+fn at_addresses(alloc: Global) -> Result<Row<Instr>, NoMemory> {
+    let locations = sample_locations(alloc)?;
+    let mut code = Row::new(alloc);
+    let element = Address {
+        base: 0,
+        index: Operand::Local(0),
+    };
+    put_loads_column(&mut code, &locations, 1, 1, element)?;
+    put_loads_table(&mut code, &locations, 1, 1, element)?;
+    Ok(code)
+}
+
+// The same where the address is a local's alone, as that of an element of an array is: nothing is added to it.
+#[test]
+fn addresses_in_locals_are_reached(rt: HostRuntime) {
+    let alloc = rt.alloc();
+    let code = at_addresses(alloc);
+    let expected = [
+        0x81AE, 0x81BF, 0x916D, 0x8369, // LDD r26, Y+6; LDD r27, Y+7; LD r22, X+; STD Y+1, r22
+        0x81AE, 0x81BF, 0x01FD, // LDD r26, Y+6; LDD r27, Y+7; MOVW r30, r26
+        0x9165, 0x8369, // LPM r22, Z+; STD Y+1, r22
+    ];
+    let holds = is_spelled(alloc, &code, &expected);
+    assert!(rt; holds);
+}
+
 fn branched(alloc: Global) -> Result<Row<Instr>, NoMemory> {
     let locations = sample_locations(alloc)?;
     let mut code = Row::new(alloc);

@@ -25,7 +25,7 @@ use Rattle.vg_templates.specs.Operands.{least, known_bytes, finds_spot, finds, f
 use Rattle.vg_templates.specs.Plain.{copies, first_of, operates, works}
 use Rattle.vg_templates.proofs.Bytes.{least_is}
 use Rattle.vg_templates.proofs.Finding.{beside_registers, found-length, found-beside}
-use Rattle.vg_accesses.specs.Accesses.{points_x, loads_x, stores_x}
+use Rattle.vg_accesses.specs.Accesses.{plus_base, points_x, loads_x, stores_x}
 use Rattle.vg_straight.specs.Straight.{plain_code, IsCovered}
 
 abbrev Fine : List Instr → Type 0
@@ -238,12 +238,19 @@ module _ (l : Layout) (ok : IsLayout l) (live behind : ℕ → Bool) where
       fine_append (brings l a 22 (width_of l to)) (gives l to 22 (width_of l to))
       (brings-fine l ok live a 22 (width_of l to) ready (omega arith) (omega arith)) (gives-fine l ok live behind to 22 (width_of l to) can (omega arith))
 
-  points-fine : (base : ℕ) (a : Operand) → 0 < base → IsReady l live a → Fine (points_x l base a)
-  points-fine base (Known x) some ready = known-fine 26 2 (base + x) (omega arith) (omega arith)
-  points-fine base (Local j) some ready =
-      fine_append (brings l (Local j) 26 2) (Subi 26 ((65536 - base) % 256) ∷ Sbci 27 ((65536 - base) / 256) ∷ [])
-      (brings-fine l ok live (Local j) 26 2 ready (omega arith) (omega arith))
-      (((omega arith, omega arith), omega arith), (((omega arith, omega arith), omega arith), tt))
+  base-fine : (base : ℕ) → Fine (plus_base 26 base)
+  base-fine base = by_test (base == 0) refl
+    where
+      by_test : (b : Bool) → (base == 0) ≡ b → Fine (if b then [] else Subi 26 ((65536 - base) % 256) ∷ Sbci 27 ((65536 - base) / 256) ∷ [])
+      by_test true q = tt
+      by_test false q =
+          let some : 0 < base = grind (arith, q) in
+          (((omega arith, omega arith), omega arith), (((omega arith, omega arith), omega (arith, some)), tt))
+
+  points-fine : (base : ℕ) (a : Operand) → IsReady l live a → Fine (points_x l base a)
+  points-fine base (Known x) ready = known-fine 26 2 (base + x) (omega arith) (omega arith)
+  points-fine base (Local j) ready =
+      fine_append (brings l (Local j) 26 2) (plus_base 26 base) (brings-fine l ok live (Local j) 26 2 ready (omega arith) (omega arith)) (base-fine base)
 
   pub plain_code-fine : (codes : ℕ → ℕ) (q : Plain) → IsCovered l live behind q → Fine (plain_code l codes q)
   plain_code-fine codes (Copy to a) can = copies-fine to a can.0 can.1
@@ -257,12 +264,12 @@ module _ (l : Layout) (ok : IsLayout l) (live behind : ℕ → Bool) where
       (fine_append (works l c.operator c.right n) (gives l c.to 22 n) (all_works-fine c.operator c.right n can.1.0.1 small)
       (gives-fine l ok live behind c.to 22 n can.1.1 (omega (arith, small))))
   plain_code-fine codes (Load Ram w to a) can =
-      let small = can.0.0.1 in
-      fine_append (points_x l a.base a.index) (loads_x 22 w ++ gives l to 22 w) (points-fine a.base a.index can.0.1 can.1.0)
+      let small = can.0.1 in
+      fine_append (points_x l a.base a.index) (loads_x 22 w ++ gives l to 22 w) (points-fine a.base a.index can.1.0)
       (fine_append (loads_x 22 w) (gives l to 22 w) (loads_x-fine 22 w (omega (arith, small))) (gives-fine l ok live behind to 22 w can.1.1 (omega (arith, small))))
   plain_code-fine codes (Store w a from) can =
-      let small = can.0.0.1 in
-      fine_append (points_x l a.base a.index) (brings l from 22 w ++ stores_x 22 w) (points-fine a.base a.index can.0.1 can.1.0.0)
+      let small = can.0.1 in
+      fine_append (points_x l a.base a.index) (brings l from 22 w ++ stores_x 22 w) (points-fine a.base a.index can.1.0.0)
       (fine_append (brings l from 22 w) (stores_x 22 w) (brings-fine l ok live from 22 w can.1.0.1 (omega arith) (omega (arith, small)))
       (stores_x-fine 22 w (omega (arith, small))))
   plain_code-fine codes (ReadDevice to address) can =

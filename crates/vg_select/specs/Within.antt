@@ -1,4 +1,4 @@
--- Instructions for which there is code: operands are there, widths are of at most four bytes, and no base of a column or a table is 0.
+-- Instructions for which there is code: operands are there, and widths are of at most four bytes.
 use Rattle.std.specs.Prelude.{ℕ, ◌<◌, ◌≤◌, length, Option, Some, None}
 use Rattle.std.specs.List.{AllByRecursion}
 use Rattle.vg_lin.specs.declared.instr.Passed.{Passed}
@@ -22,8 +22,8 @@ IsPlainWithin l (Copy to a) = IsIn l to × IsThere l a
 IsPlainWithin l (Compute c) = (c.width ≤ 4) × IsIn l c.to × IsThere l c.left × IsThere l c.right
 IsPlainWithin l (Product to a b) = IsIn l to × IsThere l a × IsThere l b
 IsPlainWithin l (DivideStep r d a) = IsIn l r × IsIn l d × IsThere l a
-IsPlainWithin l (Load m w to a) = (w ≤ 4) × IsIn l to × (0 < a.base) × IsThere l a.index
-IsPlainWithin l (Store w a from) = (w ≤ 4) × (0 < a.base) × IsThere l a.index × IsThere l from
+IsPlainWithin l (Load m w to a) = (w ≤ 4) × IsIn l to × IsThere l a.index
+IsPlainWithin l (Store w a from) = (w ≤ 4) × IsThere l a.index × IsThere l from
 IsPlainWithin l (ReadDevice to address) = IsIn l to
 IsPlainWithin l (WriteDevice address a) = IsThere l a
 IsPlainWithin l (Push w a) = (w ≤ 4) × IsThere l a

@@ -60,7 +60,7 @@ abbrev pub CanBeCoded : Layout → Program → (live behind : ℕ → Bool) → 
 CanBeCoded l p live behind (Compute c) = CanCompute l live behind c c.operator c.right
 CanBeCoded l p live behind (Product to a b) = (IsReady l live a × IsReady l live b) × IsSet l live behind to
 CanBeCoded l p live behind (DivideStep r d a) = CanDivide l live behind r d a
-CanBeCoded l p live behind (Load Flash w to a) = (IsWidth w × (0 < a.base)) × (IsReady l live a.index × IsSet l live behind to)
+CanBeCoded l p live behind (Load Flash w to a) = IsWidth w × (IsReady l live a.index × IsSet l live behind to)
 CanBeCoded l p live behind (Pop w to) = IsWidth w × IsSet l live behind to
 CanBeCoded l p live behind (Find place to a) =
     AreCases p.codes.code (cases_of (slice_get p.dispatches place)) × (IsReady l live a × IsSet l live behind to)

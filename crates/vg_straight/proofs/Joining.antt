@@ -76,7 +76,7 @@ module _ (i : Places) (ok : (m : ℕ) → IsLayout (i.layouts m)) (m : ℕ) (fra
       let (z, (is, last)) = used (loaded p Ram s w (index_of Ram (a.base + x))) (λ z. GoesOn (sets to z s) v.out) s' o' more in
       let there = load_there w (a.base + x) z is (index_of Ram (a.base + x)) refl in
       ended behind (Load Ram w to a) v (sets to z s) s' v.out o' last
-      (takes_loads_column i ok m frames e deep live behind s w to a.base a.index x z v can.0.0.0 can.0.0.1 can.0.1 there.0 can.1.0 can.1.1 got there.1 k)
+      (takes_loads_column i ok m frames e deep live behind s w to a.base a.index x z v can.0.0 can.0.1 there.0 can.1.0 can.1.1 got there.1 k)
     where
       load_there : (w address z : ℕ) → loaded p Ram s w (index_of Ram address) ≡ Some z → (j : Option ℕ) → index_of Ram address ≡ j
           → (0x100 ≤ address) × (number_at s.ram w (address - 0x100) ≡ Some z)
@@ -102,7 +102,7 @@ module _ (i : Places) (ok : (m : ℕ) → IsLayout (i.layouts m)) (m : ℕ) (fra
       let (y, (got', last)) = used (value from s) (λ y. stores s v.out w y (index_of Ram (a.base + x))) s' o' more in
       let there = store_there (a.base + x) y last (index_of Ram (a.base + x)) refl in
       ended behind (Store w a from) v (record s { ram = with_number s.ram w (a.base + x - 0x100) y }) s' v.out o' there.2
-      (takes_stores_column i ok m frames e deep live behind s w a.base a.index from x y v can.0.0.1 can.0.1 there.0 there.1 can.1.0.0 can.1.0.1 can.1.1 got got' k)
+      (takes_stores_column i ok m frames e deep live behind s w a.base a.index from x y v can.0.1 there.0 there.1 can.1.0.0 can.1.0.1 can.1.1 got got' k)
     where
       store_there : (address y : ℕ) → stores s v.out w y (index_of Ram address) ≡ GoesOn s' o' → (j : Option ℕ) → index_of Ram address ≡ j
           → (0x100 ≤ address) × (address - 0x100 + w ≤ length s.ram)
@@ -111,7 +111,7 @@ module _ (i : Places) (ok : (m : ℕ) → IsLayout (i.layouts m)) (m : ℕ) (fra
           let k = indexed address j at in
           let stored = sym (ap (stores s v.out w y) at) ∙ is in
           let (old, (there, last)) = used (number_at s.ram w j) (λ old. GoesOn (record s { ram = with_number s.ram w j y }) v.out) s' o' stored in
-          let inside = (some_there s.ram w j old can.0.0.0 there).inside in
+          let inside = (some_there s.ram w j old can.0.0 there).inside in
           let same = k.1 in (
             k.0,
             omega (arith, inside, same),

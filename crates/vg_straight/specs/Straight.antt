@@ -31,13 +31,13 @@ plain_code l codes (CodeOf q to) = copies l to (Known (codes q))
 plain_code l codes _ = []
 
 -- There is a template for the instruction, and it can be used where these locals are live, and those behind it: operands are live, a local that is set
--- shares no byte with the others that are live behind, widths are from one to four bytes, no base of a column is 0, and what is read and written are device registers.
+-- shares no byte with the others that are live behind, widths are from one to four bytes, and what is read and written are device registers.
 abbrev pub IsCovered : Layout → (live behind : ℕ → Bool) → Plain → Type 0
 IsCovered l live behind (Copy to a) = IsReady l live a × IsSet l live behind to
 IsCovered l live behind (Compute c) =
     (IsBytewise c.operator × ((0 < c.width) × (0 < width_of l c.to))) × ((IsReady l live c.left × IsReady l live c.right) × IsSet l live behind c.to)
-IsCovered l live behind (Load Ram w to a) = (IsWidth w × (0 < a.base)) × (IsReady l live a.index × IsSet l live behind to)
-IsCovered l live behind (Store w a from) = (IsWidth w × (0 < a.base)) × ((IsReady l live a.index × IsReady l live from) × IsKept live behind)
+IsCovered l live behind (Load Ram w to a) = IsWidth w × (IsReady l live a.index × IsSet l live behind to)
+IsCovered l live behind (Store w a from) = IsWidth w × ((IsReady l live a.index × IsReady l live from) × IsKept live behind)
 IsCovered l live behind (ReadDevice to address) = IsDeviceAddress address × IsSet l live behind to
 IsCovered l live behind (WriteDevice address a) = IsDeviceAddress address × (IsReady l live a × IsKept live behind)
 IsCovered l live behind (Push w a) = (w ≤ 4) × (IsReady l live a × IsKept live behind)
