@@ -3,3 +3,4 @@ pub mod Routines
 pub mod Shifts
 pub mod Product
 pub mod Division
+pub mod Numbers

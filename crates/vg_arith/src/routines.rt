@@ -1,5 +1,6 @@
 // The routines by their numbers.
-ghost use Rattle.std.specs.Prelude.{◌<◌, IfOk};
+ghost use Rattle.std.specs.Prelude.{◌≡◌, ◌<◌, IfOk};
+ghost use Rattle.vg_arith.specs.Numbers.{routine_with};
 ghost use Rattle.vg_arith.specs.Routines.{IsRoutine};
 
 use crate::division::division_routine;
@@ -15,7 +16,8 @@ pub const ROUTINES: u8 = 4;
 /// The routine with this number: 0 the product, 1 division, 2 the shift left, 3 the shift right.
 pub fn routine(alloc: Global, which: u8) -> Result<LinProc, NoMemory>
     requires { which < 4 }
-    ensures { IfOk result (λ p. IsRoutine which p) }
+    ensures routine { IfOk result (λ p. IsRoutine which p) }
+    ensures exactly { IfOk result (λ p. p ≡ routine_with which) }
 {
     if which == 0 {
         product_routine(alloc)

@@ -21,6 +21,7 @@ use vg_lin::{Instr, LinProc};
 pub fn expand(alloc: Global, proc: &LinProc, first: u16) -> Result<LinProc, Refusal<TooLong>>
     requires room { first < 65533 }
     ensures meaning { IfOk result (λ new. Expands first proc.now new) }
+    ensures exactly { IfOk result (λ new. new ≡ expanded_procedure first proc.now) }
     ensures nothing_left { IfOk result (λ new. are_simple new.code ≡ true) }
     ensures calls { IfOk result (λ new. calls_of first new.code ≡ calls_of first proc.now.code) }
     ensures onwards { IfOk result (λ new. all_lead_on 0 proc.now.code ≡ true → all_lead_on 0 new.code ≡ true) }

@@ -39,6 +39,12 @@ returns-clause-meaning c =
     (c.in_ok-widths.ensures ∙ c.widths.ensures) c.in_ok-code.ensures.code)))
     (expands c.args.first c.args.proc.now c.keeps.ensures)
 
+pub returns-clause-exactly : goal.returns-clause-exactly
+returns-clause-exactly c =
+    c.new.ensures
+    ∙ is_expanded c.args.first c.args.proc.now c.method.result c.params.result c.result_width.result c.in_ok-widths.widths c.in_ok-code.code c.method.ensures
+    c.params.ensures c.result_width.ensures (c.in_ok-widths.ensures ∙ c.widths.ensures) c.in_ok-code.ensures.code
+
 pub returns-clause-nothing_left : goal.returns-clause-nothing_left
 returns-clause-nothing_left c =
     subst (λ m. are_simple m.code ≡ true)

@@ -1,0 +1,24 @@
+use Rattle.vg_fit_code.proofs.Making.{flattened_made, eased, each_of, all_fit}
+use Rattle.vg_fit_code.proofs.Expanding.{expanded_fit, routine_fit}
+use Rattle.vg_fit_code.proofs.laws.code_is_fit.Goals as goal
+
+pub returns-clause-flattened : goal.returns-clause-flattened
+returns-clause-flattened c = flattened_made
+
+pub returns-clause-eased : goal.returns-clause-eased
+returns-clause-eased c = eased
+
+pub returns-clause-expanded : goal.returns-clause-expanded
+returns-clause-expanded c = expanded_fit
+
+pub returns-clause-routines : goal.returns-clause-routines
+returns-clause-routines c = routine_fit
+
+pub returns-clause-start : goal.returns-clause-start
+returns-clause-start c = λ p main receives. (tt, (tt, (tt, tt)))
+
+pub returns-clause-simple : goal.returns-clause-simple
+returns-clause-simple c = all_fit
+
+pub returns-clause-each : goal.returns-clause-each
+returns-clause-each c = each_of
