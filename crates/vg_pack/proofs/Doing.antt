@@ -11,10 +11,22 @@ use Rattle.vg_packed.specs.Given.{IsGiven}
 use Rattle.vg_packed.specs.Packed.{IsPackedFrom}
 use Rattle.vg_packed_runs.specs.Ready.{IsReady}
 use Rattle.vg_packed_runs.proofs.Placed.{do_the_same}
+use Rattle.vg_pack.specs.Rows.{IsPackedWhole, RowsFitIn}
 use Rattle.vg_pack.specs.Same.{DoTheSame}
 
+-- the parts of a whole answer
+pub is_from : {E : Type 0} (p : Program) (h : Heap) (s : LiveSet) (n : Numbers) (c : Columns) (r : Result FirmProgram E)
+    → IfOk r (IsPackedWhole p h s n c) → IfOk r (IsPackedFrom p h s n c)
+is_from p h s n c (Ok f) whole = whole.from
+is_from p h s n c (Err why) whole = tt
+
+pub has_fitting_rows : {E : Type 0} (p : Program) (h : Heap) (s : LiveSet) (n : Numbers) (c : Columns) (r : Result FirmProgram E)
+    → IfOk r (IsPackedWhole p h s n c) → IfOk r (RowsFitIn p h c)
+has_fitting_rows p h s n c (Ok f) whole = whole.rows
+has_fitting_rows p h s n c (Err why) whole = tt
+
 pub same : {E : Type 0} (p : Program) (h : Heap) (s : LiveSet) (n : Numbers) (c : Columns) → IsGiven p h s n c → (r : Result FirmProgram E)
-    → IfOk r (IsPackedFrom p h s n c) → IfOk r (λ f. IsReady p h → DoTheSame p h f)
-same p h s n c given (Ok f) from = λ ready k are deepest reads interrupts clock bytes.
-    do_the_same p h s n c f given ready from k are full no_history deepest reads interrupts clock bytes
-same p h s n c given (Err why) from = tt
+    → IfOk r (IsPackedWhole p h s n c) → IfOk r (λ f. IsReady p h → DoTheSame p h f)
+same p h s n c given (Ok f) whole = λ ready k are deepest reads interrupts clock bytes.
+    do_the_same p h s n c f given ready whole.from k are full no_history deepest reads interrupts clock bytes
+same p h s n c given (Err why) whole = tt

@@ -38,15 +38,20 @@ use Rattle.vg_packed.specs.Programs.{handler_in, program_of}
 use Rattle.vg_plan.specs.declared.planning.Planned.{Planned}
 use Rattle.vg_plan.specs.Planned.{Plans}
 use Rattle.vg_plan_columns.specs.Arrays.{AreRows, Fit, tables_of}
+use Rattle.vg_plan_columns.specs.Items.{no_items}
 use Rattle.vg_plan_columns.specs.Starts.{HasStarts}
 use Rattle.vg_pack_values.specs.Columns.{blank_rows, numbers_in}
 use Rattle.vg_pack_values.specs.Places.{all_places, with_places}
 use Rattle.vg_plan_laws.specs.Stands.{StandsIn}
 use Rattle.vg_plan_laws.proofs.Entered.{Same, main_procedure, handler_procedures, same_lengths}
 use Rattle.vg_plan_laws.proofs.Filled.{values_stand}
+use Rattle.vg_plan_laws.proofs.Items.{items_length}
 use Rattle.vg_plan_laws.proofs.Listed.{few_columns}
 use Rattle.vg_plan_laws.proofs.Planned.{stands_in, fits, are_tabled}
+use Rattle.vg_packed_rows.specs.Made.{IsMade}
+use Rattle.vg_packed_rows.proofs.Whole.{has_rows}
 use Rattle.vg_pack.specs.Entrances.{entrance}
+use Rattle.vg_pack.specs.Rows.{IsPackedWhole}
 use Rattle.vg_plan_whole.proofs.Whole.{is_plan, dispatches_planned}
 
 module _ (p : Program) (h : Heap) (s : LiveSet) (n : Numbers) (c : Columns) (g : IsGiven p h s n c) where
@@ -88,22 +93,25 @@ module _ (p : Program) (h : Heap) (s : LiveSet) (n : Numbers) (c : Columns) (g :
         → f.dispatches ≡ x.dispatches → f.main ≡ known (flat (slice_get x.plan.procedures p.main)) → f.handlers ≡ map (entrance x.plan) p.handlers
         → AreRows (kinds_of h) (kept_in s) x.plan.items (length (kinds_of h)) rows → f.tables ≡ tables_of rows c.list
         → ((k : Codes) → numbers_in k f.columns ≡ with_places p.tables h (planned h n x.plan) k (all_places p.tables h n) (numbers_in k (blank_rows c.list)))
-        → IsPackedFrom p h s n c f
-    is_packed f rows ep ed em eh are et ev = record {
-      plan = x.plan;
-      is_plan = is_plan p h s n c x g plans stands_;
-      own = plans.own;
-      are_own = plans.are_own;
-      procedures = ep;
-      dispatches = ed ∙ dispatches_planned p h s n c.list x plans;
-      main = main_procedure p h s g.live x.plan.procedures plans.tables.procedures g.typed.main ∙ ap (λ z. Some z) (sym em);
-      handlers = λ v. subst (λ z. SameEntry (planned h n x.plan) (handler_of p.handlers v) (handler_in z v)) (sym eh)
-          (same_entry (handler_of p.handlers v) (handler_in (map (entrance x.plan) p.handlers) v)
-          (handler_procedures p h s g.live x.plan.procedures plans.tables.procedures g.typed.handlers v));
-      tables = tabled;
-      lengths = same_lengths p.tables h (planned h n x.plan) no_codes f.columns (all_places p.tables h n) c.list (ev no_codes);
-      values = values_;
-    }
+        → (from : IsPackedFrom p h s n c f) × (from.plan ≡ x.plan)
+    is_packed f rows ep ed em eh are et ev = (
+      record {
+        plan = x.plan;
+        is_plan = is_plan p h s n c x g plans stands_;
+        own = plans.own;
+        are_own = plans.are_own;
+        procedures = ep;
+        dispatches = ed ∙ dispatches_planned p h s n c.list x plans;
+        main = main_procedure p h s g.live x.plan.procedures plans.tables.procedures g.typed.main ∙ ap (λ z. Some z) (sym em);
+        handlers = λ v. subst (λ z. SameEntry (planned h n x.plan) (handler_of p.handlers v) (handler_in z v)) (sym eh)
+            (same_entry (handler_of p.handlers v) (handler_in (map (entrance x.plan) p.handlers) v)
+            (handler_procedures p h s g.live x.plan.procedures plans.tables.procedures g.typed.handlers v));
+        tables = tabled;
+        lengths = same_lengths p.tables h (planned h n x.plan) no_codes f.columns (all_places p.tables h n) c.list (ev no_codes);
+        values = values_;
+      },
+      refl,
+    )
       where
         no_codes : Codes
         no_codes = record { code = λ q. 0; at_code = λ q. None }
@@ -132,6 +140,24 @@ module _ (p : Program) (h : Heap) (s : LiveSet) (n : Numbers) (c : Columns) (g :
             let r = values_stand p h s n c x.plan g stands_ k y o v ky e ev_ in
             ap (λ z. entry (columns_at (program_of k f) z (numbers_in k f.columns)) o.column o.index) r.0
             ∙ (ap (λ z. entry z o.column o.index) (ev k) ∙ r.1)
+
+    types_ : length x.plan.items ≡ length p.tables.types
+    types_ =
+        ap length plans.tables.items
+        ∙ (items_length c.list 0 0 0 (map no_items p.tables.types) ∙ length-map p.tables.types no_items)
+
+    is_made : (f : FirmProgram) (rows : List (List ArrayPlace)) → AreRows (kinds_of h) (kept_in s) x.plan.items (length (kinds_of h)) rows
+        → f.tables ≡ tables_of rows c.list
+        → ((k : Codes) → numbers_in k f.columns ≡ with_places p.tables h (planned h n x.plan) k (all_places p.tables h n) (numbers_in k (blank_rows c.list)))
+        → IsMade p h s n c x.plan f
+    is_made f rows are et ev = record { columns = ev; rows = rows; are_rows = are; types = types_; fit = fits_; tables = et }
+
+    -- it has rows that fit
+    is_whole : (f : FirmProgram) → (from : IsPackedFrom p h s n c f) × (from.plan ≡ x.plan) → IsMade p h s n c x.plan f → IsPackedWhole p h s n c f
+    is_whole f (from, e) made = record {
+      from = from;
+      rows = λ ready k codes. has_rows p h s n c f g ready from (subst (λ z. IsMade p h s n c z f) (sym e) made) k codes;
+    }
 
     -- ---- as the code has these parts
 
@@ -164,7 +190,15 @@ module _ (p : Program) (h : Heap) (s : LiveSet) (n : Numbers) (c : Columns) (g :
         → f.main ≡ known (flat (slice_get x.plan.procedures p.main)) → f.handlers ≡ map (entrance x.plan) handlers
         → (rows : List (List ArrayPlace)) → AreRows (map kind_of cells) (has_reason live) items (length cells) rows → f.tables ≡ tables_of rows list
         → ((k : Codes) → numbers_in k f.columns ≡ with_places p.tables h (planned h n x.plan) k (all_places p.tables h n) (numbers_in k (blank_rows list)))
-        → IsPackedFrom p h s n c f
+        → IsPackedWhole p h s n c f
     parts list cells live items handlers f el ec ev ei eh ep ed em ehs rows are et values =
-        is_packed f rows ep ed em (ehs ∙ ap (map (entrance x.plan)) eh) (rows_there cells live items rows ec ev ei are) (et ∙ ap (tables_of rows) el)
-        (λ k. values k ∙ ap (λ z. with_places p.tables h (planned h n x.plan) k (all_places p.tables h n) (numbers_in k (blank_rows z))) el)
+        is_whole f (is_packed f rows ep ed em (ehs ∙ ap (map (entrance x.plan)) eh) are_rows tabled filled) (is_made f rows are_rows tabled filled)
+      where
+        are_rows : AreRows (kinds_of h) (kept_in s) x.plan.items (length (kinds_of h)) rows
+        are_rows = rows_there cells live items rows ec ev ei are
+
+        tabled : f.tables ≡ tables_of rows c.list
+        tabled = et ∙ ap (tables_of rows) el
+
+        filled : (k : Codes) → numbers_in k f.columns ≡ with_places p.tables h (planned h n x.plan) k (all_places p.tables h n) (numbers_in k (blank_rows c.list))
+        filled k = values k ∙ ap (λ z. with_places p.tables h (planned h n x.plan) k (all_places p.tables h n) (numbers_in k (blank_rows z))) el

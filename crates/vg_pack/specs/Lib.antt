@@ -1,2 +1,3 @@
 pub mod Entrances
 pub mod Same
+pub mod Rows

@@ -53,7 +53,7 @@ use Rattle.vg_plan_laws.proofs.Values.{AllKept, IsIn, all_hold}
 
 -- ---- what has a value is there
 
-field_there : (p : Tables) (f : ℕ) (o : Option Cell) (v : CoreValue) → field_in p f o ≡ Some v
+pub field_there : (p : Tables) (f : ℕ) (o : Option Cell) (v : CoreValue) → field_in p f o ≡ Some v
     → (d i : ℕ) × (vs : List CoreValue) × (o ≡ Some (Object d vs)) × (slot_of p d f ≡ Some i)
 field_there p f None v e = absurd (none-some v e)
 field_there p f (Some (Array t vs)) v e = absurd (none-some v e)
@@ -64,13 +64,13 @@ field_there p f (Some (Object d vs)) v e = by (slot_of p d f) refl e
     by None q g = absurd (none-some v g)
     by (Some i) q g = (d, i, vs, refl, q)
 
-item_there : (i : ℕ) (o : Option Cell) (v : CoreValue) → item_in i o ≡ Some v
+pub item_there : (i : ℕ) (o : Option Cell) (v : CoreValue) → item_in i o ≡ Some v
     → (t : ℕ) × (vs : List CoreValue) × (o ≡ Some (Array t vs)) × (i < length vs)
 item_there i None v e = absurd (none-some v e)
 item_there i (Some (Object d vs)) v e = absurd (none-some v e)
 item_there i (Some (Array t vs)) v e = (t, vs, refl, slice_get_within vs i v e)
 
-owner_of : (p : Tables) (d f i : ℕ) → slot_of p d f ≡ Some i
+pub owner_of : (p : Tables) (d f i : ℕ) → slot_of p d f ≡ Some i
     → (y : Field) × (c : ℕ) × (slice_get p.fields f ≡ Some y) × (y.owner ≡ InClass c) × (is_below p d c ≡ true)
 owner_of p d f i e = by (slice_get p.fields f) refl e
   where
@@ -97,7 +97,7 @@ class_there p d c e = by (slice_get p.classes d) refl e
     by (Some k) q t = (k, q)
 
 -- a field of a component is there
-component_there : (p : Tables) (h : Heap) (f : ℕ) (v : CoreValue) → value_in (global_slot p f) h.globals ≡ Some v
+pub component_there : (p : Tables) (h : Heap) (f : ℕ) (v : CoreValue) → value_in (global_slot p f) h.globals ≡ Some v
     → (y : Field) × (k : ℕ) × (slice_get p.fields f ≡ Some y) × (y.owner ≡ InComponent k)
 component_there p h f v e = by (slice_get p.fields f) refl e
   where

@@ -153,7 +153,7 @@ abbrev pub All : (Column → Type 0) → List Column → Type 0
 All P [] = Unit {0}
 All P (c ∷ cs) = P c × All P cs
 
-all_append : (P : Column → Type 0) (xs ys : List Column) → All P xs → All P ys → All P (xs ++ ys)
+pub all_append : (P : Column → Type 0) (xs ys : List Column) → All P xs → All P ys → All P (xs ++ ys)
 all_append P [] ys a b = b
 all_append P (x ∷ xs) ys (h, a) b = (h, all_append P xs ys a b)
 
@@ -162,7 +162,7 @@ all_get P [] i c a e = absurd (none-some c e)
 all_get P (x ∷ xs) zero c (h, a) e = subst P (same_Some x c e) h
 all_get P (x ∷ xs) (suc i) c (h, a) e = all_get P xs i c a e
 
-all_unless : (P : Column → Type 0) (c : Column) → P c → All P (unless_empty c)
+pub all_unless : (P : Column → Type 0) (c : Column) → P c → All P (unless_empty c)
 all_unless P c h = by (nat_lt 0 (bytes_of c))
   where
     by : (b : Bool) → All P (if b then c ∷ [] else [])

@@ -20,7 +20,7 @@ use Rattle.vg_plan_laws.proofs.Fields.{get_set, get_other}
 
 -- ---- one entry is set
 
-set_here : (cols : List (List ℕ)) (c i v old : ℕ) → entry cols c i ≡ Some old → entry (set_entry cols c i v) c i ≡ Some v
+pub set_here : (cols : List (List ℕ)) (c i v old : ℕ) → entry cols c i ≡ Some old → entry (set_entry cols c i v) c i ≡ Some v
 set_here cols c i v old e =
     ap (λ z. slice_get (column_of z) i) (get_set cols c (slice_set (column_of (slice_get cols c)) i v) (column_there cols c i old e))
     ∙ get_set (column_of (slice_get cols c)) i v (slice_get_within (column_of (slice_get cols c)) i old e)
@@ -31,12 +31,12 @@ set_here cols c i v old e =
     column_there (x ∷ xs) (suc c) i old e = let h = column_there xs c i old e in omega (arith, h)
 
 -- another entry of the same column, or one of another column, stays
-set_row : (cols : List (List ℕ)) (c i j v : ℕ) → ((i ≡ j) → ⊥) → entry (set_entry cols c i v) c j ≡ entry cols c j
+pub set_row : (cols : List (List ℕ)) (c i j v : ℕ) → ((i ≡ j) → ⊥) → entry (set_entry cols c i v) c j ≡ entry cols c j
 set_row [] c i j v ne = refl
 set_row (x ∷ xs) zero i j v ne = get_other x i j v ne
 set_row (x ∷ xs) (suc c) i j v ne = set_row xs c i j v ne
 
-set_column : (cols : List (List ℕ)) (c d i j v : ℕ) → ((c ≡ d) → ⊥) → entry (set_entry cols c i v) d j ≡ entry cols d j
+pub set_column : (cols : List (List ℕ)) (c d i j v : ℕ) → ((c ≡ d) → ⊥) → entry (set_entry cols c i v) d j ≡ entry cols d j
 set_column cols c d i j v ne = ap (λ z. slice_get (column_of z) j) (get_other cols c d (slice_set (column_of (slice_get cols c)) i v) ne)
 
 -- two spots in RAM are one, or differ

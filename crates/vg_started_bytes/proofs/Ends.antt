@@ -16,8 +16,9 @@ use Rattle.vg_place.specs.Placing.{ArePlaced}
 use Rattle.vg_placement.specs.declared.column.Column.{Column}
 use Rattle.vg_placement.specs.Columns.{all_columns, array_types, columns, home_bytes, Needs}
 use Rattle.vg_table_bytes.specs.Bytes.{columns_bytes, ram_widths, rows_bytes, table_bytes_of}
-use Rattle.vg_started_bytes.specs.Started.{address_of, bytes_in, place_of, ram_places, table_addresses, tables_in, HasRows, HoldsColumns, HoldsTable, RowsFit}
-use Rattle.vg_started_bytes.proofs.Placed.{ram_placed, ram_sum, flash_sum, stacked, tables_of, tables_placed, total, total_is, values_are, width_in_column, widths_are}
+use Rattle.vg_started_bytes.specs.Started.{address_of, bytes_in, place_of, ram_places, table_addresses, HoldsColumns, HoldsTable}
+use Rattle.vg_table_bytes.specs.Rows.{tables_in, HasRows, RowsFit}
+use Rattle.vg_started_bytes.proofs.Placed.{ram_placed, ram_sum, ram_total, flash_sum, stacked, tables_of, tables_placed, total, total_is, values_are, width_in_column, widths_are}
 use Rattle.vg_started_bytes.proofs.Whole.{body, body_length, columns_apart, columns_are, columns_between, columns_held, tables_held, HeldAt}
 
 module _ (k : Codes) (p : Tables) (n : Needs) (κ : List Kind) (c : Columns) (f : FirmProgram) (placed_so : ArePlaced (all_columns p n κ) c)
@@ -46,6 +47,15 @@ module _ (k : Codes) (p : Tables) (n : Needs) (κ : List Kind) (c : Columns) (f 
   copied : columns_bytes (ram_widths c.list) 0 f.columns ≡ body (stacked 0x0100 cs) f.columns
   copied =
       ap (λ z. columns_bytes z 0 f.columns) (widths_are c.list ∙ ap (map width_in_column) columns_in_ram) ∙ columns_are (stacked 0x0100 cs) f.columns lengths []
+
+  pub copy_length : length (columns_bytes (ram_widths c.list) 0 f.columns) ≡ c.static_bytes
+  copy_length =
+      ap length copied
+      ∙ (body_length k 0x0100 cs f.columns lengths fit
+      ∙ (sym (ram_total n.kept κ cs us (values_are p n κ)) ∙ none c.static_bytes (home_bytes Ram (cs ++ tables_of n.kept κ us)) placed_so.static_is))
+    where
+      none : (x y : ℕ) → x ≡ 0 + y → y ≡ x
+      none x y e = omega (arith, e)
 
   small : 0x0100 + total cs ≤ 65536
   small = less (total cs) (home_bytes Ram (cs ++ tables_of n.kept κ us)) (ram_sum n.kept κ cs us (values_are p n κ)) placed_so.fits

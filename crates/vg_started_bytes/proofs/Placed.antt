@@ -14,7 +14,7 @@ use Rattle.vg_placement.specs.Columns.{address_for, array_types, bytes_of, bytes
 use Rattle.vg_placement.specs.Columns.{item_columns, item_width, items_count, Needs, placed, ram_behind, table_of, unless_empty}
 use Rattle.vg_table_bytes.specs.Bytes.{ram_widths, width_in}
 use Rattle.vg_packed.specs.Packed.{if_ram, ram_columns}
-use Rattle.vg_started_bytes.specs.Started.{if_table, tables_in}
+use Rattle.vg_table_bytes.specs.Rows.{if_table, tables_in}
 
 -- A column at an address.
 abbrev pub at_address : Column → ℕ → Column
@@ -130,6 +130,17 @@ module _ (kept : ℕ → Bool) (κ : List Kind) where
     where
       more : (n m o : ℕ) → n ≤ o → n ≤ m + o
       more n m o le = omega (arith, le)
+
+  no_bytes_in_ram : (us : List ℕ) → home_bytes Ram (tables_of us) ≡ 0
+  no_bytes_in_ram [] = refl
+  no_bytes_in_ram (u ∷ us) = let h = no_bytes_in_ram us in omega (arith, h)
+
+  -- tables take no RAM
+  pub ram_total : (cs : List Column) (us : List ℕ) → AllByRecursion IsValue cs → home_bytes Ram (cs ++ tables_of us) ≡ total cs
+  ram_total [] us h = no_bytes_in_ram us
+  ram_total (c ∷ cs) us h =
+      subst (λ z. bytes_where Ram z (bytes_of c) + home_bytes Ram (cs ++ tables_of us) ≡ bytes_of c + total cs) (sym h.0.0)
+      (ap (λ z. bytes_of c + z) (ram_total cs us h.1))
 
 pub total_is : (cs : List Column) → AllByRecursion IsValue cs → home_bytes Ram cs ≡ total cs
 total_is [] h = refl

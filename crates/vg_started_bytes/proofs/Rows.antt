@@ -14,7 +14,8 @@ use Rattle.vg_tables.specs.declared.entry.Entry.TheVariants.{Number, Delegate}
 use Rattle.vg_tables.specs.Bytes.{array_bytes, byte_of, entry_bytes, low_bytes, number_of}
 use Rattle.vg_tables.specs.Entries.{number_in}
 use Rattle.vg_tables.proofs.Holding.{holds, delegate_holds}
-use Rattle.vg_started_bytes.specs.Started.{bytes_in, ArrayFits, EntryFits}
+use Rattle.vg_started_bytes.specs.Started.{bytes_in}
+use Rattle.vg_table_bytes.specs.Rows.{ArrayFits, EntryFits}
 
 -- ---- bytes in the midst of others
 

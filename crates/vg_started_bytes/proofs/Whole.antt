@@ -15,7 +15,8 @@ use Rattle.vg_tables.specs.declared.datum.Datum.{Datum}
 use Rattle.vg_tables.specs.declared.entry.Entry.{Entry}
 use Rattle.vg_tables.specs.Entries.{number_in}
 use Rattle.vg_packed.specs.Packed.{count_of}
-use Rattle.vg_started_bytes.specs.Started.{address_of, bytes_in, place_of, ArrayFits, HoldsTable, RowsFit}
+use Rattle.vg_started_bytes.specs.Started.{address_of, bytes_in, place_of, HoldsTable}
+use Rattle.vg_table_bytes.specs.Rows.{ArrayFits, RowsFit}
 use Rattle.vg_started_bytes.proofs.Placed.{at_address, stacked, total, width_in_column}
 use Rattle.vg_started_bytes.proofs.Rows.{arrays_held, arrays_length, entries_held, entries_length}
 

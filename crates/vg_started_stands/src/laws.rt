@@ -11,7 +11,8 @@ ghost use Rattle.vg_place.specs.declared.placing.Columns.{Columns};
 ghost use Rattle.vg_place.specs.Placing.{ArePlaced};
 ghost use Rattle.vg_placement.specs.Columns.{all_columns, Needs};
 ghost use Rattle.vg_table_bytes.specs.Bytes.{columns_bytes, ram_widths, table_bytes_of};
-ghost use Rattle.vg_started_bytes.specs.Started.{bytes_in, ram_places, table_addresses, HasRows};
+ghost use Rattle.vg_started_bytes.specs.Started.{bytes_in, ram_places, table_addresses};
+ghost use Rattle.vg_table_bytes.specs.Rows.{HasRows};
 
 /// Where the bytes of the initial copy are in RAM, the columns of the packed program stand there at their places; and its tables of arrays stand
 /// at theirs, where the bytes of all tables are in flash. The body is empty: its contract is a law of the definitions.
