@@ -1,0 +1,17 @@
+-- Programs of linear code whose frames fit, where they stand.
+use Rattle.std.specs.Prelude.{ℕ, ◌≡◌, List, Some, slice_get}
+use Rattle.vg_lin.specs.Program.{Procedure, Program}
+use Rattle.vg_lin.specs.Sound.{IsSound}
+use Rattle.vg_framed.specs.Framed.{framed}
+use Rattle.vg_instr_code.specs.Whole.{Links}
+use Rattle.vg_frame_costs.specs.Fitting.{FramesFit}
+use Rattle.vg_open_costs.specs.Taken.{HandlersBefore}
+
+-- The procedures of a program are sound, each has all its locals in its frame, frames fit by these costs of methods, and the handlers stand before the
+-- procedure with which a run begins.
+pub record HasFitFrames (x : Links) (p : Program) (costs : List ℕ) : Type 0 where
+  pub sound : (m : ℕ) (procedure : Procedure) → slice_get p.procedures m ≡ Some procedure → IsSound procedure
+  pub layouts : (m : ℕ) (procedure : Procedure) → slice_get p.procedures m ≡ Some procedure
+      → x.places.layouts m ≡ framed procedure.widths procedure.params
+  pub fit : FramesFit p.procedures p.start costs
+  pub handlers : HandlersBefore p

@@ -1,0 +1,19 @@
+// The law of what deep runs cost.
+ghost use Rattle.std.specs.Prelude.{ℕ, ◌≡◌, ◌+◌, ◌<◌, List, Some};
+ghost use Rattle.vg_meaning.specs.Answer.{Wrong};
+ghost use Rattle.vg_source.specs.Peak.{most};
+ghost use Rattle.avr_view.specs.Run.{Run};
+ghost use Rattle.vg_lin.specs.Meaning.{run};
+ghost use Rattle.vg_lin.specs.Program.{Program};
+ghost use Rattle.vg_instr_code.specs.Whole.{Links};
+ghost use Rattle.vg_standing.specs.Stands.{Stands};
+ghost use Rattle.vg_image_runs.specs.Runs.{Begins, IsDeepRun};
+ghost use Rattle.vg_deep_costs.specs.Fit.{HasFitFrames};
+
+/// A law of runs whose stack is too deep, in images of programs whose frames fit: calls that were active at an opening cost more than the stack, but for four
+/// bytes. The body is empty: its contract is a law of the definitions.
+pub fn deep_runs_cost()
+    ensures { (e : Run) (x : Links) (p : Program) (costs : List ℕ) → Stands e x p → Begins e x p → HasFitFrames x p costs
+        → (n : ℕ) (reads interrupts : List ℕ) → ((run p n reads interrupts).ending ≡ Some Wrong → ⊥) → IsDeepRun e x p n reads interrupts
+        → 0x1100 < e.floor + (4 + most costs (run p n reads interrupts).openings) }
+{}

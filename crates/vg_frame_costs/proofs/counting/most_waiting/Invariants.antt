@@ -1,0 +1,7 @@
+use Rattle.std.proofs.Common.{◌≡◌, ◌≤◌, max, drop}
+use Rattle.vg_frame_costs.specs.Fitting.{most_waiting}
+use Rattle.vg_frame_costs.proofs.counting.most_waiting.Given as goal
+
+abbrev pub invariant-loop-instr : goal.invariant-loop-instr
+invariant-loop-instr l =
+    (max l.most (most_waiting l.now (drop l.instr-index l.code)) ≡ most_waiting 0 l.code) × (l.now ≤ l.most) × (l.most ≤ l.instr-index)

@@ -1,0 +1,88 @@
+// How many bytes procedures take.
+ghost use Rattle.std.specs.Prelude.{◌≡◌, ◌+◌, ◌*◌, ◌^◌, ◌<◌, ◌≤◌, ◌↔◌, IsTrue, length, max};
+ghost use Rattle.vg_source.specs.Peak.{cost_of as cost_in};
+ghost use Rattle.vg_frame_costs.specs.Fitting.{bytes_of as bytes_in, idle_bytes as idle_in, most_waiting as most_in, procedure_bytes as procedure_bytes_of, waiting_behind as behind};
+
+use vg_lin::{Instr, LinProc, Plain};
+
+/// Whether a procedure takes so many bytes at most, with so many more.
+pub fn takes_within(procedure: &LinProc, more: usize, room: usize) -> bool
+    requires { more ≤ 100 }
+    ensures { IsTrue result ↔ procedure_bytes_of procedure.now + more ≤ room }
+{
+    procedure.keeps();
+    let fixed = width_sum(procedure.widths()) + 4 + more;
+    fixed <= room && most_waiting(procedure.code()) <= (room - fixed) / 4
+}
+
+// The sum of at most 252 widths.
+fn width_sum(widths: &[u8]) -> usize
+    requires { length widths.now ≤ 252 }
+    ensures bytes { result ≡ bytes_in widths.now }
+    ensures few { result ≤ 255 * length widths.now }
+{
+    match widths {
+        [] => 0,
+        [width, rest @ ..] => usize::from(*width) + width_sum(rest),
+    }
+}
+
+// The most values that wait at a place of the code.
+fn most_waiting(code: &[Instr]) -> usize
+    ensures { result ≡ most_in 0 code.now }
+{
+    let mut now = 0;
+    let mut most = 0;
+    for instr in code {
+        now = waiting_behind(*instr, now);
+        most = larger(most, now);
+    }
+    most
+}
+
+fn larger(first: usize, second: usize) -> usize
+    ensures { result ≡ max first second }
+{
+    if first < second { second } else { first }
+}
+
+// How many values wait behind an instruction, where so many wait before it.
+fn waiting_behind(instr: Instr, now: usize) -> usize
+    requires { now + 1 < 2 ^ 64 }
+    ensures behind { result ≡ behind instr now }
+    ensures few { result ≤ now + 1 }
+{
+    match instr {
+        Instr::Plain(Plain::Push(_, _)) => now + 1,
+        Instr::Plain(Plain::Pop(_, _)) => now.saturating_sub(1),
+        Instr::Call(call) => now.saturating_sub(usize::from(call.pushed)),
+        _ => now,
+    }
+}
+
+/// The bytes that are taken where the code idles: four, or none where it does not.
+pub fn idle_bytes(code: &[Instr]) -> usize
+    ensures bytes { result ≡ idle_in code.now }
+    ensures few { result ≤ 4 }
+{
+    for instr in code {
+        match instr {
+            Instr::Idle => return 4,
+            _ => {}
+        }
+    }
+    0
+}
+
+/// What the method with this number costs; one that has no cost here costs nothing.
+#[tactic(auto, using(crate::proofs::Counted::cost_at, crate::proofs::Counted::cost_behind))]
+pub fn cost_of(costs: &[u32], method: u16) -> usize
+    ensures { result ≡ cost_in costs.now method }
+{
+    let index = usize::from(method);
+    if index < costs.len() {
+        costs[index] as usize
+    } else {
+        0
+    }
+}

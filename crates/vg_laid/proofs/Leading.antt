@@ -1,0 +1,244 @@
+-- Procedures that are put are linked.
+use Rattle.std.specs.Prelude.{ℕ, zero, suc, ◌+◌, ◌-◌, ◌%◌, ◌<◌, ◌≤◌, ◌≢◌, Bool, true, false, List, [], ◌∷◌, ◌++◌, length, get_or, Option, Some, None, slice_get}
+use Rattle.std.proofs.Common.{◌≡◌, refl, sym, ap, ap₂, ◌∙◌, subst, arith, inl, inr}
+use Rattle.std.proofs.lemmas.List.{append_assoc}
+use Rattle.avr_instr.specs.declared.instr.Instr.{Instr as Avr}
+use Rattle.avr_isa.specs.Standing.{widths}
+use Rattle.avr_isa.proofs.Standing.{widths-append}
+use Rattle.avr_view.proofs.Going.{below_or_not}
+use Rattle.vg_codes.specs.declared.case.Case.{Case}
+use Rattle.vg_codes.specs.Dispatch.{cases_of}
+use Rattle.vg_lin.specs.declared.instr.Callee.{Callee}
+use Rattle.vg_lin.specs.declared.instr.Callee.TheVariants.{Procedure as ByNumber, Code as ByCode}
+use Rattle.vg_lin.specs.declared.instr.Test.{Test}
+use Rattle.vg_lin.specs.declared.instr.Plain.{Plain as PlainInstr}
+use Rattle.vg_lin.specs.declared.instr.Plain.TheVariants.{Copy, Compute, Product, DivideStep, Load, Store, ReadDevice, WriteDevice, Push, Pop, Find, CodeOf, Stop}
+use Rattle.vg_lin.specs.declared.instr.Instr.{Instr}
+use Rattle.vg_lin.specs.declared.instr.Instr.TheVariants.{Plain, When, Unless, Jump, Call, Return, Idle}
+use Rattle.vg_lin.specs.Program.{Procedure, Program}
+use Rattle.vg_lin.specs.Sound.{waits_in, waits_of, Waits, IsSound}
+use Rattle.vg_frames.specs.Layouts.{Layout}
+use Rattle.vg_frames.specs.Linkage.{prologue}
+use Rattle.vg_calls.specs.Calls as calls
+use Rattle.vg_branches.specs.Branches.{tests, told_by}
+use Rattle.vg_instr_code.specs.Flow.{branch_code, Past, Far}
+use Rattle.vg_instr_code.specs.Whole.{Links, template}
+use Rattle.vg_lookups.specs.Tables.{AreCases}
+use Rattle.vg_standing.specs.Stands.{HopLeads, TurnLeads, TestLeads, CalleeLeads, call_place}
+use Rattle.vg_covered.specs.Fitting.{IsPlainFit, IsFit}
+use Rattle.vg_put_operations.specs.Coded.{code_from}
+use Rattle.vg_select.specs.Selected.{Leading, selected}
+use Rattle.vg_put_procedures.specs.Emitted.{code_of, code_at, code_upto, body_code, place_of}
+use Rattle.vg_put_programs.specs.Programs.{turn_of, address_in, aim_in, callee_in, Emission, piece_at, pieces_upto}
+use Rattle.vg_linked.specs.Linked.{HasPiece, leading_of, Targets, InstrLinked, ProcedureLinked}
+use Rattle.vg_laid.specs.Laid.{known, aim_of, lead_at, layout_of, instrs_of, behind_of, layout_at, instrs_at, known_places, leads_at, place_at, links_of, AreSound}
+use Rattle.vg_laid.proofs.Some.{selected_some, words_some}
+use Rattle.vg_laid.proofs.Turns.{turn_low}
+use Rattle.vg_laid.proofs.Laying.{pieces_parts, pieces_fit, entry_is, piece_there, place_known, there}
+
+module _ (ms : List Procedure) (s : ℕ) (ds : List (List Case)) (first : ℕ) (stubs : List ℕ) (low : s < length ms)
+    (room : first + widths (pieces_upto (known ms s ds first) (length ms)) < 65536) (p : Program)
+    (codes : p.codes.code ≡ code_from (known ms s ds first).codes) (dispatches : p.dispatches ≡ ds) (m : ℕ) (procedure : Procedure)
+    (is_there : slice_get ms m ≡ Some procedure) (below : m < length ms) (sound : IsSound procedure) where
+  abbrev e : Emission
+  e = known ms s ds first
+
+  abbrev x : Links
+  x = links_of e p stubs
+
+  abbrev l : Layout
+  l = layout_at e p m
+
+  abbrev is : List Instr
+  is = instrs_at e p m
+
+  abbrev k : ℕ
+  k = turn_of s (length ms) m
+
+  abbrev body : List Avr
+  body = body_code l p (leads_at e p m) is
+
+  is_is : is ≡ procedure.code
+  is_is = ap instrs_of is_there
+
+  entry : code_from e.codes m ≡ first + widths (pieces_upto e k)
+  entry = entry_is ms s ds first low room m below
+
+  piece : piece_at e k ≡ prologue l ++ body
+  piece = piece_there ms s ds first low room p codes dispatches m procedure is_there
+
+  -- ---- its code stands
+
+  inside : code_from e.codes m + widths (prologue l ++ body) < 65536
+  inside =
+      let f = pieces_fit e (length ms) k (turn_low s (length ms) m low below) in let w = ap widths piece in
+      let en = entry in omega (arith, f, w, en, room)
+
+  has_piece : (start : ℕ) (code front rest : List Avr) → code ≡ front ++ (pieces_upto e (length ms) ++ rest) → first ≡ start + widths front
+      → HasPiece start code (code_from e.codes m) (prologue l ++ body)
+  has_piece start code front rest cut begins =
+      let r = pieces_parts e (length ms) k (turn_low s (length ms) m low below) in
+      record {
+        front = front ++ pieces_upto e k;
+        rest = r.0 ++ rest;
+        cut = cut ∙ ap (λ z. front ++ (z ++ rest)) (r.1 ∙ ap (λ z. pieces_upto e k ++ (z ++ r.0)) piece)
+            ∙ ap (λ z. front ++ z)
+            (append_assoc (pieces_upto e k) ((prologue l ++ body) ++ r.0) rest
+            ∙ ap (λ z. pieces_upto e k ++ z) (append_assoc (prologue l ++ body) r.0 rest))
+            ∙ sym (append_assoc front (pieces_upto e k) ((prologue l ++ body) ++ (r.0 ++ rest)));
+        place = let w = widths-append front (pieces_upto e k) in let en = entry in omega (arith, w, en, begins);
+      }
+
+  -- ---- each instruction's code
+
+  abbrev at : ℕ → ℕ
+  at pc = place_at e p m pc
+
+  code_is : (pc : ℕ) (i : Instr) → slice_get is pc ≡ Some i → code_at l p (leads_at e p m) is pc ≡ selected l p (waits_in [] is pc) (leads_at e p m pc) i
+  code_is pc i q = ap (code_of l p (waits_in [] is pc) (leads_at e p m pc)) q
+
+  some : (pc : ℕ) (i : Instr) → slice_get is pc ≡ Some i → 1 ≤ length (selected l p (waits_in [] is pc) (leads_at e p m pc) i)
+  some pc i q =
+      subst (λ z. 1 ≤ length (selected z p (waits_in [] is pc) (leads_at e p m pc) i)) (sym (ap layout_of is_there))
+      (selected_some procedure sound p (waits_in [] is pc) (leads_at e p m pc) i
+      (sound.operands pc i (subst (λ z. slice_get z pc ≡ Some i) is_is q)))
+
+  next : (pc : ℕ) → at (suc pc) ≡ at pc + widths (code_at l p (leads_at e p m) is pc)
+  next pc = let w = widths-append (code_upto l p (leads_at e p m) is pc) (code_at l p (leads_at e p m) is pc) in omega (arith, w)
+
+  goes : (pc : ℕ) → at pc ≤ at (suc pc)
+  goes pc = let w = next pc in omega (arith, w)
+
+  climbs : (a d : ℕ) → at a ≤ at (a + d)
+  climbs a zero = let z : a + 0 ≡ a = omega arith in subst (λ b. at a ≤ at b) (sym z) (omega arith)
+  climbs a (suc d) =
+      let z : a + suc d ≡ suc (a + d) = omega arith in let c = climbs a d in let g = goes (a + d) in
+      subst (λ b. at a ≤ at b) (sym z) (omega (arith, c, g))
+
+  from_to : (a b : ℕ) → a ≤ b → at a ≤ at b
+  from_to a b h = let z : a + (b - a) ≡ b = omega (arith, h) in subst (λ c. at a ≤ at c) z (climbs a (b - a))
+
+  strict : (pc : ℕ) (i : Instr) → slice_get is pc ≡ Some i → at pc < at (suc pc)
+  strict pc i q =
+      let w = next pc in let c = ap widths (code_is pc i q) in
+      let o = words_some (selected l p (waits_in [] is pc) (leads_at e p m pc) i) (some pc i q) in omega (arith, w, c, o)
+
+  small : (pc : ℕ) → pc ≤ length is → at pc < 65536
+  small pc h =
+      let c = from_to pc (length is) h in let w = widths-append (prologue l) body in let i = inside in omega (arith, c, w, i)
+
+  -- ---- where it leads
+
+  address : (to : ℕ) → to < length is → get_or (known_places e p m) to 0 % 65536 ≡ at to
+  address to h =
+      ap (λ z. z % 65536) (place_known ms s ds first low room p codes dispatches m procedure is_there to h) ∙ reduced (at to) (small to (omega (arith, h)))
+    where
+      reduced : (z : ℕ) → z < 65536 → z % 65536 ≡ z
+      reduced z g = omega (arith, g)
+
+  away : (pc to : ℕ) (i : Instr) → slice_get is pc ≡ Some i → to < length is → to ≢ pc → (d : ℕ) → at pc + d < at (suc pc) → at to ≢ at pc + d
+  away pc to i q h other d inner same = elim (below_or_not to pc) [
+    | inl less ↦
+        (let t = there is to h in let a = strict to t.0 t.1 in let b = from_to (suc to) pc (omega (arith, less)) in
+        absurd (omega (arith, a, b, same)))
+    | inr past ↦ elim (below_or_not pc to) [
+      | inl more ↦ (let b = from_to (suc pc) to (omega (arith, more)) in absurd (omega (arith, b, inner, same)))
+      | inr equal ↦ absurd (other (omega (arith, past, equal)))
+    ]
+  ]
+
+  turns : (t : Test) (truth : Bool) (aim : ℕ) → widths (tests l t ++ branch_code (told_by t.comparison) truth (Past (Far aim))) ≡ widths (tests l t) + 3
+  turns t true aim = let w = widths-append (tests l t) (branch_code (told_by t.comparison) true (Past (Far aim))) in omega (arith, w)
+  turns t false aim = let w = widths-append (tests l t) (branch_code (told_by t.comparison) false (Past (Far aim))) in omega (arith, w)
+
+  callee : (c : Callee) (at : ℕ) → CalleeLeads x c (calls.Far (callee_in e.codes c)) at
+  callee (ByNumber q) at = refl
+  callee (ByCode a) at = tt
+
+  held : (pc to : ℕ) → to < length procedure.code → to < length is
+  held pc to h = subst (λ z. to < length z) (sym is_is) h
+
+  branches : (pc to : ℕ) (i : Instr) (t : Test) (truth : Bool) → slice_get is pc ≡ Some i
+      → widths (code_at l p (leads_at e p m) is pc) ≡ widths (tests l t ++ branch_code (told_by t.comparison) truth (x.branch m pc))
+      → aim_in (known_places e p m) i ≡ address_in (known_places e p m) to → to ≢ pc → to < length is → TestLeads x m pc to (at pc + widths (tests l t))
+  branches pc to i t truth q w aim other h =
+      subst (λ b. TurnLeads b (at pc + widths (tests l t)) (at to)) (sym (ap (λ o. (lead_at (known_places e p m) e.codes e.idle o).branch) q))
+      (aim ∙ address to h, λ same. away pc to i q h other (widths (tests l t) + 1) inner (same ∙ (let z = regroup (at pc) (widths (tests l t)) in z)))
+    where
+      regroup : (a b : ℕ) → a + b + 1 ≡ a + (b + 1)
+      regroup a b = omega arith
+
+      size : widths (code_at l p (leads_at e p m) is pc) ≡ widths (tests l t) + 3
+      size = w ∙ turns t truth (aim_of (known_places e p m) (slice_get is pc))
+
+      inner : at pc + (widths (tests l t) + 1) < at (suc pc)
+      inner = let n = next pc in let u = size in omega (arith, n, u)
+
+  target : (pc : ℕ) (i : Instr) → slice_get is pc ≡ Some i → Waits procedure (waits_of procedure) pc i → Targets x m pc i
+  target pc (Plain i) q w = tt
+  target pc (When t to) q w = branches pc to (When t to) t true q (ap widths (code_is pc (When t to) q)) refl w.0.0 (held pc to w.0.1.0)
+  target pc (Unless t to) q w = branches pc to (Unless t to) t false q (ap widths (code_is pc (Unless t to) q)) refl w.0.0 (held pc to w.0.1.0)
+  target pc (Jump to) q w =
+      let h = held pc to w.1.0 in let up = strict pc (Jump to) q in
+      subst (λ b. HopLeads b (at pc) (at to)) (sym (ap (λ o. (lead_at (known_places e p m) e.codes e.idle o).jump) q))
+      (address to h, λ same. away pc to (Jump to) q h w.0 0 (omega (arith, up)) (same ∙ (let z : at pc ≡ at pc + 0 = omega arith in z)))
+  target pc (Call c) q w = (
+    ap (behind_of l (at pc) (leads_at e p m pc)) q,
+    subst (λ b. CalleeLeads x c.callee b (call_place x m pc c)) (sym (ap (λ o. (lead_at (known_places e p m) e.codes e.idle o).call) q))
+        (callee c.callee (call_place x m pc c)),
+  )
+  target pc (Return r a) q w = tt
+  target pc Idle q w = ap (behind_of l (at pc) (leads_at e p m pc)) q
+
+  -- ---- the procedure is linked
+
+  as_template : (pc : ℕ) (i : Instr) → 1 ≤ length (selected l p (waits_in [] is pc) (leads_at e p m pc) i) → 1 ≤ length (template x p m pc i)
+  as_template pc (Plain i) h = h
+  as_template pc (When t to) h = h
+  as_template pc (Unless t to) h = h
+  as_template pc (Jump to) h = h
+  as_template pc (Call c) h = h
+  as_template pc (Return w a) h = h
+  as_template pc Idle h = h
+
+  pub procedure_linked : ((pc : ℕ) (i : Instr) → slice_get procedure.code pc ≡ Some i → IsFit p i) → (start : ℕ) (code front rest : List Avr)
+      → code ≡ front ++ (pieces_upto e (length ms) ++ rest) → first ≡ start + widths front → ProcedureLinked x p start code m procedure
+  procedure_linked fit start code front rest cut begins =
+      record {
+        layout = ap layout_of is_there;
+        stands = subst (λ z. HasPiece start code (code_from e.codes m) (prologue l ++ body_code l p (leads_at e p m) z)) is_is
+            (has_piece start code front rest cut begins);
+        room = subst (λ z. code_from e.codes m + widths (prologue l ++ body_code l p (leads_at e p m) z) < 65536) is_is inside;
+        places = λ pc. ap (λ z. place_of l p (leads_at e p m) z (code_from e.codes m + widths (prologue l)) pc) is_is;
+        waits = λ pc. ap (λ z. waits_in [] z pc) is_is;
+        each = λ pc i q. (let here = subst (λ z. slice_get z pc ≡ Some i) (sym is_is) q in
+            record { some = as_template pc i (some pc i here); targets = target pc i here (sound.goes_on pc i q); fit = fit pc i q });
+      }
+
+-- ---- what fits fits whatever the program
+
+fits_plain : (p q : Program) → p.codes.code ≡ q.codes.code → p.dispatches ≡ q.dispatches → (i : PlainInstr) → IsPlainFit q i → IsPlainFit p i
+fits_plain p q codes same (Copy to a) h = h
+fits_plain p q codes same (Compute c) h = h
+fits_plain p q codes same (Product to a b) h = h
+fits_plain p q codes same (DivideStep r d a) h = h
+fits_plain p q codes same (Load k w to a) h = h
+fits_plain p q codes same (Store w a from) h = h
+fits_plain p q codes same (ReadDevice to address) h = h
+fits_plain p q codes same (WriteDevice address a) h = h
+fits_plain p q codes same (Push w a) h = h
+fits_plain p q codes same (Pop w to) h = h
+fits_plain p q codes same (Find place to a) h =
+    subst (λ f. AreCases f (cases_of (slice_get p.dispatches place))) (sym codes)
+    (subst (λ ds. AreCases q.codes.code (cases_of (slice_get ds place))) (sym same) h)
+fits_plain p q codes same (CodeOf k to) h = h
+fits_plain p q codes same (Stop code) h = h
+
+pub fits : (p q : Program) → p.codes.code ≡ q.codes.code → p.dispatches ≡ q.dispatches → (i : Instr) → IsFit q i → IsFit p i
+fits p q codes same (Plain i) h = fits_plain p q codes same i h
+fits p q codes same (When t to) h = h
+fits p q codes same (Unless t to) h = h
+fits p q codes same (Jump to) h = h
+fits p q codes same (Call c) h = h
+fits p q codes same (Return w a) h = h
+fits p q codes same Idle h = h

@@ -1,0 +1,200 @@
+-- Each instruction of a sound procedure has code of at least one instruction, where all locals are in the frame.
+use Rattle.std.specs.Prelude.{ℕ, zero, suc, ◌+◌, ◌-◌, ◌/◌, ◌%◌, ◌<◌, ◌≤◌, nat_lt, nat_le, Bool, true, false, ◌&&◌, not, if◌then◌else◌, List, [], ◌∷◌, ◌++◌, length, slice_index}
+use Rattle.std.specs.Prelude.{Option, Some, None, slice_get}
+use Rattle.std.specs.List.{AllByRecursion}
+use Rattle.std.proofs.Common.{◌≡◌, refl, sym, ap, ◌∙◌, subst, arith}
+use Rattle.std.proofs.lemmas.List.{length-append}
+use Rattle.avr_instr.specs.declared.instr.Instr.{Instr as Avr}
+use Rattle.avr_instr.specs.declared.instr.Instr.TheVariants.{Ret, Push as PushOf}
+use Rattle.avr_instr.specs.declared.operand.Base.{Base}
+use Rattle.avr_isa.specs.Standing.{words_with, widths}
+use Rattle.avr_instr.specs.Spelled.{second_word}
+use Rattle.vg_codes.specs.Dispatch.{cases_of}
+use Rattle.vg_lin.specs.declared.instr.Memory.TheVariants.{Ram, Flash}
+use Rattle.vg_lin.specs.declared.instr.Operand.{Operand}
+use Rattle.vg_lin.specs.declared.instr.Operand.TheVariants.{Local, Known}
+use Rattle.vg_lin.specs.declared.instr.Operator.{Operator}
+use Rattle.vg_lin.specs.declared.instr.Operator.TheVariants.{Plus, Minus, Times, Divide, Remainder, And, Or, Xor, ShiftLeft, ShiftRight}
+use Rattle.vg_lin.specs.declared.instr.Computation.{Computation}
+use Rattle.vg_lin.specs.declared.instr.Plain.{Plain as PlainInstr}
+use Rattle.vg_lin.specs.declared.instr.Plain.TheVariants.{Copy, Compute, Product, DivideStep, Load, Store, ReadDevice, WriteDevice, Push, Pop, Find, CodeOf, Stop}
+use Rattle.vg_lin.specs.declared.instr.Instr.{Instr}
+use Rattle.vg_lin.specs.declared.instr.Instr.TheVariants.{Plain, When, Unless, Jump, Call, Return, Idle}
+use Rattle.vg_lin.specs.Program.{Procedure, Program}
+use Rattle.vg_lin.specs.Sound.{IsWidth, IsPlain, AreOperands, IsSound}
+use Rattle.vg_frames.specs.Spots.{Spot, InFrame}
+use Rattle.vg_frames.specs.Layouts.{Layout, width_of}
+use Rattle.vg_frames.specs.Linkage.{pushes, pops, drops_slots, epilogue}
+use Rattle.vg_spots.specs.Transfers.{clears, reach, stores, keep}
+use Rattle.vg_spots.specs.Held.{brings, gives}
+use Rattle.vg_branches.specs.Branches.{tests, told_by, near_branch}
+use Rattle.vg_calls.specs.Calls.{call_code}
+use Rattle.vg_templates.specs.Operands.{least, padded, known_registers, finds, spot_found, found_in}
+use Rattle.vg_templates.specs.Plain.{copies, computes, works, writes_register, reads_register, first_of}
+use Rattle.vg_accesses.specs.Accesses.{points_x, loads_x, stores_x}
+use Rattle.vg_instr_code.specs.Shifts.{doubles, halves, repeats, shifts_left, shifts_right}
+use Rattle.vg_instr_code.specs.Lookups.{points_z, loads_z, tries_cases}
+use Rattle.vg_instr_code.specs.Products.{brings_bit}
+use Rattle.vg_instr_code.specs.Flow.{jump_code, branch_code, way_of, Turn, Direct, Past, Hop, Near, Far}
+use Rattle.vg_instr_code.specs.Plains.{computation_code, pops_from, plain_template}
+use Rattle.vg_instr_code.specs.Whole.{call_front, call_back}
+use Rattle.vg_framed.specs.Framed.{framed}
+use Rattle.vg_select.specs.Selected.{Leading, selected}
+
+-- ---- lists
+
+pub words_some : (is : List Avr) → 1 ≤ length is → 1 ≤ widths is
+words_some [] h = h
+words_some (i ∷ is) h = let w = word (second_word i) in omega (arith, w)
+  where
+    word : (o : Option ℕ) → 1 ≤ words_with o
+    word None = omega arith
+    word (Some x) = omega arith
+
+pub back : (a b : List Avr) → 1 ≤ length b → 1 ≤ length (a ++ b)
+back a b h = let e = length-append a b in omega (arith, h, e)
+
+pub front : (a b : List Avr) → 1 ≤ length a → 1 ≤ length (a ++ b)
+front a b h = let e = length-append a b in omega (arith, h, e)
+
+-- ---- values
+
+stores_some : (b : Base) (q r w n : ℕ) → 1 ≤ w → 1 ≤ length (stores b q r w n)
+stores_some b q r zero n h = absurd (omega (arith, h))
+stores_some b q r (suc w) zero h = omega arith
+stores_some b q r (suc w) (suc n) h = omega arith
+
+padded_some : (r w n : ℕ) → 1 ≤ n → 1 ≤ length (padded r w n)
+padded_some r w zero h = absurd (omega (arith, h))
+padded_some r zero (suc n) h = omega arith
+padded_some r (suc w) (suc n) h = omega arith
+
+known_some : (d n x : ℕ) → 1 ≤ n → 1 ≤ length (known_registers d n x)
+known_some d zero x h = absurd (omega (arith, h))
+known_some d (suc n) x h = omega arith
+
+pushes_some : (rs : List ℕ) → 1 ≤ length rs → 1 ≤ length (pushes rs)
+pushes_some [] h = absurd (omega (arith, h))
+pushes_some (r ∷ rs) h = back (pushes rs) (PushOf r ∷ []) (omega arith)
+
+pops_some : (d n : ℕ) → 1 ≤ n → 1 ≤ length (pops_from d n)
+pops_some d zero h = absurd (omega (arith, h))
+pops_some d (suc n) h = omega arith
+
+stores_x_some : (r n : ℕ) → 1 ≤ n → 1 ≤ length (stores_x r n)
+stores_x_some r zero h = absurd (omega (arith, h))
+stores_x_some r (suc n) h = omega arith
+
+writes_some : (b : Bool) (x y : Avr) → 1 ≤ length (if b then x ∷ [] else y ∷ [])
+writes_some true x y = omega arith
+writes_some false x y = omega arith
+
+branch_some : (bit k : ℕ) (b : Bool) → 1 ≤ length (near_branch bit b k)
+branch_some bit k true = omega arith
+branch_some bit k false = omega arith
+
+turn_some : (bit : ℕ) (b : Bool) (t : Turn) → 1 ≤ length (branch_code bit b t)
+turn_some bit b (Direct k) = branch_some bit k b
+turn_some bit b (Past h) = front (near_branch bit (not b) (widths (jump_code h))) (jump_code h) (branch_some bit (widths (jump_code h)) (not b))
+
+jump_some : (h : Hop) → 1 ≤ length (jump_code h)
+jump_some (Near k) = omega arith
+jump_some (Far to) = omega arith
+
+-- ---- the frame
+
+wide_at : (ws : List ℕ) (k : ℕ) → AllByRecursion IsWidth ws → k < length ws → 1 ≤ slice_index ws k
+wide_at [] k h lt = absurd (omega (arith, lt))
+wide_at (w ∷ ws) zero (h, g) lt = h.0
+wide_at (w ∷ ws) (suc k) (h, g) lt = wide_at ws k g (omega (arith, lt))
+
+in_frame : (b : Bool) (x y : ℕ) → (if b then InFrame x else InFrame y) ≡ InFrame (if b then x else y)
+in_frame true x y = refl
+in_frame false x y = refl
+
+module _ (m : Procedure) (s : IsSound m) where
+  abbrev l : Layout
+  l = framed m.widths m.params
+
+  spot : (k : ℕ) → (at : ℕ) × (l.spots k ≡ InFrame at)
+  spot k = (_, in_frame (nat_lt k m.params) _ _)
+
+  gives_some : (to r n : ℕ) → to < length m.widths → 1 ≤ length (gives l to r n)
+  gives_some to r n h =
+      let w = width_of l to in let at = (spot to).0 in
+      subst (λ z. 1 ≤ length (keep z w r n)) (sym (spot to).1)
+      (back (reach at w).code (stores (reach at w).base (reach at w).displacement r w n)
+      (stores_some (reach at w).base (reach at w).displacement r w n (wide_at m.widths to s.widths h)))
+
+  found_some : (a : Operand) (d n : ℕ) → 1 ≤ n → 1 ≤ length (found_in l a d n)
+  found_some (Local k) d n h = subst (λ z. 1 ≤ length (spot_found z (width_of l k) d n)) (sym (spot k).1) (padded_some d (width_of l k) n h)
+  found_some (Known x) d n h = known_some d n x h
+
+  computes_some : (c : Computation) → c.to < length m.widths → 1 ≤ length (computes l c)
+  computes_some c h =
+      let n = least c.width (width_of l c.to) in
+      back (brings l c.left 22 n) (works l c.operator c.right n ++ gives l c.to 22 n)
+      (back (works l c.operator c.right n) (gives l c.to 22 n) (gives_some c.to 22 n h))
+
+  left_some : (w to : ℕ) (a : Operand) (n : ℕ) → to < length m.widths → 1 ≤ length (shifts_left l w to a n)
+  left_some w to a n h =
+      let k = least w (width_of l to) in let whole = least (n / 8) k in
+      let shifted = repeats (n % 8) (doubles (22 + whole) (k - whole)) in
+      back (brings l a (22 + whole) (k - whole)) (clears 22 whole ++ (shifted ++ gives l to 22 k))
+      (back (clears 22 whole) (shifted ++ gives l to 22 k) (back shifted (gives l to 22 k) (gives_some to 22 k h)))
+
+  right_some : (w to : ℕ) (a : Operand) (n : ℕ) → to < length m.widths → 1 ≤ length (shifts_right l w to a n)
+  right_some w to a n h =
+      let whole = least (n / 8) w in let shifted = repeats (n % 8) (halves (22 + whole) (w - whole)) in
+      let out = gives l to (22 + whole) (w - whole) in
+      back (brings l a 22 w) (shifted ++ out) (back shifted out (gives_some to (22 + whole) (w - whole) h))
+
+  computation_some : (c : Computation) (op : Operator) (a : Operand) → c.to < length m.widths → 1 ≤ length (computation_code l c op a)
+  computation_some c Plus a h = computes_some c h
+  computation_some c Minus a h = computes_some c h
+  computation_some c Times a h = computes_some c h
+  computation_some c Divide a h = computes_some c h
+  computation_some c Remainder a h = computes_some c h
+  computation_some c And a h = computes_some c h
+  computation_some c Or a h = computes_some c h
+  computation_some c Xor a h = computes_some c h
+  computation_some c ShiftLeft (Local k) h = computes_some c h
+  computation_some c ShiftLeft (Known n) h = left_some c.width c.to c.left n h
+  computation_some c ShiftRight (Local k) h = computes_some c h
+  computation_some c ShiftRight (Known n) h = right_some c.width c.to c.left n h
+
+  copies_some : (to : ℕ) (a : Operand) → to < length m.widths → 1 ≤ length (copies l to a)
+  copies_some to a h = back (brings l a 22 (width_of l to)) (gives l to 22 (width_of l to)) (gives_some to 22 (width_of l to) h)
+
+  plain_some : (p : Program) (i : PlainInstr) → IsPlain m i → 1 ≤ length (plain_template l p i)
+  plain_some p (Copy to a) h = copies_some to a h.0
+  plain_some p (Compute c) h = computation_some c c.operator c.right h.1
+  plain_some p (Product to a b) h =
+      back (finds l a 18 1) (finds l b 22 1 ++ _) (back (finds l b 22 1) (_ ∷ _) (omega arith))
+  plain_some p (DivideStep r d a) h = front (brings_bit l d) _ (back (brings l (Local d) 22 4) (_ ∷ _) (omega arith))
+  plain_some p (Load Ram w to a) h =
+      back (points_x l a.base a.index) (loads_x 22 w ++ gives l to 22 w) (back (loads_x 22 w) (gives l to 22 w) (gives_some to 22 w h.1))
+  plain_some p (Load Flash w to a) h =
+      back (points_z l a.base a.index) (loads_z 22 w ++ gives l to 22 w) (back (loads_z 22 w) (gives l to 22 w) (gives_some to 22 w h.1))
+  plain_some p (Store w a from) h =
+      back (points_x l a.base a.index) (brings l from 22 w ++ stores_x 22 w) (back (brings l from 22 w) (stores_x 22 w) (stores_x_some 22 w h.0.0))
+  plain_some p (ReadDevice to address) h = back (reads_register 22 address) (gives l to 22 1) (gives_some to 22 1 h)
+  plain_some p (WriteDevice address a) h =
+      back (finds l a 22 1) (writes_register address (first_of (found_in l a 22 1))) (writes_some (nat_le 0x20 address && nat_lt address 0x60) _ _)
+  plain_some p (Push w a) h = back (finds l a 22 w) (pushes (found_in l a 22 w)) (pushes_some (found_in l a 22 w) (found_some a 22 w h.0.0))
+  plain_some p (Pop w to) h = front (pops_from 22 w) (gives l to 22 w) (pops_some 22 w h.0.0)
+  plain_some p (Find place to a) h =
+      let cases = tries_cases p.codes.code (cases_of (slice_get p.dispatches place)) in
+      back (brings l a 24 2) (cases ++ gives l to 22 2) (back cases (gives l to 22 2) (gives_some to 22 2 h.0))
+  plain_some p (CodeOf q to) h = copies_some to (Known (p.codes.code q)) h
+  plain_some p (Stop code) h = omega arith
+
+  pub selected_some : (p : Program) (ws : List ℕ) (to : Leading) (i : Instr) → AreOperands m i → 1 ≤ length (selected l p ws to i)
+  selected_some p ws to (Plain i) h = plain_some p i h
+  selected_some p ws to (When t at) h = back (tests l t) (branch_code (told_by t.comparison) true to.branch) (turn_some (told_by t.comparison) true to.branch)
+  selected_some p ws to (Unless t at) h = back (tests l t) (branch_code (told_by t.comparison) false to.branch) (turn_some (told_by t.comparison) false to.branch)
+  selected_some p ws to (Jump at) h = jump_some to.jump
+  selected_some p ws to (Call c) h = back (call_front l c) (call_code (way_of c.callee to.call) ∷ call_back l ws c) (omega arith)
+  selected_some p ws to (Return w a) h =
+      back (brings l a 22 w) (epilogue l) (back (drops_slots l.slots) (pops l.saved ++ Ret ∷ []) (back (pops l.saved) (Ret ∷ []) (omega arith)))
+  selected_some p ws to Idle h = omega arith

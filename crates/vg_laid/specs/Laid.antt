@@ -1,0 +1,139 @@
+-- Programs that are put twice: first to learn where all code stands, and then so that it leads there.
+use Rattle.std.specs.Prelude.{ℕ, zero, suc, ◌≡◌, ◌+◌, ◌*◌, ◌<◌, nat_lt, ◌==◌, if◌then◌else◌, List, [], ◌∷◌, ◌++◌, length, Option, Some, None, slice_get}
+use Rattle.avr_instr.specs.declared.instr.Instr.{Instr as Avr}
+use Rattle.avr_isa.specs.Standing.{widths}
+use Rattle.vg_codes.specs.declared.case.Case.{Case}
+use Rattle.vg_codes.specs.Codes.{Codes}
+use Rattle.vg_lin.specs.declared.instr.Instr.{Instr}
+use Rattle.vg_lin.specs.declared.instr.Instr.TheVariants.{Call, Idle}
+use Rattle.vg_lin.specs.Program.{Procedure, Program}
+use Rattle.vg_lin.specs.Sound.{IsSound, waits_in}
+use Rattle.vg_frames.specs.Layouts.{Layout}
+use Rattle.vg_frames.specs.Linkage.{prologue}
+use Rattle.vg_framed.specs.Framed.{framed}
+use Rattle.vg_calls.specs.Calls.{call_words}
+use Rattle.vg_calls.specs.Calls as calls
+use Rattle.vg_interrupts.specs.Idle.{stub}
+use Rattle.vg_instr_code.specs.Flow.{Far, Past, way_of}
+use Rattle.vg_instr_code.specs.Whole.{Links, call_front}
+use Rattle.vg_covered.specs.Fitting.{IsFit}
+use Rattle.vg_put_operations.specs.Coded.{code_from}
+use Rattle.vg_select.specs.Selected.{Leading, with_codes}
+use Rattle.vg_put_procedures.specs.Emitted.{place_of}
+use Rattle.vg_put_programs.specs.Programs.{turn_of, places_at, codes_upto, aim_in, called_in, Emission, emission, pieces_upto, placed_upto}
+
+-- ---- both times
+
+abbrev pub unknown : List Procedure → (start : ℕ) → List (List Case) → Emission
+unknown ms s ds = emission ms s ds [] [] 0
+
+-- the word address behind all procedures: there the program waits for interrupts
+abbrev pub idle_from : List Procedure → (start : ℕ) → List (List Case) → (first : ℕ) → ℕ
+idle_from ms s ds first = first + widths (pieces_upto (unknown ms s ds) (length ms))
+
+-- the code numbers: word addresses of entries, in two bytes
+abbrev pub codes_from : List Procedure → (start : ℕ) → List (List Case) → (first : ℕ) → List ℕ
+codes_from ms s ds first = codes_upto (placed_upto (unknown ms s ds) first (length ms)) s (length ms) (length ms)
+
+abbrev pub known : List Procedure → (start : ℕ) → List (List Case) → (first : ℕ) → Emission
+known ms s ds first =
+    emission ms s ds (placed_upto (unknown ms s ds) first (length ms)) (codes_from ms s ds first) (idle_from ms s ds first)
+
+-- ---- where instructions lead
+
+abbrev pub aim_of : (places : List ℕ) → Option Instr → ℕ
+aim_of places (Some i) = aim_in places i
+aim_of places None = 0
+
+abbrev pub called_of : (codes : List ℕ) → Option Instr → ℕ
+called_of codes (Some i) = called_in codes i
+called_of codes None = 0
+
+abbrev pub far_lead : (aim called idle : ℕ) → Leading
+far_lead aim called idle = record { jump = Far aim; branch = Past (Far aim); call = calls.Far called; idle = idle }
+
+abbrev pub lead_at : (places codes : List ℕ) (idle : ℕ) → Option Instr → Leading
+lead_at places codes idle o = far_lead (aim_of places o) (called_of codes o) idle
+
+-- ---- where it stands
+
+abbrev pub layout_of : Option Procedure → Layout
+layout_of (Some m) = framed m.widths m.params
+layout_of None = framed [] 0
+
+abbrev pub instrs_of : Option Procedure → List Instr
+instrs_of (Some m) = m.code
+instrs_of None = []
+
+-- the first place at which a number stands in a list, or its length
+abbrev pub index_in : List ℕ → ℕ → ℕ
+index_in [] x = 0
+index_in (y ∷ ys) x = if y == x then 0 else suc (index_in ys x)
+
+-- the stubs of these procedures stand at a word address, one behind the other
+abbrev pub stub_at : (stubs : List ℕ) → (at procedure : ℕ) → ℕ
+stub_at stubs at m = at + 3 * index_in stubs m
+
+abbrev pub stubs_code : (codes stubs : List ℕ) → List Avr
+stubs_code codes [] = []
+stubs_code codes (m ∷ ms) = stub (code_from codes m) ++ stubs_code codes ms
+
+-- where a call and an instruction that idles come back to
+abbrev pub behind_of : Layout → (at : ℕ) → Leading → Option Instr → ℕ
+behind_of l at to (Some (Call c)) = at + widths (call_front l c) + call_words (way_of c.callee to.call)
+behind_of l at to (Some Idle) = at + 2
+behind_of l at to _ = 0
+
+module _ (e : Emission) (p : Program) where
+  abbrev pub layout_at : (m : ℕ) → Layout
+  layout_at m = layout_of (slice_get e.procedures m)
+
+  abbrev pub instrs_at : (m : ℕ) → List Instr
+  instrs_at m = instrs_of (slice_get e.procedures m)
+
+  abbrev pub known_places : (m : ℕ) → List ℕ
+  known_places m = places_at e.known (turn_of e.start (length e.procedures) m)
+
+  abbrev pub leads_at : (m pc : ℕ) → Leading
+  leads_at m pc = lead_at (known_places m) e.codes e.idle (slice_get (instrs_at m) pc)
+
+  abbrev pub place_at : (m pc : ℕ) → ℕ
+  place_at m pc =
+      place_of (layout_at m) p (leads_at m) (instrs_at m) (code_from e.codes m + widths (prologue (layout_at m))) pc
+
+  -- The links of what is put, with the stubs of these procedures behind the piece in which the program waits.
+  abbrev pub links_of : (stubs : List ℕ) → Links
+  links_of stubs =
+      record {
+        places = record {
+          layouts = layout_at;
+          behind = λ m pc. behind_of (layout_at m) (place_at m pc) (leads_at m pc) (slice_get (instrs_at m) pc);
+          woken = e.idle + 2;
+          stub_end = λ m. stub_at stubs (e.idle + 4) m + 2;
+        };
+        entry = λ m. code_from e.codes m;
+        place = place_at;
+        waits = λ m pc. waits_in [] (instrs_at m) pc;
+        jump = λ m pc. (leads_at m pc).jump;
+        branch = λ m pc. (leads_at m pc).branch;
+        call = λ m pc. (leads_at m pc).call;
+        idle = e.idle;
+      }
+
+-- ---- code numbers
+
+-- The procedure whose code number it is, where those of all procedures from one on stand in a list.
+abbrev pub found_from : (procedure : ℕ) → List ℕ → (code : ℕ) → Option ℕ
+found_from q [] c = None
+found_from q (x ∷ xs) c = if x == c then Some q else found_from (suc q) xs c
+
+abbrev pub codes_by : List ℕ → Codes
+codes_by codes = record { code = code_from codes; at_code = found_from 0 codes }
+
+-- ---- what they need
+
+-- Each procedure is sound, and there is code for each of its instructions, whatever the code numbers are, of two bytes each.
+pub record AreSound (ms : List Procedure) (ds : List (List Case)) : Type 0 where
+  pub sound : (m : ℕ) (procedure : Procedure) → slice_get ms m ≡ Some procedure → IsSound procedure
+  pub fit : (m : ℕ) (procedure : Procedure) → slice_get ms m ≡ Some procedure → (pc : ℕ) (i : Instr) → slice_get procedure.code pc ≡ Some i
+      → (codes : ℕ → ℕ) → ((q : ℕ) → codes q < 65536) → IsFit (with_codes codes ds) i

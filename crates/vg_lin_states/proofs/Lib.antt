@@ -1,0 +1,5 @@
+pub mod Bytes
+pub mod Fetching
+pub mod Locals
+pub mod Narrows
+pub mod Newest

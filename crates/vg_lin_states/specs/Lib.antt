@@ -1,0 +1,4 @@
+pub mod Narrow
+pub mod Programs
+pub mod Doing
+pub mod Arguments

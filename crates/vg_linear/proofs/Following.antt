@@ -1,0 +1,158 @@
+-- The linear program does what the flattened one does.
+use Rattle.std.proofs.Common.{◌≡◌, refl, sym, ap, subst, ◌∙◌, arith, ℕ, ◌+◌, ◌≤◌, List, [], ◌∷◌, length, option_map, Option, Some, slice_get}
+use Rattle.std.proofs.lemmas.Option.{none-some, slice_get-map}
+use Rattle.std.proofs.lemmas.Slice.Zip.{AllZip-long}
+use Rattle.std.proofs.lemmas.List.{length-map, length-append}
+use Rattle.vg_codes.specs.Codes.{Codes, AreCodes}
+use Rattle.vg_firm.specs.declared.procedure.Procedure.{Procedure as HeldProcedure}
+use Rattle.vg_firm.specs.Held.{procedure_of}
+use Rattle.vg_firm.specs.Program.{Procedure as FirmProcedure}
+use Rattle.vg_lin.specs.Program.{Procedure, Program}
+use Rattle.vg_lin.specs.Sound.{IsWidth}
+use Rattle.vg_arith.specs.Routines.{IsRoutine}
+use Rattle.vg_expand.specs.Expansion.{HasRoutines}
+use Rattle.vg_expand.specs.Runs.{with_procedures, AllExpand, IsClosed, RunsAs}
+use Rattle.vg_expand.proofs.Simulated.{runs_same}
+use Rattle.vg_flatten_shapes.specs.declared.layout.Layout.{Layout}
+use Rattle.vg_flatten_steps.specs.Calls.{passing_of}
+use Rattle.vg_flatten.specs.Columns.{FlashStands}
+use Rattle.vg_flatten.specs.Flattened.{start_of, AreFlat, IsFit, IsFlat, IsPassing}
+use Rattle.vg_placement.specs.declared.column.Column.{Column}
+use Rattle.vg_packed.specs.declared.program.FirmProgram.{FirmProgram}
+use Rattle.vg_packed.specs.Programs.{program_of}
+use Rattle.vg_linear.specs.declared.whole.Linear.{Linear}
+use Rattle.vg_linear.specs.Expanded.{IsExpandedTo}
+use Rattle.vg_linear.specs.Passing.{passing_for}
+use Rattle.vg_linear.specs.Standing.{StandIn}
+use Rattle.vg_linear.specs.Whole.{AreAllMade, IsLinear, first_routine, linear_program, packed_of}
+use Rattle.vg_linear.specs.Widths.{AllHaveWidths, HasWidths}
+use Rattle.vg_linear.proofs.Lists.{from_map, get_left, get_right, one_of, zip_at}
+use Rattle.vg_linear.proofs.Called.{is_passing}
+use Rattle.vg_linear.proofs.Routined.{routine_at}
+
+is_fit : (m : HeldProcedure) → HasWidths m → IsFit (procedure_of m)
+is_fit m has = record {
+  params = has.params;
+  widths = λ i w e. (one_of IsWidth m.widths i w has.widths e).1;
+  result = has.result;
+}
+
+-- the program has more procedures than the packed one
+pub all_long : (cs : List Column) (f : FirmProgram) (l : Linear) → IsLinear cs f l → length f.procedures ≤ length l.procedures
+all_long cs f l is =
+    let a = ap length is.made.routines.behind in
+    let b = length-append is.made.expanded is.made.routines.routines in
+    let c = AllZip-long (IsExpandedTo (first_routine f)) is.made.begun is.made.expanded is.made.are_expanded in
+    let s = ap length is.made.with_start.behind in
+    let d = length-append is.made.flats (start_of f.main is.made.with_start.main.receives ∷ []) in
+    let e = AllZip-long (IsFlat l.layout) (packed_of f) is.made.flats is.made.are_flat in
+    let g = length-map f.procedures procedure_of in omega (arith, a, b, c, s, d, e, g)
+
+module _ (k : Codes) (cs : List Column) (f : FirmProgram) (l : Linear) (tables ram : List ℕ) (handler : ℕ → Option ℕ)
+    (codes : AreCodes (length f.procedures) k) (stand : StandIn k l.layout f tables ram handler) (whole : IsLinear cs f l) where
+  abbrev lay : Layout
+  lay = l.layout
+
+  abbrev is : AreAllMade l.layout f l.procedures
+  is = whole.made
+
+  have : AllHaveWidths f.procedures
+  have = whole.widths
+
+  abbrev old : Program
+  old = record {
+    procedures = is.begun;
+    dispatches = f.dispatches;
+    codes = k;
+    tables = tables;
+    ram = ram;
+    handler = handler;
+    start = l.start;
+  }
+
+  flats_long : length is.flats ≡ length f.procedures
+  flats_long = AllZip-long (IsFlat lay) (packed_of f) is.flats is.are_flat ∙ length-map f.procedures procedure_of
+
+  has_widths : (q : ℕ) (m : FirmProcedure) → slice_get (packed_of f) q ≡ Some m
+      → (x : HeldProcedure) × (slice_get f.procedures q ≡ Some x) × HasWidths x × (procedure_of x ≡ m)
+  has_widths q m e =
+      let r = from_map procedure_of f.procedures q m e in (r.0, r.1, one_of HasWidths f.procedures q r.0 have r.1, r.2)
+
+  there : (q : ℕ) (p : Procedure) → slice_get is.flats q ≡ Some p → slice_get is.begun q ≡ Some p
+  there q p e = ap (λ z. slice_get z q) is.with_start.behind ∙ get_left is.flats (start_of f.main is.with_start.main.receives ∷ []) q p e
+
+  flats : (q : ℕ) (m : FirmProcedure) → slice_get (packed_of f) q ≡ Some m
+      → (lp : Procedure) × (slice_get is.begun q ≡ Some lp) × IsFit m × IsFlat lay m lp
+  flats q m e =
+      let p = zip_at (IsFlat lay) (packed_of f) is.flats is.are_flat q m e in
+      let x = has_widths q m e in
+      (p.0, there q p.0 p.1, subst IsFit x.3 (is_fit x.0 x.2), p.2)
+
+  passing : (q : ℕ) (m : FirmProcedure) → slice_get (packed_of f) q ≡ Some m → IsPassing m (passing_of (slice_get lay.passing q))
+  passing q m e =
+      let x = has_widths q m e in
+      let there : slice_get lay.passing q ≡ Some (passing_for x.0) =
+      ap (λ (z : Layout). slice_get z.passing q) whole.layout ∙ (slice_get-map passing_for f.procedures q ∙ ap (option_map passing_for) x.1) in
+      subst (λ z. IsPassing m (passing_of z)) (sym there) (subst (λ z. IsPassing z (passing_for x.0)) x.3 (is_passing x.0 x.2))
+
+  start_there : slice_get is.begun l.start ≡ Some (start_of f.main is.with_start.main.receives)
+  start_there =
+      ap (λ z. slice_get z l.start) is.with_start.behind
+      ∙ get_right is.flats (start_of f.main is.with_start.main.receives ∷ []) l.start 0 (let s = whole.start in let n = flats_long in omega (arith, s, n))
+
+  flash_stands : FlashStands lay (program_of k f) old
+  flash_stands = record {
+    columns = λ c place vs e g. absurd (none-some place (sym (ap (λ (z : Layout). slice_get z.flash c) whole.layout) ∙ e));
+    tables = stand.arrays;
+  }
+
+  pub are_flat : AreFlat k lay (program_of k f) old
+  are_flat = record {
+    flats = flats;
+    passing = passing;
+    codes = refl;
+    numbers = subst (λ z. AreCodes z k) (sym (length-map f.procedures procedure_of)) codes;
+    dispatches = refl;
+    handler = stand.handlers;
+    main = is.with_start.main;
+    is_main = is.with_start.is_main;
+    start = start_there;
+    flash = flash_stands;
+    ram = stand.columns;
+  }
+
+  begun_long : length is.begun ≡ first_routine f
+  begun_long =
+      let s = ap length is.with_start.behind in
+      let a = length-append is.flats (start_of f.main is.with_start.main.receives ∷ []) in let n = flats_long in omega (arith, s, a, n)
+
+  all_expand : AllExpand (first_routine f) is.begun l.procedures
+  all_expand q m e =
+      let r = zip_at (IsExpandedTo (first_routine f)) is.begun is.expanded is.are_expanded q m e in (
+        r.2.sound,
+        (r.0, ap (λ z. slice_get z q) is.routines.behind ∙ get_left is.expanded is.routines.routines q r.0 r.1, r.2.expands),
+      )
+
+  has_routines : HasRoutines (first_routine f) (with_procedures old l.procedures)
+  has_routines which lt =
+      let r = routine_at 0 is.routines.routines is.routines.are_routines which (let n = is.routines.four in omega (arith, lt, n)) in
+      let z : 0 + which ≡ which = omega arith in
+      let n = AllZip-long (IsExpandedTo (first_routine f)) is.begun is.expanded is.are_expanded in
+      let o = begun_long in (
+        r.0,
+        ap (λ y. slice_get y (first_routine f + which)) is.routines.behind
+            ∙ (get_right is.expanded is.routines.routines (first_routine f + which) which (omega (arith, n, o)) ∙ r.1),
+        subst (λ y. IsRoutine y r.0) z r.2,
+      )
+
+  closed : IsClosed old
+  closed = record {
+    start = let s = whole.start in let o = begun_long in omega (arith, s, o);
+    handlers = λ v q e. let h = stand.closed v q e in let o = begun_long in omega (arith, h, o);
+  }
+
+  pub runs_as : RunsAs old (linear_program k f l tables ram handler)
+  runs_as = runs_same (first_routine f) old l.procedures all_expand has_routines closed
+
+  pub follows : (p : Program) × AreFlat k lay (program_of k f) p × RunsAs p (linear_program k f l tables ram handler)
+  follows = (old, are_flat, runs_as)

@@ -1,0 +1,27 @@
+-- One column more.
+use Rattle.std.proofs.Common.{◌≡◌, refl, List, ◌∷◌, ◌++◌, map}
+use Rattle.vg_firm.specs.declared.step.Home.{Home}
+use Rattle.vg_firm.specs.declared.step.Home.TheVariants.{Ram, Flash}
+use Rattle.vg_placement.specs.declared.column.Held.{Held}
+use Rattle.vg_placement.specs.declared.column.Held.TheVariants.{Initial, Field as TheField, Elements as TheItems, Table as TheTable}
+use Rattle.vg_placement.specs.declared.column.Column.{Column}
+use Rattle.vg_packed.specs.Packed.{if_ram, ram_columns}
+use Rattle.vg_table_bytes.specs.Rows.{if_table, tables_in}
+use Rattle.vg_started_bytes.specs.Started.{place_of, ram_places, address_of, table_addresses}
+use Rattle.vg_linear.specs.Places.{place_if, address_if}
+
+pub ram_next : (c : Column) (cs : List Column) → ram_places (c ∷ cs) ≡ place_if c.home (place_of c) ++ ram_places cs
+ram_next c cs = by c.home
+  where
+    by : (h : Home) → map place_of (if_ram h c (ram_columns cs)) ≡ place_if h (place_of c) ++ ram_places cs
+    by Ram = refl
+    by Flash = refl
+
+pub table_next : (c : Column) (cs : List Column) → table_addresses (c ∷ cs) ≡ address_if c.what c.at ++ table_addresses cs
+table_next c cs = by c.what
+  where
+    by : (w : Held) → map address_of (if_table w c (tables_in cs)) ≡ address_if w c.at ++ table_addresses cs
+    by (TheTable t) = refl
+    by Initial = refl
+    by (TheField f) = refl
+    by (TheItems t) = refl

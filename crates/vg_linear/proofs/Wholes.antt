@@ -1,0 +1,93 @@
+-- Programs as they are made, step by step, and why they are refused.
+use Rattle.std.proofs.Common.{◌≡◌, sym, ap, subst, ◌∙◌, arith, inl, inr, ℕ, ◌<◌, List, [], ◌∷◌, ◌++◌, length, map, option_map, Some, Err, slice_get, get_or}
+use Rattle.std.proofs.lemmas.Option.{slice_get-map}
+use Rattle.vg_base.specs.declared.refusal.Refusal.{Refusal}
+use Rattle.vg_base.specs.declared.refusal.Refusal.TheVariants.{Fault as Faulty, NoMemory as Memory}
+use Rattle.vg_firm.specs.declared.procedure.Procedure.{Procedure as HeldProcedure}
+use Rattle.vg_firm.specs.Held.{procedure_of}
+use Rattle.vg_lin.specs.Program.{Procedure}
+use Rattle.vg_flatten_shapes.specs.declared.fault.Fault.{Fault}
+use Rattle.vg_flatten_shapes.specs.declared.layout.Layout.{Layout}
+use Rattle.vg_flatten.specs.Flattened.{start_of}
+use Rattle.vg_placement.specs.declared.column.Column.{Column}
+use Rattle.vg_packed.specs.declared.program.FirmProgram.{FirmProgram}
+use Rattle.vg_linear.specs.Laying.{layout_of}
+use Rattle.vg_linear.specs.Flats.{AreAllFlat, AreTaken, AreTyped, IsRefusedFor}
+use Rattle.vg_linear.specs.Expanded.{AreAllExpanded, IsOneTooLong}
+use Rattle.vg_linear.specs.Whole.{AreAllMade, IsWithStart, WithRoutines, first_routine, packed_of}
+use Rattle.vg_linear.specs.Widths.{AllHaveWidths}
+use Rattle.vg_linear.specs.Refusals.{AreRefused, AreTakenIn, IsExpandedOrTooLong, IsRefused, IsTakenFor, IsTypedIn}
+use Rattle.vg_linear.proofs.Lists.{get_at}
+use Rattle.vg_linear.proofs.Expanded.{among}
+
+-- ---- the start
+
+pub started : (f : FirmProgram) (ms : List HeldProcedure) (q : ℕ) (m : HeldProcedure) (s : Procedure) (old new : List Procedure) → ms ≡ f.procedures
+    → q ≡ f.main → f.main < length f.procedures → m ≡ get_or ms q m → s ≡ start_of f.main m.receives → new ≡ old ++ s ∷ [] → IsWithStart f old new
+started f ms q m s old new procedures main within is is_start behind = record {
+  main = procedure_of m;
+  is_main = slice_get-map procedure_of f.procedures f.main ∙ ap (option_map procedure_of) (there f.procedures procedures f.main main within);
+  behind = behind ∙ ap (λ z. old ++ z ∷ []) is_start;
+}
+  where
+    there : (xs : List HeldProcedure) → ms ≡ xs → (i : ℕ) → q ≡ i → i < length xs → slice_get xs i ≡ Some m
+    there xs e i g lt = get_at xs i m lt (is ∙ (ap (λ z. get_or z q m) e ∙ ap (λ z. get_or xs z m) g))
+
+-- ---- procedures
+
+module _ (lay : Layout) (f : FirmProgram) where
+  pub flats_refused : (ms : List HeldProcedure) → ms ≡ f.procedures → (why : Refusal Fault) → IsRefusedFor (Err why) lay (map procedure_of ms)
+      → AreRefused (Err why) lay f
+  flats_refused ms e Memory h = tt
+  flats_refused ms e (Faulty why) h = inl (subst (λ z. IsRefusedFor (Err (Faulty why)) lay (map procedure_of z)) e h)
+
+  pub flats_left : (ms : List HeldProcedure) → ms ≡ f.procedures → (why : Refusal Fault)
+      → (AreTyped lay (map procedure_of ms) → AreTaken (Err why) lay (map procedure_of ms)) → IsTypedIn lay f → AreTakenIn (Err why) lay f
+  flats_left ms e Memory h t = tt
+  flats_left ms e (Faulty why) h t =
+      let r = subst (λ z. AreTaken (Err (Faulty why)) lay (map procedure_of z)) e (h (subst (λ z. AreTyped lay (map procedure_of z)) (sym e) t.typed)) in
+      (r.0, inl r.1)
+
+  module _ (flats : List Procedure) (are_flat : AreAllFlat lay (packed_of f) flats) (begun : List Procedure) (with_start : IsWithStart f flats begun) where
+    module _ (ms : List Procedure) (e : ms ≡ begun) (first : ℕ) where
+      long : IsOneTooLong ms → IsOneTooLong flats
+      long h =
+          among flats (start_of f.main with_start.main.receives) (let three : 3 < 32768 = omega arith in three)
+          (subst IsOneTooLong (e ∙ with_start.behind) h)
+
+      pub expanded_refused : (why : Refusal Fault) → IsExpandedOrTooLong (Err why) first ms → AreRefused (Err why) lay f
+      expanded_refused Memory h = tt
+      expanded_refused (Faulty why) h = inr (h.0, record { flats = flats; are_flat = are_flat; long = long h.1 })
+
+      pub expanded_left : (why : Refusal Fault) → IsExpandedOrTooLong (Err why) first ms → IsTypedIn lay f → AreTakenIn (Err why) lay f
+      expanded_left Memory h t = tt
+      expanded_left (Faulty why) h t = (h.0, inr (record { flats = flats; are_flat = are_flat; long = long h.1 }))
+
+      pub all_made : (expanded all : List Procedure) → first ≡ first_routine f → AreAllExpanded first ms expanded → WithRoutines expanded all
+          → AreAllMade lay f all
+      all_made expanded all is are_expanded routines = record {
+        flats = flats;
+        are_flat = are_flat;
+        begun = begun;
+        with_start = with_start;
+        expanded = expanded;
+        are_expanded = subst (λ z. AreAllExpanded z begun expanded) is (subst (λ z. AreAllExpanded first z expanded) e are_expanded);
+        routines = routines;
+      }
+
+-- ---- programs
+
+module _ (cs : List Column) (f : FirmProgram) (lay : Layout) (laid : lay ≡ layout_of cs f.procedures) where
+  pub whole_refused : (why : Refusal Fault) → AreRefused (Err why) lay f → IsRefused (Err why) cs f
+  whole_refused Memory h = tt
+  whole_refused (Faulty why) h = inr (inr (subst (λ z. AreRefused (Err (Faulty why)) z f) laid h))
+
+  pub whole_left : (why : Refusal Fault) → (IsTypedIn lay f → AreTakenIn (Err why) lay f) → IsTypedIn (layout_of cs f.procedures) f
+      → IsTakenFor (Err why) cs f
+  whole_left Memory h t = tt
+  whole_left (Faulty why) h t =
+      inr (subst (λ z. AreTakenIn (Err (Faulty why)) z f) laid (h (subst (λ z. IsTypedIn z f) (sym laid) t)))
+
+-- where some have other widths
+pub no_widths : (f : FirmProgram) (ms : List HeldProcedure) → ms ≡ f.procedures → (AllHaveWidths ms → ⊥) → AllHaveWidths f.procedures → ⊥
+no_widths f ms e no' all = no' (subst AllHaveWidths (sym e) all)

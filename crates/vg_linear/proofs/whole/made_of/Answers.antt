@@ -1,0 +1,20 @@
+use Rattle.std.proofs.Common.{arith}
+use Rattle.vg_linear.proofs.Wholes.{all_made, expanded_left, expanded_refused}
+use Rattle.vg_linear.proofs.whole.made_of.Goals as goal
+
+pub returns-in-Err : goal.returns-in-Err
+returns-in-Err c = record {
+  made = tt;
+  refusal = expanded_refused c.args.layout.now c.args.firm.now c.args.flats c.requires.flat c.in_ok-begun.begun c.in_ok-begun.ensures
+      c.as_slice.result.now c.as_slice.ensures _ c.in-Err.why c.in-Err.ensures;
+  typed = expanded_left c.args.layout.now c.args.firm.now c.args.flats c.requires.flat c.in_ok-begun.begun c.in_ok-begun.ensures
+      c.as_slice.result.now c.as_slice.ensures _ c.in-Err.why c.in-Err.ensures;
+}
+
+pub returns : goal.returns
+returns c = record {
+  made = all_made c.args.layout.now c.args.firm.now c.args.flats c.requires.flat c.in_ok-begun.begun c.in_ok-begun.ensures
+      c.as_slice.result.now c.as_slice.ensures _ c.in-Ok.expanded c.in_ok-all.all (omega arith) c.in-Ok.ensures c.in_ok-all.ensures;
+  refusal = tt;
+  typed = λ t. tt;
+}

@@ -1,0 +1,9 @@
+pub mod Widths
+pub mod Passing
+pub mod Places
+pub mod Laying
+pub mod Flats
+pub mod Expanded
+pub mod Whole
+pub mod Refusals
+pub mod Standing

@@ -1,0 +1,77 @@
+-- The linear program of a packed one.
+use Rattle.std.specs.Prelude.{◌≡◌, ℕ, suc, ◌+◌, List, [], ◌∷◌, ◌++◌, length, map, Option, Some, slice_get}
+use Rattle.vg_codes.specs.Codes.{Codes}
+use Rattle.vg_firm.specs.Held.{procedure_of}
+use Rattle.vg_firm.specs.Program.{Procedure as FirmProcedure}
+use Rattle.vg_lin.specs.Program.{Procedure, Program}
+use Rattle.vg_lin.specs.Sound.{IsSound}
+use Rattle.vg_arith.specs.Routines.{IsRoutine}
+use Rattle.vg_flatten_shapes.specs.declared.layout.Layout.{Layout}
+use Rattle.vg_flatten.specs.Flattened.{start_of}
+use Rattle.vg_placement.specs.declared.column.Column.{Column}
+use Rattle.vg_packed.specs.declared.program.FirmProgram.{FirmProgram}
+use Rattle.vg_linear.specs.declared.whole.Linear.{Linear}
+use Rattle.vg_linear.specs.Laying.{layout_of}
+use Rattle.vg_linear.specs.Widths.{AllHaveWidths}
+use Rattle.vg_linear.specs.Flats.{AreAllFlat}
+use Rattle.vg_linear.specs.Expanded.{AreAllExpanded}
+
+-- ---- routines
+
+-- These are routines, from one number on.
+abbrev pub AreRoutines : (which : ℕ) → List Procedure → Type 0
+AreRoutines which [] = Unit {0}
+AreRoutines which (p ∷ ps) = IsRoutine which p × IsSound p × AreRoutines (suc which) ps
+
+-- The four routines stand behind other procedures.
+pub record WithRoutines (old new : List Procedure) : Type 0 where
+  pub routines : List Procedure
+  pub are_routines : AreRoutines 0 routines
+  pub four : length routines ≡ 4
+  pub behind : new ≡ old ++ routines
+
+-- ---- programs
+
+-- The packed procedures of a program.
+abbrev pub packed_of : FirmProgram → List FirmProcedure
+packed_of f = map procedure_of f.procedures
+
+-- The routines stand behind the procedures of the packed program and the start.
+abbrev pub first_routine : FirmProgram → ℕ
+first_routine f = length f.procedures + 1
+
+-- Procedures, and the start behind them, which calls main.
+pub record IsWithStart (f : FirmProgram) (old new : List Procedure) : Type 0 where
+  pub main : FirmProcedure
+  pub is_main : slice_get (packed_of f) f.main ≡ Some main
+  pub behind : new ≡ old ++ start_of f.main main.receives ∷ []
+
+pub record AreAllMade (lay : Layout) (f : FirmProgram) (all : List Procedure) : Type 0 where
+  -- the procedures of the packed program, flattened
+  pub flats : List Procedure
+  pub are_flat : AreAllFlat lay (packed_of f) flats
+  -- with the start behind them
+  pub begun : List Procedure
+  pub with_start : IsWithStart f flats begun
+  -- all expanded, with the routines behind these
+  pub expanded : List Procedure
+  pub are_expanded : AreAllExpanded (first_routine f) begun expanded
+  pub routines : WithRoutines expanded all
+
+pub record IsLinear (cs : List Column) (f : FirmProgram) (l : Linear) : Type 0 where
+  pub widths : AllHaveWidths f.procedures
+  pub layout : l.layout ≡ layout_of cs f.procedures
+  pub made : AreAllMade l.layout f l.procedures
+  pub start : l.start ≡ length f.procedures
+
+-- The program of these procedures, by the code numbers of the packed ones, the bytes of both memories at the start, and the handlers.
+abbrev pub linear_program : Codes → FirmProgram → Linear → (tables ram : List ℕ) → (handler : ℕ → Option ℕ) → Program
+linear_program k f l tables ram handler = record {
+  procedures = l.procedures;
+  dispatches = f.dispatches;
+  codes = k;
+  tables = tables;
+  ram = ram;
+  handler = handler;
+  start = l.start;
+}

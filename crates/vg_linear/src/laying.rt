@@ -1,0 +1,80 @@
+// Where columns and tables stand.
+ghost use Rattle.std.specs.Prelude.{◌≡◌, ◌++◌, IfOk, OnOk};
+ghost use Rattle.vg_started_bytes.specs.Started.{ram_places, table_addresses};
+ghost use Rattle.vg_linear.specs.Laying.{layout_of};
+ghost use Rattle.vg_linear.specs.Places.{address_if, place_if};
+ghost use Rattle.vg_linear.specs.Widths.{AllHaveWidths};
+
+use crate::passing::passings;
+use std::alloc::Global;
+use vg_base::{NoMemory, Row};
+use vg_firm::{Home, Procedure};
+use vg_flatten_shapes::{Layout, Place};
+use vg_placement::{Column, Held};
+
+/// The layout for linear code: the places of the columns in RAM, in their order, the addresses of the tables of arrays, and how each procedure is
+/// called. An address in RAM is a data address, that of a table a byte address in flash. No column stands in flash.
+pub fn layout(
+    alloc: Global,
+    columns: &[Column],
+    procedures: &[Procedure],
+) -> Result<Layout, NoMemory>
+    requires { AllHaveWidths procedures.now }
+    ensures { IfOk result (λ layout. layout ≡ layout_of columns.now procedures.now) }
+{
+    let ram = places(alloc, columns)?;
+    let tables = addresses(alloc, columns)?;
+    let passing = passings(alloc, procedures)?;
+    Ok(Layout {
+        ram,
+        flash: Row::new(alloc),
+        tables,
+        passing,
+    })
+}
+
+// The places of those in RAM.
+fn places(alloc: Global, columns: &[Column]) -> Result<Row<Place>, NoMemory>
+    ensures { IfOk result (λ row. row ≡ ram_places columns.now) }
+{
+    let mut row = Row::new(alloc);
+    for column in columns {
+        push_place(&mut row, column.home, column.at, column.width)?;
+    }
+    Ok(row)
+}
+
+fn push_place(row: &mut Row<Place>, home: Home, address: u16, width: u8) -> Result<(), NoMemory>
+    ensures { OnOk result (row.new ≡ row.old ++ place_if home (record { address = address; width = width })) }
+{
+    match home {
+        Home::Ram => {
+            row.push(Place { address, width })?;
+            Ok(())
+        }
+        Home::Flash => Ok(()),
+    }
+}
+
+// The addresses of the tables.
+fn addresses(alloc: Global, columns: &[Column]) -> Result<Row<u16>, NoMemory>
+    ensures { IfOk result (λ row. row ≡ table_addresses columns.now) }
+{
+    let mut row = Row::new(alloc);
+    for column in columns {
+        push_address(&mut row, column.what, column.at)?;
+    }
+    Ok(row)
+}
+
+fn push_address(row: &mut Row<u16>, what: Held, address: u16) -> Result<(), NoMemory>
+    ensures { OnOk result (row.new ≡ row.old ++ address_if what address) }
+{
+    match what {
+        Held::Table(_) => {
+            row.push(address)?;
+            Ok(())
+        }
+        _ => Ok(()),
+    }
+}

@@ -1,0 +1,13 @@
+//! The linear program of a packed one: where its columns stand and how its procedures are called, its procedures flattened with the start behind them,
+//! all of them expanded, and the routines behind these.
+#![tactic(auto)]
+
+pub mod expanding;
+pub mod flats;
+pub mod laws;
+pub mod laying;
+pub mod passing;
+pub mod whole;
+pub mod widths;
+
+pub use whole::{Linear, make_linear};

@@ -1,0 +1,4 @@
+pub mod Fitted
+pub mod Covered
+pub mod Stepping
+pub mod Costing

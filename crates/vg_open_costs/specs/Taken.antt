@@ -1,0 +1,77 @@
+-- How many bytes of the stack the open procedures of a run of linear code take, each with all its locals in its frame.
+use Rattle.std.specs.Prelude.{ℕ, ◌≡◌, ◌+◌, ◌<◌, List, [], ◌∷◌, drop, Option, Some, None, slice_get}
+use Rattle.vg_lin.specs.declared.instr.Plain.{Plain as PlainInstr}
+use Rattle.vg_lin.specs.declared.instr.Plain.TheVariants.{Push}
+use Rattle.vg_lin.specs.declared.instr.Passed.{Passed}
+use Rattle.vg_lin.specs.declared.instr.Instr.{Instr}
+use Rattle.vg_lin.specs.declared.instr.Instr.TheVariants.{Plain, Call, Idle}
+use Rattle.vg_lin.specs.Meaning.{operands, enter, codes_in}
+use Rattle.vg_lin.specs.Program.{Procedure, Program}
+use Rattle.vg_lin.specs.State.{State}
+use Rattle.vg_lin.specs.Steps.{Awaits, Result, Interrupt, Frame, Entry, Config, fetch}
+use Rattle.vg_open_calls.specs.Open.{waiting_widths}
+use Rattle.vg_frame_costs.specs.Fitting.{bytes_of}
+
+-- a frame: the locals, of which the parameters were pushed by the caller, the saved frame pointer and the return address
+abbrev pub frame_in : Option Procedure → ℕ
+frame_in (Some m) = bytes_of m.widths + 4
+frame_in None = 0
+
+abbrev pub frame_of : Program → (m : ℕ) → ℕ
+frame_of p m = frame_in (slice_get p.procedures m)
+
+-- the part of it that a procedure takes when it begins: all but the parameters
+abbrev pub opening_in : Option Procedure → ℕ
+opening_in (Some m) = bytes_of (drop m.params m.widths) + 4
+opening_in None = 0
+
+abbrev pub opening_of : Program → (m : ℕ) → ℕ
+opening_of p m = opening_in (slice_get p.procedures m)
+
+-- an interrupt leaves two return addresses between what it interrupted and its handler
+abbrev pub between : Awaits → ℕ
+between (Result call) = 0
+between Interrupt = 4
+
+-- the procedures that wait for others, with what waits in each of them; and the one that runs as well
+abbrev pub callers_take : Program → List (Frame State) → ℕ
+callers_take p [] = 0
+callers_take p (f ∷ fs) = between f.awaits + (bytes_of (waiting_widths f.kept.waiting) + (frame_of p f.proc + callers_take p fs))
+
+abbrev pub stack_takes : Program → (m : ℕ) → State → List (Frame State) → ℕ
+stack_takes p m s fs = bytes_of (waiting_widths s.waiting) + (frame_of p m + callers_take p fs)
+
+-- what an instruction pushes beside that
+abbrev pub pushes : PlainInstr → ℕ
+pushes (Push w a) = w
+pushes _ = 0
+
+abbrev pub passes : List Passed → ℕ
+passes [] = 0
+passes (a ∷ more) = a.width + passes more
+
+abbrev pub entry_takes : Program → Option (Entry State) → ℕ
+entry_takes p (Some e) = opening_of p e.proc
+entry_takes p None = 0
+
+abbrev pub handler_takes : Program → Option ℕ → ℕ
+handler_takes p (Some q) = opening_of p q
+handler_takes p None = 0
+
+abbrev pub instr_takes : Program → State → Option Instr → ℕ
+instr_takes p s (Some (Plain q)) = pushes q
+instr_takes p s (Some (Call c)) = passes (operands c.registers) + entry_takes p (enter p c s)
+instr_takes p s (Some Idle) = 4
+instr_takes p s _ = 0
+
+abbrev pub step_takes : Program → Config State → (woken : Option ℕ) → ℕ
+step_takes p c (Some vector) = 4 + handler_takes p (p.handler vector)
+step_takes p c None = instr_takes p c.state (fetch (codes_in p.procedures) c.proc c.pc)
+
+-- all that is taken before a step and in it
+abbrev pub taken : Program → Config State → ℕ
+taken p c = stack_takes p c.proc c.state c.frames + step_takes p c c.woken
+
+-- the handlers of interrupts stand before the procedure with which a run begins
+abbrev pub HandlersBefore : Program → Type 0
+HandlersBefore p = (v q : ℕ) → p.handler v ≡ Some q → q < p.start

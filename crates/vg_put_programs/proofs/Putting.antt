@@ -1,0 +1,36 @@
+-- What is put of so many procedures, and one procedure more.
+use Rattle.std.specs.Prelude.{ℕ, suc, ◌+◌, List, [], ◌∷◌, ◌++◌, Some}
+use Rattle.std.proofs.Common.{◌≡◌, sym, ap, ap₂, ◌∙◌, subst, arith}
+use Rattle.std.proofs.lemmas.List.{append_assoc}
+use Rattle.avr_instr.specs.declared.instr.Instr.{Instr as Avr}
+use Rattle.avr_isa.specs.Standing.{widths}
+use Rattle.avr_isa.proofs.Standing.{widths-append}
+use Rattle.vg_lin.specs.Program.{Procedure}
+use Rattle.vg_put_programs.specs.declared.placed.Placed.{Placed}
+use Rattle.vg_put_programs.specs.Programs.{places_at, Emission, piece_of, placed_of, procedure_in, piece_at, pieces_upto, placed_at, placed_upto}
+
+pub record Done (e : Emission) (first : ℕ) (before : List Avr) (k : ℕ) (code : List Avr) (placed : List Placed) (end : ℕ) : Type 0 where
+  pub code_is : code ≡ before ++ pieces_upto e k
+  pub placed_are : placed ≡ placed_upto e first k
+  pub end_is : end ≡ first + widths (pieces_upto e k)
+
+pub done_next : (e : Emission) (first : ℕ) (before : List Avr) (k : ℕ) (code code' : List Avr) (placed placed' : List Placed) (end : ℕ) (m : Procedure)
+    (ps : List ℕ) (one : Placed) → Done e first before k code placed end → procedure_in e k ≡ Some m → ps ≡ places_at e.known k
+    → code' ≡ code ++ piece_of ps e.codes e.idle e.dispatches (Some m) → one ≡ placed_of end ps e.codes e.idle e.dispatches (Some m)
+    → placed' ≡ placed ++ one ∷ [] → Done e first before (k + 1) code' placed' one.end
+done_next e first before k code code' placed placed' end m ps one d p es ec eo ep =
+    subst (λ n. Done e first before n code' placed' one.end) (let z : suc k ≡ k + 1 = omega arith in z) (
+    record {
+      code_is = ec ∙ ap (λ x. code ++ x) same ∙ ap (λ x. x ++ piece_at e k) d.code_is ∙ append_assoc before (pieces_upto e k) (piece_at e k);
+      placed_are = ep ∙ ap (λ x. x ++ one ∷ []) d.placed_are ∙ ap (λ x. placed_upto e first k ++ x ∷ []) placed_is;
+      end_is = ap (λ (x : Placed). x.end) eo ∙ ap (λ x. end + widths x) same ∙ ap (λ x. x + widths (piece_at e k)) d.end_is
+          ∙ (let w = widths-append (pieces_upto e k) (piece_at e k) in omega (arith, w));
+    })
+  where
+    same : piece_of ps e.codes e.idle e.dispatches (Some m) ≡ piece_at e k
+    same = ap₂ (λ x o. piece_of x e.codes e.idle e.dispatches o) es (sym p)
+
+    placed_is : one ≡ placed_at e first k
+    placed_is =
+        eo ∙ ap₂ (λ n x. placed_of n x e.codes e.idle e.dispatches (Some m)) d.end_is es
+        ∙ ap (placed_of (first + widths (pieces_upto e k)) (places_at e.known k) e.codes e.idle e.dispatches) (sym p)

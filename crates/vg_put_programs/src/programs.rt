@@ -1,0 +1,96 @@
+// The code of all procedures.
+ghost use Rattle.std.specs.Prelude.{ℕ, ◌≡◌, ◌+◌, ◌<◌, ◌++◌, length, IfOk, OnOk, Some, slice_get};
+ghost use Rattle.avr_isa.specs.Standing.{widths};
+ghost use Rattle.vg_lin.specs.declared.instr.Instr.{Instr as InstrValue};
+ghost use Rattle.vg_framed.specs.Framed.{framed};
+ghost use Rattle.vg_select.specs.Within.{IsWithin};
+ghost use Rattle.vg_put_programs.specs.Programs.{emission, piece_of, pieces_upto, placed_of, placed_upto, AreWithin};
+
+use crate::leads::far_leadings;
+use crate::placed::{Laid, Placed};
+use crate::turns::{places_at, procedure_at};
+use avr_instr::Instr;
+use std::alloc::Global;
+use vg_alloc::frames;
+use vg_base::{NoMemory, Row};
+use vg_codes::Case;
+use vg_lin::LinProc;
+use vg_put_procedures::put_procedure;
+
+// One procedure, whose entry stands at a word address.
+fn put_one(
+    alloc: Global,
+    code: &mut Row<Instr>,
+    procedure: &LinProc,
+    dispatches: &[Row<Case>],
+    places: &[u32],
+    codes: &[u16],
+    idle: u16,
+    entry: u32,
+) -> Result<Placed, NoMemory>
+    requires { (pc : ℕ) (i : InstrValue) → slice_get procedure.now.code pc ≡ Some i → IsWithin (framed procedure.now.widths procedure.now.params) i }
+    ensures code { OnOk result (code.new ≡ code.old ++ piece_of places.now codes.now idle dispatches.now (Some procedure.now)) }
+    ensures placed { IfOk result (λ placed. placed ≡ placed_of entry places.now codes.now idle dispatches.now (Some procedure.now)) }
+{
+    let instrs = procedure.code();
+    let locations = frames(alloc, procedure)?;
+    let leadings = far_leadings(alloc, places, codes, idle, instrs)?;
+    let mut begins = Row::new(alloc);
+    let end = put_procedure(
+        alloc,
+        code,
+        &mut begins,
+        &locations,
+        codes,
+        dispatches,
+        leadings.as_slice(),
+        instrs,
+        entry,
+    )?;
+    Ok(Placed {
+        entry,
+        places: begins,
+        end,
+    })
+}
+
+/// The code of all procedures goes behind the code so far, that of the start procedure at `first`, a word address. They lead to one another by far jumps, far
+/// branches and far calls, as if they stood where `known` says, had these code numbers, and the program waited for interrupts in a piece at `idle`.
+pub fn put_programs(
+    alloc: Global,
+    code: &mut Row<Instr>,
+    procedures: &[LinProc],
+    start: u16,
+    dispatches: &[Row<Case>],
+    known: &[Placed],
+    codes: &[u16],
+    idle: u16,
+    first: u32,
+) -> Result<Laid, NoMemory>
+    requires start { start < length procedures.now }
+    requires within { AreWithin procedures.now }
+    ensures code { OnOk result (code.new ≡ code.old
+        ++ pieces_upto (emission procedures.now start dispatches.now known.now codes.now idle) (length procedures.now)) }
+    ensures placed { IfOk result (λ laid. laid.placed
+        ≡ placed_upto (emission procedures.now start dispatches.now known.now codes.now idle) first (length procedures.now)) }
+    ensures end { IfOk result (λ laid. laid.end
+        ≡ first + widths (pieces_upto (emission procedures.now start dispatches.now known.now codes.now idle) (length procedures.now))) }
+{
+    let mut placed = Row::new(alloc);
+    let mut end = first;
+    for k in 0..procedures.len() {
+        let one = put_one(
+            alloc,
+            code,
+            procedure_at(procedures, start, k),
+            dispatches,
+            places_at(known, k),
+            codes,
+            idle,
+            end,
+        )?;
+        end = one.end;
+        placed.push(one)?;
+    }
+    Ok(Laid { placed, end })
+}
