@@ -10,15 +10,7 @@ top=$(dirname "$here")
 work=$(mktemp -d)
 trap 'rm -rf "$work"' EXIT
 
-"$top/zetikomi" --version > "$work/version" < /dev/null # builds the program, where that is due
-# The program itself, so that the launcher's look at the sources is no part of a time.
-sum=$(awk '$1 == "program" { print $2 }' "$work/version")
-program=
-for folder in out bin; do
-  file=$top/$folder/zetikomi-x86_64-linux
-  if [ -z "$program" ] && [ -x "$file" ] && [ "$(sha256sum < "$file" | cut -d ' ' -f 1)" = "$sum" ]; then program=$file; fi
-done
-[ -n "$program" ] || { echo "the program of these sources is not found" >&2; exit 1; }
+program=$("$here/program")
 echo "zetikomi of commit $(git -C "$top" rev-parse --short HEAD), built with $(rt version)"
 
 # A text of about so many bytes: one component of many methods.

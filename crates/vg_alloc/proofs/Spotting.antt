@@ -7,12 +7,12 @@ use Rattle.vg_lin.specs.declared.instr.Operand.{Operand}
 use Rattle.vg_lin.specs.declared.instr.Operand.TheVariants.{Local, Known}
 use Rattle.vg_lin.specs.Program.{Procedure}
 use Rattle.vg_lin.specs.Sound.{IsSound, IsWidth, IsOperand}
-use Rattle.vg_frames.specs.Spots.{InFrame}
-use Rattle.vg_frames.specs.Layouts.{Layout, IsLayout, frame_size}
-use Rattle.vg_spots.specs.Held.{IsReady}
-use Rattle.vg_calls.specs.Calls.{sum_of, behind_width}
-use Rattle.vg_framed.specs.Framed.{framed, CanBeFramed}
-use Rattle.vg_framed.proofs.Framing.{framed-layout}
+use Rattle.vg_templates.specs.Spots.{InFrame}
+use Rattle.vg_templates.specs.Layouts.{Layout, IsLayout, frame_size}
+use Rattle.vg_templates.specs.Held.{IsReady}
+use Rattle.vg_templates.specs.Calls.{sum_of, behind_width}
+use Rattle.vg_templates.specs.Framed.{framed, CanBeFramed}
+use Rattle.vg_templates.proofs.Framing.{framed-layout}
 use Rattle.vg_alloc.specs.declared.spot.Spot.{Spot}
 use Rattle.vg_alloc.specs.declared.spot.Spot.TheVariants.{Frame}
 use Rattle.vg_alloc.specs.Locations.{Located, place_in, layout}

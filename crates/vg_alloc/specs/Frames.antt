@@ -1,6 +1,6 @@
 -- The spots of locals in a frame, one behind the other.
 use Rattle.std.specs.Prelude.{ℕ, ◌+◌, true, List, [], ◌∷◌, ◌++◌, take, drop}
-use Rattle.vg_calls.specs.Calls.{sum_of}
+use Rattle.vg_templates.specs.Calls.{sum_of}
 use Rattle.vg_alloc.specs.declared.spot.Spot.{Spot}
 use Rattle.vg_alloc.specs.declared.spot.Spot.TheVariants.{Frame}
 use Rattle.vg_alloc.specs.Locations.{Located}

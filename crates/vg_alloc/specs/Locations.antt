@@ -1,7 +1,7 @@
 -- Locations, and the layout that they stand for.
 use Rattle.std.specs.Prelude.{ℕ, ◌+◌, ◌≤◌, Bool, List, length, nat_lt, Option, Some, None, slice_get}
-use Rattle.vg_frames.specs.Spots.{Spot as Place, InFrame, InRegisters}
-use Rattle.vg_frames.specs.Layouts.{Layout}
+use Rattle.vg_templates.specs.Spots.{Spot as Place, InFrame, InRegisters}
+use Rattle.vg_templates.specs.Layouts.{Layout}
 use Rattle.vg_alloc.specs.declared.spot.Spot.{Spot}
 use Rattle.vg_alloc.specs.declared.spot.Spot.TheVariants.{Frame, Registers}
 

@@ -1,8 +1,8 @@
 // All locals in the frame.
 ghost use Rattle.std.specs.Prelude.{◌≡◌, ◌+◌, ◌<◌, ◌≤◌, [], ◌∷◌, ◌++◌, IfOk, OnOk, drop, length, take};
-ghost use Rattle.vg_calls.specs.Calls.{sum_of};
-ghost use Rattle.vg_frames.specs.Layouts.{IsLayout};
-ghost use Rattle.vg_framed.specs.Framed.{framed};
+ghost use Rattle.vg_templates.specs.Calls.{sum_of};
+ghost use Rattle.vg_templates.specs.Layouts.{IsLayout};
+ghost use Rattle.vg_templates.specs.Framed.{framed};
 ghost use Rattle.vg_alloc.specs.Frames.{pushed_spots, slot_spots, frame_located};
 ghost use Rattle.vg_alloc.specs.Locations.{layout};
 

@@ -1,6 +1,6 @@
 // The locations of a procedure's locals.
 ghost use Rattle.std.specs.Prelude.{◌≡◌, ◌<◌, ◌≤◌, length};
-ghost use Rattle.vg_frames.specs.Layouts.{IsLayout, width_of};
+ghost use Rattle.vg_templates.specs.Layouts.{IsLayout, width_of};
 ghost use Rattle.vg_alloc.specs.Locations.{layout, place, IsWithin};
 
 use crate::spot::Spot;
@@ -24,7 +24,7 @@ pub struct Locations {
 
 impl Model for Locations {
     ghost use Rattle.std.specs.Prelude.{◌≡◌, length};
-    ghost use Rattle.vg_frames.specs.Layouts.{IsLayout};
+    ghost use Rattle.vg_templates.specs.Layouts.{IsLayout};
     ghost use Rattle.vg_alloc.specs.Locations.{Located, located, layout};
 
     ghost Value = { Located };

@@ -3,11 +3,11 @@ ghost use Rattle.std.specs.Prelude.{ℕ, suc, ◌≡◌, ◌+◌, ◌*◌, ◌�
 ghost use Rattle.vg_lin.specs.declared.instr.Operand.{Operand};
 ghost use Rattle.vg_lin.specs.Program.{Procedure};
 ghost use Rattle.vg_lin.specs.Sound.{IsSound, IsLocal, IsOperand};
-ghost use Rattle.vg_frames.specs.Layouts.{IsLayout, frame_size};
-ghost use Rattle.vg_spots.specs.Held.{IsReady, IsSet};
+ghost use Rattle.vg_templates.specs.Layouts.{IsLayout, frame_size};
+ghost use Rattle.vg_templates.specs.Held.{IsReady, IsSet};
 ghost use Rattle.vg_templates.specs.Outcomes.{IsKept};
-ghost use Rattle.vg_calls.specs.Calls.{HasPushed, sum_of};
-ghost use Rattle.vg_framed.specs.Framed.{framed};
+ghost use Rattle.vg_templates.specs.Calls.{HasPushed, sum_of};
+ghost use Rattle.vg_templates.specs.Framed.{framed};
 
 /// Laws of the layout with all locals in the frame, for each procedure of linear code: it is a sound one, its parameters lie where they were
 /// pushed, operands are there to be read at each place, each local can be set at each place, and what is needed at a place was needed before it.

@@ -19,14 +19,14 @@ use Rattle.vg_lin.specs.declared.instr.Instr.TheVariants.{Plain, When, Unless, J
 use Rattle.vg_lin.specs.Meaning.{operands}
 use Rattle.vg_lin.specs.Program.{Procedure, Program}
 use Rattle.vg_lin.specs.Sound.{IsWidth, IsLocal, IsOperand, IsPassed, IsTo, IsCallee, IsPlain, AreOperands, IsSound}
-use Rattle.vg_frames.specs.Spots.{Apart}
-use Rattle.vg_frames.specs.Layouts.{Layout, width_of}
-use Rattle.vg_spots.specs.Held.{IsReady, IsSet}
+use Rattle.vg_templates.specs.Spots.{Apart}
+use Rattle.vg_templates.specs.Layouts.{Layout, width_of}
+use Rattle.vg_templates.specs.Held.{IsReady, IsSet}
 use Rattle.vg_templates.specs.Plain.{IsBytewise}
-use Rattle.vg_framed.specs.Framed.{framed}
-use Rattle.vg_framed.proofs.Framing.{framed-set}
+use Rattle.vg_templates.specs.Framed.{framed}
+use Rattle.vg_templates.proofs.Framing.{framed-set}
 use Rattle.vg_alloc.proofs.Spotting.{can_be_framed, is_ready}
-use Rattle.vg_standing.specs.Covered.{CanCompute, CanDivide, CanBeCoded, CanAim, CanPass, CanTake, Covers, and_local}
+use Rattle.vg_followed.specs.Covered.{CanCompute, CanDivide, CanBeCoded, CanAim, CanPass, CanTake, Covers, and_local}
 use Rattle.vg_covered.specs.Fitting.{IsExpanded, IsPlainFit, IsFit}
 
 both_of : (a b : Bool) → (a && b) ≡ true → a ≡ true

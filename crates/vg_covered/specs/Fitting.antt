@@ -11,8 +11,8 @@ use Rattle.vg_lin.specs.declared.instr.Plain.TheVariants.{Compute, DivideStep, R
 use Rattle.vg_lin.specs.declared.instr.Instr.{Instr}
 use Rattle.vg_lin.specs.declared.instr.Instr.TheVariants.{Plain}
 use Rattle.vg_lin.specs.Program.{Program}
-use Rattle.vg_lookups.specs.Tables.{AreCases}
-use Rattle.vg_standing.specs.Covered.{IsFourBytes}
+use Rattle.vg_followed.specs.Tables.{AreCases}
+use Rattle.vg_followed.specs.Covered.{IsFourBytes}
 
 -- Products, quotients, remainders and shifts by amounts that are not known are the routines' work.
 abbrev pub IsExpanded : Operator → (right : Operand) → Type 0

@@ -3,8 +3,8 @@ ghost use Rattle.std.specs.Prelude.{ℕ, ◌≡◌, Some, slice_get};
 ghost use Rattle.vg_lin.specs.declared.instr.Instr.{Instr};
 ghost use Rattle.vg_lin.specs.Program.{Procedure, Program};
 ghost use Rattle.vg_lin.specs.Sound.{IsSound};
-ghost use Rattle.vg_framed.specs.Framed.{framed};
-ghost use Rattle.vg_standing.specs.Covered.{Covers};
+ghost use Rattle.vg_templates.specs.Framed.{framed};
+ghost use Rattle.vg_followed.specs.Covered.{Covers};
 ghost use Rattle.vg_covered.specs.Fitting.{IsFit};
 
 /// A law of procedures that keep all their locals in their frames: what the template of each instruction asks of the layout is granted where it stands.

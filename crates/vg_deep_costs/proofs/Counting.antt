@@ -14,18 +14,18 @@ use Rattle.vg_lin.specs.Program.{Procedure, Program}
 use Rattle.vg_lin.specs.State.{State, Waiting}
 use Rattle.vg_lin.specs.Steps.{Awaits, Result, Interrupt, Frame, Entry, Config, fetch}
 use Rattle.avr_view.specs.Run.{Run}
-use Rattle.vg_frames.specs.Frames.{Places}
-use Rattle.vg_frames.specs.Frames as frames
-use Rattle.vg_frames.specs.Layouts.{frame_size}
-use Rattle.vg_calls.specs.Calls.{sum_of}
-use Rattle.vg_framed.specs.Framed.{framed}
-use Rattle.vg_straight.specs.Straight.{pushed_by}
-use Rattle.vg_instr_code.specs.Flow.{passed_bytes}
-use Rattle.vg_instr_code.specs.Whole.{Links}
-use Rattle.vg_standing.specs.Depth.{frames_bytes, opening_bytes, entry_bytes, handler_bytes, instr_bytes, step_bytes, depth}
-use Rattle.vg_standing.specs.Depth.{between_bytes}
-use Rattle.vg_standing.specs.Stands.{Stands}
-use Rattle.vg_image_runs.specs.Runs.{Begins, IsDeepRun}
+use Rattle.vg_templates.specs.Frames.{Places}
+use Rattle.vg_templates.specs.Frames as frames
+use Rattle.vg_templates.specs.Layouts.{frame_size}
+use Rattle.vg_templates.specs.Calls.{sum_of}
+use Rattle.vg_templates.specs.Framed.{framed}
+use Rattle.vg_templates.specs.Straight.{pushed_by}
+use Rattle.vg_templates.specs.Flow.{passed_bytes}
+use Rattle.vg_templates.specs.Whole.{Links}
+use Rattle.vg_followed.specs.Depth.{frames_bytes, opening_bytes, entry_bytes, handler_bytes, instr_bytes, step_bytes, depth}
+use Rattle.vg_followed.specs.Depth.{between_bytes}
+use Rattle.vg_followed.specs.Stands.{Stands}
+use Rattle.vg_followed.specs.Runs.{Begins, IsDeepRun}
 use Rattle.vg_open_calls.specs.Open.{IsReady, waiting_widths, AreOpen, IsOpen}
 use Rattle.vg_open_calls.proofs.Entering.{entered}
 use Rattle.vg_open_calls.proofs.Along.{runs_open}

@@ -2,8 +2,8 @@
 use Rattle.std.specs.Prelude.{ℕ, ◌≡◌, List, Some, slice_get}
 use Rattle.vg_lin.specs.Program.{Procedure, Program}
 use Rattle.vg_lin.specs.Sound.{IsSound}
-use Rattle.vg_framed.specs.Framed.{framed}
-use Rattle.vg_instr_code.specs.Whole.{Links}
+use Rattle.vg_templates.specs.Framed.{framed}
+use Rattle.vg_templates.specs.Whole.{Links}
 use Rattle.vg_frame_costs.specs.Fitting.{FramesFit}
 use Rattle.vg_open_costs.specs.Taken.{HandlersBefore}
 

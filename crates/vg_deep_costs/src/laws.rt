@@ -5,9 +5,9 @@ ghost use Rattle.vg_source.specs.Peak.{most};
 ghost use Rattle.avr_view.specs.Run.{Run};
 ghost use Rattle.vg_lin.specs.Meaning.{run};
 ghost use Rattle.vg_lin.specs.Program.{Program};
-ghost use Rattle.vg_instr_code.specs.Whole.{Links};
-ghost use Rattle.vg_standing.specs.Stands.{Stands};
-ghost use Rattle.vg_image_runs.specs.Runs.{Begins, IsDeepRun};
+ghost use Rattle.vg_templates.specs.Whole.{Links};
+ghost use Rattle.vg_followed.specs.Stands.{Stands};
+ghost use Rattle.vg_followed.specs.Runs.{Begins, IsDeepRun};
 ghost use Rattle.vg_deep_costs.specs.Fit.{HasFitFrames};
 
 /// A law of runs whose stack is too deep, in images of programs whose frames fit: calls that were active at an opening cost more than the stack, but for four

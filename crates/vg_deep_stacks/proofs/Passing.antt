@@ -20,18 +20,18 @@ use Rattle.vg_lin.specs.State.{State}
 use Rattle.vg_lin.specs.Steps.{Awaits, Result, Interrupt, Frame, Went, Goes, Raises, Lacks, Fails, Entry, Config, fetch}
 use Rattle.vg_lin.specs.Steps.{ends, went, branched, calls, returns, goes_back}
 use Rattle.vg_lin.specs.Steps.{takes, handles, performed, stepped}
-use Rattle.vg_frames.specs.Frames.{Places}
-use Rattle.vg_frames.specs.Layouts.{frame_size}
-use Rattle.vg_straight.specs.Straight.{pushed_by}
-use Rattle.vg_instr_code.specs.Flow.{passed_bytes}
-use Rattle.vg_instr_code.specs.Whole.{Links}
-use Rattle.vg_standing.specs.Depth.{frames_bytes, stack_bytes, opening_bytes, entry_bytes, handler_bytes, instr_bytes, step_bytes, depth}
-use Rattle.vg_standing.specs.Depth.{between_bytes as between}
-use Rattle.vg_depth.specs.Depths.{most_bytes, AtMostWait}
-use Rattle.vg_depth.specs.Depths.{between_bytes as between'}
+use Rattle.vg_templates.specs.Frames.{Places}
+use Rattle.vg_templates.specs.Layouts.{frame_size}
+use Rattle.vg_templates.specs.Straight.{pushed_by}
+use Rattle.vg_templates.specs.Flow.{passed_bytes}
+use Rattle.vg_templates.specs.Whole.{Links}
+use Rattle.vg_followed.specs.Depth.{frames_bytes, stack_bytes, opening_bytes, entry_bytes, handler_bytes, instr_bytes, step_bytes, depth}
+use Rattle.vg_followed.specs.Depth.{between_bytes as between}
+use Rattle.vg_templates.specs.Depths.{most_bytes, AtMostWait}
+use Rattle.vg_templates.specs.Depths.{between_bytes as between'}
 use Rattle.vg_followed.specs.Followed.{next, behind}
 use Rattle.vg_followed.proofs.Places.{fetched}
-use Rattle.vg_image_runs.specs.Runs.{IsDeepRun}
+use Rattle.vg_followed.specs.Runs.{IsDeepRun}
 use Rattle.vg_deep_stacks.specs.Passing.{AreSound, WaitAtMost, PassesStack}
 
 -- ---- the stack as it is

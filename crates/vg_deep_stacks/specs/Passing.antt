@@ -5,9 +5,9 @@ use Rattle.vg_lin.specs.Program.{Procedure, Program}
 use Rattle.vg_lin.specs.Sound.{IsSound}
 use Rattle.vg_lin.specs.State.{State}
 use Rattle.vg_lin.specs.Steps.{Config}
-use Rattle.vg_frames.specs.Frames.{bytes_of}
-use Rattle.vg_instr_code.specs.Whole.{Links}
-use Rattle.vg_depth.specs.Depths.{most_bytes, AtMostWait}
+use Rattle.vg_templates.specs.Frames.{bytes_of}
+use Rattle.vg_templates.specs.Whole.{Links}
+use Rattle.vg_templates.specs.Depths.{most_bytes, AtMostWait}
 use Rattle.vg_followed.specs.Followed.{behind}
 
 -- each procedure of a program is sound

@@ -4,8 +4,8 @@ ghost use Rattle.avr_view.specs.Run.{Run};
 ghost use Rattle.vg_lin.specs.Meaning.{at_start, run};
 ghost use Rattle.vg_lin.specs.Program.{Program};
 ghost use Rattle.vg_meaning.specs.Outside.{before};
-ghost use Rattle.vg_instr_code.specs.Whole.{Links};
-ghost use Rattle.vg_image_runs.specs.Runs.{IsDeepRun};
+ghost use Rattle.vg_templates.specs.Whole.{Links};
+ghost use Rattle.vg_followed.specs.Runs.{IsDeepRun};
 ghost use Rattle.vg_deep_stacks.specs.Passing.{AreSound, WaitAtMost, PassesStack};
 
 /// A law of runs whose stack is too deep. Where the procedures of a program are sound, and behind each of so many steps so many bytes at most wait in each

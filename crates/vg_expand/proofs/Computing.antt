@@ -5,6 +5,7 @@ use Rattle.std.specs.Prelude.{Option, Some, None, slice_get, if◌then◌else◌
 use Rattle.std.specs.List.{AllByRecursion}
 use Rattle.std.proofs.Common.{◌≡◌, refl, sym, ap, ◌∙◌, subst, arith}
 use Rattle.std.proofs.Math.Nat.{mod-mod}
+use Rattle.std.proofs.lemmas.Map.Keys.{any_passes_from_place}
 use Rattle.vg_meaning.specs.History.{History}
 use Rattle.vg_meaning.specs.World.{World}
 use Rattle.vg_lin.specs.declared.instr.Operand.{Operand}
@@ -30,6 +31,7 @@ use Rattle.vg_lin.specs.Follows.{Leads, conf}
 use Rattle.vg_lin.proofs.Followed.{leads_then, leads_step, free}
 use Rattle.vg_arith.specs.Routines.{with_locals, Gives, IsAmount, others, others_widths, passed_widths, routine_of, IsRoutine}
 use Rattle.vg_arith.proofs.ShiftRoutines.{fetch_of, by_width, low_low}
+use Rattle.vg_expand.specs.Called.{is_call_of, code_calls, is_called}
 use Rattle.vg_expand.specs.Expansion.{HasRoutines, IsHeld, Holds, Does}
 use Rattle.vg_expand.specs.Code.{in_four, dividing, calling, mask, shifting}
 
@@ -191,8 +193,13 @@ module _ (first : ℕ) (m : Procedure) (c : Computation) (p : Program) (q : ℕ)
   called : (pc which x y v : ℕ) (rs : Registers) (op : Operator) → which < 4 → routine_of op ≡ Some which → IsWidth c.width → IsAmount op y
       → computed op c.width x y ≡ Some v → values (operands rs) s ≡ Some (sized (passed_widths op) (x ∷ y ∷ others op c.width))
       → slice_get m.code pc ≡ Some (Call (the_call (first + which) rs)) → Called pc v
-  called pc which x y v rs op hk ro hw ha e vs f = from (routines which hk)
+  called pc which x y v rs op hk ro hw ha e vs f = from (routines which hk is_there)
     where
+      is_there : is_called (first + which) p.procedures ≡ true
+      is_there =
+          any_passes_from_place (λ (z : Procedure). code_calls (first + which) z.code) p.procedures q m has
+          (any_passes_from_place (is_call_of (first + which)) m.code pc (Call (the_call (first + which) rs)) f (same_number (first + which)))
+
       xs : List ℕ
       xs = x ∷ y ∷ others op c.width
 

@@ -1,5 +1,5 @@
 -- What it means that a procedure of linear code is another one with its arithmetic as calls of routines.
-use Rattle.std.specs.Prelude.{◌≡◌, ℕ, suc, ◌+◌, ◌<◌, ◌^◌, List, [], ◌∷◌, Option, Some, None, slice_get}
+use Rattle.std.specs.Prelude.{◌≡◌, ℕ, suc, ◌+◌, ◌<◌, ◌^◌, true, List, [], ◌∷◌, Option, Some, None, slice_get}
 use Rattle.vg_meaning.specs.History.{History}
 use Rattle.vg_meaning.specs.World.{World}
 use Rattle.vg_lin.specs.declared.instr.Computation.{Computation}
@@ -14,13 +14,15 @@ use Rattle.vg_lin.specs.Meaning.{language, codes_in}
 use Rattle.vg_lin.specs.Steps.{Frame}
 use Rattle.vg_lin.specs.Follows.{Leads, conf}
 use Rattle.vg_arith.specs.Routines.{IsRoutine}
+use Rattle.vg_expand.specs.Called.{is_called}
 
 -- ---- what is done
 
--- The routines stand in a program, one behind the other from this number on.
+-- Each routine that is called stands in the program: the first one has this number, and each other one the number behind.
 abbrev pub HasRoutines : (first : ℕ) → Program → Type 0
 HasRoutines first p =
-    (which : ℕ) → which < 4 → (m : Procedure) × (slice_get p.procedures (first + which) ≡ Some m) × IsRoutine which m
+    (which : ℕ) → which < 4 → is_called (first + which) p.procedures ≡ true
+    → (m : Procedure) × (slice_get p.procedures (first + which) ≡ Some m) × IsRoutine which m
 
 -- A local has its width, and a value that the width holds, where it has one.
 abbrev pub IsHeld : (width : ℕ) → Option ℕ → Type 0
@@ -32,7 +34,7 @@ Holds [] [] = Unit {0}
 Holds (w ∷ ws) (l ∷ ls) = (l.width ≡ w) × IsHeld w l.value × Holds ws ls
 Holds _ _ = ⊥
 
--- From one place of a procedure to another one its code does a computation, in every program that has it and the routines.
+-- From one place of a procedure to another one its code does a computation, in every program that has it and the routines that are called.
 abbrev pub Does : (first : ℕ) → Procedure → (from to : ℕ) → Computation → Type 0
 Does first m from to c =
     (p : Program) (q : ℕ) → slice_get p.procedures q ≡ Some m → HasRoutines first p

@@ -1,3 +1,4 @@
+pub mod Called
 pub mod Expansion
 pub mod Runs
 pub mod Flow

@@ -3,9 +3,11 @@ use vg_base::Row;
 use vg_codes::Case;
 use vg_firm::{ArrayPlace, Procedure};
 
-// The code number of the first procedure, and how far apart those of two neighbours are: as if each had one word behind the vectors.
+// The code number of the first procedure. A code number counts words: in an image it is the word address at which the code of its procedure begins. No
+// image has these.
 const FIRST_CODE: u32 = 69;
 
+// By how many words the code numbers of two neighbours differ. One of an even number stands for no procedure.
 const CODE_STEP: u32 = 2;
 
 /// The procedures, dispatches and tables of arrays of a packed program.
@@ -16,7 +18,7 @@ pub struct Packed<'a> {
     pub tables: &'a [Row<ArrayPlace>],
 }
 
-/// The code number that stands for a procedure in delegates. Those of the first 32,733 have two bytes.
+/// The code number that stands for a procedure in delegates. Two bytes hold those of the first 32,734 procedures.
 pub fn code_number(procedure: u16) -> u32 {
     FIRST_CODE + CODE_STEP * u32::from(procedure)
 }

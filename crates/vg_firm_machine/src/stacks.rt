@@ -143,7 +143,7 @@ impl<'a> Stacks<'a> {
         Err(End::Wrong("no loop"))
     }
 
-    /// The newest values, so many, become the first locals of a call of this procedure; its other locals are 0.
+    /// The newest values, so many, become the first locals of a call of this procedure; its other locals are 0. Each value needs a local that holds it.
     pub fn enter(
         &mut self,
         procedure: &'a Procedure,
@@ -154,6 +154,9 @@ impl<'a> Stacks<'a> {
         let count = usize::from(count);
         if length < count || length - count < self.base() {
             return Err(End::Wrong("too few arguments"));
+        }
+        if procedure.widths.len() < count {
+            return Err(End::Wrong("an argument without a local"));
         }
         let frame = Frame {
             procedure,

@@ -1,5 +1,5 @@
 -- What a step of a packed procedure takes of the values that wait, what it leaves in their place, and what it names.
-use Rattle.std.specs.Prelude.{◌≡◌, ℕ, suc, ◌+◌, ◌^◌, ◌<◌, ◌≤◌, List, Some, slice_get}
+use Rattle.std.specs.Prelude.{◌≡◌, ◌⊎◌, ℕ, suc, ◌+◌, ◌^◌, ◌<◌, ◌≤◌, List, Some, None, slice_get}
 use Rattle.vg_firm.specs.declared.step.Home.{Home}
 use Rattle.vg_firm.specs.declared.step.Home.TheVariants.{Ram, Flash}
 use Rattle.vg_firm.specs.declared.step.Elements.{Elements}
@@ -74,7 +74,11 @@ abbrev pub HasElements : Layout → List Place → Elements → Type 0
 HasElements lay places e =
     (place : Place) × (slice_get places e.column ≡ Some place) × (e.address ≡ place.address) × (e.width ≡ place.width) × IsWidth e.width × HasTable lay e.table
 
--- What a step names is there: locals, of which there are so many, columns and tables. Numbers have at most 32 bits.
+-- There is no table with this number: no array of its type is kept, and all that such an array can be is null.
+abbrev pub LacksTable : Layout → (table : ℕ) → Type 0
+LacksTable lay t = slice_get lay.tables t ≡ None
+
+-- What a step names is there: locals, of which there are so many, columns, and tables where there are arrays. Numbers have at most 32 bits.
 abbrev pub Names : Layout → (locals : ℕ) → Step → Type 0
 Names lay locals (Number v) = v < 2 ^ 32
 Names lay locals (Local i) = i < locals
@@ -83,9 +87,9 @@ Names lay locals (Load home c) = HasColumn (columns_of lay home) c
 Names lay locals (Store c width) = HasWidth lay.ram c width
 Names lay locals (LoadAt home c first) = HasColumn (columns_of lay home) c
 Names lay locals (StoreAt c first width) = HasWidth lay.ram c width
-Names lay locals (LoadItem e) = HasElements lay (columns_of lay e.home) e
-Names lay locals (StoreItem e) = HasElements lay lay.ram e
-Names lay locals (Length table) = HasTable lay table
+Names lay locals (LoadItem e) = HasElements lay (columns_of lay e.home) e ⊎ LacksTable lay e.table
+Names lay locals (StoreItem e) = HasElements lay lay.ram e ⊎ LacksTable lay e.table
+Names lay locals (Length table) = HasTable lay table ⊎ LacksTable lay table
 Names lay locals (IsWithin first count) = first + count < 2 ^ 32
 Names lay locals (StopUnlessWithin first count) = first + count < 2 ^ 32
 Names lay locals p = Unit {0}

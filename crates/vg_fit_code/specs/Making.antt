@@ -9,7 +9,7 @@ use Rattle.vg_lin.specs.declared.instr.Plain.TheVariants.{Compute}
 use Rattle.vg_lin.specs.declared.instr.Instr.{Instr}
 use Rattle.vg_lin.specs.declared.instr.Instr.TheVariants.{Plain}
 use Rattle.vg_lin.specs.Program.{Program}
-use Rattle.vg_lookups.specs.Tables.{AreCases}
+use Rattle.vg_followed.specs.Tables.{AreCases}
 use Rattle.vg_covered.specs.Fitting.{IsPlainFit, IsFit}
 
 -- An instruction is fit, but for a computation, which may be one that a routine does.

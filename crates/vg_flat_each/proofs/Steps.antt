@@ -39,7 +39,8 @@ use Rattle.vg_flatten_places.specs.Places.{is_width, fetched, fetched_from, load
 use Rattle.vg_flatten_places.specs.Places.{store_one, store_of, is_place, load_item, store_item, element_of}
 use Rattle.vg_flatten_steps.specs.Locals.{at_local, set_local, forgotten, written}
 use Rattle.vg_flatten_steps.specs.Calls.{in_widths, with_taken, passing_of, with_receiver, resulting, called, called_on, called_by, bound_for}
-use Rattle.vg_flatten_steps.specs.Objects.{load_nothing, store_nothing, is_one_of, cast_to}
+use Rattle.vg_flatten_steps.specs.Objects.{is_one_of, cast_to}
+use Rattle.vg_flatten_places.specs.Places.{load_nothing, store_nothing}
 use Rattle.vg_flatten_steps.specs.Steps.{stepped}
 use Rattle.vg_flat_each.specs.Each.{Carries, StepHas}
 use Rattle.vg_flat_each.proofs.Blocks.{EachIn}
@@ -246,7 +247,7 @@ module _ (Has : Instr → Type 0) (k : Carries Has) (lay : Layout) (r : Room) wh
       (each_fetched_from memory place.width first place.address a hs)) tt
 
   each_length : (o : Option ℕ) (hs : List Operand) → HasEach Has (length_of r o hs)
-  each_length None hs = tt
+  each_length None hs = each_nothing hs
   each_length (Some table) [] = tt
   each_length (Some table) (a ∷ hs) = each_if Has (nat_le 2 table) _ _ (each_fetched _ 2 4 _ a hs) tt
 
@@ -273,8 +274,9 @@ module _ (Has : Instr → Type 0) (k : Carries Has) (lay : Layout) (r : Room) wh
   )
 
   each_load_item : (e : Elements) (o : Option Place) (u : Option ℕ) (hs : List Operand) → HasEach Has (load_item r e o u hs)
-  each_load_item e None u hs = tt
-  each_load_item e (Some place) None hs = tt
+  each_load_item e o None [] = tt
+  each_load_item e o None (i ∷ hs) = each_nothing hs
+  each_load_item e None (Some table) hs = tt
   each_load_item e (Some place) (Some table) [] = tt
   each_load_item e (Some place) (Some table) (i ∷ []) = tt
   each_load_item e (Some place) (Some table) (i ∷ a ∷ hs) =
@@ -283,8 +285,10 @@ module _ (Has : Instr → Type 0) (k : Carries Has) (lay : Layout) (r : Room) wh
       each_temp Has (temp r (Local first ∷ i ∷ a ∷ hs)) _ (λ second. each_element _ _ (k.loads (memory_of e.home) e.width to _))))) tt
 
   each_store_item : (e : Elements) (o : Option Place) (u : Option ℕ) (hs : List Operand) → HasEach Has (store_item r e o u hs)
-  each_store_item e None u hs = tt
-  each_store_item e (Some place) None hs = tt
+  each_store_item e o None [] = tt
+  each_store_item e o None (v ∷ []) = tt
+  each_store_item e o None (v ∷ i ∷ hs) = each_no_store (v ∷ hs)
+  each_store_item e None (Some table) hs = tt
   each_store_item e (Some place) (Some table) [] = tt
   each_store_item e (Some place) (Some table) (v ∷ []) = tt
   each_store_item e (Some place) (Some table) (v ∷ i ∷ []) = tt

@@ -55,7 +55,8 @@ use Rattle.vg_flatten_places.specs.Places.{is_width, fetched, fetched_from, load
 use Rattle.vg_flatten_places.specs.Places.{store_one, store_of, is_place, load_item, store_item}
 use Rattle.vg_flatten_steps.specs.Locals.{at_local, set_local, forgotten, written}
 use Rattle.vg_flatten_steps.specs.Calls.{in_widths, with_taken, passing_of, with_receiver, resulting, called, called_on, called_for, called_by as called_by', called_value, bound_for}
-use Rattle.vg_flatten_steps.specs.Objects.{load_nothing, store_nothing, is_one_of, cast_to}
+use Rattle.vg_flatten_steps.specs.Objects.{is_one_of, cast_to}
+use Rattle.vg_flatten_places.specs.Places.{load_nothing, store_nothing}
 use Rattle.vg_flatten_steps.specs.Steps.{stepped}
 use Rattle.vg_flatten_control.specs.Flat.{landed_as, landed, joined, chosen, where_empty, repeated, repeated_test, repeated_body, repeated_next}
 use Rattle.vg_flatten_control.specs.Flat.{given_back, flat}
@@ -353,7 +354,7 @@ module _ (lay : Layout) (r : Room) where
       (quiet_fetched_from memory place.width first place.address a hs)) tt
 
   quiet_length : (o : Option ℕ) (hs : List Operand) → Quiet (length_of r o hs)
-  quiet_length None hs = tt
+  quiet_length None hs = quiet_nothing hs
   quiet_length (Some table) [] = tt
   quiet_length (Some table) (a ∷ hs) = quiet_if (nat_le 2 table) _ _ (quiet_fetched _ 2 4 _ a hs) tt
 
@@ -373,8 +374,9 @@ module _ (lay : Layout) (r : Room) where
       (quiet_temp (temp r (v ∷ a ∷ hs)) _ (λ to. ap (λ z. z ++ []) (multiplied_quiet to width (Local to))))) tt
 
   quiet_load_item : (e : Elements) (o : Option Place) (u : Option ℕ) (hs : List Operand) → Quiet (load_item r e o u hs)
-  quiet_load_item e None u hs = tt
-  quiet_load_item e (Some place) None hs = tt
+  quiet_load_item e o None [] = tt
+  quiet_load_item e o None (i ∷ hs) = quiet_nothing hs
+  quiet_load_item e None (Some table) hs = tt
   quiet_load_item e (Some place) (Some table) [] = tt
   quiet_load_item e (Some place) (Some table) (i ∷ []) = tt
   quiet_load_item e (Some place) (Some table) (i ∷ a ∷ hs) =
@@ -383,8 +385,10 @@ module _ (lay : Layout) (r : Room) where
       quiet_temp (temp r (Local first ∷ i ∷ a ∷ hs)) _ (λ second. refl)))) tt
 
   quiet_store_item : (e : Elements) (o : Option Place) (u : Option ℕ) (hs : List Operand) → Quiet (store_item r e o u hs)
-  quiet_store_item e None u hs = tt
-  quiet_store_item e (Some place) None hs = tt
+  quiet_store_item e o None [] = tt
+  quiet_store_item e o None (v ∷ []) = tt
+  quiet_store_item e o None (v ∷ i ∷ hs) = quiet_no_store (v ∷ hs)
+  quiet_store_item e None (Some table) hs = tt
   quiet_store_item e (Some place) (Some table) [] = tt
   quiet_store_item e (Some place) (Some table) (v ∷ []) = tt
   quiet_store_item e (Some place) (Some table) (v ∷ i ∷ []) = tt

@@ -53,7 +53,8 @@ use Rattle.vg_flatten_places.specs.Places.{is_width, fetched, fetched_from, load
 use Rattle.vg_flatten_places.specs.Places.{store_one, store_of, is_place, load_item, store_item}
 use Rattle.vg_flatten_steps.specs.Locals.{at_local, set_local, forgotten, written}
 use Rattle.vg_flatten_steps.specs.Calls.{in_widths, passing, passing_of, with_receiver, with_taken, resulting, called, passing_four, called_on, called_for, called_by, called_value, bound_for}
-use Rattle.vg_flatten_steps.specs.Objects.{load_nothing, store_nothing, is_one_of, cast_to}
+use Rattle.vg_flatten_steps.specs.Objects.{is_one_of, cast_to}
+use Rattle.vg_flatten_places.specs.Places.{load_nothing, store_nothing}
 use Rattle.vg_flatten_steps.specs.Steps.{stepped}
 use Rattle.vg_flatten_control.specs.Flat.{landed_as, landed, joined, chosen, where_empty, repeated, repeated_test, repeated_body, repeated_next}
 use Rattle.vg_flatten_control.specs.Flat.{given_back, flat}
@@ -283,7 +284,7 @@ module _ (lay : Layout) (r : Room) where
       (small_fetched_from memory place.width first place.address a hs)) tt
 
   small_length : (o : Option ℕ) (hs : List Operand) → Small 12 (length_of r o hs)
-  small_length None hs = tt
+  small_length None hs = small_nothing hs
   small_length (Some table) [] = tt
   small_length (Some table) (a ∷ hs) = small_if 12 (nat_le 2 table) _ _ (small_fetched _ 2 4 _ a hs) tt
 
@@ -303,8 +304,9 @@ module _ (lay : Layout) (r : Room) where
       (small_temp 12 (temp r (v ∷ a ∷ hs)) _ (λ to. let m = multiplied_few to width (Local to) in omega (arith, m)))) tt
 
   small_load_item : (e : Elements) (o : Option Place) (u : Option ℕ) (hs : List Operand) → Small 12 (load_item r e o u hs)
-  small_load_item e None u hs = tt
-  small_load_item e (Some place) None hs = tt
+  small_load_item e o None [] = tt
+  small_load_item e o None (i ∷ hs) = small_nothing hs
+  small_load_item e None (Some table) hs = tt
   small_load_item e (Some place) (Some table) [] = tt
   small_load_item e (Some place) (Some table) (i ∷ []) = tt
   small_load_item e (Some place) (Some table) (i ∷ a ∷ hs) =
@@ -313,8 +315,10 @@ module _ (lay : Layout) (r : Room) where
       small_temp 12 (temp r (Local first ∷ i ∷ a ∷ hs)) _ (λ second. omega arith)))) tt
 
   small_store_item : (e : Elements) (o : Option Place) (u : Option ℕ) (hs : List Operand) → Small 12 (store_item r e o u hs)
-  small_store_item e None u hs = tt
-  small_store_item e (Some place) None hs = tt
+  small_store_item e o None [] = tt
+  small_store_item e o None (v ∷ []) = tt
+  small_store_item e o None (v ∷ i ∷ hs) = small_no_store (v ∷ hs)
+  small_store_item e None (Some table) hs = tt
   small_store_item e (Some place) (Some table) [] = tt
   small_store_item e (Some place) (Some table) (v ∷ []) = tt
   small_store_item e (Some place) (Some table) (v ∷ i ∷ []) = tt

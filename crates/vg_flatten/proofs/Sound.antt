@@ -45,7 +45,8 @@ use Rattle.vg_flatten_control.specs.Flat.{landed_as, landed, joined, chosen, rep
 use Rattle.vg_flatten.specs.Loops.{has_loop}
 use Rattle.vg_flatten_control.specs.Flat.{repeated_body, repeated_next, given_back, flat}
 use Rattle.vg_flatten_values.specs.Values.{bytes_around, may_be_zero, divisor_checked, divided, masked, shifted_left, shifted_right, combined}
-use Rattle.vg_flatten_steps.specs.Objects.{load_nothing, store_nothing, is_near, is_one_of, cast_to}
+use Rattle.vg_flatten_steps.specs.Objects.{is_near, is_one_of, cast_to}
+use Rattle.vg_flatten_places.specs.Places.{load_nothing, store_nothing}
 use Rattle.vg_flatten_places.specs.Places.{is_width, load_from, multiplied, multiple, fetched, load_one, load_of, length_of, places_in, memory_of}
 use Rattle.vg_flatten_places.specs.Places.{distance, fetched_from, load_placed, put_from, store_placed, store_at, store_one, put_of, store_of, is_place, timed, element_of, load_element, load_item, store_element, store_item}
 use Rattle.vg_flatten_places.specs.declared.elements.Reach.{Reach}
@@ -567,7 +568,7 @@ module _ (L : Type 0) (lay : Layout) (r : Room) where
       by_width false e = tt
 
   in_length_of : (o : Option ℕ) (hs : List Operand) → AreIn size hs → MadeIn L r.result size (length_of r o hs)
-  in_length_of None hs h = tt
+  in_length_of None hs h = in_load_nothing hs h
   in_length_of (Some table) [] h = tt
   in_length_of (Some table) (a ∷ hs) h =
       in_if (nat_le 2 table) (fetched r Flash 2 4 (table - 2) a hs) (Refused NotTaken) (in_fetched Flash 2 4 (table - 2) a hs (omega arith)
@@ -646,8 +647,9 @@ module _ (L : Type 0) (lay : Layout) (r : Room) where
   )
 
   in_load_item : (e : Elements) (o : Option Place) (u : Option ℕ) (hs : List Operand) → AreIn size hs → MadeIn L r.result size (load_item r e o u hs)
-  in_load_item e None u hs h = tt
-  in_load_item e (Some place) None hs h = tt
+  in_load_item e o None [] h = tt
+  in_load_item e o None (i ∷ hs) h = in_load_nothing hs h.1
+  in_load_item e None (Some table) hs h = tt
   in_load_item e (Some place) (Some table) [] h = tt
   in_load_item e (Some place) (Some table) (i ∷ []) h = tt
   in_load_item e (Some place) (Some table) (i ∷ a ∷ hs) h = by_width (is_width e.width) (is_place e place) (nat_le 4 table) refl
@@ -667,8 +669,10 @@ module _ (L : Type 0) (lay : Layout) (r : Room) where
       by_width false c d is = tt
 
   in_store_item : (e : Elements) (o : Option Place) (u : Option ℕ) (hs : List Operand) → AreIn size hs → MadeIn L r.result size (store_item r e o u hs)
-  in_store_item e None u hs h = tt
-  in_store_item e (Some place) None hs h = tt
+  in_store_item e o None [] h = tt
+  in_store_item e o None (v ∷ []) h = tt
+  in_store_item e o None (v ∷ i ∷ hs) h = in_store_nothing (v ∷ hs) (h.0, h.1.1)
+  in_store_item e None (Some table) hs h = tt
   in_store_item e (Some place) (Some table) [] h = tt
   in_store_item e (Some place) (Some table) (v ∷ []) h = tt
   in_store_item e (Some place) (Some table) (v ∷ i ∷ []) h = tt

@@ -37,7 +37,8 @@ use Rattle.vg_flatten_places.specs.Places.{is_width, fetched, fetched_from, load
 use Rattle.vg_flatten_places.specs.Places.{store_one, store_of, is_place, load_item, store_item}
 use Rattle.vg_flatten_steps.specs.Locals.{at_local, set_local, forgotten, written}
 use Rattle.vg_flatten_steps.specs.Calls.{in_widths, with_taken, passing_of, with_receiver, resulting, called, called_on, called_by as called_by', bound_for}
-use Rattle.vg_flatten_steps.specs.Objects.{load_nothing, store_nothing, is_one_of, cast_to}
+use Rattle.vg_flatten_steps.specs.Objects.{is_one_of, cast_to}
+use Rattle.vg_flatten_places.specs.Places.{load_nothing, store_nothing}
 use Rattle.vg_flatten_steps.specs.Steps.{stepped}
 use Rattle.vg_flatten.specs.Calls.{called_by}
 
@@ -226,7 +227,7 @@ module _ (lay : Layout) (r : Room) where
       (steady_fetched_from memory place.width first place.address a hs)) tt
 
   steady_length : (o : Option ℕ) (hs : List Operand) → IsSteady (length_of r o hs)
-  steady_length None hs = tt
+  steady_length None hs = steady_nothing hs
   steady_length (Some table) [] = tt
   steady_length (Some table) (a ∷ hs) = steady_if (nat_le 2 table) _ _ (steady_fetched _ 2 4 _ a hs) tt
 
@@ -246,8 +247,9 @@ module _ (lay : Layout) (r : Room) where
       (steady_temp (temp r (v ∷ a ∷ hs)) _ (λ to. ap (λ z. z && true) (multiplied_steady to width (Local to))))) tt
 
   steady_load_item : (e : Elements) (o : Option Place) (u : Option ℕ) (hs : List Operand) → IsSteady (load_item r e o u hs)
-  steady_load_item e None u hs = tt
-  steady_load_item e (Some place) None hs = tt
+  steady_load_item e o None [] = tt
+  steady_load_item e o None (i ∷ hs) = steady_nothing hs
+  steady_load_item e None (Some table) hs = tt
   steady_load_item e (Some place) (Some table) [] = tt
   steady_load_item e (Some place) (Some table) (i ∷ []) = tt
   steady_load_item e (Some place) (Some table) (i ∷ a ∷ hs) =
@@ -256,8 +258,10 @@ module _ (lay : Layout) (r : Room) where
       steady_temp (temp r (Local first ∷ i ∷ a ∷ hs)) _ (λ second. refl)))) tt
 
   steady_store_item : (e : Elements) (o : Option Place) (u : Option ℕ) (hs : List Operand) → IsSteady (store_item r e o u hs)
-  steady_store_item e None u hs = tt
-  steady_store_item e (Some place) None hs = tt
+  steady_store_item e o None [] = tt
+  steady_store_item e o None (v ∷ []) = tt
+  steady_store_item e o None (v ∷ i ∷ hs) = steady_no_store (v ∷ hs)
+  steady_store_item e None (Some table) hs = tt
   steady_store_item e (Some place) (Some table) [] = tt
   steady_store_item e (Some place) (Some table) (v ∷ []) = tt
   steady_store_item e (Some place) (Some table) (v ∷ i ∷ []) = tt

@@ -55,7 +55,8 @@ use Rattle.vg_flatten_places.specs.Places.{is_width, fetched, fetched_from, load
 use Rattle.vg_flatten_places.specs.Places.{store_one, store_of, is_place, load_item, store_item}
 use Rattle.vg_flatten_steps.specs.Locals.{at_local, get_receiver, put_in_local, set_local, forgotten, written}
 use Rattle.vg_flatten_steps.specs.Calls.{in_widths, with_taken, passing_of, with_receiver, resulting, called, called_on, called_for, called_by, called_value, bound_for}
-use Rattle.vg_flatten_steps.specs.Objects.{load_nothing, store_nothing, is_one_of, cast_to}
+use Rattle.vg_flatten_steps.specs.Objects.{is_one_of, cast_to}
+use Rattle.vg_flatten_places.specs.Places.{load_nothing, store_nothing}
 use Rattle.vg_flatten_steps.specs.Steps.{stepped}
 use Rattle.vg_flatten_control.specs.Flat.{landed_as, landed, joined, chosen, repeated, repeated_test, given_back, flat}
 use Rattle.vg_firm_typed.specs.Steps.{takes, leaves, IsWidth, columns_of, Names}
@@ -523,18 +524,31 @@ module _ (lay : Layout) (r : Room) (looped : Bool) (under : List Operand) where
         one_of (λ z. Fine looped under y (load_nothing (z ++ under))) own n e (λ a rest e1. ((tt, tt), puts under rest (Known 0) n y e1 g))
     fine_step StoreNothing own n y e g room alone there =
         two_of (λ z. Fine looped under y (store_nothing (z ++ under))) own n e (λ v a rest e1. ((tt, tt), drops under rest n y e1 g))
-    fine_step (LoadItem x) own n y e g room alone there =
+    fine_step (LoadItem x) own n y e g room alone (inr none) =
+        two_of (λ z. Fine looped under y (load_item r x (slice_get (places_in lay x.home) x.column) (slice_get lay.tables x.table) (z ++ under))) own n e
+        (λ i a rest e1.
+        subst (λ u. Fine looped under y (load_item r x (slice_get (places_in lay x.home) x.column) u (i ∷ a ∷ rest ++ under))) (sym none)
+        ((tt, tt), puts under rest (Known 0) n y e1 g))
+    fine_step (LoadItem x) own n y e g room alone (inl there) =
         two_of (λ z. Fine looped under y (load_item r x (slice_get (places_in lay x.home) x.column) (slice_get lay.tables x.table) (z ++ under))) own n e
         (λ i a rest e1.
         fine_load_item x (slice_get (places_in lay x.home) x.column) (slice_get lay.tables x.table) there.0 there.5.0 i a rest n y e1 g
         (lower rest n 2 e1 room) (sym (ap (λ z. slice_get z x.column) (columns_are x.home)) ∙ there.1) there.5.1
         (is_there x there.0 there.5.0 there.2 there.3 there.4 there.5.2))
-    fine_step (StoreItem x) own n y e g room alone there =
+    fine_step (StoreItem x) own n y e g room alone (inr none) =
+        three_of (λ z. Fine looped under y (store_item r x (slice_get lay.ram x.column) (slice_get lay.tables x.table) (z ++ under))) own n e
+        (λ v i a rest e1.
+        subst (λ u. Fine looped under y (store_item r x (slice_get lay.ram x.column) u (v ∷ i ∷ a ∷ rest ++ under))) (sym none)
+        ((tt, tt), drops under rest n y e1 g))
+    fine_step (StoreItem x) own n y e g room alone (inl there) =
         three_of (λ z. Fine looped under y (store_item r x (slice_get lay.ram x.column) (slice_get lay.tables x.table) (z ++ under))) own n e
         (λ v i a rest e1.
         fine_store_item x (slice_get lay.ram x.column) (slice_get lay.tables x.table) there.0 there.5.0 v i a rest n y e1 g
         (lower rest n 3 e1 room) there.1 there.5.1 (is_there x there.0 there.5.0 there.2 there.3 there.4 there.5.2))
-    fine_step (Length t) own n y e g room alone there =
+    fine_step (Length t) own n y e g room alone (inr none) =
+        one_of (λ z. Fine looped under y (length_of r (slice_get lay.tables t) (z ++ under))) own n e (λ a rest e1.
+        subst (λ u. Fine looped under y (length_of r u (a ∷ rest ++ under))) (sym none) ((tt, tt), puts under rest (Known 0) n y e1 g))
+    fine_step (Length t) own n y e g room alone (inl there) =
         one_of (λ z. Fine looped under y (length_of r (slice_get lay.tables t) (z ++ under))) own n e (λ a rest e1.
         fine_length (slice_get lay.tables t) there.0 a rest n y e1 g (let l = lower rest n 1 e1 room in omega (arith, l)) there.1 there.2)
     fine_step (IsWithin first count) own n y e g room alone there =

@@ -1,5 +1,5 @@
 -- How the columns and tables of a packed program stand among the bytes of both memories.
-use Rattle.std.specs.Prelude.{◌≡◌, ◌≢◌, ◌⊎◌, ℕ, ◌+◌, ◌-◌, ◌*◌, ◌^◌, ◌<◌, ◌≤◌, List, length, Some, slice_get}
+use Rattle.std.specs.Prelude.{◌≡◌, ◌≢◌, ◌⊎◌, ℕ, ◌+◌, ◌-◌, ◌*◌, ◌^◌, ◌<◌, ◌≤◌, List, length, Some, None, slice_get}
 use Rattle.vg_firm.specs.declared.step.ArrayPlace.{ArrayPlace}
 use Rattle.vg_firm.specs.Program.{Program as FirmProgram}
 use Rattle.vg_lin.specs.declared.instr.Memory.{Memory}
@@ -38,3 +38,5 @@ pub record FlashStands (lay : Layout) (f : FirmProgram) (p : Program) : Type 0 w
       → ColumnStands Flash p.tables place vs
   pub tables : (t address : ℕ) (arrays : List ArrayPlace) → slice_get lay.tables t ≡ Some address → slice_get f.tables t ≡ Some arrays
       → TableStands p.tables address arrays
+  -- where the layout has no table, the program has none
+  pub known : (t : ℕ) → slice_get lay.tables t ≡ None → slice_get f.tables t ≡ None

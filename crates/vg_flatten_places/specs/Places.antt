@@ -22,6 +22,27 @@ use Rattle.vg_flatten_shapes.specs.Blocks.{Block, Skip, One, Both, stop_where}
 use Rattle.vg_flatten_shapes.specs.Made.{Made, Gives, Refused, by_temp, is_zero}
 use Rattle.vg_flatten_values.specs.Values.{test_of}
 
+-- ---- what is not there
+
+-- The null check of a field that no object has, whose value is 0.
+abbrev pub load_nothing : List Operand → Made
+load_nothing (h ∷ hs) = Gives (stop_where 1 (Holds (is_zero h))) (only (Known 0 ∷ hs))
+load_nothing [] = Refused NotTaken
+
+-- The null check of a field that is not kept.
+abbrev pub store_nothing : List Operand → Made
+store_nothing (v ∷ h ∷ hs) = Gives (stop_where 1 (Holds (is_zero h))) (only hs)
+store_nothing _ = Refused NotTaken
+
+-- The same of an element, where its type has no arrays and so no table: all that an array can be is null.
+abbrev pub load_no_item : List Operand → Made
+load_no_item (i ∷ hs) = load_nothing hs
+load_no_item [] = Refused NotTaken
+
+abbrev pub store_no_item : List Operand → Made
+store_no_item (v ∷ i ∷ hs) = store_nothing (v ∷ hs)
+store_no_item _ = Refused NotTaken
+
 -- ---- columns and tables
 
 -- A number of bytes that a load takes.
@@ -71,10 +92,11 @@ load_of r memory first (Some place) (h ∷ hs) =
     if is_width place.width then load_placed r memory place.width first place.address h hs else Refused NotTaken
 load_of r memory first _ _ = Refused NotTaken
 
--- The length of an array: four bytes of a table are the place of one, and the upper two its length.
+-- The length of an array: four bytes of a table are the place of one, and the upper two its length. Where there is no table, there is no array.
 abbrev pub length_of : Room → Option ℕ → List Operand → Made
+length_of r None hs = load_nothing hs
 length_of r (Some table) (h ∷ hs) = if nat_le 2 table then fetched r Flash 2 4 (table - 2) h hs else Refused NotTaken
-length_of r _ _ = Refused NotTaken
+length_of r (Some table) [] = Refused NotTaken
 
 -- A store at a base, so many bytes further as a number says, behind its null check.
 abbrev pub store_at : (width base : ℕ) → (index value : Operand) → Plain
@@ -154,6 +176,7 @@ load_element r e table h i hs =
     (load_from (memory_of e.home) e.width to 0 (InLocal first))) (only (InLocal to ∷ hs))))
 
 abbrev pub load_item : Room → Elements → Option Place → Option ℕ → List Operand → Made
+load_item r e place None hs = load_no_item hs
 load_item r e (Some place) (Some table) (i ∷ h ∷ hs) =
     if is_width e.width && is_place e place && nat_le 4 table then load_element r e table h i hs else Refused NotTaken
 load_item r e _ _ _ = Refused NotTaken
@@ -165,6 +188,7 @@ store_element r width table v h i hs =
     (store_at width 0 (InLocal first) v)) (only hs))
 
 abbrev pub store_item : Room → Elements → Option Place → Option ℕ → List Operand → Made
+store_item r e place None hs = store_no_item hs
 store_item r e (Some place) (Some table) (v ∷ i ∷ h ∷ hs) =
     if is_width e.width && is_place e place && nat_le 4 table then store_element r e.width table v h i hs else Refused NotTaken
 store_item r e _ _ _ = Refused NotTaken

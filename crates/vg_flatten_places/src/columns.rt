@@ -5,6 +5,7 @@ ghost use Rattle.vg_flatten_shapes.specs.Laying.{Lays, LaysCode};
 ghost use Rattle.vg_flatten_places.specs.Places.{is_width, load_from, multiplied, multiple, distance, fetched, fetched_from, load_placed, load_one, load_of, length_of, places_in, memory_of};
 ghost use Rattle.vg_flatten_places.specs.Places.{store_at, store_one, put_of, put_from, store_placed, store_of};
 
+use crate::nothing::load_nothing;
 use std::alloc::Global;
 use vg_base::{Refusal, Row};
 use vg_firm::Home;
@@ -284,7 +285,7 @@ fn length_of(
     }
 }
 
-/// The length of an array, by the table of its type.
+/// The length of an array, by the table of its type; without one there is no array.
 pub fn length(
     alloc: Global,
     layout: &Layout,
@@ -299,7 +300,7 @@ pub fn length(
 {
     match layout.tables.as_slice().get(table as usize) {
         Some(address) => length_of(alloc, room, at, *address, homes),
-        None => Err(Refusal::Fault(Fault::NotTaken)),
+        None => load_nothing(alloc, at, homes),
     }
 }
 

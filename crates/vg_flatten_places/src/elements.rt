@@ -6,6 +6,7 @@ ghost use Rattle.vg_flatten_places.specs.Places.{is_place, timed, place_of, boun
 ghost use Rattle.vg_flatten_places.specs.Places.{store_element, store_item};
 
 use crate::columns::{is_width, load_from, memory_of, places_in, store_at};
+use crate::nothing::{load_no_item, store_no_item};
 use std::alloc::Global;
 use vg_base::{Refusal, Row};
 use vg_firm::Elements;
@@ -177,7 +178,7 @@ fn load_item_at(
     }
 }
 
-/// An element, by the array's number and the index.
+/// An element, by the array's number and the index. Where the type of the array has no table, it has no arrays.
 pub fn load_item(
     alloc: Global,
     layout: &Layout,
@@ -191,12 +192,12 @@ pub fn load_item(
     ensures { Lays result at (load_item room elements (slice_get (places_in layout.now elements.home) elements.column)
         (slice_get layout.now.tables elements.table) homes.homes) }
 {
-    match places_in(layout, elements.home).get(elements.column as usize) {
-        Some(place) => match layout.tables.as_slice().get(elements.table as usize) {
-            Some(table) => load_item_at(alloc, room, at, elements, *place, *table, homes),
+    match layout.tables.as_slice().get(elements.table as usize) {
+        Some(table) => match places_in(layout, elements.home).get(elements.column as usize) {
+            Some(place) => load_item_at(alloc, room, at, elements, *place, *table, homes),
             None => Err(Refusal::Fault(Fault::NotTaken)),
         },
-        None => Err(Refusal::Fault(Fault::NotTaken)),
+        None => load_no_item(alloc, at, homes),
     }
 }
 
@@ -267,7 +268,7 @@ fn store_item_at(
     }
 }
 
-/// An element gets a value, by the array's number and the index.
+/// An element gets a value, by the array's number and the index. Where the type of the array has no table, it has no arrays.
 pub fn store_item(
     alloc: Global,
     layout: &Layout,
@@ -280,11 +281,11 @@ pub fn store_item(
     requires settled { homes.truth ≡ None }
     ensures { Lays result at (store_item room elements (slice_get layout.now.ram elements.column) (slice_get layout.now.tables elements.table) homes.homes) }
 {
-    match layout.ram.as_slice().get(elements.column as usize) {
-        Some(place) => match layout.tables.as_slice().get(elements.table as usize) {
-            Some(table) => store_item_at(alloc, room, at, elements, *place, *table, homes),
+    match layout.tables.as_slice().get(elements.table as usize) {
+        Some(table) => match layout.ram.as_slice().get(elements.column as usize) {
+            Some(place) => store_item_at(alloc, room, at, elements, *place, *table, homes),
             None => Err(Refusal::Fault(Fault::NotTaken)),
         },
-        None => Err(Refusal::Fault(Fault::NotTaken)),
+        None => store_no_item(alloc, at, homes),
     }
 }

@@ -3,6 +3,8 @@
 
 pub mod columns;
 pub mod elements;
+pub mod nothing;
 
 pub use columns::{distance, length, load, load_at, store, store_to};
 pub use elements::{load_item, store_item};
+pub use nothing::{load_nothing, store_nothing};

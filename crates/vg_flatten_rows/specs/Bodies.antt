@@ -330,6 +330,11 @@ array_length : flattened_in layout 4 (procedure 2 (2 ∷ 4 ∷ []) (steps (Get 0
     ∷ Return 4 (Known 0) ∷ [])
 array_length = refl
 
+-- the same of a type without a table, as no array of it is kept: the null check stays.
+no_length : flattened_in layout 4 (procedure 2 (2 ∷ 4 ∷ []) (steps (Get 0 ∷ Length 1 ∷ SetLocal 1 ∷ []) Nothing))
+    ≡ Some (Unless (is_zero (Local 0)) 2 ∷ Plain (Stop 1) ∷ Plain (Copy 1 (Known 0)) ∷ Return 4 (Known 0) ∷ [])
+no_length = refl
+
 -- ---- elements
 
 abbrev pub bytes : Elements
@@ -353,6 +358,16 @@ copied_element : flattened_in layout 8 (procedure 3 (2 ∷ 2 ∷ 4 ∷ []) (step
     ∷ When (below (Local 2) (Local 7)) 16 ∷ Plain (Stop 2) ∷ loads 2 6 176 (Local 6) ∷ computes Product 2 7 (Local 2) (Known 1)
     ∷ sum 2 6 (Local 6) (Local 7) ∷ Plain (StoresBytes 1 (record { base = 0; index = Local 6 }) (Local 5)) ∷ Return 4 (Known 0) ∷ [])
 copied_element = refl
+
+abbrev pub missing : Elements
+missing = record { home = Ram; column = 7; address = 0; table = 1; width = 4 }
+
+-- i = a[i]; and a[i] = 7; of a type without a table and a column: the null checks stay.
+no_element : flattened_in layout 4 (procedure 2 (2 ∷ 4 ∷ [])
+    (steps (Get 0 ∷ Get 1 ∷ LoadItem missing ∷ SetLocal 1 ∷ Get 0 ∷ Get 1 ∷ Number 7 ∷ StoreItem missing ∷ []) Nothing))
+    ≡ Some (
+    Unless (is_zero (Local 0)) 2 ∷ Plain (Stop 1) ∷ Plain (Copy 1 (Known 0)) ∷ Unless (is_zero (Local 0)) 5 ∷ Plain (Stop 1) ∷ Return 4 (Known 0) ∷ [])
+no_element = refl
 
 -- for (i = 0; i < a.length; i = i + 1) M.PORTB = a[i];
 array_loop : flattened_in layout 8 (procedure 1 (2 ∷ 4 ∷ [])

@@ -8,14 +8,28 @@ use Rattle.vg_flatten_shapes.specs.declared.fault.Fault.TheVariants.{TooLong}
 use Rattle.vg_flatten_shapes.specs.declared.open.Truth.{Truth}
 use Rattle.vg_flatten_shapes.specs.declared.piece.Piece.{Piece}
 use Rattle.vg_flatten_shapes.specs.Shapes.{Shape, only}
-use Rattle.vg_flatten_shapes.specs.Made.{Made, after, Tested}
+use Rattle.vg_flatten_shapes.specs.Made.{Made, after, Tested, tested}
+use Rattle.vg_firm.specs.declared.step.Step.{Step}
+use Rattle.vg_meaning.specs.Code.{Code}
+use Rattle.vg_flatten_shapes.specs.declared.layout.Layout.{Layout}
 use Rattle.vg_flatten_shapes.specs.declared.room.Room.{Room}
-use Rattle.vg_flatten_pushed.specs.Pushed.{level}
+use Rattle.vg_flatten_pushed.specs.Pushed.{level, raised}
 use Rattle.vg_flatten_shapes.specs.Laying.{IsPiece, Fails, Lays}
 use Rattle.vg_flatten_control.specs.Flat.{joined}
 use Rattle.vg_flatten_control.specs.Joining.{Tests, Joins}
 use Rattle.vg_flatten_control.proofs.Failing.{long_both, first_of, place_of', rest_of, joined_laid, only_is}
-use Rattle.vg_flatten_pushed.specs.Stacked.{ways}
+use Rattle.vg_flatten_pushed.specs.Stacked.{ways, stacked}
+
+-- one of two codes, by the newest value of a shape, which was popped
+abbrev pub either_way : Layout → Room → (first rest : Code Step) → Shape → Made
+either_way lay r a b s = ways r (tested s) (stacked lay r a) (stacked lay r b)
+
+-- and where its own value is put back above so many values
+abbrev pub raised_to : Layout → Room → (first rest : Code Step) → Shape → (below : ℕ) → Made
+raised_to lay r a b s n = after (either_way lay r a b s) (raised n)
+
+abbrev pub choice : Layout → Room → (first rest : Code Step) → Shape → Made
+choice lay r a b s = raised_to lay r a b s (length s.homes)
 
 module _ (at : ℕ) (r : Room) (found : Option Tested) (t : Truth) (left : Shape) (below : ℕ) (same : below ≡ length left.homes) (f g : Shape → Made)
     (taken : Tests (Some t) found left) where

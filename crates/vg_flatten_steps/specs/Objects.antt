@@ -1,4 +1,4 @@
--- What null checks and tests of objects become, from where values wait.
+-- What tests and casts of objects become, from where values wait.
 use Rattle.std.specs.Prelude.{ℕ, ◌+◌, ◌^◌, nat_lt, List, [], ◌∷◌, Some, if◌then◌else◌}
 use Rattle.vg_lin.specs.declared.instr.Operand.{Operand}
 use Rattle.vg_lin.specs.declared.instr.Operand.TheVariants.{Local as InLocal, Known}
@@ -14,16 +14,6 @@ use Rattle.vg_flatten_values.specs.Values.{test_of}
 use Rattle.vg_flatten_places.specs.Places.{distance}
 
 -- ---- objects
-
--- The null check of a field that no object has, whose value is 0.
-abbrev pub load_nothing : List Operand → Made
-load_nothing (h ∷ hs) = Gives (stop_where 1 (Holds (is_zero h))) (only (Known 0 ∷ hs))
-load_nothing [] = Refused NotTaken
-
--- The null check of a field that is not kept.
-abbrev pub store_nothing : List Operand → Made
-store_nothing (v ∷ h ∷ hs) = Gives (stop_where 1 (Holds (is_zero h))) (only hs)
-store_nothing _ = Refused NotTaken
 
 -- An object is one of so many where its number is less than their count behind the first.
 abbrev pub is_near : (to count : ℕ) → Test

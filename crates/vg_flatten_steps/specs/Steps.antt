@@ -13,7 +13,8 @@ use Rattle.vg_flatten_values.specs.Values.{operated, applied}
 use Rattle.vg_flatten_places.specs.Places.{load_one, load_of, length_of, store_one, store_of, places_in, memory_of, load_item, store_item}
 use Rattle.vg_flatten_steps.specs.Locals.{put_number, get_local, get_receiver, set_local, forgotten, read, written}
 use Rattle.vg_flatten_steps.specs.Calls.{called, called_for, called_value, bound, bound_for}
-use Rattle.vg_flatten_steps.specs.Objects.{load_nothing, store_nothing, is_one_of, cast_to}
+use Rattle.vg_flatten_steps.specs.Objects.{is_one_of, cast_to}
+use Rattle.vg_flatten_places.specs.Places.{load_nothing, store_nothing}
 
 -- Where no truth value waits as a test.
 abbrev pub stepped : Layout → Room → Step → List Operand → Made

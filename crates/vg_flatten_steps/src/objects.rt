@@ -1,9 +1,9 @@
-// What null checks and tests of objects become.
+// What tests and casts of objects become.
 ghost use Rattle.std.specs.Prelude.{◌≡◌, ◌+◌, ◌≤◌, None};
 ghost use Rattle.vg_flatten_shapes.specs.Laying.{Lays, LaysCode};
 ghost use Rattle.vg_flatten_shapes.specs.Blocks.{One, Both, open_code, stop_where};
 ghost use Rattle.vg_flatten_shapes.specs.declared.open.Truth.TheVariants.{Fails};
-ghost use Rattle.vg_flatten_steps.specs.Objects.{load_nothing, store_nothing, is_one_of, cast_to, is_near};
+ghost use Rattle.vg_flatten_steps.specs.Objects.{is_one_of, cast_to, is_near};
 ghost use Rattle.vg_flatten_places.specs.Places.{distance};
 
 use std::alloc::Global;
@@ -14,39 +14,6 @@ use vg_flatten_shapes::{
 };
 use vg_flatten_values::{is_zero, temp, test_of};
 use vg_lin::{Comparison, Instr, Operand, Test};
-
-/// The null check of a field that no object has, whose value is 0.
-#[tactic(auto, using(vg_flatten_shapes::proofs::Sizes::late))]
-pub(crate) fn load_nothing(alloc: Global, at: u16, homes: Homes) -> Result<Piece, Refusal<Fault>>
-    requires { homes.truth ≡ None }
-    ensures { Lays result at (load_nothing homes.homes) }
-{
-    let mut homes = homes;
-    match homes.pop() {
-        Some(home) => {
-            let code = stop_where(alloc, at, 1, Truth::Holds(is_zero(home)))?;
-            homes.push(Operand::Known(0))?;
-            Ok(Piece { code, homes })
-        }
-        None => Err(Refusal::Fault(Fault::NotTaken)),
-    }
-}
-
-/// The null check of a field that is not kept.
-#[tactic(auto, using(vg_flatten_shapes::proofs::Sizes::late))]
-pub(crate) fn store_nothing(alloc: Global, at: u16, homes: Homes) -> Result<Piece, Refusal<Fault>>
-    requires { homes.truth ≡ None }
-    ensures { Lays result at (store_nothing homes.homes) }
-{
-    let mut homes = homes;
-    match (homes.pop(), homes.pop()) {
-        (Some(_), Some(home)) => {
-            let code = stop_where(alloc, at, 1, Truth::Holds(is_zero(home)))?;
-            Ok(Piece { code, homes })
-        }
-        _ => Err(Refusal::Fault(Fault::NotTaken)),
-    }
-}
 
 fn is_near(to: u8, count: u16) -> Test
     ensures { result ≡ is_near to count }

@@ -6,11 +6,13 @@ ghost use Rattle.vg_flatten_shapes.specs.Laying.{Lays};
 
 use crate::calls::{called, called_for, called_value};
 use crate::delegates::{bound, bound_for};
-use crate::objects::{cast_to, is_one_of, load_nothing, store_nothing};
+use crate::objects::{cast_to, is_one_of};
 use std::alloc::Global;
 use vg_base::Refusal;
 use vg_firm::Step;
-use vg_flatten_places::{length, load, load_at, load_item, store, store_item, store_to};
+use vg_flatten_places::{
+    length, load, load_at, load_item, load_nothing, store, store_item, store_nothing, store_to,
+};
 use vg_flatten_shapes::{Fault, Homes, Layout, Open, Piece, Room, nothing, one};
 use vg_flatten_values::{applied, operated, put_home, put_into, temp};
 use vg_lin::{Instr, Operand, Plain};

@@ -39,6 +39,7 @@ use Rattle.vg_flatten_shapes.specs.Blocks.{Block, Skip, One, Both, stop_where}
 use Rattle.vg_flatten_shapes.specs.Made.{Made, Gives as Makes, Refused, by_temp, is_zero}
 use Rattle.vg_flatten_places.specs.Places.{distance, fetched_from, load_placed, is_width, load_from, multiplied, multiple, fetched, load_one, load_of, length_of, places_in, memory_of}
 use Rattle.vg_flatten.specs.Columns.{ColumnStands, TableStands, FlashStands}
+use Rattle.vg_flattened.proofs.MissingRight.{right_no_length}
 use Rattle.vg_flattened.proofs.Alike.{IsFair, Alike, gives, wrong}
 use Rattle.vg_flattened.proofs.Related.{ArePlaced, AreAt, AreWidths, AreSame, Held, Leaves}
 use Rattle.vg_flattened.proofs.Numbers.{low_two}
@@ -408,7 +409,7 @@ module _ (k : Codes) (f : FirmProgram) (m : FirmProcedure) (call : FirmCaller Hi
 
   right_length_of : (t : ℕ) (o : Option ℕ) → slice_get lay.tables t ≡ o → (hs : List Operand) → ArePlaced r.locals hs
       → Right' (only hs) (length_of r o hs) (step' (Length t))
-  right_length_of t None e hs placed = tt
+  right_length_of t None e hs placed = right_no_length k f m call handle p go lay r ws wide flash t e hs placed
   right_length_of t (Some table) e [] placed = tt
   right_length_of t (Some table) e (h ∷ hs) placed = by_size (nat_le 2 table) refl
     where

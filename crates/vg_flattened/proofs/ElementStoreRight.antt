@@ -40,6 +40,7 @@ use Rattle.vg_flatten_places.specs.declared.elements.Reach.{Reach}
 use Rattle.vg_flatten_places.specs.Places.{is_width, load_from, places_in, memory_of, is_place, timed, place_of, bounded, reached, element_of, store_at, store_element, store_item}
 use Rattle.vg_flatten_values.specs.Values.{test_of}
 use Rattle.vg_flatten.specs.Columns.{ColumnStands, TableStands, FlashStands}
+use Rattle.vg_flattened.proofs.MissingRight.{right_no_store}
 use Rattle.vg_flattened.proofs.Alike.{IsFair, Alike, gives, wrong}
 use Rattle.vg_flattened.proofs.Related.{ArePlaced, AreAt, AreWidths, AreSame, Held, Leaves, said}
 use Rattle.vg_flattened.proofs.Numbers.{low_two, below_same}
@@ -375,8 +376,8 @@ module _ (k : Codes) (f : FirmProgram) (m : FirmProcedure) (call : FirmCaller Hi
     where
       by_found : (o : Option Place) → slice_get lay.ram e.column ≡ o → (u : Option ℕ) → slice_get lay.tables e.table ≡ u
           → (gs : List Operand) → ArePlaced r.locals gs → Right' (only gs) (store_item r e o u gs) (step' (StoreItem e))
-      by_found None c u d gs placed1 = tt
-      by_found (Some place) c None d gs placed1 = tt
+      by_found o c None d gs placed1 = right_no_store k f m call handle p go lay r ws wide flash e d gs placed1
+      by_found None c (Some table) d gs placed1 = tt
       by_found (Some place) c (Some table) d [] placed1 = tt
       by_found (Some place) c (Some table) d (v ∷ []) placed1 = tt
       by_found (Some place) c (Some table) d (v ∷ i ∷ []) placed1 = tt

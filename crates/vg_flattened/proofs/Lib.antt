@@ -13,6 +13,7 @@ pub mod StepRight
 pub mod CombinedRight
 pub mod ObjectRight
 pub mod Writing
+pub mod MissingRight
 pub mod ColumnRight
 pub mod StoreRight
 pub mod ElementRight

@@ -28,7 +28,8 @@ use Rattle.vg_flatten_shapes.specs.declared.room.Room.{Room}
 use Rattle.vg_flatten_shapes.specs.Shapes.{Shape, only, temp}
 use Rattle.vg_flatten_shapes.specs.Blocks.{Block, Skip, One, Both, Choice, stop_where}
 use Rattle.vg_flatten_shapes.specs.Made.{Made, Gives as Makes, Refused, by_temp, is_zero}
-use Rattle.vg_flatten_steps.specs.Objects.{load_nothing, store_nothing, is_near, is_one_of, cast_to}
+use Rattle.vg_flatten_steps.specs.Objects.{is_near, is_one_of, cast_to}
+use Rattle.vg_flatten_places.specs.Places.{load_nothing, store_nothing}
 use Rattle.vg_flatten_places.specs.Places.{distance}
 use Rattle.vg_flattened.proofs.Alike.{IsFair, Alike, gives}
 use Rattle.vg_flattened.proofs.Related.{IsAt, ArePlaced, AreAt, AreWidths, AreSame, Held, Leaves, said}

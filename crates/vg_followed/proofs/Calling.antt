@@ -28,26 +28,26 @@ use Rattle.avr_view.specs.Registers.{pair, put}
 use Rattle.avr_view.specs.Run.{Run, Goes}
 use Rattle.avr_view.specs.View.{View}
 use Rattle.avr_view.proofs.Going.{goes_then, goes_fewer, goes_wider}
-use Rattle.vg_frames.specs.Layouts.{IsReliable}
-use Rattle.vg_frames.specs.Linkage.{prologue}
-use Rattle.vg_frames.specs.Frames.{bytes_of}
-use Rattle.vg_frames.proofs.Numbers.{put_other, put_same}
-use Rattle.vg_spots.specs.Pieces.{Sees, Takes}
-use Rattle.vg_spots.specs.Held.{Held, brings, Brought}
-use Rattle.vg_spots.proofs.Composing.{takes_none, takes_then, takes_wider, takes_plain}
-use Rattle.vg_spots.proofs.Holding.{held_scratch}
-use Rattle.vg_spots.proofs.Holding.{takes_brings}
+use Rattle.vg_templates.specs.Layouts.{IsReliable}
+use Rattle.vg_templates.specs.Linkage.{prologue}
+use Rattle.vg_templates.specs.Frames.{bytes_of}
+use Rattle.vg_templates.proofs.Numbers.{put_other, put_same}
+use Rattle.vg_templates.specs.Pieces.{Sees, Takes}
+use Rattle.vg_templates.specs.Held.{Held, brings, Brought}
+use Rattle.vg_templates.proofs.Composing.{takes_none, takes_then, takes_wider, takes_plain}
+use Rattle.vg_templates.proofs.Holding.{held_scratch}
+use Rattle.vg_templates.proofs.Holding.{takes_brings}
 use Rattle.vg_templates.specs.Outcomes.{Lies}
 use Rattle.vg_templates.specs.Plain.{pushes_value}
 use Rattle.vg_templates.proofs.Storing.{takes_pushes_value}
-use Rattle.vg_calls.specs.Calls.{Way, Far, Near, ByZ, call_code, call_words, leads_to, sum_of, HasPushed, taken_by, kept_by, begins_with}
-use Rattle.vg_calls.proofs.Entering.{goes_enters}
-use Rattle.vg_instr_code.specs.Flow.{passes, passed_bytes, aims, way_of}
-use Rattle.vg_instr_code.specs.Whole.{Links, call_front, call_back}
-use Rattle.vg_standing.specs.Covered.{CanAim, CanPass}
-use Rattle.vg_standing.specs.Stands.{CalleeLeads, call_place, Stands}
-use Rattle.vg_standing.specs.Related.{wait_widths, Settled, Going, Related}
-use Rattle.vg_standing.specs.Depth.{stack_bytes, opening_bytes, entry_bytes}
+use Rattle.vg_templates.specs.Calls.{Way, Far, Near, ByZ, call_code, call_words, leads_to, sum_of, HasPushed, taken_by, kept_by, begins_with}
+use Rattle.vg_templates.proofs.Entering.{goes_enters}
+use Rattle.vg_templates.specs.Flow.{passes, passed_bytes, aims, way_of}
+use Rattle.vg_templates.specs.Whole.{Links, call_front, call_back}
+use Rattle.vg_followed.specs.Covered.{CanAim, CanPass}
+use Rattle.vg_followed.specs.Stands.{CalleeLeads, call_place, Stands}
+use Rattle.vg_followed.specs.Related.{wait_widths, Settled, Going, Related}
+use Rattle.vg_followed.specs.Depth.{stack_bytes, opening_bytes, entry_bytes}
 use Rattle.vg_followed.proofs.Counting.{equal, stacked_bytes}
 use Rattle.vg_followed.specs.Followed.{IsLegal}
 use Rattle.vg_followed.proofs.Going.{at_rest}

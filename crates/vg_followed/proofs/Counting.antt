@@ -3,8 +3,8 @@ use Rattle.std.proofs.Common.{◌≡◌, ℕ, Bool, true, ◌==◌, List, [], �
 use Rattle.vg_lin.specs.Steps.{Awaits, Result, Interrupt, Frame}
 use Rattle.vg_lin.specs.State.{State, Waiting}
 use Rattle.avr_view.specs.Registers.{Regs}
-use Rattle.vg_frames.specs.Frames.{Waits, bytes_of, Places, between, Callers, Stacked}
-use Rattle.vg_standing.specs.Depth.{between_bytes, frames_bytes, stack_bytes}
+use Rattle.vg_templates.specs.Frames.{Waits, bytes_of, Places, between, Callers, Stacked}
+use Rattle.vg_followed.specs.Depth.{between_bytes, frames_bytes, stack_bytes}
 
 pub equal : (a b : ℕ) → (a == b) ≡ true → a ≡ b
 equal a b e = grind (arith, e)

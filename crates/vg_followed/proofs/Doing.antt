@@ -10,8 +10,8 @@ use Rattle.vg_lin.specs.State.{State, Waiting, value, using, sets, number_at, in
 use Rattle.vg_lin.specs.Values.{computed}
 use Rattle.vg_codes.specs.Dispatch.{dispatched}
 use Rattle.vg_lin.specs.declared.instr.Operand.TheVariants.{Local}
-use Rattle.vg_standing.specs.Stands.{PlainWaits}
-use Rattle.vg_standing.specs.Related.{wait_widths}
+use Rattle.vg_followed.specs.Stands.{PlainWaits}
+use Rattle.vg_followed.specs.Related.{wait_widths}
 
 abbrev pub Did : Plain → State → Outside → Went State → Type 0
 Did q s o (Goes s' o') = PlainWaits (wait_widths s.waiting) (wait_widths s'.waiting) q × (o'.interrupts ≡ o.interrupts)

@@ -21,22 +21,22 @@ use Rattle.avr_view.specs.Run.{Run, Goes, Front, Ended}
 use Rattle.avr_view.specs.View.{View, At}
 use Rattle.avr_view.proofs.Going.{goes_then, goes_fewer, goes_wider}
 use Rattle.avr_view.proofs.JumpSteps.{goes_brbs, goes_brbc, goes_rjmp}
-use Rattle.vg_spots.specs.Pieces.{Sees}
-use Rattle.vg_spots.specs.Held.{Held}
+use Rattle.vg_templates.specs.Pieces.{Sees}
+use Rattle.vg_templates.specs.Held.{Held}
 use Rattle.vg_templates.specs.Outcomes.{Lies, IsKept}
 use Rattle.vg_templates.proofs.Storing.{held_fewer}
-use Rattle.vg_straight.specs.Straight.{pushed_by}
-use Rattle.vg_straight.proofs.Reading.{ends_reads_device, ends_stops}
-use Rattle.vg_branches.specs.Branches.{tests, told_by, near_branch, Told, Branched, is_taken}
-use Rattle.vg_branches.proofs.Testing.{takes_tests, goes_branch_near, goes_branch_far, goes_jump_far, goes_jump_near}
-use Rattle.vg_instr_code.specs.Flow.{Hop, Near, Far, Turn, Direct, Past, branch_code, jump_code}
-use Rattle.vg_instr_code.specs.Plains.{plain_template}
-use Rattle.vg_instr_code.specs.Whole.{Links, template}
-use Rattle.vg_plains.proofs.Joining.{goes_plain}
-use Rattle.vg_standing.specs.Covered.{Covers, CanTest}
-use Rattle.vg_standing.specs.Stands.{HopLeads, TurnLeads, PlainWaits, Stands}
-use Rattle.vg_standing.specs.Related.{wait_widths, Settled, Going, Related}
-use Rattle.vg_standing.specs.Depth.{stack_bytes}
+use Rattle.vg_templates.specs.Straight.{pushed_by}
+use Rattle.vg_templates.proofs.Reading.{ends_reads_device, ends_stops}
+use Rattle.vg_templates.specs.Branches.{tests, told_by, near_branch, Told, Branched, is_taken}
+use Rattle.vg_templates.proofs.Testing.{takes_tests, goes_branch_near, goes_branch_far, goes_jump_far, goes_jump_near}
+use Rattle.vg_templates.specs.Flow.{Hop, Near, Far, Turn, Direct, Past, branch_code, jump_code}
+use Rattle.vg_templates.specs.Plains.{plain_template}
+use Rattle.vg_templates.specs.Whole.{Links, template}
+use Rattle.vg_followed.proofs.Joining.{goes_plain}
+use Rattle.vg_followed.specs.Covered.{Covers, CanTest}
+use Rattle.vg_followed.specs.Stands.{HopLeads, TurnLeads, PlainWaits, Stands}
+use Rattle.vg_followed.specs.Related.{wait_widths, Settled, Going, Related}
+use Rattle.vg_followed.specs.Depth.{stack_bytes}
 use Rattle.vg_followed.specs.Followed.{IsLegal}
 use Rattle.vg_followed.proofs.Counting.{stacked_bytes}
 use Rattle.vg_followed.proofs.Doing.{Did, did}

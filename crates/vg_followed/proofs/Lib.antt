@@ -1,3 +1,13 @@
+pub mod Reading
+pub mod Finding
+pub mod Bits
+pub mod Doubling
+pub mod Shifting
+pub mod Popping
+pub mod Working
+pub mod Multiplying
+pub mod Dividing
+pub mod Joining
 pub mod Counting
 pub mod Doing
 pub mod Places
@@ -6,3 +16,6 @@ pub mod Waking
 pub mod Returning
 pub mod Calling
 pub mod Matching
+pub mod Beginning
+pub mod FromReset
+pub mod Running

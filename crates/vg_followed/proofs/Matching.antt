@@ -10,10 +10,10 @@ use Rattle.vg_lin.specs.State.{State, holds, plain}
 use Rattle.vg_lin.specs.Steps.{Config, performed, stepped, steps, fetch}
 use Rattle.avr_view.specs.Run.{Run, Goes, Front}
 use Rattle.avr_view.proofs.Going.{goes_here, goes_then, goes_fewer}
-use Rattle.vg_instr_code.specs.Whole.{Links}
-use Rattle.vg_standing.specs.Depth.{stack_bytes, instr_bytes, depth}
-use Rattle.vg_standing.specs.Related.{Settled, Going, Related}
-use Rattle.vg_standing.specs.Stands.{Stands}
+use Rattle.vg_templates.specs.Whole.{Links}
+use Rattle.vg_followed.specs.Depth.{stack_bytes, instr_bytes, depth}
+use Rattle.vg_followed.specs.Related.{Settled, Going, Related}
+use Rattle.vg_followed.specs.Stands.{Stands}
 use Rattle.vg_followed.specs.Followed.{next, IsLegal, Owes, behind}
 use Rattle.vg_followed.proofs.Calling.{goes_on_call}
 use Rattle.vg_followed.proofs.Going.{at_rest, goes_on_plain, goes_on_when, goes_on_unless, goes_on_jump}

@@ -5,8 +5,8 @@ use Rattle.vg_lin.specs.Meaning.{codes_in}
 use Rattle.vg_lin.specs.Program.{Procedure, Program}
 use Rattle.vg_lin.specs.Steps.{fetch}
 use Rattle.avr_view.specs.Run.{Run}
-use Rattle.vg_instr_code.specs.Whole.{Links}
-use Rattle.vg_standing.specs.Stands.{InstrStands, ProcedureStands, Stands}
+use Rattle.vg_templates.specs.Whole.{Links}
+use Rattle.vg_followed.specs.Stands.{InstrStands, ProcedureStands, Stands}
 
 pub record Fetched (ms : List Procedure) (m pc : ℕ) (i : Instr) : Type 0 where
   pub procedure : Procedure

@@ -18,22 +18,22 @@ use Rattle.vg_lin.specs.Values.{low}
 use Rattle.avr_view.specs.Run.{Run, Goes}
 use Rattle.avr_view.specs.View.{View, At}
 use Rattle.avr_view.proofs.Going.{goes_then, goes_fewer, goes_wider}
-use Rattle.vg_frames.specs.Layouts.{Layout, IsReliable}
-use Rattle.vg_frames.specs.Frames.{needed}
-use Rattle.vg_frames.proofs.Saving.{fits_fewer}
-use Rattle.vg_spots.specs.Pieces.{Sees}
-use Rattle.vg_spots.specs.Held.{Held}
+use Rattle.vg_templates.specs.Layouts.{Layout, IsReliable}
+use Rattle.vg_templates.specs.Frames.{needed}
+use Rattle.vg_templates.proofs.Saving.{fits_fewer}
+use Rattle.vg_templates.specs.Pieces.{Sees}
+use Rattle.vg_templates.specs.Held.{Held}
 use Rattle.vg_templates.specs.Outcomes.{Lies}
-use Rattle.vg_calls.specs.Calls.{call_code, call_words, Way, Far, Near, ByZ}
-use Rattle.vg_returns.specs.Returns.{behind_call, CanLand, CanDrop, Returned}
-use Rattle.vg_returns.proofs.Returning.{goes_returns, goes_on}
-use Rattle.vg_interrupts.specs.Idle.{Back}
-use Rattle.vg_interrupts.proofs.Waking.{goes_back}
-use Rattle.vg_instr_code.specs.Flow.{is_none, drops_at_once, way_of}
-use Rattle.vg_instr_code.specs.Whole.{Links, call_front, call_bytes, call_back}
-use Rattle.vg_standing.specs.Covered.{CanTake}
-use Rattle.vg_standing.specs.Stands.{Stands}
-use Rattle.vg_standing.specs.Related.{wait_widths, IsCaller, AreCallers, Settled, Going, Related}
+use Rattle.vg_templates.specs.Calls.{call_code, call_words, Way, Far, Near, ByZ}
+use Rattle.vg_templates.specs.Returns.{behind_call, CanLand, CanDrop, Returned}
+use Rattle.vg_templates.proofs.Returning.{goes_returns, goes_on}
+use Rattle.vg_templates.specs.Idle.{Back}
+use Rattle.vg_templates.proofs.Waking.{goes_back}
+use Rattle.vg_templates.specs.Flow.{is_none, drops_at_once, way_of}
+use Rattle.vg_templates.specs.Whole.{Links, call_front, call_bytes, call_back}
+use Rattle.vg_followed.specs.Covered.{CanTake}
+use Rattle.vg_followed.specs.Stands.{Stands}
+use Rattle.vg_followed.specs.Related.{wait_widths, IsCaller, AreCallers, Settled, Going, Related}
 use Rattle.vg_followed.specs.Followed.{IsLegal}
 use Rattle.vg_followed.proofs.Going.{at_rest}
 use Rattle.vg_followed.proofs.Counting.{equal}

@@ -14,22 +14,22 @@ use Rattle.vg_lin.specs.Steps.{Interrupt, Frame, Config, takes, handles, fetch}
 use Rattle.avr_view.specs.Run.{Run, Goes, Front, Ended}
 use Rattle.avr_view.specs.View.{View, At}
 use Rattle.avr_view.proofs.Going.{goes_fewer, goes_wider}
-use Rattle.vg_frames.specs.Layouts.{Layout, frame_size}
-use Rattle.vg_frames.specs.Frames.{Places, word_bytes, back_to, needed}
-use Rattle.vg_frames.specs.Calls.{Begun}
-use Rattle.vg_frames.specs.Linkage.{prologue}
-use Rattle.vg_frames.proofs.Openings.{saved-length}
-use Rattle.vg_frames.proofs.Saving.{fits_fewer}
-use Rattle.vg_spots.specs.Pieces.{Sees}
+use Rattle.vg_templates.specs.Layouts.{Layout, frame_size}
+use Rattle.vg_templates.specs.Frames.{Places, word_bytes, back_to, needed}
+use Rattle.vg_templates.specs.CallOutcomes.{Begun}
+use Rattle.vg_templates.specs.Linkage.{prologue}
+use Rattle.vg_templates.proofs.Openings.{saved-length}
+use Rattle.vg_templates.proofs.Saving.{fits_fewer}
+use Rattle.vg_templates.specs.Pieces.{Sees}
 use Rattle.vg_templates.specs.Outcomes.{Lies}
 use Rattle.vg_templates.proofs.Storing.{held_fewer, held_out}
-use Rattle.vg_calls.specs.Calls.{sum_of}
-use Rattle.vg_interrupts.specs.Idle.{entered}
-use Rattle.vg_interrupts.proofs.Waking.{taken, ends_waiting, goes_taken, goes_out, goes_from_slot}
-use Rattle.vg_instr_code.specs.Whole.{Links}
-use Rattle.vg_standing.specs.Stands.{Stands}
-use Rattle.vg_standing.specs.Related.{Settled, Going, Woken, Related}
-use Rattle.vg_standing.specs.Depth.{stack_bytes, handler_bytes}
+use Rattle.vg_templates.specs.Calls.{sum_of}
+use Rattle.vg_templates.specs.Idle.{entered}
+use Rattle.vg_templates.proofs.Waking.{taken, ends_waiting, goes_taken, goes_out, goes_from_slot}
+use Rattle.vg_templates.specs.Whole.{Links}
+use Rattle.vg_followed.specs.Stands.{Stands}
+use Rattle.vg_followed.specs.Related.{Settled, Going, Woken, Related}
+use Rattle.vg_followed.specs.Depth.{stack_bytes, handler_bytes}
 use Rattle.vg_followed.proofs.Counting.{stacked_bytes}
 use Rattle.vg_followed.proofs.Going.{at_rest}
 use Rattle.vg_followed.proofs.Places.{placed}

@@ -6,8 +6,8 @@ use Rattle.vg_lin.specs.Program.{Program}
 use Rattle.vg_lin.specs.State.{State}
 use Rattle.vg_lin.specs.Steps.{Config, step, steps}
 use Rattle.avr_view.specs.Run.{Run, Front}
-use Rattle.vg_instr_code.specs.Whole.{Links}
-use Rattle.vg_standing.specs.Depth.{depth}
+use Rattle.vg_templates.specs.Whole.{Links}
+use Rattle.vg_followed.specs.Depth.{depth}
 
 -- the next configuration
 abbrev pub next : Program → Config State → Config State

@@ -5,9 +5,9 @@ ghost use Rattle.vg_lin.specs.Program.{Program};
 ghost use Rattle.vg_lin.specs.State.{State};
 ghost use Rattle.vg_lin.specs.Steps.{Config};
 ghost use Rattle.avr_view.specs.Run.{Run, Goes};
-ghost use Rattle.vg_instr_code.specs.Whole.{Links};
-ghost use Rattle.vg_standing.specs.Stands.{Stands};
-ghost use Rattle.vg_standing.specs.Related.{Related};
+ghost use Rattle.vg_templates.specs.Whole.{Links};
+ghost use Rattle.vg_followed.specs.Stands.{Stands};
+ghost use Rattle.vg_followed.specs.Related.{Related};
 ghost use Rattle.vg_followed.specs.Followed.{Owes, behind, IsDeep};
 
 /// Laws of runs of so many steps. The machine comes to a state of the configuration behind them; where that one has not ended, in at least as many

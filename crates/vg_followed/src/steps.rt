@@ -5,10 +5,10 @@ ghost use Rattle.vg_lin.specs.Program.{Program};
 ghost use Rattle.vg_lin.specs.State.{State};
 ghost use Rattle.vg_lin.specs.Steps.{Config};
 ghost use Rattle.avr_view.specs.Run.{Run, Goes};
-ghost use Rattle.vg_instr_code.specs.Whole.{Links};
-ghost use Rattle.vg_standing.specs.Depth.{depth};
-ghost use Rattle.vg_standing.specs.Stands.{Stands};
-ghost use Rattle.vg_standing.specs.Related.{Related};
+ghost use Rattle.vg_templates.specs.Whole.{Links};
+ghost use Rattle.vg_followed.specs.Depth.{depth};
+ghost use Rattle.vg_followed.specs.Stands.{Stands};
+ghost use Rattle.vg_followed.specs.Related.{Related};
 ghost use Rattle.vg_followed.specs.Followed.{next, Owes};
 
 /// A law of steps, for each instruction of linear code and for the call of an interrupt's handler: from a state of the machine that is one of a

@@ -58,8 +58,8 @@ abbrev pub IsMethodCall : List Procedure → Instr → Type 0
 IsMethodCall ps (Call c) = IsMethodCallee ps c.callee
 IsMethodCall ps i = Unit {0}
 
--- A method costs what it takes, with what may lie beside it: the four return addresses of an interrupt below it, and one procedure above it that is no
--- method. One that is none takes no more than a routine, and calls methods alone.
+-- A method costs what it takes, with what may lie beside it: four bytes below it, the return addresses into the code that was interrupted and into the stub
+-- of its handler, and one procedure above it that is no method. One that is none takes no more than a routine, and calls methods alone.
 abbrev pub FitsAs : List Procedure → (costs : List ℕ) → Procedure → Option ℕ → Type 0
 FitsAs ps costs p (Some method) = procedure_bytes p + 4 + routine_bytes ≤ cost_of costs method
 FitsAs ps costs p None = (procedure_bytes p + idle_bytes p.code ≤ routine_bytes) × AllByRecursion (IsMethodCall ps) p.code

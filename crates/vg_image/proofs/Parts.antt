@@ -7,7 +7,7 @@ use Rattle.avr_instr.specs.declared.instr.Instr.TheVariants.{Jmp}
 use Rattle.avr_instr.specs.Spelled.{InRange}
 use Rattle.avr_isa.specs.Standing.{instr_bytes, widths, StandsAt, AllStandAt}
 use Rattle.avr_isa.proofs.Standing.{length-code, front_stands, back_stands, widths-append}
-use Rattle.vg_startup.specs.Startup.{bytes_from}
+use Rattle.vg_templates.specs.Startup.{bytes_from}
 use Rattle.vg_image.specs.Image.{Parts, slot_code, slots_from, first_table, code_start, filler, vectors, flash_of, words_of}
 use Rattle.vg_image.proofs.Emitted.{byte_behind, stand_between}
 

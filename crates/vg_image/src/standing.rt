@@ -4,7 +4,7 @@ ghost use Rattle.std.specs.List.{AllByRecursion};
 ghost use Rattle.avr_instr.specs.declared.instr.Instr.TheVariants.{Jmp};
 ghost use Rattle.avr_instr.specs.Spelled.{InRange};
 ghost use Rattle.avr_isa.specs.Standing.{StandsAt, AllStandAt};
-ghost use Rattle.vg_startup.specs.Startup.{bytes_from};
+ghost use Rattle.vg_templates.specs.Startup.{bytes_from};
 ghost use Rattle.vg_image.specs.Image.{Parts, slot_code, first_table, code_start, flash_of, words_of};
 
 /// Laws of an image whose code and stubs are within 65,535 words, and whose instructions have operands in range. Reset jumps to the code; each slot stands at

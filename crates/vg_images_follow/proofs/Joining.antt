@@ -23,11 +23,11 @@ use Rattle.vg_expand.specs.Runs.{ShowsSame, RunsAs}
 use Rattle.vg_flatten_shapes.specs.declared.layout.Layout.{Layout}
 use Rattle.vg_flatten.specs.Flattened.{AreFlat}
 use Rattle.vg_flattened.proofs.RunRight.{follows}
-use Rattle.vg_instr_code.specs.Whole.{Links}
-use Rattle.vg_standing.specs.Related.{HasEnded}
-use Rattle.vg_standing.specs.Stands.{Stands}
-use Rattle.vg_image_runs.specs.Runs.{Begins, IsDeepRun, Wholes}
-use Rattle.vg_image_runs.proofs.Running.{ends, goes_on}
+use Rattle.vg_templates.specs.Whole.{Links}
+use Rattle.vg_followed.specs.Related.{HasEnded}
+use Rattle.vg_followed.specs.Stands.{Stands}
+use Rattle.vg_followed.specs.Runs.{Begins, IsDeepRun, Wholes}
+use Rattle.vg_followed.proofs.Running.{ends, goes_on}
 use Rattle.vg_images_follow.specs.Follows.{DoesAs}
 
 -- What is over for a legal reason is not wrong.

@@ -8,9 +8,9 @@ use Rattle.avr_isa.specs.Machine.{started}
 use Rattle.avr_view.specs.Run.{Run, Goes}
 use Rattle.avr_view.specs.View.{Shown}
 use Rattle.vg_lin.specs.Program.{Program}
-use Rattle.vg_instr_code.specs.Whole.{Links}
-use Rattle.vg_standing.specs.Related.{HasEnded}
-use Rattle.vg_image_runs.specs.Runs.{IsDeepRun}
+use Rattle.vg_templates.specs.Whole.{Links}
+use Rattle.vg_followed.specs.Related.{HasEnded}
+use Rattle.vg_followed.specs.Runs.{IsDeepRun}
 
 -- Where ticks are spent, or too many calls are active, the machine has come as far and goes on, in so many instructions; else it ends for the same reason. Or
 -- its stack is too deep before one of so many steps of linear code.

@@ -16,9 +16,9 @@ ghost use Rattle.vg_lin.specs.Sessions.{world};
 ghost use Rattle.vg_expand.specs.Runs.{RunsAs};
 ghost use Rattle.vg_flatten_shapes.specs.declared.layout.Layout.{Layout};
 ghost use Rattle.vg_flatten.specs.Flattened.{AreFlat};
-ghost use Rattle.vg_instr_code.specs.Whole.{Links};
-ghost use Rattle.vg_standing.specs.Stands.{Stands};
-ghost use Rattle.vg_image_runs.specs.Runs.{Begins};
+ghost use Rattle.vg_templates.specs.Whole.{Links};
+ghost use Rattle.vg_followed.specs.Stands.{Stands};
+ghost use Rattle.vg_followed.specs.Runs.{Begins};
 ghost use Rattle.vg_images_follow.specs.Follows.{DoesAs};
 
 /// A law of images in whose flash the program stands that does as the flattened one of a packed program. Where a run of the packed program is over for a

@@ -10,9 +10,9 @@ use Rattle.avr_view.proofs.Going.{below_or_not}
 use Rattle.vg_codes.specs.declared.case.Case.{Case}
 use Rattle.vg_lin.specs.declared.instr.Instr.{Instr}
 use Rattle.vg_lin.specs.Program.{Procedure, Program}
-use Rattle.vg_frames.specs.Layouts.{Layout}
-use Rattle.vg_frames.specs.Linkage.{prologue}
-use Rattle.vg_framed.specs.Framed.{framed}
+use Rattle.vg_templates.specs.Layouts.{Layout}
+use Rattle.vg_templates.specs.Linkage.{prologue}
+use Rattle.vg_templates.specs.Framed.{framed}
 use Rattle.vg_put_operations.specs.Coded.{code_from}
 use Rattle.vg_select.specs.Selected.{Leading, with_codes}
 use Rattle.vg_put_procedures.specs.Emitted.{led, code_upto, body_code, place_of, places_upto}

@@ -17,20 +17,20 @@ use Rattle.vg_lin.specs.declared.instr.Instr.{Instr}
 use Rattle.vg_lin.specs.declared.instr.Instr.TheVariants.{Plain, When, Unless, Jump, Call, Return, Idle}
 use Rattle.vg_lin.specs.Program.{Procedure, Program}
 use Rattle.vg_lin.specs.Sound.{waits_in, waits_of, Waits, IsSound}
-use Rattle.vg_frames.specs.Layouts.{Layout}
-use Rattle.vg_frames.specs.Linkage.{prologue}
-use Rattle.vg_calls.specs.Calls as calls
-use Rattle.vg_branches.specs.Branches.{tests, told_by}
-use Rattle.vg_instr_code.specs.Flow.{branch_code, Past, Far}
-use Rattle.vg_instr_code.specs.Whole.{Links, template}
-use Rattle.vg_lookups.specs.Tables.{AreCases}
-use Rattle.vg_standing.specs.Stands.{HopLeads, TurnLeads, TestLeads, CalleeLeads, call_place}
+use Rattle.vg_templates.specs.Layouts.{Layout}
+use Rattle.vg_templates.specs.Linkage.{prologue}
+use Rattle.vg_templates.specs.Calls as calls
+use Rattle.vg_templates.specs.Branches.{tests, told_by}
+use Rattle.vg_templates.specs.Flow.{branch_code, Past, Far}
+use Rattle.vg_templates.specs.Whole.{Links, template}
+use Rattle.vg_followed.specs.Tables.{AreCases}
+use Rattle.vg_followed.specs.Stands.{HopLeads, TurnLeads, TestLeads, CalleeLeads, call_place}
 use Rattle.vg_covered.specs.Fitting.{IsPlainFit, IsFit}
 use Rattle.vg_put_operations.specs.Coded.{code_from}
 use Rattle.vg_select.specs.Selected.{Leading, selected}
 use Rattle.vg_put_procedures.specs.Emitted.{code_of, code_at, code_upto, body_code, place_of}
 use Rattle.vg_put_programs.specs.Programs.{turn_of, address_in, aim_in, callee_in, Emission, piece_at, pieces_upto}
-use Rattle.vg_linked.specs.Linked.{HasPiece, leading_of, Targets, InstrLinked, ProcedureLinked}
+use Rattle.vg_laid.specs.Linked.{HasPiece, leading_of, Targets, InstrLinked, ProcedureLinked}
 use Rattle.vg_laid.specs.Laid.{known, aim_of, lead_at, layout_of, instrs_of, behind_of, layout_at, instrs_at, known_places, leads_at, place_at, links_of, AreSound}
 use Rattle.vg_laid.proofs.Some.{selected_some, words_some}
 use Rattle.vg_laid.proofs.Turns.{turn_low}

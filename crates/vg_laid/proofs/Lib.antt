@@ -1,3 +1,5 @@
+pub mod Standing
+pub mod Placing
 pub mod Some
 pub mod Sizes
 pub mod Turns

@@ -20,17 +20,17 @@ use Rattle.vg_lin.specs.declared.instr.Instr.{Instr}
 use Rattle.vg_lin.specs.declared.instr.Instr.TheVariants.{Plain, When, Unless, Jump, Call, Return, Idle}
 use Rattle.vg_lin.specs.Program.{Program}
 use Rattle.vg_lin.specs.Sound.{waits_in}
-use Rattle.vg_frames.specs.Layouts.{Layout, width_of}
-use Rattle.vg_spots.specs.Transfers.{known}
-use Rattle.vg_spots.specs.Held.{brings, gives}
-use Rattle.vg_branches.specs.Branches.{tests, told_by}
-use Rattle.vg_calls.specs.Calls.{call_code}
-use Rattle.vg_calls.specs.Calls as calls
+use Rattle.vg_templates.specs.Layouts.{Layout, width_of}
+use Rattle.vg_templates.specs.Transfers.{known}
+use Rattle.vg_templates.specs.Held.{brings, gives}
+use Rattle.vg_templates.specs.Branches.{tests, told_by}
+use Rattle.vg_templates.specs.Calls.{call_code}
+use Rattle.vg_templates.specs.Calls as calls
 use Rattle.vg_templates.specs.Plain.{copies}
-use Rattle.vg_instr_code.specs.Lookups.{tries_case, tries_cases, finds_procedure}
-use Rattle.vg_instr_code.specs.Flow.{branch_code, Past, Far, way_of}
-use Rattle.vg_instr_code.specs.Plains.{plain_template}
-use Rattle.vg_instr_code.specs.Whole.{call_front, call_back}
+use Rattle.vg_templates.specs.Lookups.{tries_case, tries_cases, finds_procedure}
+use Rattle.vg_templates.specs.Flow.{branch_code, Past, Far, way_of}
+use Rattle.vg_templates.specs.Plains.{plain_template}
+use Rattle.vg_templates.specs.Whole.{call_front, call_back}
 use Rattle.vg_select.specs.Selected.{Leading, selected}
 use Rattle.vg_put_procedures.specs.Emitted.{code_of, code_at, code_upto}
 use Rattle.vg_laid.specs.Laid.{far_lead}

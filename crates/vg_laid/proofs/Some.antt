@@ -22,23 +22,23 @@ use Rattle.vg_lin.specs.declared.instr.Instr.{Instr}
 use Rattle.vg_lin.specs.declared.instr.Instr.TheVariants.{Plain, When, Unless, Jump, Call, Return, Idle}
 use Rattle.vg_lin.specs.Program.{Procedure, Program}
 use Rattle.vg_lin.specs.Sound.{IsWidth, IsPlain, AreOperands, IsSound}
-use Rattle.vg_frames.specs.Spots.{Spot, InFrame}
-use Rattle.vg_frames.specs.Layouts.{Layout, width_of}
-use Rattle.vg_frames.specs.Linkage.{pushes, pops, drops_slots, epilogue}
-use Rattle.vg_spots.specs.Transfers.{clears, reach, stores, keep}
-use Rattle.vg_spots.specs.Held.{brings, gives}
-use Rattle.vg_branches.specs.Branches.{tests, told_by, near_branch}
-use Rattle.vg_calls.specs.Calls.{call_code}
+use Rattle.vg_templates.specs.Spots.{Spot, InFrame}
+use Rattle.vg_templates.specs.Layouts.{Layout, width_of}
+use Rattle.vg_templates.specs.Linkage.{pushes, pops, drops_slots, epilogue}
+use Rattle.vg_templates.specs.Transfers.{clears, reach, stores, keep}
+use Rattle.vg_templates.specs.Held.{brings, gives}
+use Rattle.vg_templates.specs.Branches.{tests, told_by, near_branch}
+use Rattle.vg_templates.specs.Calls.{call_code}
 use Rattle.vg_templates.specs.Operands.{least, padded, known_registers, finds, spot_found, found_in}
 use Rattle.vg_templates.specs.Plain.{copies, computes, works, writes_register, reads_register, first_of}
-use Rattle.vg_accesses.specs.Accesses.{points_x, loads_x, stores_x}
-use Rattle.vg_instr_code.specs.Shifts.{doubles, halves, repeats, shifts_left, shifts_right}
-use Rattle.vg_instr_code.specs.Lookups.{points_z, loads_z, tries_cases}
-use Rattle.vg_instr_code.specs.Products.{brings_bit}
-use Rattle.vg_instr_code.specs.Flow.{jump_code, branch_code, way_of, Turn, Direct, Past, Hop, Near, Far}
-use Rattle.vg_instr_code.specs.Plains.{computation_code, pops_from, plain_template}
-use Rattle.vg_instr_code.specs.Whole.{call_front, call_back}
-use Rattle.vg_framed.specs.Framed.{framed}
+use Rattle.vg_templates.specs.Accesses.{points_x, loads_x, stores_x}
+use Rattle.vg_templates.specs.Shifts.{doubles, halves, repeats, shifts_left, shifts_right}
+use Rattle.vg_templates.specs.Lookups.{points_z, loads_z, tries_cases}
+use Rattle.vg_templates.specs.Products.{brings_bit}
+use Rattle.vg_templates.specs.Flow.{jump_code, branch_code, way_of, Turn, Direct, Past, Hop, Near, Far}
+use Rattle.vg_templates.specs.Plains.{computation_code, pops_from, plain_template}
+use Rattle.vg_templates.specs.Whole.{call_front, call_back}
+use Rattle.vg_templates.specs.Framed.{framed}
 use Rattle.vg_select.specs.Selected.{Leading, selected}
 
 -- ---- lists

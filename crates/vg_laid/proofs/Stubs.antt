@@ -11,11 +11,11 @@ use Rattle.vg_codes.specs.declared.case.Case.{Case}
 use Rattle.vg_codes.specs.Codes.{AreCodes}
 use Rattle.vg_lin.specs.Program.{Procedure, Program}
 use Rattle.vg_lin.specs.Sound.{IsSound}
-use Rattle.vg_frames.specs.Layouts.{Layout, IsLayout}
-use Rattle.vg_frames.specs.Linkage.{pushes, prologue, frame_pointer}
-use Rattle.vg_interrupts.specs.Idle.{stub}
-use Rattle.vg_framed.specs.Framed.{framed}
-use Rattle.vg_framed.proofs.Framing.{framed-layout}
+use Rattle.vg_templates.specs.Layouts.{Layout, IsLayout}
+use Rattle.vg_templates.specs.Linkage.{pushes, prologue, frame_pointer}
+use Rattle.vg_templates.specs.Idle.{stub}
+use Rattle.vg_templates.specs.Framed.{framed}
+use Rattle.vg_templates.proofs.Framing.{framed-layout}
 use Rattle.vg_alloc.proofs.Spotting.{can_be_framed}
 use Rattle.vg_put_operations.specs.Coded.{code_from}
 use Rattle.vg_put_procedures.specs.Emitted.{body_code}

@@ -17,8 +17,8 @@ use Rattle.vg_lin.specs.declared.instr.Instr.TheVariants.{Plain, When, Unless, J
 use Rattle.vg_lin.specs.Meaning.{operands}
 use Rattle.vg_lin.specs.Program.{Procedure, Program}
 use Rattle.vg_lin.specs.Sound.{IsOperand, IsPassed, IsTo, IsTest, IsCallee, IsPlain, AreOperands, IsSound}
-use Rattle.vg_frames.specs.Layouts.{Layout}
-use Rattle.vg_framed.specs.Framed.{framed}
+use Rattle.vg_templates.specs.Layouts.{Layout}
+use Rattle.vg_templates.specs.Framed.{framed}
 use Rattle.vg_covered.specs.Fitting.{IsPlainFit, IsFit}
 use Rattle.vg_put_values.specs.Within.{IsThere}
 use Rattle.vg_put_flow.specs.Callees.{IsCalleeThere}

@@ -8,14 +8,14 @@ use Rattle.vg_lin.specs.declared.instr.Instr.{Instr}
 use Rattle.vg_lin.specs.declared.instr.Instr.TheVariants.{Call, Idle}
 use Rattle.vg_lin.specs.Program.{Procedure, Program}
 use Rattle.vg_lin.specs.Sound.{IsSound, waits_in}
-use Rattle.vg_frames.specs.Layouts.{Layout}
-use Rattle.vg_frames.specs.Linkage.{prologue}
-use Rattle.vg_framed.specs.Framed.{framed}
-use Rattle.vg_calls.specs.Calls.{call_words}
-use Rattle.vg_calls.specs.Calls as calls
-use Rattle.vg_interrupts.specs.Idle.{stub}
-use Rattle.vg_instr_code.specs.Flow.{Far, Past, way_of}
-use Rattle.vg_instr_code.specs.Whole.{Links, call_front}
+use Rattle.vg_templates.specs.Layouts.{Layout}
+use Rattle.vg_templates.specs.Linkage.{prologue}
+use Rattle.vg_templates.specs.Framed.{framed}
+use Rattle.vg_templates.specs.Calls.{call_words}
+use Rattle.vg_templates.specs.Calls as calls
+use Rattle.vg_templates.specs.Idle.{stub}
+use Rattle.vg_templates.specs.Flow.{Far, Past, way_of}
+use Rattle.vg_templates.specs.Whole.{Links, call_front}
 use Rattle.vg_covered.specs.Fitting.{IsFit}
 use Rattle.vg_put_operations.specs.Coded.{code_from}
 use Rattle.vg_select.specs.Selected.{Leading, with_codes}

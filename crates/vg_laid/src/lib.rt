@@ -1,4 +1,6 @@
-//! That programs which are put, first to learn where all code stands and then so that it leads there, are linked.
+//! That programs which are put, first to learn where all code stands and then so that it leads there, stand in the flash of their image.
 #![tactic(auto)]
 
 pub mod laws;
+pub mod linked;
+pub mod linked_images;

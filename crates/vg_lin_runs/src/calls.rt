@@ -38,7 +38,8 @@ fn four_arguments(alloc: Global) -> Result<LinProgram, NoMemory> {
     Ok(all)
 }
 
-// A call from procedure 0 of procedure 1, which has one parameter of two bytes and gives back its low byte.
+// A call from procedure 0 of procedure 1, which has one parameter of two bytes and gives back its low byte. Before it local 0 gets 9, and local 1 has no
+// value; behind it local 0 is written.
 fn one_argument(
     alloc: Global,
     pushed: u8,
@@ -47,12 +48,13 @@ fn one_argument(
 ) -> Result<LinProgram, NoMemory> {
     let mut all = program(alloc)?;
     let caller = [
+        copy(0, known(9)),
         push(2, known(0x1_0205)),
         call(1, pushed, registers, to),
         write(local(0)),
         Instr::Idle,
     ];
-    add(alloc, &mut all, None, 0, 0, &[4], &caller)?;
+    add(alloc, &mut all, None, 0, 0, &[4, 4], &caller)?;
     add(
         alloc,
         &mut all,
@@ -152,7 +154,7 @@ pub fn refused(rt: &HostRuntime) -> io::Result<()> {
     show(rt, "too few arguments", none, &[], &[], 40)?;
     let more = one_argument(alloc, 2, Registers::Empty, None);
     show(rt, "fewer values wait", more, &[], &[], 40)?;
-    let unset = one_argument(alloc, 0, Registers::One(passed(2, local(0))), None);
+    let unset = one_argument(alloc, 0, Registers::One(passed(2, local(1))), None);
     show(rt, "an argument without a value", unset, &[], &[], 40)
 }
 

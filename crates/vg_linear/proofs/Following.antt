@@ -9,7 +9,6 @@ use Rattle.vg_firm.specs.Held.{procedure_of}
 use Rattle.vg_firm.specs.Program.{Procedure as FirmProcedure}
 use Rattle.vg_lin.specs.Program.{Procedure, Program}
 use Rattle.vg_lin.specs.Sound.{IsWidth}
-use Rattle.vg_arith.specs.Routines.{IsRoutine}
 use Rattle.vg_expand.specs.Expansion.{HasRoutines}
 use Rattle.vg_expand.specs.Runs.{with_procedures, AllExpand, IsClosed, RunsAs}
 use Rattle.vg_expand.proofs.Simulated.{runs_same}
@@ -23,12 +22,13 @@ use Rattle.vg_packed.specs.Programs.{program_of}
 use Rattle.vg_linear.specs.declared.whole.Linear.{Linear}
 use Rattle.vg_linear.specs.Expanded.{IsExpandedTo}
 use Rattle.vg_linear.specs.Passing.{passing_for}
+use Rattle.vg_linear.specs.Routines.{four_for}
 use Rattle.vg_linear.specs.Standing.{StandIn}
 use Rattle.vg_linear.specs.Whole.{AreAllMade, IsLinear, first_routine, linear_program, packed_of}
 use Rattle.vg_linear.specs.Widths.{AllHaveWidths, HasWidths}
 use Rattle.vg_linear.proofs.Lists.{from_map, get_left, get_right, one_of, zip_at}
 use Rattle.vg_linear.proofs.Called.{is_passing}
-use Rattle.vg_linear.proofs.Routined.{routine_at}
+use Rattle.vg_linear.proofs.Routined.{routine_there}
 
 is_fit : (m : HeldProcedure) → HasWidths m → IsFit (procedure_of m)
 is_fit m has = record {
@@ -40,8 +40,8 @@ is_fit m has = record {
 -- the program has more procedures than the packed one
 pub all_long : (cs : List Column) (f : FirmProgram) (l : Linear) → IsLinear cs f l → length f.procedures ≤ length l.procedures
 all_long cs f l is =
-    let a = ap length is.made.routines.behind in
-    let b = length-append is.made.expanded is.made.routines.routines in
+    let a = ap length is.made.routines in
+    let b = length-append is.made.expanded (four_for (first_routine f) is.made.expanded) in
     let c = AllZip-long (IsExpandedTo (first_routine f)) is.made.begun is.made.expanded is.made.are_expanded in
     let s = ap length is.made.with_start.behind in
     let d = length-append is.made.flats (start_of f.main is.made.with_start.main.receives ∷ []) in
@@ -104,6 +104,7 @@ module _ (k : Codes) (cs : List Column) (f : FirmProgram) (l : Linear) (tables r
   flash_stands = record {
     columns = λ c place vs e g. absurd (none-some place (sym (ap (λ (z : Layout). slice_get z.flash c) whole.layout) ∙ e));
     tables = stand.arrays;
+    known = stand.known;
   }
 
   pub are_flat : AreFlat k lay (program_of k f) old
@@ -130,20 +131,13 @@ module _ (k : Codes) (cs : List Column) (f : FirmProgram) (l : Linear) (tables r
   all_expand q m e =
       let r = zip_at (IsExpandedTo (first_routine f)) is.begun is.expanded is.are_expanded q m e in (
         r.2.sound,
-        (r.0, ap (λ z. slice_get z q) is.routines.behind ∙ get_left is.expanded is.routines.routines q r.0 r.1, r.2.expands),
+        (r.0, ap (λ z. slice_get z q) is.routines ∙ get_left is.expanded (four_for (first_routine f) is.expanded) q r.0 r.1, r.2.expands),
       )
 
   has_routines : HasRoutines (first_routine f) (with_procedures old l.procedures)
-  has_routines which lt =
-      let r = routine_at 0 is.routines.routines is.routines.are_routines which (let n = is.routines.four in omega (arith, lt, n)) in
-      let z : 0 + which ≡ which = omega arith in
+  has_routines =
       let n = AllZip-long (IsExpandedTo (first_routine f)) is.begun is.expanded is.are_expanded in
-      let o = begun_long in (
-        r.0,
-        ap (λ y. slice_get y (first_routine f + which)) is.routines.behind
-            ∙ (get_right is.expanded is.routines.routines (first_routine f + which) which (omega (arith, n, o)) ∙ r.1),
-        subst (λ y. IsRoutine y r.0) z r.2,
-      )
+      let o = begun_long in routine_there (first_routine f) is.expanded l.procedures is.routines (omega (arith, n, o))
 
   closed : IsClosed old
   closed = record {

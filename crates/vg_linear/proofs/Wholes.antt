@@ -14,7 +14,8 @@ use Rattle.vg_packed.specs.declared.program.FirmProgram.{FirmProgram}
 use Rattle.vg_linear.specs.Laying.{layout_of}
 use Rattle.vg_linear.specs.Flats.{AreAllFlat, AreTaken, AreTyped, IsRefusedFor}
 use Rattle.vg_linear.specs.Expanded.{AreAllExpanded, IsOneTooLong}
-use Rattle.vg_linear.specs.Whole.{AreAllMade, IsWithStart, WithRoutines, first_routine, packed_of}
+use Rattle.vg_linear.specs.Routines.{WithRoutines}
+use Rattle.vg_linear.specs.Whole.{AreAllMade, IsWithStart, first_routine, packed_of}
 use Rattle.vg_linear.specs.Widths.{AllHaveWidths}
 use Rattle.vg_linear.specs.Refusals.{AreRefused, AreTakenIn, IsExpandedOrTooLong, IsRefused, IsTakenFor, IsTypedIn}
 use Rattle.vg_linear.proofs.Lists.{get_at}
@@ -63,7 +64,7 @@ module _ (lay : Layout) (f : FirmProgram) where
       expanded_left Memory h t = tt
       expanded_left (Faulty why) h t = (h.0, inr (record { flats = flats; are_flat = are_flat; long = long h.1 }))
 
-      pub all_made : (expanded all : List Procedure) → first ≡ first_routine f → AreAllExpanded first ms expanded → WithRoutines expanded all
+      pub all_made : (expanded all : List Procedure) → first ≡ first_routine f → AreAllExpanded first ms expanded → WithRoutines first expanded all
           → AreAllMade lay f all
       all_made expanded all is are_expanded routines = record {
         flats = flats;
@@ -72,7 +73,7 @@ module _ (lay : Layout) (f : FirmProgram) where
         with_start = with_start;
         expanded = expanded;
         are_expanded = subst (λ z. AreAllExpanded z begun expanded) is (subst (λ z. AreAllExpanded first z expanded) e are_expanded);
-        routines = routines;
+        routines = subst (λ z. WithRoutines z expanded all) is routines;
       }
 
 -- ---- programs

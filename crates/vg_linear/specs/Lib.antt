@@ -4,6 +4,7 @@ pub mod Places
 pub mod Laying
 pub mod Flats
 pub mod Expanded
+pub mod Routines
 pub mod Whole
 pub mod Refusals
 pub mod Standing

@@ -1,5 +1,5 @@
 -- How a packed program stands in the bytes of both memories.
-use Rattle.std.specs.Prelude.{◌≡◌, ℕ, ◌<◌, List, length, Option, Some, slice_get}
+use Rattle.std.specs.Prelude.{◌≡◌, ℕ, ◌<◌, List, length, Option, Some, None, slice_get}
 use Rattle.vg_codes.specs.Codes.{Codes}
 use Rattle.vg_firm.specs.declared.step.ArrayPlace.{ArrayPlace}
 use Rattle.vg_flatten_shapes.specs.declared.layout.Layout.{Layout}
@@ -12,6 +12,8 @@ pub record StandIn (k : Codes) (lay : Layout) (f : FirmProgram) (tables ram : Li
   pub columns : RamStands lay.ram (program_of k f).ram ram
   pub arrays : (t address : ℕ) (places : List ArrayPlace) → slice_get lay.tables t ≡ Some address → slice_get f.tables t ≡ Some places
       → TableStands tables address places
+  -- where the layout has no table, the program has none
+  pub known : (t : ℕ) → slice_get lay.tables t ≡ None → slice_get f.tables t ≡ None
   -- handlers are those of the program, and procedures of it
   pub handlers : (v : ℕ) → handler v ≡ handler_in f.handlers v
   pub closed : (v q : ℕ) → handler v ≡ Some q → q < length f.procedures

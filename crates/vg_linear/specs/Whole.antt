@@ -1,11 +1,9 @@
 -- The linear program of a packed one.
-use Rattle.std.specs.Prelude.{◌≡◌, ℕ, suc, ◌+◌, List, [], ◌∷◌, ◌++◌, length, map, Option, Some, slice_get}
+use Rattle.std.specs.Prelude.{◌≡◌, ℕ, ◌+◌, List, [], ◌∷◌, ◌++◌, length, map, Option, Some, slice_get}
 use Rattle.vg_codes.specs.Codes.{Codes}
 use Rattle.vg_firm.specs.Held.{procedure_of}
 use Rattle.vg_firm.specs.Program.{Procedure as FirmProcedure}
 use Rattle.vg_lin.specs.Program.{Procedure, Program}
-use Rattle.vg_lin.specs.Sound.{IsSound}
-use Rattle.vg_arith.specs.Routines.{IsRoutine}
 use Rattle.vg_flatten_shapes.specs.declared.layout.Layout.{Layout}
 use Rattle.vg_flatten.specs.Flattened.{start_of}
 use Rattle.vg_placement.specs.declared.column.Column.{Column}
@@ -15,20 +13,7 @@ use Rattle.vg_linear.specs.Laying.{layout_of}
 use Rattle.vg_linear.specs.Widths.{AllHaveWidths}
 use Rattle.vg_linear.specs.Flats.{AreAllFlat}
 use Rattle.vg_linear.specs.Expanded.{AreAllExpanded}
-
--- ---- routines
-
--- These are routines, from one number on.
-abbrev pub AreRoutines : (which : ℕ) → List Procedure → Type 0
-AreRoutines which [] = Unit {0}
-AreRoutines which (p ∷ ps) = IsRoutine which p × IsSound p × AreRoutines (suc which) ps
-
--- The four routines stand behind other procedures.
-pub record WithRoutines (old new : List Procedure) : Type 0 where
-  pub routines : List Procedure
-  pub are_routines : AreRoutines 0 routines
-  pub four : length routines ≡ 4
-  pub behind : new ≡ old ++ routines
+use Rattle.vg_linear.specs.Routines.{WithRoutines}
 
 -- ---- programs
 
@@ -36,7 +21,7 @@ pub record WithRoutines (old new : List Procedure) : Type 0 where
 abbrev pub packed_of : FirmProgram → List FirmProcedure
 packed_of f = map procedure_of f.procedures
 
--- The routines stand behind the procedures of the packed program and the start.
+-- The number of the first routine: the routines stand behind the procedures of the packed program and the start.
 abbrev pub first_routine : FirmProgram → ℕ
 first_routine f = length f.procedures + 1
 
@@ -53,10 +38,10 @@ pub record AreAllMade (lay : Layout) (f : FirmProgram) (all : List Procedure) : 
   -- with the start behind them
   pub begun : List Procedure
   pub with_start : IsWithStart f flats begun
-  -- all expanded, with the routines behind these
+  -- all expanded, with the routines that they call behind these
   pub expanded : List Procedure
   pub are_expanded : AreAllExpanded (first_routine f) begun expanded
-  pub routines : WithRoutines expanded all
+  pub routines : WithRoutines (first_routine f) expanded all
 
 pub record IsLinear (cs : List Column) (f : FirmProgram) (l : Linear) : Type 0 where
   pub widths : AllHaveWidths f.procedures

@@ -3,15 +3,15 @@ ghost use Rattle.std.specs.Prelude.{◌<◌, ◌≤◌, IfOk, length};
 ghost use Rattle.vg_linear.specs.Flats.{AreAllFlat};
 ghost use Rattle.vg_linear.specs.Laying.{layout_of};
 ghost use Rattle.vg_linear.specs.Refusals.{AreRefused, AreTakenIn, IsExpandedOrTooLong, IsRefused, IsTakenFor, IsTypedIn};
-ghost use Rattle.vg_linear.specs.Whole.{AreAllMade, IsLinear, IsWithStart, WithRoutines, packed_of};
+ghost use Rattle.vg_linear.specs.Whole.{AreAllMade, IsLinear, IsWithStart, packed_of};
 ghost use Rattle.vg_linear.specs.Widths.{AllHaveWidths};
 
 use crate::expanding::expand_all;
 use crate::flats::flatten_all;
 use crate::laying::layout;
+use crate::routines::with_routines;
 use crate::widths::all_have_widths;
 use std::alloc::Global;
-use vg_arith::routine;
 use vg_base::{NoMemory, Refusal, Row};
 use vg_flatten::start;
 use vg_flatten_shapes::{Fault, Layout};
@@ -24,7 +24,8 @@ use vg_placement::Column;
 pub struct Linear {
     /// Where columns and tables stand, and how procedures are called.
     pub layout: Layout,
-    /// Those of the packed program, in their order, and the start, each expanded; and the four routines behind them.
+    /// Those of the packed program, in their order, and the start, each expanded; and behind them, in the place of each of the four routines, the routine
+    /// where one of these procedures calls it, and else a procedure that returns at once.
     pub procedures: Row<LinProc>,
     /// The place of the start: behind those of the packed program.
     pub start: u16,
@@ -65,7 +66,7 @@ pub fn make_linear(
     })
 }
 
-// Those of the program, flattened, and the start, all of them expanded, and the routines.
+// Those of the program, flattened, and the start, all of them expanded, and the routines that they call.
 fn all_procedures(
     alloc: Global,
     layout: &Layout,
@@ -85,7 +86,7 @@ fn all_procedures(
     made_of(alloc, layout, firm, flats)
 }
 
-// The flattened procedures and the start, expanded, and the routines.
+// The flattened procedures and the start, expanded, and the routines that they call.
 fn made_of(
     alloc: Global,
     layout: &Layout,
@@ -99,13 +100,13 @@ fn made_of(
     ensures refusal { AreRefused result layout.now firm.now }
     ensures typed { IsTypedIn layout.now firm.now → AreTakenIn result layout.now firm.now }
 {
-    let begun = with_start(alloc, firm, flats)?;
     let first = firm.procedures.len() as u16 + 1;
+    let begun = with_start(alloc, firm, flats)?;
     let expanded = match expanded(alloc, begun.as_slice(), first) {
         Ok(expanded) => expanded,
         Err(why) => return Err(why),
     };
-    let all = with_routines(alloc, expanded)?;
+    let all = with_routines(alloc, expanded, first)?;
     Ok(all)
 }
 
@@ -138,24 +139,4 @@ fn expanded(
         Err(Refusal::NoMemory) => Err(Refusal::NoMemory),
         Err(Refusal::Fault(_)) => Err(Refusal::Fault(Fault::TooLong)),
     }
-}
-
-// The routines are put behind the procedures.
-fn with_routines(alloc: Global, procedures: Row<LinProc>) -> Result<Row<LinProc>, NoMemory>
-    ensures { IfOk result (WithRoutines procedures) }
-{
-    let product = routine(alloc, 0)?;
-    product.keeps();
-    let division = routine(alloc, 1)?;
-    division.keeps();
-    let left = routine(alloc, 2)?;
-    left.keeps();
-    let right = routine(alloc, 3)?;
-    right.keeps();
-    let mut all = procedures;
-    all.push(product)?;
-    all.push(division)?;
-    all.push(left)?;
-    all.push(right)?;
-    Ok(all)
 }

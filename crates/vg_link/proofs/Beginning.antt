@@ -7,15 +7,15 @@ use Rattle.avr_instr.specs.declared.instr.Instr.TheVariants.{Jmp}
 use Rattle.avr_isa.specs.Standing.{widths, StandsAt, AllStandAt}
 use Rattle.avr_view.specs.Run.{Run}
 use Rattle.vg_lin.specs.Program.{Program}
-use Rattle.vg_startup.specs.Startup.{bytes_from}
-use Rattle.vg_resets.specs.Reset.{reset_code}
-use Rattle.vg_instr_code.specs.Whole.{Links}
-use Rattle.vg_standing.specs.Stands.{Stands}
+use Rattle.vg_templates.specs.Startup.{bytes_from}
+use Rattle.vg_followed.specs.Reset.{reset_code}
+use Rattle.vg_templates.specs.Whole.{Links}
+use Rattle.vg_followed.specs.Stands.{Stands}
 use Rattle.vg_image.specs.Image.{Parts, first_table, code_start, flash_of}
 use Rattle.vg_image.proofs.Parts.{jumps, tables_stand, code_stands}
-use Rattle.vg_linked.proofs.Standing.{piece_stands}
-use Rattle.vg_linked_images.proofs.Placing.{program_stands}
-use Rattle.vg_image_runs.specs.Runs.{Begins}
+use Rattle.vg_laid.proofs.Standing.{piece_stands}
+use Rattle.vg_laid.proofs.Placing.{program_stands}
+use Rattle.vg_followed.specs.Runs.{Begins}
 use Rattle.vg_tables.specs.Bytes.{byte_of}
 use Rattle.vg_laid.specs.Laid.{codes_by}
 use Rattle.vg_link.specs.declared.linked.Linked.{Linked}

@@ -13,17 +13,17 @@ use Rattle.vg_meaning.specs.Outside.{IsVector}
 use Rattle.vg_codes.specs.declared.case.Case.{Case}
 use Rattle.vg_codes.specs.Codes.{AreCodes}
 use Rattle.vg_lin.specs.Program.{Procedure, Program}
-use Rattle.vg_interrupts.specs.Idle.{idle_piece, stub}
-use Rattle.vg_resets.specs.Reset.{reset_code}
-use Rattle.vg_instr_code.specs.Whole.{Links}
+use Rattle.vg_templates.specs.Idle.{idle_piece, stub}
+use Rattle.vg_followed.specs.Reset.{reset_code}
+use Rattle.vg_templates.specs.Whole.{Links}
 use Rattle.vg_image.specs.Image.{Parts, parts, slot_in, first_table, code_start, flash_of, words_of}
 use Rattle.vg_image.proofs.Parts.{bytes_count}
 use Rattle.vg_put_operations.specs.Coded.{code_from}
 use Rattle.vg_select.specs.Selected.{with_codes}
 use Rattle.vg_put_programs.specs.declared.placed.Placed.{Placed}
 use Rattle.vg_put_programs.specs.Programs.{Emission, emission, turn_of, codes_upto, pieces_upto, placed_upto, AreWithin}
-use Rattle.vg_linked.specs.Linked.{HasPiece, ProcedureLinked}
-use Rattle.vg_linked_images.specs.Images.{HandlerLinked, ProgramLinked}
+use Rattle.vg_laid.specs.Linked.{HasPiece, ProcedureLinked}
+use Rattle.vg_laid.specs.Images.{HandlerLinked, ProgramLinked}
 use Rattle.vg_tables.specs.declared.datum.Datum.{Datum}
 use Rattle.vg_tables.specs.Bytes.{byte_of}
 use Rattle.vg_laid.specs.Laid.{unknown, known, idle_from, codes_from, index_in, stub_at, stubs_code, codes_by, links_of}

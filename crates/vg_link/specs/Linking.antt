@@ -8,11 +8,11 @@ use Rattle.vg_base.specs.declared.refusal.Refusal.TheVariants.{Fault, NoMemory}
 use Rattle.vg_meaning.specs.Outside.{IsVector}
 use Rattle.vg_codes.specs.Codes.{AreCodes}
 use Rattle.vg_lin.specs.Program.{Procedure, Program}
-use Rattle.vg_resets.specs.Reset.{reset_code}
-use Rattle.vg_instr_code.specs.Whole.{Links}
+use Rattle.vg_followed.specs.Reset.{reset_code}
+use Rattle.vg_templates.specs.Whole.{Links}
 use Rattle.vg_image.specs.Image.{Parts, first_table, code_start, flash_of, words_of}
-use Rattle.vg_linked.specs.Linked.{HasPiece}
-use Rattle.vg_linked_images.specs.Images.{ProgramLinked}
+use Rattle.vg_laid.specs.Linked.{HasPiece}
+use Rattle.vg_laid.specs.Images.{ProgramLinked}
 use Rattle.vg_tables.specs.declared.datum.Datum.{Datum}
 use Rattle.vg_tables.specs.Bytes.{byte_of}
 use Rattle.vg_put_programs.specs.declared.placed.Placed.{Placed}

@@ -1,9 +1,9 @@
 // The law of linked images.
 ghost use Rattle.std.specs.Prelude.{◌≡◌, ◌+◌, ◌≤◌, true};
 ghost use Rattle.avr_view.specs.Run.{Run};
-ghost use Rattle.vg_instr_code.specs.Whole.{Links};
-ghost use Rattle.vg_standing.specs.Stands.{Stands};
-ghost use Rattle.vg_image_runs.specs.Runs.{Begins};
+ghost use Rattle.vg_templates.specs.Whole.{Links};
+ghost use Rattle.vg_followed.specs.Stands.{Stands};
+ghost use Rattle.vg_followed.specs.Runs.{Begins};
 ghost use Rattle.vg_link.specs.declared.linked.Linked.{Linked};
 ghost use Rattle.vg_link.specs.declared.unlinked.Unlinked.{Unlinked};
 ghost use Rattle.vg_link.specs.Linking.{program_of, CanBeLinked, IsLinked};

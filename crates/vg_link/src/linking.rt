@@ -1,8 +1,8 @@
 // Linking.
 ghost use Rattle.std.specs.Prelude.{◌≡◌, ◌*◌, ◌<◌, ◌++◌, length, IfOk};
 ghost use Rattle.vg_image.specs.Image.{first_table};
-ghost use Rattle.vg_resets.specs.Reset.{reset_code};
-ghost use Rattle.vg_interrupts.specs.Idle.{idle_piece};
+ghost use Rattle.vg_followed.specs.Reset.{reset_code};
+ghost use Rattle.vg_templates.specs.Idle.{idle_piece};
 ghost use Rattle.vg_put_programs.specs.Programs.{emission, pieces_upto};
 ghost use Rattle.vg_laid.specs.Laid.{stubs_code};
 ghost use Rattle.vg_link.specs.Linking.{CanBeLinked, IsLinked, IsRefusedFor, first_of, laid_of, idle_of, stubs_of, words_laid};

@@ -1,9 +1,9 @@
 // The code from reset on, and the piece in which the program waits.
 ghost use Rattle.std.specs.Prelude.{◌≡◌, ◌≤◌, ◌++◌, OnOk};
 ghost use Rattle.avr_view.specs.Start.{start_code};
-ghost use Rattle.vg_startup.specs.Startup.{copy_turn, copies};
-ghost use Rattle.vg_interrupts.specs.Idle.{idle_piece};
-ghost use Rattle.vg_resets.specs.Reset.{reset_code};
+ghost use Rattle.vg_templates.specs.Startup.{copy_turn, copies};
+ghost use Rattle.vg_templates.specs.Idle.{idle_piece};
+ghost use Rattle.vg_followed.specs.Reset.{reset_code};
 ghost use Rattle.vg_image.specs.Image.{first_table};
 
 use avr_instr::{

@@ -1,6 +1,6 @@
 // The stubs of handlers, and the slots that lead to them.
 ghost use Rattle.std.specs.Prelude.{◌≡◌, ◌+◌, ◌*◌, ◌<◌, ◌≤◌, ◌++◌, length, IfOk, OnOk};
-ghost use Rattle.vg_interrupts.specs.Idle.{stub};
+ghost use Rattle.vg_templates.specs.Idle.{stub};
 ghost use Rattle.vg_put_operations.specs.Coded.{code_from};
 ghost use Rattle.vg_laid.specs.Laid.{index_in, stub_at, stubs_code};
 ghost use Rattle.vg_link.specs.Linking.{handler_in, with_new, stubs_of, slot_of, slots_upto};

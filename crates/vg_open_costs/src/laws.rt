@@ -8,7 +8,7 @@ ghost use Rattle.vg_open_calls.specs.Open.{IsReady};
 ghost use Rattle.vg_frame_costs.specs.Fitting.{FramesFit};
 ghost use Rattle.vg_open_costs.specs.Taken.{HandlersBefore, opening_of, taken};
 
-/// Laws of programs whose frames fit. The procedure with which a run begins takes four bytes when it begins; and before each of so many steps that do not
+/// Laws of programs whose frames fit. The procedure with which a run begins takes at most four bytes when it begins; and before each of so many steps that do not
 /// end wrongly no more is taken than the calls cost at most that were active at an opening, and four bytes more. The body is empty: its contract is a law
 /// of the definitions.
 pub fn open_procedures_cost()

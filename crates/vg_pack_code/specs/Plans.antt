@@ -39,10 +39,14 @@ abbrev pub column_of : Option ColumnPlace → Option Column
 column_of (Some c) = Some (record { home = c.home; column = c.column })
 column_of None = None
 
+-- No table has this number: that of a type of which no array is kept.
+abbrev pub no_table : ℕ
+no_table = 65535
+
 -- The elements of a type: those of no type stand nowhere.
 abbrev pub items_in : Option Elements → Elements
 items_in (Some e) = e
-items_in None = record { home = Ram; column = 0; address = 0; table = 0; width = 0 }
+items_in None = record { home = Ram; column = 0; address = 0; table = no_table; width = 0 }
 
 abbrev pub holds : Option Bool → Bool
 holds (Some b) = b

@@ -8,6 +8,9 @@ use vg_base::Row;
 use vg_firm::{Elements, Home};
 use vg_number::{Numbers, Span};
 
+/// No table has this number: that of a type of which no array is kept.
+pub const NO_TABLE: u16 = 65_535;
+
 /// Where the column of a field stands: its home, and its place among the columns of this home.
 #[derive(Clone, Copy)]
 pub struct ColumnPlace {
@@ -77,7 +80,7 @@ impl Plan {
                 home: Home::Ram,
                 column: 0,
                 address: 0,
-                table: 0,
+                table: NO_TABLE,
                 width: 0,
             },
         }

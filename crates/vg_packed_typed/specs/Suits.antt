@@ -1,5 +1,5 @@
 -- That the columns and tables of a packed program stand as it says.
-use Rattle.std.specs.Prelude.{◌≡◌, ℕ, ◌+◌, ◌^◌, ◌<◌, Some, slice_get}
+use Rattle.std.specs.Prelude.{◌≡◌, ◌⊎◌, ℕ, ◌+◌, ◌^◌, ◌<◌, Some, slice_get}
 use Rattle.vg_codes.specs.Codes.{Codes}
 use Rattle.vg_core.specs.declared.program.Tables.{Tables}
 use Rattle.vg_core.specs.declared.types.CoreType.{CoreType}
@@ -7,7 +7,7 @@ use Rattle.vg_core.specs.declared.value.CoreValue.{CoreValue}
 use Rattle.vg_core.specs.Tables.{field_type}
 use Rattle.vg_firm.specs.declared.step.Home.TheVariants.{Ram}
 use Rattle.vg_flatten_shapes.specs.declared.layout.Layout.{Layout as Placed}
-use Rattle.vg_firm_typed.specs.Steps.{columns_of, HasColumn, HasWidth, HasTable, HasElements}
+use Rattle.vg_firm_typed.specs.Steps.{columns_of, HasColumn, HasWidth, HasTable, HasElements, LacksTable}
 use Rattle.vg_coded.specs.Numbers.{coded}
 use Rattle.vg_coded.specs.Kept.{IsKept}
 use Rattle.vg_packing.specs.Layout.{Column, Layout}
@@ -21,6 +21,7 @@ pub record Suits (p : Tables) (l : Layout) (k : Codes) (lay : Placed) : Type 0 w
   -- the column of a field is there, and one in RAM has entries of the bytes of the field
   pub columns : (f : ℕ) (c : Column) → l.column f ≡ Some c → HasColumn (columns_of lay c.home) c.column
   pub fields : (f : ℕ) (c : Column) → l.column f ≡ Some c → c.home ≡ Ram → HasWidth lay.ram c.column (width_in l (field_type p f))
-  -- the elements of each type of arrays, and its table
-  pub items : (t : ℕ) (e : CoreType) → slice_get p.types t ≡ Some e → HasElements lay (columns_of lay (l.items t).home) (l.items t)
-  pub tables : (t : ℕ) → HasTable lay (l.items t).table
+  -- the elements of each type of arrays, and its table, where arrays of the type are kept
+  pub items : (t : ℕ) (e : CoreType) → slice_get p.types t ≡ Some e
+      → HasElements lay (columns_of lay (l.items t).home) (l.items t) ⊎ LacksTable lay (l.items t).table
+  pub tables : (t : ℕ) → HasTable lay (l.items t).table ⊎ LacksTable lay (l.items t).table

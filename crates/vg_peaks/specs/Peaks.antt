@@ -8,7 +8,7 @@ use Rattle.vg_meaning.specs.Answer.{End, OutOfClock, OutOfDepth}
 use Rattle.vg_meaning.specs.History.{History}
 use Rattle.vg_meaning.specs.World.{World}
 use Rattle.vg_source.specs.Peak.{most}
-use Rattle.vg_standing.specs.Related.{HasEnded}
+use Rattle.vg_followed.specs.Related.{HasEnded}
 
 -- The peak passes the stack: the largest cost of calls that were active behind a tick, and four bytes more, reach below the floor from the end of SRAM on.
 abbrev pub PassesPeak : Run → (costs : List ℕ) → History → Type 0

@@ -16,9 +16,9 @@ ghost use Rattle.vg_lin.specs.Sessions.{world};
 ghost use Rattle.vg_expand.specs.Runs.{RunsAs};
 ghost use Rattle.vg_flatten_shapes.specs.declared.layout.Layout.{Layout};
 ghost use Rattle.vg_flatten.specs.Flattened.{AreFlat};
-ghost use Rattle.vg_instr_code.specs.Whole.{Links};
-ghost use Rattle.vg_standing.specs.Stands.{Stands};
-ghost use Rattle.vg_image_runs.specs.Runs.{Begins};
+ghost use Rattle.vg_templates.specs.Whole.{Links};
+ghost use Rattle.vg_followed.specs.Stands.{Stands};
+ghost use Rattle.vg_followed.specs.Runs.{Begins};
 ghost use Rattle.vg_deep_costs.specs.Fit.{HasFitFrames};
 ghost use Rattle.vg_peaks.specs.Peaks.{DoesWithinPeak};
 

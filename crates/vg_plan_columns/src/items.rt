@@ -7,7 +7,7 @@ use std::alloc::Global;
 use vg_base::{NoMemory, Row};
 use vg_core::CoreType;
 use vg_firm::{Elements, Home};
-use vg_pack_code::width_of;
+use vg_pack_code::{NO_TABLE, width_of};
 use vg_placement::{Column, Held};
 
 /// Of each type, where the elements of its arrays stand, and which table has the places of these arrays.
@@ -38,7 +38,7 @@ pub fn item_places(
     Ok(Row::from_vec(items))
 }
 
-// The elements of these types, where no column has any.
+// The elements of these types, where none has a column or a table.
 fn without_columns(alloc: Global, types: &[CoreType]) -> Result<Vec<Elements>, NoMemory>
     ensures { IfOk result (λ v. v.items ≡ map no_items types.now) }
 {
@@ -48,7 +48,7 @@ fn without_columns(alloc: Global, types: &[CoreType]) -> Result<Vec<Elements>, N
             home: Home::Ram,
             column: 0,
             address: 0,
-            table: 0,
+            table: NO_TABLE,
             width: width_of(*type_),
         })?;
     }

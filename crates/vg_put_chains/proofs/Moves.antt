@@ -1,6 +1,6 @@
 -- A move of at least two bytes begins with a move of two.
 use Rattle.std.proofs.Common.{◌≡◌, ℕ, zero, suc, ◌+◌, ◌-◌, ◌≤◌, ◌++◌, ap, ◌∙◌, arith}
-use Rattle.vg_spots.specs.Transfers.{moves_two, moves}
+use Rattle.vg_templates.specs.Transfers.{moves_two, moves}
 
 pub moves_more : (r d w n : ℕ) → 2 ≤ w → 2 ≤ n → moves r d w n ≡ moves_two r d ++ moves (r + 2) (d + 2) (w - 2) (n - 2)
 moves_more r d zero n low few = absurd (omega arith)

@@ -1,6 +1,6 @@
 // Logic and comparisons.
 ghost use Rattle.std.specs.Prelude.{◌≡◌, ◌≤◌, ◌+◌, ◌++◌, OnOk, length};
-ghost use Rattle.vg_chains.specs.Chains.{ands, ors, eors, compares, compares_on};
+ghost use Rattle.vg_templates.specs.Chains.{ands, ors, eors, compares, compares_on};
 
 use avr_instr::{Instr, Register};
 use vg_base::{NoMemory, Row};

@@ -1,6 +1,6 @@
 // Numbers that move between registers and memory, byte by byte, low bytes first.
 ghost use Rattle.std.specs.Prelude.{◌≡◌, ◌≤◌, ◌+◌, ◌++◌, OnOk};
-ghost use Rattle.vg_spots.specs.Transfers.{clears, known, moves_two, moves, loads, stores};
+ghost use Rattle.vg_templates.specs.Transfers.{clears, known, moves_two, moves, loads, stores};
 
 use avr_instr::{Base, Instr, Register, RegisterPair, SixBits, UpperRegister};
 use vg_base::{NoMemory, Row};

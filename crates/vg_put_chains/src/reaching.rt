@@ -1,6 +1,6 @@
 // How bytes of a frame are reached.
 ghost use Rattle.std.specs.Prelude.{◌≡◌, ◌≤◌, ◌+◌, ◌++◌, IfOk};
-ghost use Rattle.vg_spots.specs.Transfers.{reach};
+ghost use Rattle.vg_templates.specs.Transfers.{reach};
 
 use avr_instr::{Base, Instr, Register, RegisterPair, SixBits, UpperRegister, WidePair};
 use vg_base::{NoMemory, Row};

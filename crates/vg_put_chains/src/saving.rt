@@ -1,6 +1,6 @@
 // Registers that go on the stack and come back, and the frame pointer.
 ghost use Rattle.std.specs.Prelude.{◌≡◌, ◌<◌, ◌++◌, OnOk};
-ghost use Rattle.vg_frames.specs.Linkage.{pushes, pops, y_less, y_more, sp_is_y, takes_slots, drops_slots, frame_pointer};
+ghost use Rattle.vg_templates.specs.Linkage.{pushes, pops, y_less, y_more, sp_is_y, takes_slots, drops_slots, frame_pointer};
 ghost use Rattle.vg_put_chains.specs.Mirrors.{y_takes};
 
 use avr_instr::{Instr, IoAddress, Register, SixBits, UpperRegister, WidePair};

@@ -1,6 +1,6 @@
 // Sums and differences. A chain begins with an instruction that takes no carry in.
 ghost use Rattle.std.specs.Prelude.{◌≡◌, ◌≤◌, ◌+◌, ◌++◌, OnOk, length};
-ghost use Rattle.vg_chains.specs.Chains.{adds, adds_on, subtracts, subtracts_on, takes_known, takes_known_on};
+ghost use Rattle.vg_templates.specs.Chains.{adds, adds_on, subtracts, subtracts_on, takes_known, takes_known_on};
 
 use avr_instr::{Instr, Register, UpperRegister};
 use vg_base::{NoMemory, Row};

@@ -2,7 +2,7 @@
 use Rattle.std.specs.Prelude.{ℕ}
 use Rattle.vg_lin.specs.declared.instr.Callee.{Callee}
 use Rattle.vg_lin.specs.declared.instr.Callee.TheVariants.{Procedure, Code}
-use Rattle.vg_frames.specs.Layouts.{Layout}
+use Rattle.vg_templates.specs.Layouts.{Layout}
 use Rattle.vg_put_values.specs.Within.{IsThere}
 
 abbrev pub IsCalleeThere : Layout → Callee → Type 0

@@ -1,6 +1,6 @@
 -- The ways of code to other code that kept ones stand for.
-use Rattle.vg_calls.specs.Calls.{Way as CallWay, Far as CallFar, Near as CallNear, ByZ as CallByZ}
-use Rattle.vg_instr_code.specs.Flow.{Hop as JumpHop, Near as HopNear, Far as HopFar, Turn as BranchTurn, Direct as TurnDirect, Past as TurnPast}
+use Rattle.vg_templates.specs.Calls.{Way as CallWay, Far as CallFar, Near as CallNear, ByZ as CallByZ}
+use Rattle.vg_templates.specs.Flow.{Hop as JumpHop, Near as HopNear, Far as HopFar, Turn as BranchTurn, Direct as TurnDirect, Past as TurnPast}
 use Rattle.vg_put_flow.specs.declared.ways.Hop.{Hop}
 use Rattle.vg_put_flow.specs.declared.ways.Hop.TheVariants.{Near, Far}
 use Rattle.vg_put_flow.specs.declared.ways.Turn.{Turn}

@@ -1,8 +1,8 @@
 // Tests with their branches, and jumps.
 ghost use Rattle.std.specs.Prelude.{◌≡◌, ◌≤◌, ◌<◌, ◌++◌, OnOk};
 ghost use Rattle.avr_isa.specs.Standing.{widths};
-ghost use Rattle.vg_branches.specs.Branches.{tests, told_by, near_branch};
-ghost use Rattle.vg_instr_code.specs.Flow.{jump_code, branch_code};
+ghost use Rattle.vg_templates.specs.Branches.{tests, told_by, near_branch};
+ghost use Rattle.vg_templates.specs.Flow.{jump_code, branch_code};
 ghost use Rattle.vg_alloc.specs.Locations.{layout};
 ghost use Rattle.vg_put_values.specs.Within.{IsThere};
 ghost use Rattle.vg_put_flow.specs.Ways.{hop_of, turn_of};

@@ -1,8 +1,8 @@
 // Calls.
 ghost use Rattle.std.specs.Prelude.{◌≡◌, [], ◌∷◌, ◌++◌, OnOk};
-ghost use Rattle.vg_calls.specs.Calls.{call_code};
-ghost use Rattle.vg_returns.specs.Returns.{pops_away, drops};
-ghost use Rattle.vg_instr_code.specs.Flow.{aims};
+ghost use Rattle.vg_templates.specs.Calls.{call_code};
+ghost use Rattle.vg_templates.specs.Returns.{pops_away, drops};
+ghost use Rattle.vg_templates.specs.Flow.{aims};
 ghost use Rattle.vg_alloc.specs.Locations.{layout};
 ghost use Rattle.vg_put_flow.specs.Ways.{call_of};
 ghost use Rattle.vg_put_flow.specs.Callees.{IsCalleeThere};

@@ -1,7 +1,7 @@
 // The entry of a procedure, its exit, and its return.
 ghost use Rattle.std.specs.Prelude.{◌≡◌, ◌≤◌, ◌++◌, OnOk};
-ghost use Rattle.vg_frames.specs.Linkage.{prologue, epilogue};
-ghost use Rattle.vg_returns.specs.Returns.{returns_value};
+ghost use Rattle.vg_templates.specs.Linkage.{prologue, epilogue};
+ghost use Rattle.vg_templates.specs.Returns.{returns_value};
 ghost use Rattle.vg_alloc.specs.Locations.{layout};
 ghost use Rattle.vg_put_values.specs.Within.{IsThere};
 

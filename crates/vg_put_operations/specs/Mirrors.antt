@@ -2,8 +2,8 @@
 use Rattle.std.specs.Prelude.{ℕ, List, [], ◌∷◌, ◌++◌}
 use Rattle.avr_instr.specs.declared.instr.Instr.{Instr}
 use Rattle.avr_instr.specs.declared.instr.Instr.TheVariants.{Eor, Movw, Mul, Sbc}
-use Rattle.vg_chains.specs.Chains.{adds, ands, subtracts}
-use Rattle.vg_instr_code.specs.Products.{four_from, four_times}
+use Rattle.vg_templates.specs.Chains.{adds, ands, subtracts}
+use Rattle.vg_templates.specs.Products.{four_from, four_times}
 
 -- the product of two registers comes into r22 and r23
 abbrev pub product : (left right : ℕ) → List Instr

@@ -1,6 +1,6 @@
 // Reads of tables in flash, and dispatches.
 ghost use Rattle.std.specs.Prelude.{◌≡◌, ◌≤◌, ◌<◌, ◌+◌, ◌++◌, OnOk, length};
-ghost use Rattle.vg_instr_code.specs.Lookups.{points_z, loads_z, loads_table, tries_case, tries_cases, finds_procedure};
+ghost use Rattle.vg_templates.specs.Lookups.{points_z, loads_z, loads_table, tries_case, tries_cases, finds_procedure};
 ghost use Rattle.vg_alloc.specs.Locations.{layout};
 ghost use Rattle.vg_put_values.specs.Within.{IsThere};
 ghost use Rattle.vg_put_operations.specs.Coded.{code_from};

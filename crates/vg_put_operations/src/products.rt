@@ -1,6 +1,6 @@
 // Products of bytes, and steps of division.
 ghost use Rattle.std.specs.Prelude.{◌≡◌, ◌≤◌, ◌<◌, ◌+◌, ◌++◌, OnOk, length};
-ghost use Rattle.vg_instr_code.specs.Products.{four_from, four_times, multiplies, brings_bit, shifts_remainder, takes_divisor, shifts_dividend, divides_once};
+ghost use Rattle.vg_templates.specs.Products.{four_from, four_times, multiplies, brings_bit, shifts_remainder, takes_divisor, shifts_dividend, divides_once};
 ghost use Rattle.vg_alloc.specs.Locations.{layout};
 ghost use Rattle.vg_put_operations.specs.Mirrors.{product, takes_four, gives_four};
 ghost use Rattle.vg_put_values.specs.Within.{IsThere};

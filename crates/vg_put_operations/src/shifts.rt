@@ -1,7 +1,7 @@
 // Shifts by known amounts.
 ghost use Rattle.std.specs.Prelude.{◌≡◌, ◌≤◌, ◌<◌, ◌+◌, ◌/◌, ◌++◌, OnOk, length};
 ghost use Rattle.vg_templates.specs.Operands.{least};
-ghost use Rattle.vg_instr_code.specs.Shifts.{doubles_on, doubles, halves, repeats, shifts_left, shifts_right};
+ghost use Rattle.vg_templates.specs.Shifts.{doubles_on, doubles, halves, repeats, shifts_left, shifts_right};
 ghost use Rattle.vg_alloc.specs.Locations.{layout};
 ghost use Rattle.vg_put_values.specs.Within.{IsThere};
 

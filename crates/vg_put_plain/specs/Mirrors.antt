@@ -3,7 +3,7 @@ use Rattle.std.specs.Prelude.{ℕ, List, ◌++◌}
 use Rattle.avr_instr.specs.declared.instr.Instr.{Instr}
 use Rattle.vg_lin.specs.declared.instr.Operand.{Operand}
 use Rattle.vg_lin.specs.declared.instr.Operator.{Operator}
-use Rattle.vg_frames.specs.Layouts.{Layout}
+use Rattle.vg_templates.specs.Layouts.{Layout}
 use Rattle.vg_templates.specs.Operands.{finds, found_in}
 use Rattle.vg_templates.specs.Plain.{operates}
 

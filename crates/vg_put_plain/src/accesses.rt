@@ -1,6 +1,6 @@
 // Loads and stores of columns in RAM.
 ghost use Rattle.std.specs.Prelude.{◌≡◌, ◌≤◌, ◌<◌, ◌+◌, ◌++◌, OnOk, length};
-ghost use Rattle.vg_accesses.specs.Accesses.{plus_base, points_x, loads_x, stores_x, loads_column, stores_column};
+ghost use Rattle.vg_templates.specs.Accesses.{plus_base, points_x, loads_x, stores_x, loads_column, stores_column};
 ghost use Rattle.vg_alloc.specs.Locations.{layout};
 ghost use Rattle.vg_put_values.specs.Within.{IsThere};
 

@@ -2,7 +2,7 @@
 // Instruction Set Manual).
 ghost use Rattle.std.specs.Prelude.{◌≡◌, ◌<◌, ◌++◌, OnOk, length};
 ghost use Rattle.vg_templates.specs.Plain.{first_of, writes_register, reads_register, writes_device, reads_device};
-ghost use Rattle.vg_straight.specs.Straight.{stops};
+ghost use Rattle.vg_templates.specs.Straight.{stops};
 ghost use Rattle.vg_alloc.specs.Locations.{layout};
 ghost use Rattle.vg_put_values.specs.Within.{IsThere};
 

@@ -10,7 +10,7 @@ use Rattle.avr_isa.proofs.Standing.{widths-append}
 use Rattle.vg_lin.specs.declared.instr.Instr.{Instr}
 use Rattle.vg_lin.specs.Program.{Program}
 use Rattle.vg_lin.specs.Sound.{behind, waits_in}
-use Rattle.vg_frames.specs.Layouts.{Layout}
+use Rattle.vg_templates.specs.Layouts.{Layout}
 use Rattle.vg_select.specs.Selected.{Leading}
 use Rattle.vg_put_procedures.specs.Emitted.{code_of, behind_at, code_at, code_upto, place_of, places_upto}
 

@@ -5,10 +5,10 @@ use Rattle.avr_isa.specs.Standing.{widths}
 use Rattle.vg_lin.specs.declared.instr.Instr.{Instr}
 use Rattle.vg_lin.specs.Program.{Program}
 use Rattle.vg_lin.specs.Sound.{behind, waits_in}
-use Rattle.vg_frames.specs.Layouts.{Layout}
-use Rattle.vg_instr_code.specs.Flow.{Far}
-use Rattle.vg_instr_code.specs.Flow as flow
-use Rattle.vg_calls.specs.Calls as calls
+use Rattle.vg_templates.specs.Layouts.{Layout}
+use Rattle.vg_templates.specs.Flow.{Far}
+use Rattle.vg_templates.specs.Flow as flow
+use Rattle.vg_templates.specs.Calls as calls
 use Rattle.vg_select.specs.declared.leading.Leading.{Leading as Held}
 use Rattle.vg_select.specs.Leadings.{leading}
 use Rattle.vg_select.specs.Selected.{Leading, selected}

@@ -3,7 +3,7 @@ ghost use Rattle.std.specs.Prelude.{ℕ, ◌≡◌, ◌+◌, [], ◌∷◌, ◌+
 ghost use Rattle.avr_isa.specs.Standing.{widths};
 ghost use Rattle.vg_lin.specs.declared.instr.Instr.{Instr as InstrValue};
 ghost use Rattle.vg_lin.specs.Sound.{behind};
-ghost use Rattle.vg_frames.specs.Linkage.{prologue};
+ghost use Rattle.vg_templates.specs.Linkage.{prologue};
 ghost use Rattle.vg_alloc.specs.Locations.{layout};
 ghost use Rattle.vg_put_operations.specs.Coded.{code_from};
 ghost use Rattle.vg_select.specs.Leadings.{leading};

@@ -8,8 +8,8 @@ use Rattle.vg_lin.specs.declared.instr.Callee.TheVariants.{Procedure as ByNumber
 use Rattle.vg_lin.specs.declared.instr.Instr.{Instr}
 use Rattle.vg_lin.specs.declared.instr.Instr.TheVariants.{When, Unless, Jump, Call}
 use Rattle.vg_lin.specs.Program.{Procedure}
-use Rattle.vg_frames.specs.Linkage.{prologue}
-use Rattle.vg_framed.specs.Framed.{framed}
+use Rattle.vg_templates.specs.Linkage.{prologue}
+use Rattle.vg_templates.specs.Framed.{framed}
 use Rattle.vg_put_operations.specs.Coded.{code_from}
 use Rattle.vg_put_flow.specs.declared.ways.Hop.TheVariants.{Far}
 use Rattle.vg_put_flow.specs.declared.ways.Turn.TheVariants.{Past}

@@ -2,7 +2,7 @@
 ghost use Rattle.std.specs.Prelude.{ℕ, ◌≡◌, ◌+◌, ◌<◌, ◌++◌, length, IfOk, OnOk, Some, slice_get};
 ghost use Rattle.avr_isa.specs.Standing.{widths};
 ghost use Rattle.vg_lin.specs.declared.instr.Instr.{Instr as InstrValue};
-ghost use Rattle.vg_framed.specs.Framed.{framed};
+ghost use Rattle.vg_templates.specs.Framed.{framed};
 ghost use Rattle.vg_select.specs.Within.{IsWithin};
 ghost use Rattle.vg_put_programs.specs.Programs.{emission, piece_of, pieces_upto, placed_of, placed_upto, AreWithin};
 

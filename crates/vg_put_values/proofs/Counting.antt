@@ -2,8 +2,8 @@
 use Rattle.std.proofs.Common.{◌≡◌, ℕ, zero, suc, ◌/◌, ◌%◌, ◌==◌, if◌then◌else◌, List, [], ◌∷◌, length, refl, ap, min, arith}
 use Rattle.vg_lin.specs.declared.instr.Operand.{Operand}
 use Rattle.vg_lin.specs.declared.instr.Operand.TheVariants.{Local, Known}
-use Rattle.vg_frames.specs.Spots.{Spot, InFrame, InRegisters}
-use Rattle.vg_frames.specs.Layouts.{Layout, width_of}
+use Rattle.vg_templates.specs.Spots.{Spot, InFrame, InRegisters}
+use Rattle.vg_templates.specs.Layouts.{Layout, width_of}
 use Rattle.vg_templates.specs.Operands.{least, padded, known_registers, spot_found, found_in}
 
 pub least_is : (w n : ℕ) → least w n ≡ min w n

@@ -1,7 +1,7 @@
 // Operands that come into scratch registers, and numbers that go to locals.
 ghost use Rattle.std.specs.Prelude.{◌≡◌, ◌≤◌, ◌<◌, ◌+◌, ◌++◌, OnOk, length};
-ghost use Rattle.vg_spots.specs.Transfers.{fetch, keep};
-ghost use Rattle.vg_spots.specs.Held.{brings, gives};
+ghost use Rattle.vg_templates.specs.Transfers.{fetch, keep};
+ghost use Rattle.vg_templates.specs.Held.{brings, gives};
 ghost use Rattle.vg_alloc.specs.Locations.{layout, place, IsWithin};
 ghost use Rattle.vg_put_values.specs.Within.{IsThere};
 

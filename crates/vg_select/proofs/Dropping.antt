@@ -4,9 +4,9 @@ use Rattle.std.specs.List.{AllByRecursion}
 use Rattle.std.proofs.Common.{◌≡◌, refl, sym, ap, ◌∙◌, subst, arith}
 use Rattle.std.proofs.lemmas.List.{length-reverse, reverse-append}
 use Rattle.vg_lin.specs.declared.instr.Passed.{Passed}
-use Rattle.vg_frames.specs.Layouts.{Layout}
-use Rattle.vg_calls.specs.Calls.{sum_of}
-use Rattle.vg_instr_code.specs.Flow.{is_none}
+use Rattle.vg_templates.specs.Layouts.{Layout}
+use Rattle.vg_templates.specs.Calls.{sum_of}
+use Rattle.vg_templates.specs.Flow.{is_none}
 use Rattle.vg_select.specs.Within.{IsNarrow, IsPassedWithin}
 
 pub all_narrow : (l : Layout) (xs : List Passed) → AllByRecursion (IsPassedWithin l) xs → AllByRecursion IsNarrow xs

@@ -7,13 +7,13 @@ use Rattle.avr_instr.specs.declared.instr.Instr.TheVariants.{Call as CallAt}
 use Rattle.vg_lin.specs.declared.instr.Instr.{Instr}
 use Rattle.vg_lin.specs.declared.instr.Instr.TheVariants.{Plain, When, Unless, Jump, Call, Return, Idle}
 use Rattle.vg_lin.specs.Program.{Program}
-use Rattle.vg_frames.specs.Layouts.{Layout}
-use Rattle.vg_branches.specs.Branches.{tests, told_by}
-use Rattle.vg_calls.specs.Calls.{Way, call_code}
-use Rattle.vg_returns.specs.Returns.{returns_value}
-use Rattle.vg_instr_code.specs.Flow.{Hop, jump_code, Turn, branch_code, way_of}
-use Rattle.vg_instr_code.specs.Plains.{plain_template}
-use Rattle.vg_instr_code.specs.Whole.{call_front, call_back}
+use Rattle.vg_templates.specs.Layouts.{Layout}
+use Rattle.vg_templates.specs.Branches.{tests, told_by}
+use Rattle.vg_templates.specs.Calls.{Way, call_code}
+use Rattle.vg_templates.specs.Returns.{returns_value}
+use Rattle.vg_templates.specs.Flow.{Hop, jump_code, Turn, branch_code, way_of}
+use Rattle.vg_templates.specs.Plains.{plain_template}
+use Rattle.vg_templates.specs.Whole.{call_front, call_back}
 
 -- The code of a plain instruction asks of a program for the code numbers of its procedures, and for its dispatches, alone.
 abbrev pub with_codes : (codes : ℕ → ℕ) → List (List Case) → Program

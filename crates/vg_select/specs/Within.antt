@@ -10,7 +10,7 @@ use Rattle.vg_lin.specs.declared.instr.Plain.TheVariants.{Copy, Compute, Product
 use Rattle.vg_lin.specs.declared.instr.Instr.{Instr}
 use Rattle.vg_lin.specs.declared.instr.Instr.TheVariants.{Plain, When, Unless, Jump, Call, Return, Idle}
 use Rattle.vg_lin.specs.Meaning.{operands}
-use Rattle.vg_frames.specs.Layouts.{Layout}
+use Rattle.vg_templates.specs.Layouts.{Layout}
 use Rattle.vg_put_values.specs.Within.{IsThere}
 use Rattle.vg_put_flow.specs.Callees.{IsCalleeThere}
 

@@ -2,10 +2,10 @@
 ghost use Rattle.std.specs.Prelude.{◌≡◌, ◌≤◌, ◌*◌, [], ◌∷◌, ◌++◌, OnOk, take, drop, reverse};
 ghost use Rattle.std.specs.List.{AllByRecursion};
 ghost use Rattle.vg_lin.specs.Meaning.{operands};
-ghost use Rattle.vg_calls.specs.Calls.{call_code, sum_of};
-ghost use Rattle.vg_instr_code.specs.Flow.{passes, passed_bytes, drops_at_once, is_none, way_of};
-ghost use Rattle.vg_instr_code.specs.Whole.{call_front, call_bytes, call_back};
-ghost use Rattle.vg_returns.specs.Returns.{takes_result};
+ghost use Rattle.vg_templates.specs.Calls.{call_code, sum_of};
+ghost use Rattle.vg_templates.specs.Flow.{passes, passed_bytes, drops_at_once, is_none, way_of};
+ghost use Rattle.vg_templates.specs.Whole.{call_front, call_bytes, call_back};
+ghost use Rattle.vg_templates.specs.Returns.{takes_result};
 ghost use Rattle.vg_alloc.specs.Locations.{layout};
 ghost use Rattle.vg_put_flow.specs.Ways.{call_of};
 ghost use Rattle.vg_select.specs.Within.{IsNarrow, IsPassedWithin, IsTargetWithin, IsCallWithin};

@@ -1,6 +1,6 @@
 // Computations.
 ghost use Rattle.std.specs.Prelude.{◌≡◌, ◌≤◌, ◌<◌, ◌+◌, ◌++◌, OnOk, length};
-ghost use Rattle.vg_instr_code.specs.Plains.{computation_code, pops_from, pops_value};
+ghost use Rattle.vg_templates.specs.Plains.{computation_code, pops_from, pops_value};
 ghost use Rattle.vg_alloc.specs.Locations.{layout};
 ghost use Rattle.vg_put_values.specs.Within.{IsThere};
 

@@ -1,7 +1,7 @@
 // Instructions.
 ghost use Rattle.std.specs.Prelude.{◌≡◌, ◌++◌, OnOk, true, false, reverse};
-ghost use Rattle.vg_branches.specs.Branches.{tests, told_by};
-ghost use Rattle.vg_instr_code.specs.Flow.{branch_code};
+ghost use Rattle.vg_templates.specs.Branches.{tests, told_by};
+ghost use Rattle.vg_templates.specs.Flow.{branch_code};
 ghost use Rattle.vg_alloc.specs.Locations.{layout};
 ghost use Rattle.vg_put_flow.specs.Ways.{turn_of};
 ghost use Rattle.vg_put_operations.specs.Coded.{code_from};

@@ -1,7 +1,7 @@
 // Plain instructions.
 ghost use Rattle.std.specs.Prelude.{◌≡◌, ◌++◌, OnOk, slice_get};
 ghost use Rattle.vg_codes.specs.Dispatch.{cases_of};
-ghost use Rattle.vg_instr_code.specs.Plains.{plain_template};
+ghost use Rattle.vg_templates.specs.Plains.{plain_template};
 ghost use Rattle.vg_alloc.specs.Locations.{layout};
 ghost use Rattle.vg_put_operations.specs.Coded.{code_from};
 ghost use Rattle.vg_select.specs.Selected.{with_codes};

@@ -1,1 +1,1 @@
-mod Stands
+pub mod Stands

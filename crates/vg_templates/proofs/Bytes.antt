@@ -13,11 +13,11 @@ use Rattle.avr_view.specs.View.{View, At}
 use Rattle.avr_view.proofs.Dividing.{cell_read}
 use Rattle.avr_view.proofs.Going.{goes_wider}
 use Rattle.avr_view.proofs.Steps.{goes_plain, register_below}
-use Rattle.vg_frames.specs.Spots.{number, read}
-use Rattle.vg_frames.proofs.Numbers.{cut}
-use Rattle.vg_spots.specs.Pieces.{Sees, Takes}
+use Rattle.vg_templates.specs.Spots.{number, read}
+use Rattle.vg_templates.proofs.Numbers.{cut}
+use Rattle.vg_templates.specs.Pieces.{Sees, Takes}
 use Rattle.vg_templates.specs.Operands.{least, padded}
-use Rattle.vg_chains.specs.Numbers.{number_in}
+use Rattle.vg_templates.specs.Numbers.{number_in}
 
 -- a byte of the stack
 pub stack_below : (e : Run) (pc : ℕ) (v : View) (s : State) → At e pc v s → (j : ℕ) → j < length v.stack → slice_index v.stack j < 256

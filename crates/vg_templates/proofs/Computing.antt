@@ -16,18 +16,18 @@ use Rattle.vg_lin.specs.Values.{computed}
 use Rattle.avr_view.specs.Registers.{Regs, does_all, ArePlain}
 use Rattle.avr_view.specs.Run.{Run}
 use Rattle.avr_view.specs.View.{View}
-use Rattle.vg_frames.specs.Spots.{number}
-use Rattle.vg_frames.specs.Layouts.{IsLayout, Agree, width_of}
-use Rattle.vg_frames.specs.Frames.{Places}
-use Rattle.vg_spots.specs.Pieces.{Takes}
-use Rattle.vg_spots.specs.Held.{Held, IsReady, IsSet, brings, gives, Brought, Given}
-use Rattle.vg_spots.proofs.Composing.{takes_then, takes_wider, takes_bytes}
-use Rattle.vg_spots.proofs.Holding.{held_scratch, takes_brings, takes_gives}
-use Rattle.vg_chains.specs.Numbers.{number_in, HoldBytes, AreBeside}
-use Rattle.vg_chains.specs.Chains.{adds_on, adds, subtracts_on, subtracts, takes_known_on, takes_known, ands, ors, eors}
-use Rattle.vg_chains.specs.Outcomes.{Computed, Summed, Taken}
-use Rattle.vg_chains.proofs.Sums.{adds-sums, subtracts-takes, takes_known-takes}
-use Rattle.vg_chains.proofs.Logic.{ands-compute, ors-compute, eors-compute}
+use Rattle.vg_templates.specs.Spots.{number}
+use Rattle.vg_templates.specs.Layouts.{IsLayout, Agree, width_of}
+use Rattle.vg_templates.specs.Frames.{Places}
+use Rattle.vg_templates.specs.Pieces.{Takes}
+use Rattle.vg_templates.specs.Held.{Held, IsReady, IsSet, brings, gives, Brought, Given}
+use Rattle.vg_templates.proofs.Composing.{takes_then, takes_wider, takes_bytes}
+use Rattle.vg_templates.proofs.Holding.{held_scratch, takes_brings, takes_gives}
+use Rattle.vg_templates.specs.Numbers.{number_in, HoldBytes, AreBeside}
+use Rattle.vg_templates.specs.Chains.{adds_on, adds, subtracts_on, subtracts, takes_known_on, takes_known, ands, ors, eors}
+use Rattle.vg_templates.specs.Chained.{Computed, Summed, Taken}
+use Rattle.vg_templates.proofs.Sums.{adds-sums, subtracts-takes, takes_known-takes}
+use Rattle.vg_templates.proofs.Logic.{ands-compute, ors-compute, eors-compute}
 use Rattle.vg_templates.specs.Operands.{least, finds, found_in}
 use Rattle.vg_templates.specs.Outcomes.{Found, Lies}
 use Rattle.vg_templates.specs.Plain.{IsBytewise, operates, works, computes}

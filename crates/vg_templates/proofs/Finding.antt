@@ -10,19 +10,19 @@ use Rattle.vg_lin.specs.State.{State, value}
 use Rattle.avr_view.specs.Registers.{Regs, put, does_all, ArePlain}
 use Rattle.avr_view.specs.Run.{Run}
 use Rattle.avr_view.specs.View.{View}
-use Rattle.vg_frames.specs.Spots.{Spot, InFrame, InRegisters, number, read, value_at}
-use Rattle.vg_frames.specs.Layouts.{Layout, IsLayout, IsSpot, Agree, frame_size, width_of}
-use Rattle.vg_frames.specs.Frames.{Places}
-use Rattle.vg_frames.proofs.Numbers.{cut, put_other, put_same}
-use Rattle.vg_spots.specs.Pieces.{Takes}
-use Rattle.vg_spots.specs.Transfers.{fetch}
-use Rattle.vg_spots.specs.Outcomes.{Fetched}
-use Rattle.vg_spots.specs.Held.{Held, IsReady}
-use Rattle.vg_spots.proofs.Composing.{takes_none, takes_wider, takes_bytes, takes_plain}
-use Rattle.vg_spots.proofs.Accessing.{read_within}
-use Rattle.vg_spots.proofs.Spotting.{takes_fetch}
-use Rattle.vg_spots.proofs.Holding.{usable, held_scratch}
-use Rattle.vg_chains.specs.Numbers.{number_in, AreBeside, AreRegisters}
+use Rattle.vg_templates.specs.Spots.{Spot, InFrame, InRegisters, number, read, value_at}
+use Rattle.vg_templates.specs.Layouts.{Layout, IsLayout, IsSpot, Agree, frame_size, width_of}
+use Rattle.vg_templates.specs.Frames.{Places}
+use Rattle.vg_templates.proofs.Numbers.{cut, put_other, put_same}
+use Rattle.vg_templates.specs.Pieces.{Takes}
+use Rattle.vg_templates.specs.Transfers.{fetch}
+use Rattle.vg_templates.specs.Transferred.{Fetched}
+use Rattle.vg_templates.specs.Held.{Held, IsReady}
+use Rattle.vg_templates.proofs.Composing.{takes_none, takes_wider, takes_bytes, takes_plain}
+use Rattle.vg_templates.proofs.Accessing.{read_within}
+use Rattle.vg_templates.proofs.Spotting.{takes_fetch}
+use Rattle.vg_templates.proofs.Holding.{usable, held_scratch}
+use Rattle.vg_templates.specs.Numbers.{number_in, AreBeside, AreRegisters}
 use Rattle.vg_templates.specs.Operands.{least, padded, known_bytes, known_registers, finds_spot, spot_found, finds, found_in}
 use Rattle.vg_templates.specs.Outcomes.{Found}
 use Rattle.vg_templates.proofs.Bytes.{takes_cells, read_small, number_small, number_low, least_is, least_cut, padded-number, padded-length}

@@ -16,17 +16,17 @@ use Rattle.avr_view.specs.Run.{Run, Goes, Front}
 use Rattle.avr_view.specs.View.{View, At}
 use Rattle.avr_view.proofs.DeviceSteps.{goes_sts_device, goes_out_device}
 use Rattle.avr_view.proofs.Going.{goes_wider}
-use Rattle.vg_frames.specs.Spots.{number, read}
-use Rattle.vg_frames.specs.Layouts.{Layout, IsLayout, width_of}
-use Rattle.vg_frames.specs.Linkage.{pushes}
-use Rattle.vg_frames.specs.Frames.{Places}
-use Rattle.vg_frames.proofs.Saving.{fits_fewer}
-use Rattle.vg_frames.proofs.Linking.{goes_pushes, widths-pushes}
-use Rattle.vg_spots.specs.Pieces.{Sees, Takes}
-use Rattle.vg_spots.specs.Held.{Held, IsReady, IsSet, brings, gives, Brought, Given}
-use Rattle.vg_spots.proofs.Composing.{takes_none, takes_then, takes_next, takes_wider}
-use Rattle.vg_spots.proofs.Holding.{takes_brings, takes_gives}
-use Rattle.vg_chains.specs.Numbers.{number_in}
+use Rattle.vg_templates.specs.Spots.{number, read}
+use Rattle.vg_templates.specs.Layouts.{Layout, IsLayout, width_of}
+use Rattle.vg_templates.specs.Linkage.{pushes}
+use Rattle.vg_templates.specs.Frames.{Places}
+use Rattle.vg_templates.proofs.Saving.{fits_fewer}
+use Rattle.vg_templates.proofs.Linking.{goes_pushes, widths-pushes}
+use Rattle.vg_templates.specs.Pieces.{Sees, Takes}
+use Rattle.vg_templates.specs.Held.{Held, IsReady, IsSet, brings, gives, Brought, Given}
+use Rattle.vg_templates.proofs.Composing.{takes_none, takes_then, takes_next, takes_wider}
+use Rattle.vg_templates.proofs.Holding.{takes_brings, takes_gives}
+use Rattle.vg_templates.specs.Numbers.{number_in}
 use Rattle.vg_templates.specs.Operands.{finds, found_in}
 use Rattle.vg_templates.specs.Outcomes.{Found, Lies, IsKept}
 use Rattle.vg_templates.specs.Plain.{copies, pushes_value, first_of, writes_register, writes_device}

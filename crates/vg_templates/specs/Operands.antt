@@ -4,9 +4,9 @@ use Rattle.avr_instr.specs.declared.instr.Instr.{Instr}
 use Rattle.avr_instr.specs.declared.instr.Instr.TheVariants.{Ldi}
 use Rattle.vg_lin.specs.declared.instr.Operand.{Operand}
 use Rattle.vg_lin.specs.declared.instr.Operand.TheVariants.{Local, Known}
-use Rattle.vg_frames.specs.Spots.{Spot, InFrame, InRegisters}
-use Rattle.vg_frames.specs.Layouts.{Layout, width_of}
-use Rattle.vg_spots.specs.Transfers.{fetch}
+use Rattle.vg_templates.specs.Spots.{Spot, InFrame, InRegisters}
+use Rattle.vg_templates.specs.Layouts.{Layout, width_of}
+use Rattle.vg_templates.specs.Transfers.{fetch}
 
 -- the lesser of two widths
 abbrev pub least : (w n : ℕ) → ℕ

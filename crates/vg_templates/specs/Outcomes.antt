@@ -4,9 +4,9 @@ use Rattle.vg_meaning.specs.Outside.{Outside}
 use Rattle.vg_lin.specs.Steps.{Frame}
 use Rattle.vg_lin.specs.State.{State}
 use Rattle.avr_view.specs.View.{View}
-use Rattle.vg_frames.specs.Frames.{Places}
-use Rattle.vg_spots.specs.Held.{Held}
-use Rattle.vg_chains.specs.Numbers.{number_in}
+use Rattle.vg_templates.specs.Frames.{Places}
+use Rattle.vg_templates.specs.Held.{Held}
+use Rattle.vg_templates.specs.Numbers.{number_in}
 
 -- a list of registers holds the low bytes of a value, and the procedure lies as before; of all registers but Z those from d on alone may have changed
 pub record Found (i : Places) (m : ℕ) (live : ℕ → Bool) (s : State) (frames : List (Frame State)) (d count value : ℕ) (found : List ℕ) (old new : View)

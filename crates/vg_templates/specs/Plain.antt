@@ -7,10 +7,10 @@ use Rattle.vg_lin.specs.declared.instr.Operand.TheVariants.{Known}
 use Rattle.vg_lin.specs.declared.instr.Operator.{Operator}
 use Rattle.vg_lin.specs.declared.instr.Operator.TheVariants.{Plus, Minus, And, Or, Xor}
 use Rattle.vg_lin.specs.declared.instr.Computation.{Computation}
-use Rattle.vg_frames.specs.Layouts.{Layout, width_of}
-use Rattle.vg_frames.specs.Linkage.{pushes}
-use Rattle.vg_spots.specs.Held.{brings, gives}
-use Rattle.vg_chains.specs.Chains.{adds, subtracts, takes_known, ands, ors, eors}
+use Rattle.vg_templates.specs.Layouts.{Layout, width_of}
+use Rattle.vg_templates.specs.Linkage.{pushes}
+use Rattle.vg_templates.specs.Held.{brings, gives}
+use Rattle.vg_templates.specs.Chains.{adds, subtracts, takes_known, ands, ors, eors}
 use Rattle.vg_templates.specs.Operands.{least, finds, found_in}
 
 -- a value goes to a local

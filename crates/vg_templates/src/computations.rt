@@ -6,10 +6,10 @@ ghost use Rattle.vg_lin.specs.State.{State, value, sets};
 ghost use Rattle.vg_lin.specs.Values.{computed};
 ghost use Rattle.avr_view.specs.Run.{Run};
 ghost use Rattle.avr_view.specs.View.{View};
-ghost use Rattle.vg_frames.specs.Layouts.{IsLayout, width_of};
-ghost use Rattle.vg_frames.specs.Frames.{Places};
-ghost use Rattle.vg_spots.specs.Pieces.{Takes};
-ghost use Rattle.vg_spots.specs.Held.{Held, IsReady, IsSet};
+ghost use Rattle.vg_templates.specs.Layouts.{IsLayout, width_of};
+ghost use Rattle.vg_templates.specs.Frames.{Places};
+ghost use Rattle.vg_templates.specs.Pieces.{Takes};
+ghost use Rattle.vg_templates.specs.Held.{Held, IsReady, IsSet};
 ghost use Rattle.vg_templates.specs.Outcomes.{Lies};
 ghost use Rattle.vg_templates.specs.Plain.{IsBytewise, computes};
 

@@ -5,10 +5,10 @@ ghost use Rattle.vg_lin.specs.Steps.{Frame};
 ghost use Rattle.vg_lin.specs.State.{State, value};
 ghost use Rattle.avr_view.specs.Run.{Run};
 ghost use Rattle.avr_view.specs.View.{View};
-ghost use Rattle.vg_frames.specs.Layouts.{IsLayout};
-ghost use Rattle.vg_frames.specs.Frames.{Places};
-ghost use Rattle.vg_spots.specs.Pieces.{Takes};
-ghost use Rattle.vg_spots.specs.Held.{Held, IsReady};
+ghost use Rattle.vg_templates.specs.Layouts.{IsLayout};
+ghost use Rattle.vg_templates.specs.Frames.{Places};
+ghost use Rattle.vg_templates.specs.Pieces.{Takes};
+ghost use Rattle.vg_templates.specs.Held.{Held, IsReady};
 ghost use Rattle.vg_templates.specs.Operands.{finds, found_in};
 ghost use Rattle.vg_templates.specs.Outcomes.{Found};
 

@@ -9,10 +9,10 @@ ghost use Rattle.vg_lin.specs.State.{State, value, sets};
 ghost use Rattle.vg_lin.specs.Values.{low};
 ghost use Rattle.avr_view.specs.Run.{Run, Front};
 ghost use Rattle.avr_view.specs.View.{View};
-ghost use Rattle.vg_frames.specs.Layouts.{IsLayout};
-ghost use Rattle.vg_frames.specs.Frames.{Places};
-ghost use Rattle.vg_spots.specs.Pieces.{Takes};
-ghost use Rattle.vg_spots.specs.Held.{Held, IsReady, IsSet};
+ghost use Rattle.vg_templates.specs.Layouts.{IsLayout};
+ghost use Rattle.vg_templates.specs.Frames.{Places};
+ghost use Rattle.vg_templates.specs.Pieces.{Takes};
+ghost use Rattle.vg_templates.specs.Held.{Held, IsReady, IsSet};
 ghost use Rattle.vg_templates.specs.Outcomes.{Lies, IsKept};
 ghost use Rattle.vg_templates.specs.Plain.{copies, pushes_value, writes_device};
 

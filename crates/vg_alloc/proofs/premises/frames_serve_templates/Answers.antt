@@ -1,4 +1,4 @@
-use Rattle.vg_framed.proofs.Framing.{framed-layout, framed-set, framed-pushed}
+use Rattle.vg_templates.proofs.Framing.{framed-layout, framed-set, framed-pushed}
 use Rattle.vg_alloc.proofs.Spotting.{can_be_framed, is_ready}
 use Rattle.vg_alloc.proofs.premises.frames_serve_templates.Goals as goal
 

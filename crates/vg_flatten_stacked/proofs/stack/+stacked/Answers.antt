@@ -4,7 +4,7 @@ use Rattle.vg_firm.specs.Held.{code_of, list_of}
 use Rattle.vg_flatten_control.proofs.Along.{Along, along_on, left_of, part_weighs}
 use Rattle.vg_flatten_shapes.specs.Shapes.{empty}
 use Rattle.vg_meaning.specs.Code.{Nothing, If}
-use Rattle.vg_flatten_shapes.specs.Made.{after, tested}
+use Rattle.vg_flatten_shapes.specs.Made.{tested}
 use Rattle.vg_flatten_control.specs.Flat.{repeated_body}
 use Rattle.vg_flatten_control.specs.Weights.{arms_list}
 use Rattle.vg_flatten_control.proofs.Failing.{lays_err, place_lays, rest_lays, early_loop, body_fails, late_loop, next_fails, code_fails, from_empty}
@@ -12,8 +12,8 @@ use Rattle.vg_flatten_control.proofs.LoopPieces.{loop_laid}
 use Rattle.vg_flatten_shapes.specs.Laying.{Lays, IsPiece}
 use Rattle.vg_flatten_control.proofs.Rows.{row_same, row_weighs, arms_same, arms_weigh}
 use Rattle.vg_flatten_pushed.specs.Pushed.{with_newest, level, raised}
-use Rattle.vg_flatten_pushed.specs.Stacked.{stacked, ways}
-use Rattle.vg_flatten_stacked.proofs.Ways.{place_way, rest_way, joined_ways}
+use Rattle.vg_flatten_pushed.specs.Stacked.{levelled, stacked}
+use Rattle.vg_flatten_stacked.proofs.Ways.{either_way, raised_to, choice, place_way, rest_way, joined_ways}
 use Rattle.vg_flatten_stacked.proofs.stack.+stacked.Goals as goal
 
 pub stacked-row-requires : goal.stacked-row-requires
@@ -81,77 +81,103 @@ repeated_parts-returns-in_err-test_at t c =
 
 pub repeated_parts-returns-in_err-body_at : goal.repeated_parts-returns-in_err-body_at
 repeated_parts-returns-in_err-body_at t c =
-    λ b e. lays_err c.from_residual-in_err-body_at.result _ c.args.at (repeated_body b c.args.truth (stacked c.args.layout.now c.args.room (code_of c.args.body.now) empty)
+    λ b e. lays_err c.from_residual-in_err-body_at.result _ c.args.at
+    (repeated_body b c.args.truth (stacked c.args.layout.now c.args.room (code_of c.args.body.now) empty)
     (stacked c.args.layout.now c.args.room (code_of c.args.next.now) empty)) c.from_residual-in_err-body_at.ensures.1
     (early_loop c.args.at b c.args.truth c.args.before e (stacked c.args.layout.now c.args.room (code_of c.args.body.now) empty)
-    (stacked c.args.layout.now c.args.room (code_of c.args.next.now) empty) _ (c.args.at + length c.args.before + 1) refl
-    (c.in_err-body_at.ensures.0, let far = c.in_err-body_at.ensures.1 in let e1 = c.in_ok-test_at.ensures in let n = c.len.ensures in omega (arith, far, e1, n)))
+    (stacked c.args.layout.now c.args.room (code_of c.args.next.now) empty) _ (c.args.at + length c.args.before + 1) refl (
+      c.in_err-body_at.ensures.0,
+      let far = c.in_err-body_at.ensures.1 in let e1 = c.in_ok-test_at.ensures in let n = c.len.ensures in omega (arith, far, e1, n),
+    ))
 
 pub repeated_parts-returns-in_err-body : goal.repeated_parts-returns-in_err-body
 repeated_parts-returns-in_err-body t c =
-    λ b e. lays_err c.from_residual-in_err-body.result _ c.args.at (repeated_body b c.args.truth (stacked c.args.layout.now c.args.room (code_of c.args.body.now) empty)
+    λ b e. lays_err c.from_residual-in_err-body.result _ c.args.at
+    (repeated_body b c.args.truth (stacked c.args.layout.now c.args.room (code_of c.args.body.now) empty)
     (stacked c.args.layout.now c.args.room (code_of c.args.next.now) empty)) c.from_residual-in_err-body.ensures.1
     (body_fails c.args.at b c.args.truth c.args.before e (stacked c.args.layout.now c.args.room (code_of c.args.body.now) empty)
-    (stacked c.args.layout.now c.args.room (code_of c.args.next.now) empty) _ c.in_ok-body_at.body_at (let e1 = c.in_ok-test_at.ensures in let e2 = c.in_ok-body_at.ensures in let n = c.len.ensures in omega (arith, e1, e2, n))
+    (stacked c.args.layout.now c.args.room (code_of c.args.next.now) empty) _ c.in_ok-body_at.body_at
+    (let e1 = c.in_ok-test_at.ensures in let e2 = c.in_ok-body_at.ensures in let n = c.len.ensures in omega (arith, e1, e2, n))
     (from_empty _ c.in_ok-body_at.body_at (stacked c.args.layout.now c.args.room (code_of c.args.body.now)) c.new.result c.new.ensures c.in_err-body.ensures))
 
 pub repeated_parts-returns-in_err-next_at : goal.repeated_parts-returns-in_err-next_at
 repeated_parts-returns-in_err-next_at t c =
-    λ b e. lays_err c.from_residual-in_err-next_at.result _ c.args.at (repeated_body b c.args.truth (stacked c.args.layout.now c.args.room (code_of c.args.body.now) empty)
+    λ b e. lays_err c.from_residual-in_err-next_at.result _ c.args.at
+    (repeated_body b c.args.truth (stacked c.args.layout.now c.args.room (code_of c.args.body.now) empty)
     (stacked c.args.layout.now c.args.room (code_of c.args.next.now) empty)) c.from_residual-in_err-next_at.ensures.1
     (late_loop c.args.at b c.args.truth c.args.before e (stacked c.args.layout.now c.args.room (code_of c.args.body.now) empty)
-    (stacked c.args.layout.now c.args.room (code_of c.args.next.now) empty) _ c.in_ok-body_at.body_at (c.in_ok-body_at.body_at + c.len-2.result) c.in_ok-body.body (let e1 = c.in_ok-test_at.ensures in let e2 = c.in_ok-body_at.ensures in let n = c.len.ensures in omega (arith, e1, e2, n))
-    (subst (λ z. IsPiece c.in_ok-body.body c.in_ok-body_at.body_at (stacked c.args.layout.now c.args.room (code_of c.args.body.now) z)) c.new.ensures c.in_ok-body.ensures)
+    (stacked c.args.layout.now c.args.room (code_of c.args.next.now) empty) _ c.in_ok-body_at.body_at (c.in_ok-body_at.body_at + c.len-2.result)
+    c.in_ok-body.body (let e1 = c.in_ok-test_at.ensures in let e2 = c.in_ok-body_at.ensures in let n = c.len.ensures in omega (arith, e1, e2, n))
+    (subst (λ z. IsPiece c.in_ok-body.body c.in_ok-body_at.body_at
+    (stacked c.args.layout.now c.args.room (code_of c.args.body.now) z)) c.new.ensures c.in_ok-body.ensures)
     (ap (λ n. c.in_ok-body_at.body_at + n) c.len-2.ensures) c.in_err-next_at.ensures)
 
 pub repeated_parts-returns-in_err-next : goal.repeated_parts-returns-in_err-next
 repeated_parts-returns-in_err-next t c =
-    λ b e. lays_err c.from_residual-in_err-next.result _ c.args.at (repeated_body b c.args.truth (stacked c.args.layout.now c.args.room (code_of c.args.body.now) empty)
+    λ b e. lays_err c.from_residual-in_err-next.result _ c.args.at
+    (repeated_body b c.args.truth (stacked c.args.layout.now c.args.room (code_of c.args.body.now) empty)
     (stacked c.args.layout.now c.args.room (code_of c.args.next.now) empty)) c.from_residual-in_err-next.ensures.1
     (next_fails c.args.at b c.args.truth c.args.before e (stacked c.args.layout.now c.args.room (code_of c.args.body.now) empty)
-    (stacked c.args.layout.now c.args.room (code_of c.args.next.now) empty) _ c.in_ok-body_at.body_at c.in_ok-next_at.next_at c.in_ok-body.body c.is_empty.result (let e1 = c.in_ok-test_at.ensures in let e2 = c.in_ok-body_at.ensures in let n = c.len.ensures in omega (arith, e1, e2, n))
-    (subst (λ z. IsPiece c.in_ok-body.body c.in_ok-body_at.body_at (stacked c.args.layout.now c.args.room (code_of c.args.body.now) z)) c.new.ensures c.in_ok-body.ensures)
+    (stacked c.args.layout.now c.args.room (code_of c.args.next.now) empty) _ c.in_ok-body_at.body_at c.in_ok-next_at.next_at c.in_ok-body.body
+    c.is_empty.result (let e1 = c.in_ok-test_at.ensures in let e2 = c.in_ok-body_at.ensures in let n = c.len.ensures in omega (arith, e1, e2, n))
+    (subst (λ z. IsPiece c.in_ok-body.body c.in_ok-body_at.body_at
+    (stacked c.args.layout.now c.args.room (code_of c.args.body.now) z)) c.new.ensures c.in_ok-body.ensures)
     (let e3 = c.in_ok-next_at.ensures in let n2 = c.len-2.ensures in omega (arith, e3, n2)) c.is_empty.ensures c.if-not-is_empty.false
-    (from_empty _ c.in_ok-next_at.next_at (stacked c.args.layout.now c.args.room (code_of c.args.next.now)) c.new-2.result c.new-2.ensures c.in_err-next.ensures))
+    (from_empty _ c.in_ok-next_at.next_at (stacked c.args.layout.now c.args.room (code_of c.args.next.now)) c.new-2.result c.new-2.ensures
+    c.in_err-next.ensures))
 
 pub repeated_parts-returns-in_err-code : goal.repeated_parts-returns-in_err-code
 repeated_parts-returns-in_err-code t c =
-    λ b e. lays_err c.from_residual-in_err-code.result _ c.args.at (repeated_body b c.args.truth (stacked c.args.layout.now c.args.room (code_of c.args.body.now) empty)
+    λ b e. lays_err c.from_residual-in_err-code.result _ c.args.at
+    (repeated_body b c.args.truth (stacked c.args.layout.now c.args.room (code_of c.args.body.now) empty)
     (stacked c.args.layout.now c.args.room (code_of c.args.next.now) empty)) c.from_residual-in_err-code.ensures.1
     (code_fails c.args.at b c.args.truth c.args.before e (stacked c.args.layout.now c.args.room (code_of c.args.body.now) empty)
-    (stacked c.args.layout.now c.args.room (code_of c.args.next.now) empty) _ c.in_ok-body_at.body_at c.in_ok-next_at.next_at c.in_ok-body.body c.in_ok-next.next c.as_slice.result.now c.as_slice-2.result.now
-    (subst (λ z. IsPiece c.in_ok-body.body c.in_ok-body_at.body_at (stacked c.args.layout.now c.args.room (code_of c.args.body.now) z)) c.new.ensures c.in_ok-body.ensures)
-    (subst (λ z. IsPiece c.in_ok-next.next c.in_ok-next_at.next_at (stacked c.args.layout.now c.args.room (code_of c.args.next.now) z)) c.new-2.ensures c.in_ok-next.ensures)
+    (stacked c.args.layout.now c.args.room (code_of c.args.next.now) empty) _ c.in_ok-body_at.body_at c.in_ok-next_at.next_at c.in_ok-body.body
+    c.in_ok-next.next c.as_slice.result.now c.as_slice-2.result.now
+    (subst (λ z. IsPiece c.in_ok-body.body c.in_ok-body_at.body_at
+    (stacked c.args.layout.now c.args.room (code_of c.args.body.now) z)) c.new.ensures c.in_ok-body.ensures)
+    (subst (λ z. IsPiece c.in_ok-next.next c.in_ok-next_at.next_at
+    (stacked c.args.layout.now c.args.room (code_of c.args.next.now) z)) c.new-2.ensures c.in_ok-next.ensures)
     c.as_slice.ensures c.as_slice-2.ensures c.in_err-code.ensures)
 
 pub arm-returns-in_err-rest_at : goal.arm-returns-in_err-rest_at
 arm-returns-in_err-rest_at t c =
-    place_lays c.args.at (stacked c.args.layout.now c.args.room (code_of c.args.condition.now) c.args.homes) (stacked c.args.layout.now c.args.room (If (code_of c.args.block.now) Nothing)) c.in_ok-first.first c.from_residual-in_err-rest_at.result _ c.len.result
+    place_lays c.args.at (stacked c.args.layout.now c.args.room (code_of c.args.condition.now) c.args.homes)
+    (stacked c.args.layout.now c.args.room (If (code_of c.args.block.now) Nothing)) c.in_ok-first.first c.from_residual-in_err-rest_at.result _ c.len.result
     c.from_residual-in_err-rest_at.ensures.1 c.in_ok-first.ensures c.len.ensures c.in_err-rest_at.ensures
 
 pub arm-returns-in_err-rest : goal.arm-returns-in_err-rest
 arm-returns-in_err-rest t c =
-    rest_lays c.args.at c.in_ok-rest_at.rest_at (stacked c.args.layout.now c.args.room (code_of c.args.condition.now) c.args.homes) (stacked c.args.layout.now c.args.room (If (code_of c.args.block.now) Nothing)) c.in_ok-first.first c.from_residual-in_err-rest.result _ c.len.result
+    rest_lays c.args.at c.in_ok-rest_at.rest_at (stacked c.args.layout.now c.args.room (code_of c.args.condition.now) c.args.homes)
+    (stacked c.args.layout.now c.args.room (If (code_of c.args.block.now) Nothing)) c.in_ok-first.first c.from_residual-in_err-rest.result _ c.len.result
     c.from_residual-in_err-rest.ensures.1 c.in_ok-first.ensures c.len.ensures c.in_ok-rest_at.ensures c.in_err-rest.ensures
 
 pub arm_more-returns-in_err-rest_at : goal.arm_more-returns-in_err-rest_at
 arm_more-returns-in_err-rest_at t c =
-    place_lays c.args.at (stacked c.args.layout.now c.args.room (code_of c.args.condition.now) c.args.homes) (stacked c.args.layout.now c.args.room (If (code_of c.args.block.now) (arms_list c.args.more.now (code_of c.args.last.now)))) c.in_ok-first.first c.from_residual-in_err-rest_at.result _ c.len.result
+    place_lays c.args.at (stacked c.args.layout.now c.args.room (code_of c.args.condition.now) c.args.homes)
+    (stacked c.args.layout.now c.args.room (If (code_of c.args.block.now) (arms_list c.args.more.now (code_of c.args.last.now)))) c.in_ok-first.first
+    c.from_residual-in_err-rest_at.result _ c.len.result
     c.from_residual-in_err-rest_at.ensures.1 c.in_ok-first.ensures c.len.ensures c.in_err-rest_at.ensures
 
 pub arm_more-returns-in_err-rest : goal.arm_more-returns-in_err-rest
 arm_more-returns-in_err-rest t c =
-    rest_lays c.args.at c.in_ok-rest_at.rest_at (stacked c.args.layout.now c.args.room (code_of c.args.condition.now) c.args.homes) (stacked c.args.layout.now c.args.room (If (code_of c.args.block.now) (arms_list c.args.more.now (code_of c.args.last.now)))) c.in_ok-first.first c.from_residual-in_err-rest.result _ c.len.result
+    rest_lays c.args.at c.in_ok-rest_at.rest_at (stacked c.args.layout.now c.args.room (code_of c.args.condition.now) c.args.homes)
+    (stacked c.args.layout.now c.args.room (If (code_of c.args.block.now) (arms_list c.args.more.now (code_of c.args.last.now)))) c.in_ok-first.first
+    c.from_residual-in_err-rest.result _ c.len.result
     c.from_residual-in_err-rest.ensures.1 c.in_ok-first.ensures c.len.ensures c.in_ok-rest_at.ensures c.in_err-rest.ensures
 
 pub code_and_arms-returns-in_err-rest_at : goal.code_and_arms-returns-in_err-rest_at
 code_and_arms-returns-in_err-rest_at t c =
-    place_lays c.args.at (stacked c.args.layout.now c.args.room (code_of c.args.code.now) c.args.homes) (stacked c.args.layout.now c.args.room (arms_list c.args.more.now (code_of c.args.last.now))) c.in_ok-first.first c.from_residual-in_err-rest_at.result _ c.len.result
+    place_lays c.args.at (stacked c.args.layout.now c.args.room (code_of c.args.code.now) c.args.homes)
+    (stacked c.args.layout.now c.args.room (arms_list c.args.more.now (code_of c.args.last.now))) c.in_ok-first.first c.from_residual-in_err-rest_at.result
+    _ c.len.result
     c.from_residual-in_err-rest_at.ensures.1 c.in_ok-first.ensures c.len.ensures c.in_err-rest_at.ensures
 
 pub code_and_arms-returns-in_err-rest : goal.code_and_arms-returns-in_err-rest
 code_and_arms-returns-in_err-rest t c =
-    rest_lays c.args.at c.in_ok-rest_at.rest_at (stacked c.args.layout.now c.args.room (code_of c.args.code.now) c.args.homes) (stacked c.args.layout.now c.args.room (arms_list c.args.more.now (code_of c.args.last.now))) c.in_ok-first.first c.from_residual-in_err-rest.result _ c.len.result
+    rest_lays c.args.at c.in_ok-rest_at.rest_at (stacked c.args.layout.now c.args.room (code_of c.args.code.now) c.args.homes)
+    (stacked c.args.layout.now c.args.room (arms_list c.args.more.now (code_of c.args.last.now))) c.in_ok-first.first c.from_residual-in_err-rest.result _
+    c.len.result
     c.from_residual-in_err-rest.ensures.1 c.in_ok-first.ensures c.len.ensures c.in_ok-rest_at.ensures c.in_err-rest.ensures
 
 pub by_way-returns-in_err-rest_at-in-Some : goal.by_way-returns-in_err-rest_at-in-Some
@@ -160,7 +186,9 @@ by_way-returns-in_err-rest_at-in-Some t c =
     (place_way c.args.at c.args.room (tested c.args.homes) c.in-Some.truth c.take_truth.new.homes c.len-below.result c.len-below.ensures
     (stacked c.args.layout.now c.args.room (code_of c.args.first.now)) (stacked c.args.layout.now c.args.room (code_of c.args.rest.now)) c.in-Some.ensures
     c.in_ok-first_at-in-Some.first_at c.in_ok-first-in-Some.first _ c.len.result c.in_ok-first_at-in-Some.ensures
-    (subst (λ z. IsPiece c.in_ok-first-in-Some.first c.in_ok-first_at-in-Some.first_at (after (stacked c.args.layout.now c.args.room (code_of c.args.first.now) z) (level c.args.room c.len-below.result))) c.in_ok-copy-in-Some.ensures c.in_ok-first-in-Some.ensures)
+    (subst (λ z. IsPiece c.in_ok-first-in-Some.first c.in_ok-first_at-in-Some.first_at
+    (levelled c.args.room c.len-below.result (stacked c.args.layout.now c.args.room (code_of c.args.first.now) z)))
+    c.in_ok-copy-in-Some.ensures c.in_ok-first-in-Some.ensures)
     c.len.ensures c.in_err-rest_at-in-Some.ensures)
 
 pub by_way-returns-in_err-rest-in-Some : goal.by_way-returns-in_err-rest-in-Some
@@ -169,43 +197,58 @@ by_way-returns-in_err-rest-in-Some t c =
     (rest_way c.args.at c.args.room (tested c.args.homes) c.in-Some.truth c.take_truth.new.homes c.len-below.result c.len-below.ensures
     (stacked c.args.layout.now c.args.room (code_of c.args.first.now)) (stacked c.args.layout.now c.args.room (code_of c.args.rest.now)) c.in-Some.ensures
     c.in_ok-first_at-in-Some.first_at c.in_ok-rest_at-in-Some.rest_at c.in_ok-first-in-Some.first _
-    (subst (λ z. IsPiece c.in_ok-first-in-Some.first c.in_ok-first_at-in-Some.first_at (after (stacked c.args.layout.now c.args.room (code_of c.args.first.now) z) (level c.args.room c.len-below.result))) c.in_ok-copy-in-Some.ensures c.in_ok-first-in-Some.ensures)
+    (subst (λ z. IsPiece c.in_ok-first-in-Some.first c.in_ok-first_at-in-Some.first_at
+    (levelled c.args.room c.len-below.result (stacked c.args.layout.now c.args.room (code_of c.args.first.now) z)))
+    c.in_ok-copy-in-Some.ensures c.in_ok-first-in-Some.ensures)
     (c.in_ok-rest_at-in-Some.ensures ∙ ap (λ n. c.args.at + 1 + n + 1) c.len.ensures) c.in_err-rest-in-Some.ensures)
 
 pub by_way-returns-in_ok-rest-in-Some : goal.by_way-returns-in_ok-rest-in-Some
 by_way-returns-in_ok-rest-in-Some t c =
     joined_ways c.args.at c.args.room (tested c.args.homes) c.in-Some.truth c.take_truth.new.homes c.len-below.result c.len-below.ensures
     (stacked c.args.layout.now c.args.room (code_of c.args.first.now)) (stacked c.args.layout.now c.args.room (code_of c.args.rest.now)) c.in-Some.ensures
-    c.in_ok-first_at-in-Some.first_at c.in_ok-rest_at-in-Some.rest_at c.in_ok-first-in-Some.first c.in_ok-rest-in-Some.rest c.join.result c.in_ok-first_at-in-Some.ensures
+    c.in_ok-first_at-in-Some.first_at c.in_ok-rest_at-in-Some.rest_at c.in_ok-first-in-Some.first c.in_ok-rest-in-Some.rest c.join.result
+    c.in_ok-first_at-in-Some.ensures
     (c.in_ok-rest_at-in-Some.ensures ∙ ap (λ n. c.args.at + 1 + n + 1) c.len.ensures)
-    (subst (λ z. IsPiece c.in_ok-first-in-Some.first c.in_ok-first_at-in-Some.first_at (after (stacked c.args.layout.now c.args.room (code_of c.args.first.now) z) (level c.args.room c.len-below.result))) c.in_ok-copy-in-Some.ensures c.in_ok-first-in-Some.ensures)
+    (subst (λ z. IsPiece c.in_ok-first-in-Some.first c.in_ok-first_at-in-Some.first_at
+    (levelled c.args.room c.len-below.result (stacked c.args.layout.now c.args.room (code_of c.args.first.now) z)))
+    c.in_ok-copy-in-Some.ensures c.in_ok-first-in-Some.ensures)
     c.in_ok-rest-in-Some.ensures c.join.ensures
 
 pub arm_by_way-returns-in_err-rest_at-in-Some : goal.arm_by_way-returns-in_err-rest_at-in-Some
 arm_by_way-returns-in_err-rest_at-in-Some t c =
     lays_err c.from_residual-in_err-rest_at-in-Some.result _ c.args.at _ c.from_residual-in_err-rest_at-in-Some.ensures.1
     (place_way c.args.at c.args.room (tested c.args.homes) c.in-Some.truth c.take_truth.new.homes c.len-below.result c.len-below.ensures
-    (stacked c.args.layout.now c.args.room (code_of c.args.block.now)) (stacked c.args.layout.now c.args.room (arms_list c.args.more.now (code_of c.args.last.now))) c.in-Some.ensures
+    (stacked c.args.layout.now c.args.room (code_of c.args.block.now))
+    (stacked c.args.layout.now c.args.room (arms_list c.args.more.now (code_of c.args.last.now))) c.in-Some.ensures
     c.in_ok-first_at-in-Some.first_at c.in_ok-first-in-Some.first _ c.len.result c.in_ok-first_at-in-Some.ensures
-    (subst (λ z. IsPiece c.in_ok-first-in-Some.first c.in_ok-first_at-in-Some.first_at (after (stacked c.args.layout.now c.args.room (code_of c.args.block.now) z) (level c.args.room c.len-below.result))) c.in_ok-copy-in-Some.ensures c.in_ok-first-in-Some.ensures)
+    (subst (λ z. IsPiece c.in_ok-first-in-Some.first c.in_ok-first_at-in-Some.first_at
+    (levelled c.args.room c.len-below.result (stacked c.args.layout.now c.args.room (code_of c.args.block.now) z)))
+    c.in_ok-copy-in-Some.ensures c.in_ok-first-in-Some.ensures)
     c.len.ensures c.in_err-rest_at-in-Some.ensures)
 
 pub arm_by_way-returns-in_err-rest-in-Some : goal.arm_by_way-returns-in_err-rest-in-Some
 arm_by_way-returns-in_err-rest-in-Some t c =
     lays_err c.from_residual-in_err-rest-in-Some.result _ c.args.at _ c.from_residual-in_err-rest-in-Some.ensures.1
     (rest_way c.args.at c.args.room (tested c.args.homes) c.in-Some.truth c.take_truth.new.homes c.len-below.result c.len-below.ensures
-    (stacked c.args.layout.now c.args.room (code_of c.args.block.now)) (stacked c.args.layout.now c.args.room (arms_list c.args.more.now (code_of c.args.last.now))) c.in-Some.ensures
+    (stacked c.args.layout.now c.args.room (code_of c.args.block.now))
+    (stacked c.args.layout.now c.args.room (arms_list c.args.more.now (code_of c.args.last.now))) c.in-Some.ensures
     c.in_ok-first_at-in-Some.first_at c.in_ok-rest_at-in-Some.rest_at c.in_ok-first-in-Some.first _
-    (subst (λ z. IsPiece c.in_ok-first-in-Some.first c.in_ok-first_at-in-Some.first_at (after (stacked c.args.layout.now c.args.room (code_of c.args.block.now) z) (level c.args.room c.len-below.result))) c.in_ok-copy-in-Some.ensures c.in_ok-first-in-Some.ensures)
+    (subst (λ z. IsPiece c.in_ok-first-in-Some.first c.in_ok-first_at-in-Some.first_at
+    (levelled c.args.room c.len-below.result (stacked c.args.layout.now c.args.room (code_of c.args.block.now) z)))
+    c.in_ok-copy-in-Some.ensures c.in_ok-first-in-Some.ensures)
     (c.in_ok-rest_at-in-Some.ensures ∙ ap (λ n. c.args.at + 1 + n + 1) c.len.ensures) c.in_err-rest-in-Some.ensures)
 
 pub arm_by_way-returns-in_ok-rest-in-Some : goal.arm_by_way-returns-in_ok-rest-in-Some
 arm_by_way-returns-in_ok-rest-in-Some t c =
     joined_ways c.args.at c.args.room (tested c.args.homes) c.in-Some.truth c.take_truth.new.homes c.len-below.result c.len-below.ensures
-    (stacked c.args.layout.now c.args.room (code_of c.args.block.now)) (stacked c.args.layout.now c.args.room (arms_list c.args.more.now (code_of c.args.last.now))) c.in-Some.ensures
-    c.in_ok-first_at-in-Some.first_at c.in_ok-rest_at-in-Some.rest_at c.in_ok-first-in-Some.first c.in_ok-rest-in-Some.rest c.join.result c.in_ok-first_at-in-Some.ensures
+    (stacked c.args.layout.now c.args.room (code_of c.args.block.now))
+    (stacked c.args.layout.now c.args.room (arms_list c.args.more.now (code_of c.args.last.now))) c.in-Some.ensures
+    c.in_ok-first_at-in-Some.first_at c.in_ok-rest_at-in-Some.rest_at c.in_ok-first-in-Some.first c.in_ok-rest-in-Some.rest c.join.result
+    c.in_ok-first_at-in-Some.ensures
     (c.in_ok-rest_at-in-Some.ensures ∙ ap (λ n. c.args.at + 1 + n + 1) c.len.ensures)
-    (subst (λ z. IsPiece c.in_ok-first-in-Some.first c.in_ok-first_at-in-Some.first_at (after (stacked c.args.layout.now c.args.room (code_of c.args.block.now) z) (level c.args.room c.len-below.result))) c.in_ok-copy-in-Some.ensures c.in_ok-first-in-Some.ensures)
+    (subst (λ z. IsPiece c.in_ok-first-in-Some.first c.in_ok-first_at-in-Some.first_at
+    (levelled c.args.room c.len-below.result (stacked c.args.layout.now c.args.room (code_of c.args.block.now) z)))
+    c.in_ok-copy-in-Some.ensures c.in_ok-first-in-Some.ensures)
     c.in_ok-rest-in-Some.ensures c.join.ensures
 
 pub nothing_by_way-returns-in_err-rest_at-in-Some : goal.nothing_by_way-returns-in_err-rest_at-in-Some
@@ -214,7 +257,9 @@ nothing_by_way-returns-in_err-rest_at-in-Some t c =
     (place_way c.args.at c.args.room (tested c.args.homes) c.in-Some.truth c.take_truth.new.homes c.len-below.result c.len-below.ensures
     (stacked c.args.layout.now c.args.room (code_of c.args.block.now)) (stacked c.args.layout.now c.args.room Nothing) c.in-Some.ensures
     c.in_ok-first_at-in-Some.first_at c.in_ok-first-in-Some.first _ c.len.result c.in_ok-first_at-in-Some.ensures
-    (subst (λ z. IsPiece c.in_ok-first-in-Some.first c.in_ok-first_at-in-Some.first_at (after (stacked c.args.layout.now c.args.room (code_of c.args.block.now) z) (level c.args.room c.len-below.result))) c.in_ok-copy-in-Some.ensures c.in_ok-first-in-Some.ensures)
+    (subst (λ z. IsPiece c.in_ok-first-in-Some.first c.in_ok-first_at-in-Some.first_at
+    (levelled c.args.room c.len-below.result (stacked c.args.layout.now c.args.room (code_of c.args.block.now) z)))
+    c.in_ok-copy-in-Some.ensures c.in_ok-first-in-Some.ensures)
     c.len.ensures c.in_err-rest_at-in-Some.ensures)
 
 pub nothing_by_way-returns-in_err-rest-in-Some : goal.nothing_by_way-returns-in_err-rest-in-Some
@@ -223,102 +268,136 @@ nothing_by_way-returns-in_err-rest-in-Some t c =
     (rest_way c.args.at c.args.room (tested c.args.homes) c.in-Some.truth c.take_truth.new.homes c.len-below.result c.len-below.ensures
     (stacked c.args.layout.now c.args.room (code_of c.args.block.now)) (stacked c.args.layout.now c.args.room Nothing) c.in-Some.ensures
     c.in_ok-first_at-in-Some.first_at c.in_ok-rest_at-in-Some.rest_at c.in_ok-first-in-Some.first _
-    (subst (λ z. IsPiece c.in_ok-first-in-Some.first c.in_ok-first_at-in-Some.first_at (after (stacked c.args.layout.now c.args.room (code_of c.args.block.now) z) (level c.args.room c.len-below.result))) c.in_ok-copy-in-Some.ensures c.in_ok-first-in-Some.ensures)
+    (subst (λ z. IsPiece c.in_ok-first-in-Some.first c.in_ok-first_at-in-Some.first_at
+    (levelled c.args.room c.len-below.result (stacked c.args.layout.now c.args.room (code_of c.args.block.now) z)))
+    c.in_ok-copy-in-Some.ensures c.in_ok-first-in-Some.ensures)
     (c.in_ok-rest_at-in-Some.ensures ∙ ap (λ n. c.args.at + 1 + n + 1) c.len.ensures) c.in_err-rest-in-Some.ensures)
 
 pub nothing_by_way-returns-in_ok-rest-in-Some : goal.nothing_by_way-returns-in_ok-rest-in-Some
 nothing_by_way-returns-in_ok-rest-in-Some t c =
     joined_ways c.args.at c.args.room (tested c.args.homes) c.in-Some.truth c.take_truth.new.homes c.len-below.result c.len-below.ensures
     (stacked c.args.layout.now c.args.room (code_of c.args.block.now)) (stacked c.args.layout.now c.args.room Nothing) c.in-Some.ensures
-    c.in_ok-first_at-in-Some.first_at c.in_ok-rest_at-in-Some.rest_at c.in_ok-first-in-Some.first c.in_ok-rest-in-Some.rest c.join.result c.in_ok-first_at-in-Some.ensures
+    c.in_ok-first_at-in-Some.first_at c.in_ok-rest_at-in-Some.rest_at c.in_ok-first-in-Some.first c.in_ok-rest-in-Some.rest c.join.result
+    c.in_ok-first_at-in-Some.ensures
     (c.in_ok-rest_at-in-Some.ensures ∙ ap (λ n. c.args.at + 1 + n + 1) c.len.ensures)
-    (subst (λ z. IsPiece c.in_ok-first-in-Some.first c.in_ok-first_at-in-Some.first_at (after (stacked c.args.layout.now c.args.room (code_of c.args.block.now) z) (level c.args.room c.len-below.result))) c.in_ok-copy-in-Some.ensures c.in_ok-first-in-Some.ensures)
+    (subst (λ z. IsPiece c.in_ok-first-in-Some.first c.in_ok-first_at-in-Some.first_at
+    (levelled c.args.room c.len-below.result (stacked c.args.layout.now c.args.room (code_of c.args.block.now) z)))
+    c.in_ok-copy-in-Some.ensures c.in_ok-first-in-Some.ensures)
     c.in_ok-rest-in-Some.ensures c.join.ensures
 
 pub chosen-returns-in_err-ways_at : goal.chosen-returns-in_err-ways_at
 chosen-returns-in_err-ways_at t c =
-    place_lays c.args.at (with_newest c.args.room c.args.homes) (λ s1. after (ways c.args.room (tested s1) (stacked c.args.layout.now c.args.room (code_of c.args.first.now)) (stacked c.args.layout.now c.args.room (code_of c.args.rest.now))) (raised (length s1.homes))) c.in_ok-top.top c.from_residual-in_err-ways_at.result _ c.len.result
+    place_lays c.args.at (with_newest c.args.room c.args.homes) (choice c.args.layout.now c.args.room (code_of c.args.first.now) (code_of c.args.rest.now))
+    c.in_ok-top.top c.from_residual-in_err-ways_at.result _ c.len.result
     c.from_residual-in_err-ways_at.ensures.1 c.in_ok-top.ensures c.len.ensures c.in_err-ways_at.ensures
 
 pub chosen-returns-in_err-ways : goal.chosen-returns-in_err-ways
 chosen-returns-in_err-ways t c =
-    rest_lays c.args.at c.in_ok-ways_at.ways_at (with_newest c.args.room c.args.homes) (λ s1. after (ways c.args.room (tested s1) (stacked c.args.layout.now c.args.room (code_of c.args.first.now)) (stacked c.args.layout.now c.args.room (code_of c.args.rest.now))) (raised (length s1.homes))) c.in_ok-top.top c.from_residual-in_err-ways.result _ c.len.result
+    rest_lays c.args.at c.in_ok-ways_at.ways_at (with_newest c.args.room c.args.homes)
+    (choice c.args.layout.now c.args.room (code_of c.args.first.now) (code_of c.args.rest.now)) c.in_ok-top.top c.from_residual-in_err-ways.result _
+    c.len.result
     c.from_residual-in_err-ways.ensures.1 c.in_ok-top.ensures c.len.ensures c.in_ok-ways_at.ensures c.in_err-ways.ensures
 
 pub raised_way-returns-in_err-push_at : goal.raised_way-returns-in_err-push_at
 raised_way-returns-in_err-push_at t c =
-    subst (λ n. Lays c.from_residual-in_err-push_at.result c.args.at (after (ways c.args.room (tested c.args.homes) (stacked c.args.layout.now c.args.room (code_of c.args.first.now)) (stacked c.args.layout.now c.args.room (code_of c.args.rest.now))) (raised n))) c.len-before.ensures (
-    place_lays c.args.at (ways c.args.room (tested c.args.homes) (stacked c.args.layout.now c.args.room (code_of c.args.first.now)) (stacked c.args.layout.now c.args.room (code_of c.args.rest.now))) (raised c.len-before.result) c.in_ok-ways.ways c.from_residual-in_err-push_at.result _ c.len.result
+    subst (λ n. Lays c.from_residual-in_err-push_at.result c.args.at
+    (raised_to c.args.layout.now c.args.room (code_of c.args.first.now) (code_of c.args.rest.now) c.args.homes n)) c.len-before.ensures (
+    place_lays c.args.at (either_way c.args.layout.now c.args.room (code_of c.args.first.now) (code_of c.args.rest.now) c.args.homes)
+    (raised c.len-before.result) c.in_ok-ways.ways c.from_residual-in_err-push_at.result _ c.len.result
     c.from_residual-in_err-push_at.ensures.1 c.in_ok-ways.ensures c.len.ensures c.in_err-push_at.ensures)
 
 pub raised_way-returns-in_err-push : goal.raised_way-returns-in_err-push
 raised_way-returns-in_err-push t c =
-    subst (λ n. Lays c.from_residual-in_err-push.result c.args.at (after (ways c.args.room (tested c.args.homes) (stacked c.args.layout.now c.args.room (code_of c.args.first.now)) (stacked c.args.layout.now c.args.room (code_of c.args.rest.now))) (raised n))) c.len-before.ensures (
-    rest_lays c.args.at c.in_ok-push_at.push_at (ways c.args.room (tested c.args.homes) (stacked c.args.layout.now c.args.room (code_of c.args.first.now)) (stacked c.args.layout.now c.args.room (code_of c.args.rest.now))) (raised c.len-before.result) c.in_ok-ways.ways c.from_residual-in_err-push.result _ c.len.result
+    subst (λ n. Lays c.from_residual-in_err-push.result c.args.at
+    (raised_to c.args.layout.now c.args.room (code_of c.args.first.now) (code_of c.args.rest.now) c.args.homes n)) c.len-before.ensures (
+    rest_lays c.args.at c.in_ok-push_at.push_at (either_way c.args.layout.now c.args.room (code_of c.args.first.now) (code_of c.args.rest.now) c.args.homes)
+    (raised c.len-before.result) c.in_ok-ways.ways c.from_residual-in_err-push.result _ c.len.result
     c.from_residual-in_err-push.ensures.1 c.in_ok-ways.ensures c.len.ensures c.in_ok-push_at.ensures c.in_err-push.ensures)
 
 pub arm_or-returns-in_err-rest_at : goal.arm_or-returns-in_err-rest_at
 arm_or-returns-in_err-rest_at t c =
-    place_lays c.args.at (with_newest c.args.room c.args.homes) (λ s1. after (ways c.args.room (tested s1) (stacked c.args.layout.now c.args.room (code_of c.args.block.now)) (stacked c.args.layout.now c.args.room (arms_list c.args.more.now (code_of c.args.last.now)))) (raised (length s1.homes))) c.in_ok-first.first c.from_residual-in_err-rest_at.result _ c.len.result
+    place_lays c.args.at (with_newest c.args.room c.args.homes)
+    (choice c.args.layout.now c.args.room (code_of c.args.block.now) (arms_list c.args.more.now (code_of c.args.last.now))) c.in_ok-first.first
+    c.from_residual-in_err-rest_at.result _ c.len.result
     c.from_residual-in_err-rest_at.ensures.1 c.in_ok-first.ensures c.len.ensures c.in_err-rest_at.ensures
 
 pub arm_or-returns-in_err-rest : goal.arm_or-returns-in_err-rest
 arm_or-returns-in_err-rest t c =
-    rest_lays c.args.at c.in_ok-rest_at.rest_at (with_newest c.args.room c.args.homes) (λ s1. after (ways c.args.room (tested s1) (stacked c.args.layout.now c.args.room (code_of c.args.block.now)) (stacked c.args.layout.now c.args.room (arms_list c.args.more.now (code_of c.args.last.now)))) (raised (length s1.homes))) c.in_ok-first.first c.from_residual-in_err-rest.result _ c.len.result
+    rest_lays c.args.at c.in_ok-rest_at.rest_at (with_newest c.args.room c.args.homes)
+    (choice c.args.layout.now c.args.room (code_of c.args.block.now) (arms_list c.args.more.now (code_of c.args.last.now))) c.in_ok-first.first
+    c.from_residual-in_err-rest.result _ c.len.result
     c.from_residual-in_err-rest.ensures.1 c.in_ok-first.ensures c.len.ensures c.in_ok-rest_at.ensures c.in_err-rest.ensures
 
 pub arm_raised_way-returns-in_err-rest_at : goal.arm_raised_way-returns-in_err-rest_at
 arm_raised_way-returns-in_err-rest_at t c =
-    subst (λ n. Lays c.from_residual-in_err-rest_at.result c.args.at (after (ways c.args.room (tested c.args.homes) (stacked c.args.layout.now c.args.room (code_of c.args.block.now)) (stacked c.args.layout.now c.args.room (arms_list c.args.more.now (code_of c.args.last.now)))) (raised n))) c.len-before.ensures (
-    place_lays c.args.at (ways c.args.room (tested c.args.homes) (stacked c.args.layout.now c.args.room (code_of c.args.block.now)) (stacked c.args.layout.now c.args.room (arms_list c.args.more.now (code_of c.args.last.now)))) (raised c.len-before.result) c.in_ok-first.first c.from_residual-in_err-rest_at.result _ c.len.result
+    subst (λ n. Lays c.from_residual-in_err-rest_at.result c.args.at
+    (raised_to c.args.layout.now c.args.room (code_of c.args.block.now) (arms_list c.args.more.now (code_of c.args.last.now)) c.args.homes n))
+    c.len-before.ensures (
+    place_lays c.args.at
+    (either_way c.args.layout.now c.args.room (code_of c.args.block.now) (arms_list c.args.more.now (code_of c.args.last.now)) c.args.homes)
+    (raised c.len-before.result) c.in_ok-first.first c.from_residual-in_err-rest_at.result _ c.len.result
     c.from_residual-in_err-rest_at.ensures.1 c.in_ok-first.ensures c.len.ensures c.in_err-rest_at.ensures)
 
 pub arm_raised_way-returns-in_err-rest : goal.arm_raised_way-returns-in_err-rest
 arm_raised_way-returns-in_err-rest t c =
-    subst (λ n. Lays c.from_residual-in_err-rest.result c.args.at (after (ways c.args.room (tested c.args.homes) (stacked c.args.layout.now c.args.room (code_of c.args.block.now)) (stacked c.args.layout.now c.args.room (arms_list c.args.more.now (code_of c.args.last.now)))) (raised n))) c.len-before.ensures (
-    rest_lays c.args.at c.in_ok-rest_at.rest_at (ways c.args.room (tested c.args.homes) (stacked c.args.layout.now c.args.room (code_of c.args.block.now)) (stacked c.args.layout.now c.args.room (arms_list c.args.more.now (code_of c.args.last.now)))) (raised c.len-before.result) c.in_ok-first.first c.from_residual-in_err-rest.result _ c.len.result
+    subst (λ n. Lays c.from_residual-in_err-rest.result c.args.at
+    (raised_to c.args.layout.now c.args.room (code_of c.args.block.now) (arms_list c.args.more.now (code_of c.args.last.now)) c.args.homes n))
+    c.len-before.ensures (
+    rest_lays c.args.at c.in_ok-rest_at.rest_at
+    (either_way c.args.layout.now c.args.room (code_of c.args.block.now) (arms_list c.args.more.now (code_of c.args.last.now)) c.args.homes)
+    (raised c.len-before.result) c.in_ok-first.first c.from_residual-in_err-rest.result _ c.len.result
     c.from_residual-in_err-rest.ensures.1 c.in_ok-first.ensures c.len.ensures c.in_ok-rest_at.ensures c.in_err-rest.ensures)
 
 pub arm_or_nothing-returns-in_err-rest_at : goal.arm_or_nothing-returns-in_err-rest_at
 arm_or_nothing-returns-in_err-rest_at t c =
-    place_lays c.args.at (with_newest c.args.room c.args.homes) (λ s1. after (ways c.args.room (tested s1) (stacked c.args.layout.now c.args.room (code_of c.args.block.now)) (stacked c.args.layout.now c.args.room (Nothing))) (raised (length s1.homes))) c.in_ok-first.first c.from_residual-in_err-rest_at.result _ c.len.result
+    place_lays c.args.at (with_newest c.args.room c.args.homes) (choice c.args.layout.now c.args.room (code_of c.args.block.now) Nothing)
+    c.in_ok-first.first c.from_residual-in_err-rest_at.result _ c.len.result
     c.from_residual-in_err-rest_at.ensures.1 c.in_ok-first.ensures c.len.ensures c.in_err-rest_at.ensures
 
 pub arm_or_nothing-returns-in_err-rest : goal.arm_or_nothing-returns-in_err-rest
 arm_or_nothing-returns-in_err-rest t c =
-    rest_lays c.args.at c.in_ok-rest_at.rest_at (with_newest c.args.room c.args.homes) (λ s1. after (ways c.args.room (tested s1) (stacked c.args.layout.now c.args.room (code_of c.args.block.now)) (stacked c.args.layout.now c.args.room (Nothing))) (raised (length s1.homes))) c.in_ok-first.first c.from_residual-in_err-rest.result _ c.len.result
+    rest_lays c.args.at c.in_ok-rest_at.rest_at (with_newest c.args.room c.args.homes)
+    (choice c.args.layout.now c.args.room (code_of c.args.block.now) Nothing) c.in_ok-first.first c.from_residual-in_err-rest.result _ c.len.result
     c.from_residual-in_err-rest.ensures.1 c.in_ok-first.ensures c.len.ensures c.in_ok-rest_at.ensures c.in_err-rest.ensures
 
 pub nothing_raised_way-returns-in_err-rest_at : goal.nothing_raised_way-returns-in_err-rest_at
 nothing_raised_way-returns-in_err-rest_at t c =
-    subst (λ n. Lays c.from_residual-in_err-rest_at.result c.args.at (after (ways c.args.room (tested c.args.homes) (stacked c.args.layout.now c.args.room (code_of c.args.block.now)) (stacked c.args.layout.now c.args.room (Nothing))) (raised n))) c.len-before.ensures (
-    place_lays c.args.at (ways c.args.room (tested c.args.homes) (stacked c.args.layout.now c.args.room (code_of c.args.block.now)) (stacked c.args.layout.now c.args.room (Nothing))) (raised c.len-before.result) c.in_ok-first.first c.from_residual-in_err-rest_at.result _ c.len.result
+    subst (λ n. Lays c.from_residual-in_err-rest_at.result c.args.at
+    (raised_to c.args.layout.now c.args.room (code_of c.args.block.now) Nothing c.args.homes n)) c.len-before.ensures (
+    place_lays c.args.at (either_way c.args.layout.now c.args.room (code_of c.args.block.now) Nothing c.args.homes) (raised c.len-before.result)
+    c.in_ok-first.first c.from_residual-in_err-rest_at.result _ c.len.result
     c.from_residual-in_err-rest_at.ensures.1 c.in_ok-first.ensures c.len.ensures c.in_err-rest_at.ensures)
 
 pub nothing_raised_way-returns-in_err-rest : goal.nothing_raised_way-returns-in_err-rest
 nothing_raised_way-returns-in_err-rest t c =
-    subst (λ n. Lays c.from_residual-in_err-rest.result c.args.at (after (ways c.args.room (tested c.args.homes) (stacked c.args.layout.now c.args.room (code_of c.args.block.now)) (stacked c.args.layout.now c.args.room (Nothing))) (raised n))) c.len-before.ensures (
-    rest_lays c.args.at c.in_ok-rest_at.rest_at (ways c.args.room (tested c.args.homes) (stacked c.args.layout.now c.args.room (code_of c.args.block.now)) (stacked c.args.layout.now c.args.room (Nothing))) (raised c.len-before.result) c.in_ok-first.first c.from_residual-in_err-rest.result _ c.len.result
+    subst (λ n. Lays c.from_residual-in_err-rest.result c.args.at
+    (raised_to c.args.layout.now c.args.room (code_of c.args.block.now) Nothing c.args.homes n)) c.len-before.ensures (
+    rest_lays c.args.at c.in_ok-rest_at.rest_at (either_way c.args.layout.now c.args.room (code_of c.args.block.now) Nothing c.args.homes)
+    (raised c.len-before.result) c.in_ok-first.first c.from_residual-in_err-rest.result _ c.len.result
     c.from_residual-in_err-rest.ensures.1 c.in_ok-first.ensures c.len.ensures c.in_ok-rest_at.ensures c.in_err-rest.ensures)
 
 pub levelled-returns-in_err-rest_at : goal.levelled-returns-in_err-rest_at
 levelled-returns-in_err-rest_at t c =
-    place_lays c.args.at (stacked c.args.layout.now c.args.room (code_of c.args.code.now) c.args.homes) (level c.args.room c.args.below) c.in_ok-first.first c.from_residual-in_err-rest_at.result _ c.len.result
+    place_lays c.args.at (stacked c.args.layout.now c.args.room (code_of c.args.code.now) c.args.homes) (level c.args.room c.args.below) c.in_ok-first.first
+    c.from_residual-in_err-rest_at.result _ c.len.result
     c.from_residual-in_err-rest_at.ensures.1 c.in_ok-first.ensures c.len.ensures c.in_err-rest_at.ensures
 
 pub levelled-returns-in_err-rest : goal.levelled-returns-in_err-rest
 levelled-returns-in_err-rest t c =
-    rest_lays c.args.at c.in_ok-rest_at.rest_at (stacked c.args.layout.now c.args.room (code_of c.args.code.now) c.args.homes) (level c.args.room c.args.below) c.in_ok-first.first c.from_residual-in_err-rest.result _ c.len.result
+    rest_lays c.args.at c.in_ok-rest_at.rest_at (stacked c.args.layout.now c.args.room (code_of c.args.code.now) c.args.homes)
+    (level c.args.room c.args.below) c.in_ok-first.first c.from_residual-in_err-rest.result _ c.len.result
     c.from_residual-in_err-rest.ensures.1 c.in_ok-first.ensures c.len.ensures c.in_ok-rest_at.ensures c.in_err-rest.ensures
 
 pub levelled_arms-returns-in_err-rest_at : goal.levelled_arms-returns-in_err-rest_at
 levelled_arms-returns-in_err-rest_at t c =
-    place_lays c.args.at (stacked c.args.layout.now c.args.room (arms_list c.args.all.now (code_of c.args.last.now)) c.args.homes) (level c.args.room c.args.below) c.in_ok-first.first c.from_residual-in_err-rest_at.result _ c.len.result
+    place_lays c.args.at (stacked c.args.layout.now c.args.room (arms_list c.args.all.now (code_of c.args.last.now)) c.args.homes)
+    (level c.args.room c.args.below) c.in_ok-first.first c.from_residual-in_err-rest_at.result _ c.len.result
     c.from_residual-in_err-rest_at.ensures.1 c.in_ok-first.ensures c.len.ensures c.in_err-rest_at.ensures
 
 pub levelled_arms-returns-in_err-rest : goal.levelled_arms-returns-in_err-rest
 levelled_arms-returns-in_err-rest t c =
-    rest_lays c.args.at c.in_ok-rest_at.rest_at (stacked c.args.layout.now c.args.room (arms_list c.args.all.now (code_of c.args.last.now)) c.args.homes) (level c.args.room c.args.below) c.in_ok-first.first c.from_residual-in_err-rest.result _ c.len.result
+    rest_lays c.args.at c.in_ok-rest_at.rest_at (stacked c.args.layout.now c.args.room (arms_list c.args.all.now (code_of c.args.last.now)) c.args.homes)
+    (level c.args.room c.args.below) c.in_ok-first.first c.from_residual-in_err-rest.result _ c.len.result
     c.from_residual-in_err-rest.ensures.1 c.in_ok-first.ensures c.len.ensures c.in_ok-rest_at.ensures c.in_err-rest.ensures
 
 pub condition_of-returns-in_err-rest_at : goal.condition_of-returns-in_err-rest_at

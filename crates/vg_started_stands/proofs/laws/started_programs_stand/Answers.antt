@@ -2,7 +2,7 @@ use Rattle.vg_packed.specs.Programs.{program_of}
 use Rattle.vg_table_bytes.specs.Bytes.{columns_bytes, ram_widths, table_bytes_of}
 use Rattle.vg_started_bytes.specs.Started.{bytes_in, ram_places}
 use Rattle.vg_started_bytes.proofs.Ends as ends
-use Rattle.vg_started_stands.proofs.Stands.{columns_stand, table_stands}
+use Rattle.vg_started_stands.proofs.Stands.{columns_stand, table_stands, tables_known}
 use Rattle.vg_started_stands.proofs.laws.started_programs_stand.Goals as goal
 
 pub returns-clause-ram : goal.returns-clause-ram
@@ -14,3 +14,6 @@ pub returns-clause-flash : goal.returns-clause-flash
 returns-clause-flash c = λ k p n κ cs f placed rows t address arrays e1 e2.
     table_stands (bytes_in k (table_bytes_of (ram_widths cs.list) f.columns f.tables)) address arrays
     (ends.tables_stand k p n κ cs f placed rows t address arrays e1 e2)
+
+pub returns-clause-known : goal.returns-clause-known
+returns-clause-known c = λ k list f rows t e. tables_known list f.tables rows.rows t e

@@ -1,0 +1,7 @@
+#include "idle.h"
+
+int main(void)
+{
+    PORTB = 0x05;
+    idle();
+}

@@ -1,4 +1,0 @@
-//! Accesses: the code for loads and stores of columns in RAM, and where it leads.
-#![tactic(auto)]
-
-pub mod columns;

@@ -1,4 +1,0 @@
-pub mod Registers
-pub mod Sums
-pub mod Logic
-pub mod Comparing

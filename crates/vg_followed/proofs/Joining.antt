@@ -1,0 +1,258 @@
+-- The templates of all plain instructions, joined over what linear code says of them.
+use Rattle.std.proofs.Common.{◌≡◌, ℕ, ◌+◌, ◌-◌, ◌*◌, ◌^◌, ◌<◌, ◌≤◌, Bool, true, false, ◌||◌, ◌==◌, nat_lt, if◌then◌else◌, List, [], ◌∷◌, ◌++◌, length}
+use Rattle.std.proofs.Common.{Option, Some, None, refl, sym, ap, ◌∙◌, subst, arith, length-append, slice_get, slice_index}
+use Rattle.std.proofs.Math.Nat.{pow-le-pow_right}
+use Rattle.vg_meaning.specs.Outside.{Outside}
+use Rattle.avr_instr.specs.declared.instr.Instr.{Instr}
+use Rattle.avr_isa.specs.Machine.{State as MachineState}
+use Rattle.avr_isa.specs.Standing.{widths, AllStandAt}
+use Rattle.vg_codes.specs.Dispatch.{dispatched, cases_of}
+use Rattle.vg_lin.specs.declared.instr.Memory.TheVariants.{Ram, Flash}
+use Rattle.vg_lin.specs.declared.instr.Operand.{Operand}
+use Rattle.vg_lin.specs.declared.instr.Operand.TheVariants.{Local, Known}
+use Rattle.vg_lin.specs.declared.instr.Operator.{Operator}
+use Rattle.vg_lin.specs.declared.instr.Operator.TheVariants.{Plus, Minus, Times, Divide, Remainder, And, Or, Xor, ShiftLeft, ShiftRight}
+use Rattle.vg_lin.specs.declared.instr.Computation.{Computation}
+use Rattle.vg_lin.specs.declared.instr.Plain.{Plain}
+use Rattle.vg_lin.specs.declared.instr.Plain.TheVariants.{Copy, Compute, Product, DivideStep, Load, Store, ReadDevice, WriteDevice, Push, Pop, Find, CodeOf, Stop}
+use Rattle.vg_lin.specs.Program.{Program}
+use Rattle.vg_lin.specs.Steps.{Frame, Went, Goes as GoesOn, Raises, Fails}
+use Rattle.vg_lin.specs.State.{State, Waiting, value, using, sets, index_of, first_address, loaded, number_at, pops_from, plain}
+use Rattle.vg_lin.specs.Values.{computed, low, next_remainder, next_dividend}
+use Rattle.avr_view.specs.Run.{Run, Goes, Front}
+use Rattle.avr_view.specs.View.{View, At}
+use Rattle.avr_view.proofs.Going.{goes_fewer}
+use Rattle.vg_templates.specs.Spots.{Spot, InFrame, InRegisters, read, value_at}
+use Rattle.vg_templates.specs.Layouts.{IsLayout, IsSpot, width_of}
+use Rattle.vg_templates.specs.Frames.{Places}
+use Rattle.vg_templates.specs.Pieces.{Sees, Takes}
+use Rattle.vg_templates.specs.Held.{Held, IsReady}
+use Rattle.vg_templates.proofs.Accessing.{read_within}
+use Rattle.vg_templates.proofs.Composing.{takes_bytes}
+use Rattle.vg_templates.specs.Outcomes.{Lies}
+use Rattle.vg_templates.proofs.Bytes.{takes_cells, read_small, number_small}
+use Rattle.vg_templates.specs.Straight.{pushed_by}
+use Rattle.vg_templates.proofs.Joining.{takes_plain_code}
+use Rattle.vg_templates.specs.Plains.{computation_code, plain_template}
+use Rattle.vg_followed.proofs.Shifting.{takes_shifts_left, takes_shifts_right}
+use Rattle.vg_followed.proofs.Multiplying.{takes_multiplies}
+use Rattle.vg_followed.proofs.Dividing.{takes_divides_once}
+use Rattle.vg_followed.specs.Tables.{HoldsTables}
+use Rattle.vg_followed.proofs.Reading.{takes_loads_table}
+use Rattle.vg_followed.proofs.Finding.{goes_finds_procedure}
+use Rattle.vg_followed.proofs.Popping.{takes_pops_value}
+use Rattle.vg_followed.specs.Covered.{CanCompute, IsFourBytes, and_local, CanBeCoded}
+
+-- ---- what linear code did
+
+abbrev IsMade : Went State → State → Outside → Type 0
+IsMade w s o = w ≡ GoesOn s o
+
+same_state : (s t : State) (o p : Outside) → GoesOn s o ≡ GoesOn t p → s ≡ t
+same_state s t o p e = cc
+
+same_outside : (s t : State) (o p : Outside) → GoesOn s o ≡ GoesOn t p → o ≡ p
+same_outside s t o p e = cc
+
+used : (v : Option ℕ) (go : ℕ → Went State) (s : State) (o : Outside) → IsMade (using v go) s o → (x : ℕ) × ((v ≡ Some x) × IsMade (go x) s o)
+used (Some x) go s o e = (x, (refl, e))
+used None go s o e = absurd (let clash : Fails ≡ GoesOn s o = e in cc)
+
+some_same : (a b : ℕ) → Some a ≡ Some b → a ≡ b
+some_same a b e = cc
+
+itself : (b : Bool) (d : ℕ) → (b || (d == d)) ≡ true
+itself true d = refl
+itself false d = grind arith
+
+equal : (a b : ℕ) → (a == b) ≡ true → a ≡ b
+equal a b e = grind (arith, e)
+
+module _ (i : Places) (ok : (m : ℕ) → IsLayout (i.layouts m)) (m : ℕ) (frames : List (Frame State)) (e : Run) (deep : Type 0) where
+  -- the value of an operand has four bytes
+  takes_four_bytes : (live : ℕ → Bool) (s : State) (a : Operand) (x : ℕ) (v : View) (is : List Instr) (K : View → Type 0) → IsReady (i.layouts m) live a
+      → IsFourBytes a → value a s ≡ Some x → Held i m live s frames v → (x < 256 ^ 4 → Takes e deep v is K) → Takes e deep v is K
+  takes_four_bytes live s (Known y) x v is K ready narrow got k h = h (subst (λ z. z < 256 ^ 4) (some_same y x got) narrow)
+  takes_four_bytes live s (Local j) x v is K ready narrow got k h =
+      takes_cells e deep v is K
+      (λ cells. takes_bytes e deep v is K
+      (λ bytes. h (at cells bytes ((i.layouts m).spots j) (width_of (i.layouts m) j) ((ok m).spot j ready.0) ((ok m).narrow j ready.0) (k.stacked.fits.each j x ready.0 ready.1 got))))
+    where
+      wider : (w y : ℕ) → w ≤ 4 → y < 256 ^ w → y < 256 ^ 4
+      wider w y p q = let r = pow-le-pow_right {n = 256} (omega arith) p in omega (arith, q, r)
+
+      at : ((n : ℕ) → n < length v.stack → slice_index v.stack n < 256) → ((r : ℕ) → r < 32 → v.regs.of r < 256) → (p : Spot) (w : ℕ)
+          → IsSpot (i.layouts m) p w → w ≤ 4 → value_at p w k.stacked.own v.regs ≡ x → x < 256 ^ 4
+      at cells bytes (InRegisters r) w spot small value_is =
+          let inside = spot.1 in
+          wider w x small (subst (λ z. z < 256 ^ w) value_is (number_small v.regs r w (λ z lo hi. bytes z (omega arith))))
+      at cells bytes (InFrame p) w spot small value_is =
+          let t = k.stacked in
+          let long = t.fits.long in
+          let inside = spot.1 in
+          let sizes = ap length t.cut ∙ length-append t.wait (t.own ++ t.under) ∙ ap (λ z. length t.wait + z) (length-append t.own t.under) in
+          let whole : read v.stack (length t.wait + p) w ≡ read t.own p w =
+          ap (λ l. read l (length t.wait + p) w) t.cut ∙ read_within t.wait t.own t.under p w (omega arith) in
+          wider w x small (subst (λ z. z < 256 ^ w) (whole ∙ value_is) (read_small v.stack (length t.wait + p) w cells (omega (arith, sizes, long, inside))))
+
+  module _ (p : Program) where
+    -- what the code of an instruction leads to
+    abbrev Leads : (behind : ℕ → Bool) → List Instr → View → State → Outside → Type 0
+    Leads behind is v s' o' = Takes e deep v is (Lies i m behind s' frames o')
+
+    ended : (behind : ℕ → Bool) (is : List Instr) (v : View) (s s' : State) (o o' : Outside) → IsMade (GoesOn s o) s' o' → Leads behind is v s o
+        → Leads behind is v s' o'
+    ended behind is v s s' o o' made go =
+        subst (λ x. Leads behind is v x o') (same_state s s' o o' made) (subst (λ x. Leads behind is v s x) (same_outside s s' o o' made) go)
+
+    -- computations by their operators
+    takes_computation : (live behind : ℕ → Bool) (c : Computation) (o : Operator) (a : Operand) (s s' : State) (o' : Outside) (v : View)
+        → c.operator ≡ o → c.right ≡ a → plain p (Compute c) s v.out ≡ GoesOn s' o' → CanCompute (i.layouts m) live behind c o a → Front e o'
+        → (0x1100 < e.floor + length v.stack + 0 → deep) → Held i m live s frames v → Leads behind (computation_code (i.layouts m) c o a) v s' o'
+    takes_computation live behind c Plus a s s' o' v op right made can front full k =
+        takes_plain_code i ok m frames e deep p live behind (Compute c) s s' o' v made can front full k
+    takes_computation live behind c Minus a s s' o' v op right made can front full k =
+        takes_plain_code i ok m frames e deep p live behind (Compute c) s s' o' v made can front full k
+    takes_computation live behind c Times a s s' o' v op right made can front full k =
+        takes_plain_code i ok m frames e deep p live behind (Compute c) s s' o' v made can front full k
+    takes_computation live behind c Divide a s s' o' v op right made can front full k =
+        takes_plain_code i ok m frames e deep p live behind (Compute c) s s' o' v made can front full k
+    takes_computation live behind c Remainder a s s' o' v op right made can front full k =
+        takes_plain_code i ok m frames e deep p live behind (Compute c) s s' o' v made can front full k
+    takes_computation live behind c And a s s' o' v op right made can front full k =
+        takes_plain_code i ok m frames e deep p live behind (Compute c) s s' o' v made can front full k
+    takes_computation live behind c Or a s s' o' v op right made can front full k =
+        takes_plain_code i ok m frames e deep p live behind (Compute c) s s' o' v made can front full k
+    takes_computation live behind c Xor a s s' o' v op right made can front full k =
+        takes_plain_code i ok m frames e deep p live behind (Compute c) s s' o' v made can front full k
+    takes_computation live behind c ShiftLeft (Local j) s s' o' v op right made can front full k =
+        takes_plain_code i ok m frames e deep p live behind (Compute c) s s' o' v made can front full k
+    takes_computation live behind c ShiftRight (Local j) s s' o' v op right made can front full k =
+        takes_plain_code i ok m frames e deep p live behind (Compute c) s s' o' v made can front full k
+    takes_computation live behind c ShiftLeft (Known n) s s' o' v op right made can front full k =
+        let (x, (got, more)) = used (value c.left s) (λ x. using (value c.right s) (λ y. using (computed c.operator c.width x y) (λ z. GoesOn (sets c.to z s) v.out))) s' o' made in
+        let (y, (got', more')) = used (value c.right s) (λ y. using (computed c.operator c.width x y) (λ z. GoesOn (sets c.to z s) v.out)) s' o' more in
+        let (z, (is, last)) = used (computed c.operator c.width x y) (λ z. GoesOn (sets c.to z s) v.out) s' o' more' in
+        let amount : y ≡ n = sym (some_same n y (sym (ap (λ a. value a s) right) ∙ got')) in
+        let what : computed ShiftLeft c.width x n ≡ Some z = sym (ap (λ j. computed j c.width x y) op ∙ ap (computed ShiftLeft c.width x) amount) ∙ is in
+        ended behind (computation_code (i.layouts m) c ShiftLeft (Known n)) v (sets c.to z s) s' v.out o' last
+        (takes_shifts_left i ok m frames e deep live behind s c.width c.to c.left n x z v can.0.1 can.1.0 can.1.1 got what k)
+    takes_computation live behind c ShiftRight (Known n) s s' o' v op right made can front full k =
+        let (x, (got, more)) = used (value c.left s) (λ x. using (value c.right s) (λ y. using (computed c.operator c.width x y) (λ z. GoesOn (sets c.to z s) v.out))) s' o' made in
+        let (y, (got', more')) = used (value c.right s) (λ y. using (computed c.operator c.width x y) (λ z. GoesOn (sets c.to z s) v.out)) s' o' more in
+        let (z, (is, last)) = used (computed c.operator c.width x y) (λ z. GoesOn (sets c.to z s) v.out) s' o' more' in
+        let amount : y ≡ n = sym (some_same n y (sym (ap (λ a. value a s) right) ∙ got')) in
+        let what : computed ShiftRight c.width x n ≡ Some z = sym (ap (λ j. computed j c.width x y) op ∙ ap (computed ShiftRight c.width x) amount) ∙ is in
+        ended behind (computation_code (i.layouts m) c ShiftRight (Known n)) v (sets c.to z s) s' v.out o' last
+        (takes_shifts_right i ok m frames e deep live behind s c.width c.to c.left n x z v can.0.1 can.1.0 can.1.1 got what k)
+
+    -- from code that takes each of its instructions
+    by_takes : (is : List Instr) (v : View) (K : View → Type 0) (pc : ℕ) (t : MachineState) → Takes e deep v is K → AllStandAt e.flash pc is
+        → pc + widths is < 65536 → 1 ≤ length is → At e pc v t → Goes e deep 1 t (Sees e K (pc + widths is))
+    by_takes is v K pc t piece stand room some a = goes_fewer e deep (length is) 1 t (Sees e K (pc + widths is)) some (piece pc t stand room a)
+
+    module _ (tables : HoldsTables e.flash p.tables) where
+      table_there : (s : State) (w address z : ℕ) → loaded p Flash s w (index_of Flash address) ≡ Some z
+          → (first_address Flash ≤ address) × (number_at p.tables w (address - first_address Flash) ≡ Some z)
+      table_there s w address z is = by_test (nat_lt address (first_address Flash)) refl is
+        where
+          by_test : (b : Bool) → nat_lt address (first_address Flash) ≡ b
+              → loaded p Flash s w (if b then None else Some (address - first_address Flash)) ≡ Some z
+              → (first_address Flash ≤ address) × (number_at p.tables w (address - first_address Flash) ≡ Some z)
+          by_test true t f = absurd (let clash : None ≡ Some z = f in cc)
+          by_test false t f = (grind (arith, t), f)
+
+      pub goes_plain : (live behind : ℕ → Bool) (q : Plain) (s s' : State) (o' : Outside) (v : View) (pc : ℕ) (t : MachineState)
+          → plain p q s v.out ≡ GoesOn s' o' → CanBeCoded (i.layouts m) p live behind q → Front e o'
+          → (0x1100 < e.floor + length v.stack + pushed_by q → deep) → Held i m live s frames v
+          → AllStandAt e.flash pc (plain_template (i.layouts m) p q) → pc + widths (plain_template (i.layouts m) p q) < 65536
+          → 1 ≤ length (plain_template (i.layouts m) p q) → At e pc v t
+          → Goes e deep 1 t (Sees e (Lies i m behind s' frames o') (pc + widths (plain_template (i.layouts m) p q)))
+      goes_plain live behind (Copy to a) s s' o' v pc t made can front full k stand room some h =
+          let q = Copy to a in
+          by_takes (plain_template (i.layouts m) p q) v (Lies i m behind s' frames o') pc t
+          (takes_plain_code i ok m frames e deep p live behind q s s' o' v made can front full k) stand room some h
+      goes_plain live behind (Load Ram w to a) s s' o' v pc t made can front full k stand room some h =
+          let q = Load Ram w to a in
+          by_takes (plain_template (i.layouts m) p q) v (Lies i m behind s' frames o') pc t
+          (takes_plain_code i ok m frames e deep p live behind q s s' o' v made can front full k) stand room some h
+      goes_plain live behind (Store w a from) s s' o' v pc t made can front full k stand room some h =
+          let q = Store w a from in
+          by_takes (plain_template (i.layouts m) p q) v (Lies i m behind s' frames o') pc t
+          (takes_plain_code i ok m frames e deep p live behind q s s' o' v made can front full k) stand room some h
+      goes_plain live behind (ReadDevice to address) s s' o' v pc t made can front full k stand room some h =
+          let q = ReadDevice to address in
+          by_takes (plain_template (i.layouts m) p q) v (Lies i m behind s' frames o') pc t
+          (takes_plain_code i ok m frames e deep p live behind q s s' o' v made can front full k) stand room some h
+      goes_plain live behind (WriteDevice address a) s s' o' v pc t made can front full k stand room some h =
+          let q = WriteDevice address a in
+          by_takes (plain_template (i.layouts m) p q) v (Lies i m behind s' frames o') pc t
+          (takes_plain_code i ok m frames e deep p live behind q s s' o' v made can front full k) stand room some h
+      goes_plain live behind (Push w a) s s' o' v pc t made can front full k stand room some h =
+          let q = Push w a in
+          by_takes (plain_template (i.layouts m) p q) v (Lies i m behind s' frames o') pc t
+          (takes_plain_code i ok m frames e deep p live behind q s s' o' v made can front full k) stand room some h
+      goes_plain live behind (CodeOf q' to) s s' o' v pc t made can front full k stand room some h =
+          let q = CodeOf q' to in
+          by_takes (plain_template (i.layouts m) p q) v (Lies i m behind s' frames o') pc t
+          (takes_plain_code i ok m frames e deep p live behind q s s' o' v made can front full k) stand room some h
+      goes_plain live behind (Compute c) s s' o' v pc t made can front full k stand room some h =
+          by_takes (plain_template (i.layouts m) p (Compute c)) v (Lies i m behind s' frames o') pc t
+          (takes_computation live behind c c.operator c.right s s' o' v refl refl made can front full k) stand room some h
+      goes_plain live behind (Product to a b) s s' o' v pc t made can front full k stand room some h =
+          let is = plain_template (i.layouts m) p (Product to a b) in
+          let (x, (got, more)) = used (value a s) (λ x. using (value b s) (λ y. GoesOn (sets to (low 1 x * low 1 y) s) v.out)) s' o' made in
+          let (y, (got', last)) = used (value b s) (λ y. GoesOn (sets to (low 1 x * low 1 y) s) v.out) s' o' more in
+          by_takes is v (Lies i m behind s' frames o') pc t
+          (ended behind is v (sets to (low 1 x * low 1 y) s) s' v.out o' last
+          (takes_multiplies i ok m frames e deep live behind s to a b x y v can.0.0 can.0.1 can.1 got got' k)) stand room some h
+      goes_plain live behind (DivideStep r d a) s s' o' v pc t made can front full k stand room some h =
+          let is = plain_template (i.layouts m) p (DivideStep r d a) in
+          let final = λ (x y z : ℕ). GoesOn (sets d (next_dividend x y z) (sets r (next_remainder x y z) s)) v.out in
+          let (x, (got, more)) = used (value (Local r) s) (λ x. using (value (Local d) s) (λ y. using (value a s) (λ z. final x y z))) s' o' made in
+          let (y, (got', more')) = used (value (Local d) s) (λ y. using (value a s) (λ z. final x y z)) s' o' more in
+          let (z, (got'', last)) = used (value a s) (λ z. final x y z) s' o' more' in
+          let K = Lies i m behind s' frames o' in
+          by_takes is v K pc t
+          (takes_four_bytes live s a z v is K can.ready_divisor can.narrow got'' k
+          (λ small. ended behind is v (sets d (next_dividend x y z) (sets r (next_remainder x y z) s)) s' v.out o' last
+          (takes_divides_once i ok m frames e deep live (and_local behind d) behind s r d a x y z v can.apart can.ready_remainder can.ready_dividend can.ready_divisor
+          (can.ready_dividend.0, itself (behind d) d) can.first can.second got got' got'' small k))) stand room some h
+      goes_plain live behind (Load Flash w to a) s s' o' v pc t made can front full k stand room some h =
+          let is = plain_template (i.layouts m) p (Load Flash w to a) in
+          let (x, (got, more)) = used (value a.index s) (λ x. using (loaded p Flash s w (index_of Flash (a.base + x))) (λ z. GoesOn (sets to z s) v.out)) s' o' made in
+          let (z, (is', last)) = used (loaded p Flash s w (index_of Flash (a.base + x))) (λ z. GoesOn (sets to z s) v.out) s' o' more in
+          let there = table_there s w (a.base + x) z is' in
+          by_takes is v (Lies i m behind s' frames o') pc t
+          (ended behind is v (sets to z s) s' v.out o' last
+          (takes_loads_table i ok m frames e deep p.tables live behind s w to a.base a.index x z v tables can.0.0 can.0.1 there.0 can.1.0 can.1.1 got
+          there.1 k)) stand room some h
+      goes_plain live behind (Find place to a) s s' o' v pc t made can front full k stand room some h =
+          let cases = cases_of (slice_get p.dispatches place) in
+          let (n, (got, more)) = used (value a s) (λ n. using (dispatched p.dispatches place n) (λ q. GoesOn (sets to (p.codes.code q) s) v.out)) s' o' made in
+          let (q, (found, last)) = used (dispatched p.dispatches place n) (λ q. GoesOn (sets to (p.codes.code q) s) v.out) s' o' more in
+          subst (λ x. Goes e deep 1 t (Sees e (Lies i m behind x frames o') (pc + widths (plain_template (i.layouts m) p (Find place to a)))))
+          (same_state (sets to (p.codes.code q) s) s' v.out o' last)
+          (subst (λ x. Goes e deep 1 t (Sees e (Lies i m behind (sets to (p.codes.code q) s) frames x) (pc + widths (plain_template (i.layouts m) p (Find place to a)))))
+          (same_outside (sets to (p.codes.code q) s) s' v.out o' last)
+          (goes_finds_procedure i ok m frames e deep p.codes.code cases live behind s to a n q pc v t can.0 can.1.0 can.1.1 got found k stand room h))
+      goes_plain live behind (Pop w to) s s' o' v pc t made can front full k stand room some h = popped s.waiting refl made
+        where
+          popped : (ws : List Waiting) → s.waiting ≡ ws → pops_from ws w to s v.out ≡ GoesOn s' o'
+              → Goes e deep 1 t (Sees e (Lies i m behind s' frames o') (pc + widths (plain_template (i.layouts m) p (Pop w to))))
+          popped [] there f = absurd (let clash : Fails ≡ GoesOn s' o' = f in cc)
+          popped (x ∷ xs) there f = by_test (x.width == w) refl f
+            where
+              by_test : (b : Bool) → (x.width == w) ≡ b
+                  → (if b then GoesOn (sets to x.value (record s { waiting = xs })) v.out else Fails) ≡ GoesOn s' o'
+                  → Goes e deep 1 t (Sees e (Lies i m behind s' frames o') (pc + widths (plain_template (i.layouts m) p (Pop w to))))
+              by_test false g j = absurd (let clash : Fails ≡ GoesOn s' o' = j in cc)
+              by_test true g j =
+                  let is = plain_template (i.layouts m) p (Pop w to) in
+                  let same : x.width ≡ w = equal x.width w g in
+                  let narrow = can.0.1 in
+                  by_takes is v (Lies i m behind s' frames o') pc t
+                  (ended behind is v (sets to x.value (record s { waiting = xs })) s' v.out o' j
+                  (subst (λ n. Takes e deep v (plain_template (i.layouts m) p (Pop n to)) (Lies i m behind (sets to x.value (record s { waiting = xs })) frames v.out)) same
+                  (takes_pops_value i ok m frames e deep live behind s x xs to v there (omega (arith, same, narrow)) can.1 k))) stand room some h
+      goes_plain live behind (Stop code) s s' o' v pc t made can front full k stand room some h = absurd (let clash : Raises code ≡ GoesOn s' o' = made in cc)

@@ -1,0 +1,28 @@
+// The laws of shifts by known amounts.
+ghost use Rattle.std.specs.Prelude.{ℕ, ◌≡◌, ◌<◌, ◌≤◌, Bool, List, Some};
+ghost use Rattle.vg_lin.specs.declared.instr.Operand.{Operand};
+ghost use Rattle.vg_lin.specs.declared.instr.Operator.TheVariants.{ShiftLeft, ShiftRight};
+ghost use Rattle.vg_lin.specs.Steps.{Frame};
+ghost use Rattle.vg_lin.specs.State.{State, value, sets};
+ghost use Rattle.vg_lin.specs.Values.{computed};
+ghost use Rattle.avr_view.specs.Run.{Run};
+ghost use Rattle.avr_view.specs.View.{View};
+ghost use Rattle.vg_templates.specs.Layouts.{IsLayout};
+ghost use Rattle.vg_templates.specs.Frames.{Places};
+ghost use Rattle.vg_templates.specs.Pieces.{Takes};
+ghost use Rattle.vg_templates.specs.Held.{Held, IsReady, IsSet};
+ghost use Rattle.vg_templates.specs.Outcomes.{Lies};
+ghost use Rattle.vg_templates.specs.Shifts.{shifts_left, shifts_right};
+
+/// Laws of the templates of shifts by known amounts, of one to four bytes: their code leads to the state in which the local has got what the operator
+/// computes, also where the amount is as large as the number of bits, or larger.
+pub fn shifts_are_made()
+    ensures left { (e : Run) (i : Places) → ((m : ℕ) → IsLayout (i.layouts m)) → (m : ℕ) (frames : List (Frame State)) (live behind : ℕ → Bool)
+        (s : State) (w to : ℕ) (a : Operand) (n x z : ℕ) (v : View) → w ≤ 4 → IsReady (i.layouts m) live a → IsSet (i.layouts m) live behind to
+        → value a s ≡ Some x → computed ShiftLeft w x n ≡ Some z → Held i m live s frames v
+        → Takes e ⊥ v (shifts_left (i.layouts m) w to a n) (Lies i m behind (sets to z s) frames v.out) }
+    ensures right { (e : Run) (i : Places) → ((m : ℕ) → IsLayout (i.layouts m)) → (m : ℕ) (frames : List (Frame State)) (live behind : ℕ → Bool)
+        (s : State) (w to : ℕ) (a : Operand) (n x z : ℕ) (v : View) → w ≤ 4 → IsReady (i.layouts m) live a → IsSet (i.layouts m) live behind to
+        → value a s ≡ Some x → computed ShiftRight w x n ≡ Some z → Held i m live s frames v
+        → Takes e ⊥ v (shifts_right (i.layouts m) w to a n) (Lies i m behind (sets to z s) frames v.out) }
+{}

@@ -1,5 +1,0 @@
-use Rattle.vg_frames.proofs.Saving.{callers_still}
-use Rattle.vg_frames.proofs.calls.callers_keep.Goals as goal
-
-pub returns : goal.returns
-returns c = callers_still

@@ -1,5 +1,0 @@
-use Rattle.vg_frames.proofs.Linking.{goes_epilogue}
-use Rattle.vg_frames.proofs.linkage.epilogues_leave.Goals as goal
-
-pub returns : goal.returns
-returns c = λ e. goes_epilogue e ⊥

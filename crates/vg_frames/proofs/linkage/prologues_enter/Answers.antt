@@ -1,5 +1,0 @@
-use Rattle.vg_frames.proofs.Linking.{goes_prologue}
-use Rattle.vg_frames.proofs.linkage.prologues_enter.Goals as goal
-
-pub returns : goal.returns
-returns c = λ e l pc v s none small stand room a. goes_prologue e _ l pc v s none small stand room (λ full. full) a

@@ -1,5 +1,0 @@
-use Rattle.vg_linked.proofs.Standing.{procedure_stands}
-use Rattle.vg_linked.proofs.laws.linked_procedures_stand.Goals as goal
-
-pub returns : goal.returns
-returns c = λ e x p start code m procedure all sound linked. procedure_stands e x p start code m procedure all sound linked

@@ -1,5 +1,0 @@
-use Rattle.vg_lookups.proofs.Finding.{goes_finds_procedure}
-use Rattle.vg_lookups.proofs.dispatches.procedures_are_found.Goals as goal
-
-pub returns : goal.returns
-returns c = λ e i ok m frames. goes_finds_procedure i ok m frames e ⊥

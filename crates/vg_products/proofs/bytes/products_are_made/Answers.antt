@@ -1,5 +1,0 @@
-use Rattle.vg_products.proofs.Multiplying.{takes_multiplies}
-use Rattle.vg_products.proofs.bytes.products_are_made.Goals as goal
-
-pub returns : goal.returns
-returns c = λ e i ok m frames. takes_multiplies i ok m frames e ⊥

@@ -1,5 +1,0 @@
-use Rattle.vg_products.proofs.Dividing.{takes_divides_once}
-use Rattle.vg_products.proofs.divisions.division_steps_are_made.Goals as goal
-
-pub returns : goal.returns
-returns c = λ e i ok m frames. takes_divides_once i ok m frames e ⊥

@@ -1,5 +1,0 @@
-use Rattle.vg_ranges.proofs.Ranging.{plain_code-fine}
-use Rattle.vg_ranges.proofs.operands.templates_can_be_spelled.Goals as goal
-
-pub returns : goal.returns
-returns c = plain_code-fine

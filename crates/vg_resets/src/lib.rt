@@ -1,4 +1,0 @@
-//! From reset to where a run of linear code begins.
-#![tactic(auto)]
-
-pub mod resetting;

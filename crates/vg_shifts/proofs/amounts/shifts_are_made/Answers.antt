@@ -1,8 +1,0 @@
-use Rattle.vg_shifts.proofs.Shifting.{takes_shifts_left, takes_shifts_right}
-use Rattle.vg_shifts.proofs.amounts.shifts_are_made.Goals as goal
-
-pub returns-clause-left : goal.returns-clause-left
-returns-clause-left c = λ e i ok m frames. takes_shifts_left i ok m frames e ⊥
-
-pub returns-clause-right : goal.returns-clause-right
-returns-clause-right c = λ e i ok m frames. takes_shifts_right i ok m frames e ⊥

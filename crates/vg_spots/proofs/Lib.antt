@@ -1,5 +1,0 @@
-pub mod Composing
-pub mod Moving
-pub mod Accessing
-pub mod Spotting
-pub mod Holding

@@ -1,5 +1,0 @@
-use Rattle.vg_spots.proofs.Holding.{takes_brings}
-use Rattle.vg_spots.proofs.locals.operands_come.Goals as goal
-
-pub returns : goal.returns
-returns c = λ e i ok m frames. takes_brings i ok m frames e ⊥

@@ -1,5 +1,0 @@
-use Rattle.vg_spots.proofs.Spotting.{takes_keep}
-use Rattle.vg_spots.proofs.spots.values_go.Goals as goal
-
-pub returns : goal.returns
-returns c = λ e. takes_keep e ⊥

@@ -1,4 +1,0 @@
-pub mod Pieces
-pub mod Transfers
-pub mod Outcomes
-pub mod Held

@@ -1,4 +1,0 @@
-pub mod Covered
-pub mod Stands
-pub mod Related
-pub mod Depth

@@ -1,0 +1,34 @@
+-- The code for loads and stores of columns in RAM. X points to the bytes, one behind the other.
+use Rattle.std.specs.Prelude.{ℕ, zero, suc, ◌+◌, ◌-◌, ◌/◌, ◌%◌, ◌==◌, List, [], ◌∷◌, ◌++◌, if◌then◌else◌}
+use Rattle.avr_instr.specs.declared.instr.Instr.{Instr}
+use Rattle.avr_instr.specs.declared.instr.Instr.TheVariants.{LdXPlus, Sbci, StXPlus, Subi}
+use Rattle.vg_lin.specs.declared.instr.Operand.{Operand}
+use Rattle.vg_lin.specs.declared.instr.Operand.TheVariants.{Local, Known}
+use Rattle.vg_templates.specs.Layouts.{Layout}
+use Rattle.vg_templates.specs.Transfers.{known}
+use Rattle.vg_templates.specs.Held.{brings, gives}
+
+-- a base is added to a pair of registers, as 65,536 less it is taken away; the base 0 costs nothing
+abbrev pub plus_base : (d base : ℕ) → List Instr
+plus_base d base = if base == 0 then [] else Subi d ((65536 - base) % 256) ∷ Sbci (d + 1) ((65536 - base) / 256) ∷ []
+
+-- X is the address of a base with an index added
+abbrev pub points_x : Layout → (base : ℕ) → Operand → List Instr
+points_x l base (Known x) = known 26 2 (base + x)
+points_x l base (Local k) = brings l (Local k) 26 2 ++ plus_base 26 base
+
+abbrev pub loads_x : (d count : ℕ) → List Instr
+loads_x d zero = []
+loads_x d (suc n) = LdXPlus d ∷ loads_x (suc d) n
+
+abbrev pub stores_x : (r count : ℕ) → List Instr
+stores_x r zero = []
+stores_x r (suc n) = StXPlus r ∷ stores_x (suc r) n
+
+-- so many bytes of a column go to a local
+abbrev pub loads_column : Layout → (width to base : ℕ) → (index : Operand) → List Instr
+loads_column l w to base index = points_x l base index ++ (loads_x 22 w ++ gives l to 22 w)
+
+-- so many low bytes of a value go to a column
+abbrev pub stores_column : Layout → (width base : ℕ) → (index from : Operand) → List Instr
+stores_column l w base index from = points_x l base index ++ (brings l from 22 w ++ stores_x 22 w)
