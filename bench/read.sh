@@ -1,9 +1,11 @@
 #!/bin/bash
-# Times how long texts of 1 KB to 256 KB are read and checked, and their typed programs made, by the command `build`, which cannot build them yet.
+# Times how long texts of 1 KB to 256 KB are read and checked, and their typed programs made, by the command `build`. Nothing of them is live but an empty
+# main, so what `build` does behind that has little to do.
 # The start of the program, with an empty text, is shown first and is subtracted. Behind a time stands the exponent of
 # its growth since the text before: 1 where time is in proportion to the text, 2 where it grows with its square.
 # Then come texts of 131,072 and 262,144 bytes, the most that is read, nearly all of whose tokens have one byte, with the
-# most memory that a run takes. Those of arguments and of indices break a rule: the one behind all of them, the other at the first.
+# most memory that a run takes. They have one method, which is live, so what is behind the typed program counts too, as far
+# as it comes. Those of arguments and of indices break a rule: the one behind all of them, the other at the first.
 set -eu
 here=$(cd "$(dirname "$0")" && pwd)
 top=$(dirname "$here")

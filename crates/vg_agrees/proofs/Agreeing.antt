@@ -39,15 +39,15 @@ use Rattle.vg_agrees.specs.Does.{DoesAsProgram}
 use Rattle.vg_agrees.specs.Whole.{with_whole}
 
 -- what is alike to an answer that ends so ends so too, in the same world
-alike_end : {S T : Type 0} (a : Answer S History) (why : Signal) (t : T) (w : World History) → Alike a (Ends why t w) → (s : S) × (a ≡ Ends why s w)
+pub alike_end : {S T : Type 0} (a : Answer S History) (why : Signal) (t : T) (w : World History) → Alike a (Ends why t w) → (s : S) × (a ≡ Ends why s w)
 alike_end (Ends because s v) why t w (same, world) = (s, ap (λ z. Ends z s v) same ∙ ap (λ z. Ends why s z) world)
 alike_end (Gives s v) why t w h = absurd h
 
 -- a run that is out of clock has spent it
-spent_all : {S : Type 0} (clock : ℕ) (t : S) (w : World History) → Spent clock (Ends (Over OutOfClock) t w) → w.clock ≡ 0
+pub spent_all : {S : Type 0} (clock : ℕ) (t : S) (w : World History) → Spent clock (Ends (Over OutOfClock) t w) → w.clock ≡ 0
 spent_all clock t w (ends le none) = none refl
 
-all_spent : (clock left steps : ℕ) → left ≡ 0 → clock ≤ left + steps → clock ≤ steps
+pub all_spent : (clock left steps : ℕ) → left ≡ 0 → clock ≤ left + steps → clock ≤ steps
 all_spent clock left steps e h = omega (arith, e, h)
 
 -- a stack that ends where SRAM does is passed where the peak reaches below its floor

@@ -1,170 +1,255 @@
 -- What an answer says of the bytes: which texts are refused, and which are built.
-use Rattle.std.proofs.Common.{◌≡◌, ℕ, zero, suc, ◌≤◌, ◌⊎◌, ◌↔◌, List, Some, None, Ok, Err, refl, sym, ap, ◌∙◌, subst, inl, inr, arith}
-use Rattle.std.specs.Prelude.{IsOk}
+use Rattle.std.proofs.Common.{◌≡◌, ℕ, zero, suc, ◌+◌, ◌≤◌, ◌⊎◌, ◌↔◌, List, Option, Some, None, Result, Ok, Err, refl, sym, ap, ◌∙◌, subst, inl, inr, arith}
+use Rattle.std.specs.Prelude.{IfSome, IsOk}
 use Rattle.vg_base.specs.declared.place.Place.{Place}
 use Rattle.vg_base.specs.declared.refusal.Refusal.{Refusal}
 use Rattle.vg_base.specs.declared.refusal.Refusal.TheVariants as refusal
 use Rattle.vg_syntax.specs.Faults.{IsText}
+use Rattle.vg_syntax.specs.Tree.{Node}
+use Rattle.vg_source.specs.Values.{Heap}
+use Rattle.vg_source.specs.Program.{source_of}
+use Rattle.vg_source.specs.Session.{Started, started}
 use Rattle.vg_first_text.specs.declared.device_write.DeviceWrite.{DeviceWrite}
+use Rattle.vg_first_text.specs.FirstSession.{first_session}
 use Rattle.vg_first_text.specs.FirstText.{IsFirst}
+use Rattle.avr_isa.specs.Agrees.{Agrees, NeverReaches}
 use Rattle.vg_texts.proofs.Values.{some_tree}
 use Rattle.vg_first_laws.specs.Trees.{empty_heap}
 use Rattle.vg_first_laws.proofs.Texts.{first_is_text}
 use Rattle.vg_first_laws.proofs.Means.{text_is_legal, text_starts}
 use Rattle.vg_faults.specs.declared.fault.Fault.{Fault}
 use Rattle.vg_faults.specs.declared.fault.Fault.TheVariants.{NoTree, TooDeep, TooMany, Broken, InitTrap, InitSteps, InitDepth, InitTouches, InitTooBig, Allocates, StaticFull, TableFull}
-use Rattle.vg_faults.specs.declared.fault.Fault.TheVariants.{NoMember, NotBuilt}
+use Rattle.vg_faults.specs.declared.fault.Fault.TheVariants.{StackFull, CodeFull, NoMember, NotBuilt}
 use Rattle.vg_faults.specs.Faults.{IsOfInit}
-use Rattle.vg_faults.specs.Fitting.{HasFitFault, IsFittingIn}
-use Rattle.vg_faults.specs.Starting.{FailsIn, StartsIn}
-use Rattle.vg_faults.proofs.Makers.{firm_starts}
-use Rattle.vg_faults.proofs.Fits.{no_fit_fault, one_fit_fault}
-use Rattle.vg_alive.specs.Answer.{named_start_heap}
+use Rattle.vg_faults.specs.Judged.{IsLegal}
+use Rattle.vg_faults.specs.Room.{HasRoomFault, HasRoomIn, needed}
+use Rattle.vg_faults.specs.Starting.{FailsIn}
+use Rattle.vg_faults.proofs.Room.{is_room_fault, no_room_fault, one_room_fault}
 use Rattle.vg_fits.specs.declared.fitting.Fitted.{Fitted}
 use Rattle.vg_fits.specs.Answer.{IsFittedOf, Fits}
-use Rattle.vg_tree_walks.specs.Whole.{tree_at}
 use Rattle.vg_build.specs.Image.{IsBuiltOf}
 use Rattle.vg_build.specs.declared.building.Built.{Built}
-use Rattle.vg_faults.specs.Judged.{IsLegal}
-use Rattle.vg_build.proofs.Constants.{fitting_of}
-use Rattle.vg_build.specs.Answer.{Answer, Answers, HasFault, IsCause, IsNotBuilt, IsSettled, fault_in, first_place}
+use Rattle.vg_build.specs.Answer.{Answer, Answers, HasFault, IsCause, IsNoFirst, IsNotBuilt, IsSettled, fault_in, first_place}
+use Rattle.vg_build.specs.Mirrors.{CompiledBy, FlashBy}
+use Rattle.vg_build.proofs.Constants.{fitting_of, static_of}
 
 same_fault : (a b : Fault) → Some a ≡ Some b → a ≡ b
 same_fault a b e = cc
 
-same_place : (p q : Place) → NotBuilt p ≡ NotBuilt q → p ≡ q
-same_place p q e = cc
-
--- ---- the faults of a text, and the one that a form is not built
-
-abbrev Sorted : Fault → List ℕ → ℕ → Type 0
-Sorted why bytes clock = ((why ≡ NotBuilt first_place) × IsNotBuilt bytes clock) ⊎ HasFitFault why bytes clock
-
-sorted : (why : Fault) (bytes : List ℕ) (clock : ℕ) → HasFault why bytes clock → Sorted why bytes clock
-sorted (NoTree p) bytes clock h = inr h
-sorted (TooDeep p) bytes clock h = inr h
-sorted (TooMany what limit p) bytes clock h = inr h
-sorted (Broken rule p) bytes clock h = inr h
-sorted (InitTrap code p) bytes clock h = inr h
-sorted InitSteps bytes clock h = inr h
-sorted InitDepth bytes clock h = inr h
-sorted (InitTouches address) bytes clock h = inr h
-sorted InitTooBig bytes clock h = inr h
-sorted (Allocates p line) bytes clock h = inr h
-sorted (StaticFull need) bytes clock h = inr h
-sorted (TableFull need) bytes clock h = inr h
-sorted NoMember bytes clock h = inr h
-sorted (NotBuilt p) bytes clock h = inl (ap NotBuilt h.1, h.0)
-
--- a fault of the text is one of the command
-has_fault : (why : Fault) (bytes : List ℕ) (clock : ℕ) → HasFitFault why bytes clock → HasFault why bytes clock
-has_fault (NoTree p) bytes clock h = h
-has_fault (TooDeep p) bytes clock h = h
-has_fault (TooMany what limit p) bytes clock h = h
-has_fault (Broken rule p) bytes clock h = h
-has_fault (InitTrap code p) bytes clock h = h
-has_fault InitSteps bytes clock h = h
-has_fault InitDepth bytes clock h = h
-has_fault (InitTouches address) bytes clock h = h
-has_fault InitTooBig bytes clock h = h
-has_fault (Allocates p line) bytes clock h = h
-has_fault (StaticFull need) bytes clock h = h
-has_fault (TableFull need) bytes clock h = h
-has_fault NoMember bytes clock h = h
-has_fault (NotBuilt p) bytes clock h = absurd h
-
-one_sorted : (a b : Fault) (bytes : List ℕ) (clock : ℕ) → Sorted a bytes clock → Sorted b bytes clock → a ≡ b
-one_sorted a b bytes clock (inl h) (inl k) = h.0 ∙ sym k.0
-one_sorted a b bytes clock (inl h) (inr k) = absurd (no_fit_fault bytes clock b h.1.0 k)
-one_sorted a b bytes clock (inr h) (inl k) = absurd (no_fit_fault bytes clock a k.1.0 h)
-one_sorted a b bytes clock (inr h) (inr k) = one_fit_fault bytes clock a b h k
-
--- the bytes have at most one fault
-one_fault : (a b : Fault) (bytes : List ℕ) (clock : ℕ) → HasFault a bytes clock → HasFault b bytes clock → a ≡ b
-one_fault a b bytes clock h k = one_sorted a b bytes clock (sorted a bytes clock h) (sorted b bytes clock k)
-
--- ---- programs of constants
-
--- a program of constants starts, with each clock from 1 on, makes nothing and fits
-first_starts : (bytes : List ℕ) (clock : ℕ) (writes : List DeviceWrite) → 1 ≤ clock → IsFirst bytes writes → IsFittingIn bytes clock
-first_starts bytes zero writes some first = absurd (omega (arith, some))
-first_starts bytes (suc clock) writes some first =
-    let text : IsText bytes = first_is_text bytes writes first in
-    let (tree, reads) = some_tree bytes text in
-    let legal : IsLegal bytes tree = record { text = text; reads = reads; legal = text_is_legal bytes writes tree first reads } in
-    (tree, empty_heap, fitting_of bytes (suc clock) writes tree empty_heap legal (text_starts bytes writes tree first reads clock) first)
-
-starts_and_first : (why : Fault) (bytes : List ℕ) (clock : ℕ) (writes : List DeviceWrite) → IsFittingIn bytes clock → IsFirst bytes writes
-    → Sorted why bytes clock → ⊥
-starts_and_first why bytes clock writes starts first (inl h) = h.1.1 writes first
-starts_and_first why bytes clock writes starts first (inr h) = no_fit_fault bytes clock why starts h
-
--- what was built starts, makes nothing and fits
-built_starts : (bytes : List ℕ) (clock : ℕ) (built : Built) → IsBuiltOf bytes clock built → IsFittingIn bytes clock
-built_starts bytes clock built is =
-    let i = is.image in (i.tree, i.heap, fitting_of bytes clock i.writes i.tree i.heap i.legal i.starts i.first)
-
--- ---- exactly which texts are refused, and for what
-
 none_some : (a : Fault) → None ≡ Some a → ⊥
 none_some a e = cc
 
-pub exactly : (bytes : List ℕ) (clock : ℕ) (r : Answer) → Answers bytes clock r → IsSettled r → (why : Fault)
-    → (fault_in r ≡ Some why) ↔ HasFault why bytes clock
-exactly bytes clock (Ok built) h settled why = (
+-- ---- the faults of a text, and what is not built
+
+-- the faults that are answered exactly where the bytes have them
+abbrev pub IsExact : Fault → Type 0
+IsExact (NotBuilt place) = ⊥
+IsExact (CodeFull words) = ⊥
+IsExact why = Unit {0}
+
+abbrev Sorted : Fault → List ℕ → Option ℕ → ℕ → Type 0
+Sorted why bytes asked clock = IsNotBuilt bytes asked clock ⊎ HasRoomFault why bytes asked clock
+
+sorted : (why : Fault) (bytes : List ℕ) (asked : Option ℕ) (clock : ℕ) → HasFault why bytes asked clock → Sorted why bytes asked clock
+sorted (NotBuilt p) bytes asked clock h = inl h.0
+sorted (CodeFull words) bytes asked clock h = inl h.0
+sorted (NoTree p) bytes asked clock h = inr h
+sorted (TooDeep p) bytes asked clock h = inr h
+sorted (TooMany what limit p) bytes asked clock h = inr h
+sorted (Broken rule p) bytes asked clock h = inr h
+sorted (InitTrap code p) bytes asked clock h = inr h
+sorted InitSteps bytes asked clock h = inr h
+sorted InitDepth bytes asked clock h = inr h
+sorted (InitTouches address) bytes asked clock h = inr h
+sorted InitTooBig bytes asked clock h = inr h
+sorted (Allocates p line) bytes asked clock h = inr h
+sorted (StaticFull need) bytes asked clock h = inr h
+sorted (TableFull need) bytes asked clock h = inr h
+sorted (StackFull need left) bytes asked clock h = inr h
+sorted NoMember bytes asked clock h = inr h
+
+-- an exact one is a fault of the text
+exact_fault : (why : Fault) (bytes : List ℕ) (asked : Option ℕ) (clock : ℕ) → IsExact why → HasFault why bytes asked clock → HasRoomFault why bytes asked clock
+exact_fault (NotBuilt p) bytes asked clock exact h = absurd exact
+exact_fault (CodeFull words) bytes asked clock exact h = absurd exact
+exact_fault (NoTree p) bytes asked clock exact h = h
+exact_fault (TooDeep p) bytes asked clock exact h = h
+exact_fault (TooMany what limit p) bytes asked clock exact h = h
+exact_fault (Broken rule p) bytes asked clock exact h = h
+exact_fault (InitTrap code p) bytes asked clock exact h = h
+exact_fault InitSteps bytes asked clock exact h = h
+exact_fault InitDepth bytes asked clock exact h = h
+exact_fault (InitTouches address) bytes asked clock exact h = h
+exact_fault InitTooBig bytes asked clock exact h = h
+exact_fault (Allocates p line) bytes asked clock exact h = h
+exact_fault (StaticFull need) bytes asked clock exact h = h
+exact_fault (TableFull need) bytes asked clock exact h = h
+exact_fault (StackFull need left) bytes asked clock exact h = h
+exact_fault NoMember bytes asked clock exact h = h
+
+-- and a fault of the text is one of the command
+has_fault : (why : Fault) (bytes : List ℕ) (asked : Option ℕ) (clock : ℕ) → HasRoomFault why bytes asked clock → HasFault why bytes asked clock
+has_fault (NotBuilt p) bytes asked clock h = absurd h
+has_fault (CodeFull words) bytes asked clock h = absurd h
+has_fault (NoTree p) bytes asked clock h = h
+has_fault (TooDeep p) bytes asked clock h = h
+has_fault (TooMany what limit p) bytes asked clock h = h
+has_fault (Broken rule p) bytes asked clock h = h
+has_fault (InitTrap code p) bytes asked clock h = h
+has_fault InitSteps bytes asked clock h = h
+has_fault InitDepth bytes asked clock h = h
+has_fault (InitTouches address) bytes asked clock h = h
+has_fault InitTooBig bytes asked clock h = h
+has_fault (Allocates p line) bytes asked clock h = h
+has_fault (StaticFull need) bytes asked clock h = h
+has_fault (TableFull need) bytes asked clock h = h
+has_fault (StackFull need left) bytes asked clock h = h
+has_fault NoMember bytes asked clock h = h
+
+-- the bytes have at most one exact fault, and then no other
+one_fault : (a b : Fault) (bytes : List ℕ) (asked : Option ℕ) (clock : ℕ) → Sorted a bytes asked clock → HasRoomFault b bytes asked clock → a ≡ b
+one_fault a b bytes asked clock (inl h) k = absurd (no_room_fault bytes asked clock b h.0 k)
+one_fault a b bytes asked clock (inr h) k = one_room_fault bytes asked clock a b h k
+
+-- ---- programs of constants
+
+module _ (bytes : List ℕ) (asked : Option ℕ) (clock : ℕ) (writes : List DeviceWrite) (first : IsFirst bytes writes) (small : needed asked ≤ 4096) where
+  constants_fit : (tree : Node) (heap : Heap) → IsLegal bytes tree → started (source_of tree) clock ≡ Started heap → HasRoomIn bytes asked clock
+  constants_fit tree heap legal starts =
+      record {
+        tree = tree;
+        heap = heap;
+        fitting = fitting_of bytes clock writes tree heap legal starts first;
+        static_bytes = 0;
+        has_static = static_of bytes clock writes tree heap legal starts first;
+        room = omega (arith, small);
+      }
+
+-- a program of constants starts, with each clock from 1 on, makes nothing and fits, and each stack has room
+first_has_room : (bytes : List ℕ) (asked : Option ℕ) (clock : ℕ) (writes : List DeviceWrite) → 1 ≤ clock → needed asked ≤ 4096 → IsFirst bytes writes
+    → HasRoomIn bytes asked clock
+first_has_room bytes asked zero writes some small first = absurd (omega (arith, some))
+first_has_room bytes asked (suc clock) writes some small first =
+    let text : IsText bytes = first_is_text bytes writes first in
+    let (tree, reads) = some_tree bytes text in
+    let legal : IsLegal bytes tree = record { text = text; reads = reads; legal = text_is_legal bytes writes tree first reads } in
+    constants_fit bytes asked (suc clock) writes first small tree empty_heap legal (text_starts bytes writes tree first reads clock)
+
+first_has_none : (why : Fault) (bytes : List ℕ) (asked : Option ℕ) (clock : ℕ) (writes : List DeviceWrite) → HasRoomIn bytes asked clock → IsFirst bytes writes
+    → Sorted why bytes asked clock → ⊥
+first_has_none why bytes asked clock writes room first (inl h) = h.1 writes first
+first_has_none why bytes asked clock writes room first (inr h) = no_room_fault bytes asked clock why room h
+
+needs_few : (asked : Option ℕ) → IfSome asked (λ stack. (1 ≤ stack) × (stack ≤ 4096)) → needed asked ≤ 4096
+needs_few None h = omega arith
+needs_few (Some stack) h = h.1
+
+-- ---- exactly which texts are refused, and for what
+
+-- what was built has room
+built_has_room : (bytes : List ℕ) (asked : Option ℕ) (clock : ℕ) (built : Built) → IsBuiltOf bytes asked clock built → HasRoomIn bytes asked clock
+built_has_room bytes asked clock built is =
+    record {
+      tree = is.image.tree;
+      heap = is.image.heap;
+      fitting = is.image.fitting;
+      static_bytes = built.layout.static_bytes;
+      has_static = is.image.static_is;
+      room = is.image.room;
+    }
+
+pub exactly : (bytes : List ℕ) (asked : Option ℕ) (clock : ℕ) (r : Answer) → Answers bytes asked clock r → IsSettled r → (why : Fault) → IsExact why
+    → (fault_in r ≡ Some why) ↔ HasFault why bytes asked clock
+exactly bytes asked clock (Ok built) h settled why exact = (
   λ e. absurd (none_some why e),
-  λ k. absurd (starts_and_first why bytes clock h.image.writes (built_starts bytes clock built h) h.image.first (sorted why bytes clock k)),
+  λ k. absurd (no_room_fault bytes asked clock why (built_has_room bytes asked clock built h) (exact_fault why bytes asked clock exact k)),
 )
-exactly bytes clock (Err (refusal.Fault w)) h settled why =
-    (λ e. subst (λ x. HasFault x bytes clock) (same_fault w why e) h, λ k. ap Some (one_fault w why bytes clock h k))
-exactly bytes clock (Err refusal.NoMemory) h settled why = absurd settled
+exactly bytes asked clock (Err (refusal.Fault w)) h settled why exact = (
+  λ e. subst (λ x. HasFault x bytes asked clock) (same_fault w why e) h,
+  λ k. ap Some (one_fault w why bytes asked clock (sorted w bytes asked clock h) (exact_fault why bytes asked clock exact k)),
+)
+exactly bytes asked clock (Err refusal.NoMemory) h settled why exact = absurd settled
 
-pub init_of : (bytes : List ℕ) (clock : ℕ) (r : Answer) → Answers bytes clock r → IsSettled r → (why : Fault) → IsOfInit why
+pub init_of : (bytes : List ℕ) (asked : Option ℕ) (clock : ℕ) (r : Answer) → Answers bytes asked clock r → IsSettled r → (why : Fault) → IsOfInit why
     → (fault_in r ≡ Some why) ↔ FailsIn bytes clock why
-init_of bytes clock r h settled (NoTree p) of_init = absurd of_init
-init_of bytes clock r h settled (TooDeep p) of_init = absurd of_init
-init_of bytes clock r h settled (TooMany what limit p) of_init = absurd of_init
-init_of bytes clock r h settled (Broken rule p) of_init = absurd of_init
-init_of bytes clock r h settled (InitTrap code p) of_init = exactly bytes clock r h settled (InitTrap code p)
-init_of bytes clock r h settled InitSteps of_init = exactly bytes clock r h settled InitSteps
-init_of bytes clock r h settled InitDepth of_init = exactly bytes clock r h settled InitDepth
-init_of bytes clock r h settled (InitTouches address) of_init = exactly bytes clock r h settled (InitTouches address)
-init_of bytes clock r h settled InitTooBig of_init = exactly bytes clock r h settled InitTooBig
-init_of bytes clock r h settled (Allocates p line) of_init = absurd of_init
-init_of bytes clock r h settled (StaticFull need) of_init = absurd of_init
-init_of bytes clock r h settled (TableFull need) of_init = absurd of_init
-init_of bytes clock r h settled NoMember of_init = absurd of_init
-init_of bytes clock r h settled (NotBuilt p) of_init = absurd of_init
+init_of bytes asked clock r h settled (NoTree p) of_init = absurd of_init
+init_of bytes asked clock r h settled (TooDeep p) of_init = absurd of_init
+init_of bytes asked clock r h settled (TooMany what limit p) of_init = absurd of_init
+init_of bytes asked clock r h settled (Broken rule p) of_init = absurd of_init
+init_of bytes asked clock r h settled (InitTrap code p) of_init = exactly bytes asked clock r h settled (InitTrap code p) tt
+init_of bytes asked clock r h settled InitSteps of_init = exactly bytes asked clock r h settled InitSteps tt
+init_of bytes asked clock r h settled InitDepth of_init = exactly bytes asked clock r h settled InitDepth tt
+init_of bytes asked clock r h settled (InitTouches address) of_init = exactly bytes asked clock r h settled (InitTouches address) tt
+init_of bytes asked clock r h settled InitTooBig of_init = exactly bytes asked clock r h settled InitTooBig tt
+init_of bytes asked clock r h settled (Allocates p line) of_init = absurd of_init
+init_of bytes asked clock r h settled (StaticFull need) of_init = absurd of_init
+init_of bytes asked clock r h settled (TableFull need) of_init = absurd of_init
+init_of bytes asked clock r h settled (StackFull need left) of_init = absurd of_init
+init_of bytes asked clock r h settled NoMember of_init = absurd of_init
+init_of bytes asked clock r h settled (CodeFull words) of_init = absurd of_init
+init_of bytes asked clock r h settled (NotBuilt p) of_init = absurd of_init
 
--- exactly the texts of a form that is not built are refused so
-pub not_built_of : (bytes : List ℕ) (clock : ℕ) (r : Answer) → Answers bytes clock r → IsSettled r
-    → (fault_in r ≡ Some (NotBuilt first_place)) ↔ IsNotBuilt bytes clock
-not_built_of bytes clock r h settled =
-    let same = exactly bytes clock r h settled (NotBuilt first_place) in (λ e. (same.0 e).0, λ k. same.1 (k, refl))
+-- a fault that is answered is one that the bytes have
+pub answered_of : (bytes : List ℕ) (asked : Option ℕ) (clock : ℕ) (r : Answer) → Answers bytes asked clock r → (why : Fault) → fault_in r ≡ Some why
+    → HasFault why bytes asked clock
+answered_of bytes asked clock (Ok built) h why e = absurd (none_some why e)
+answered_of bytes asked clock (Err (refusal.Fault w)) h why e = subst (λ x. HasFault x bytes asked clock) (same_fault w why e) h
+answered_of bytes asked clock (Err refusal.NoMemory) h why e = absurd (none_some why e)
 
--- and that at the first place
-pub first_of : (bytes : List ℕ) (clock : ℕ) (r : Answer) → Answers bytes clock r → (place : Place) → fault_in r ≡ Some (NotBuilt place) → place ≡ first_place
-first_of bytes clock (Ok built) h place e = absurd (none_some (NotBuilt place) e)
-first_of bytes clock (Err (refusal.Fault w)) h place e = (subst (λ x. HasFault x bytes clock) (same_fault w (NotBuilt place) e) h).1
-first_of bytes clock (Err refusal.NoMemory) h place e = absurd (none_some (NotBuilt place) e)
+-- what is not built has room, and is no program of constants
+pub not_built_of : (bytes : List ℕ) (asked : Option ℕ) (clock : ℕ) (r : Answer) → Answers bytes asked clock r → (place : Place)
+    → fault_in r ≡ Some (NotBuilt place) → IsNotBuilt bytes asked clock
+not_built_of bytes asked clock r h place e = (answered_of bytes asked clock r h (NotBuilt place) e).0
+
+-- and stands at the first place
+pub first_of : (bytes : List ℕ) (asked : Option ℕ) (clock : ℕ) (r : Answer) → Answers bytes asked clock r → (place : Place)
+    → fault_in r ≡ Some (NotBuilt place) → place ≡ first_place
+first_of bytes asked clock r h place e = (answered_of bytes asked clock r h (NotBuilt place) e).1
 
 -- a program of constants is built, or memory is wanting
-pub complete_of : (bytes : List ℕ) (clock : ℕ) (r : Answer) → Answers bytes clock r → 1 ≤ clock → (writes : List DeviceWrite) → IsFirst bytes writes
-    → IsOk r ⊎ (r ≡ Err refusal.NoMemory)
-complete_of bytes clock (Ok built) h some writes first = inl refl
-complete_of bytes clock (Err (refusal.Fault why)) h some writes first =
-    absurd (starts_and_first why bytes clock writes (first_starts bytes clock writes some first) first (sorted why bytes clock h))
-complete_of bytes clock (Err refusal.NoMemory) h some writes first = inr refl
+pub complete_of : (bytes : List ℕ) (asked : Option ℕ) (clock : ℕ) → IfSome asked (λ stack. (1 ≤ stack) × (stack ≤ 4096)) → (r : Answer)
+    → Answers bytes asked clock r → 1 ≤ clock → (writes : List DeviceWrite) → IsFirst bytes writes → IsOk r ⊎ (r ≡ Err refusal.NoMemory)
+complete_of bytes asked clock small (Ok built) h some writes first = inl refl
+complete_of bytes asked clock small (Err (refusal.Fault why)) h some writes first =
+    absurd (first_has_none why bytes asked clock writes (first_has_room bytes asked clock writes some (needs_few asked small) first) first
+    (sorted why bytes asked clock h))
+complete_of bytes asked clock small (Err refusal.NoMemory) h some writes first = inr refl
 
--- what is answered to a text is answered by the command
-pub fits_by : (bytes : List ℕ) (clock : ℕ) (why : Refusal Fault) → Fits bytes clock (Err why) → IsCause why bytes clock
-fits_by bytes clock (refusal.Fault why) h = has_fault why bytes clock h
-fits_by bytes clock refusal.NoMemory h = tt
+-- ---- what is answered to a text is answered by the command
 
--- a text that starts, makes nothing and fits is one that starts
-pub fitting_is_start : (bytes : List ℕ) (clock : ℕ) → IsFittingIn bytes clock → StartsIn bytes clock
-fitting_is_start bytes clock (tree, heap, is) = firm_starts bytes clock tree heap is.firm
+pub fits_by : (bytes : List ℕ) (asked : Option ℕ) (clock : ℕ) (why : Refusal Fault) → Fits bytes clock (Err why) → IsCause why bytes asked clock
+fits_by bytes asked clock (refusal.Fault why) h = has_fault why bytes asked clock (is_room_fault why bytes asked clock h)
+fits_by bytes asked clock refusal.NoMemory h = tt
 
--- what is placed is that of such a text
-pub fitted_is : (bytes : List ℕ) (clock : ℕ) (f : Fitted) → IsFittedOf bytes clock f → IsFittingIn bytes clock
-fitted_is bytes clock f is = (tree_at f.alive.start.names f.alive.start.tree, named_start_heap f.alive.start, is.fitting)
+pub flash_by : (bytes : List ℕ) (asked : Option ℕ) (clock : ℕ) (f : Fitted) → HasRoomIn bytes asked clock → (why : Refusal Fault)
+    → FlashBy bytes f (Err why) → IsCause why bytes asked clock
+flash_by bytes asked clock f room (refusal.Fault (NotBuilt place)) (none, h) = ((room, none), h)
+flash_by bytes asked clock f room (refusal.Fault (CodeFull words)) (none, h) = ((room, none), h)
+flash_by bytes asked clock f room refusal.NoMemory h = tt
+flash_by bytes asked clock f room (refusal.Fault (NoTree p)) h = absurd h.1
+flash_by bytes asked clock f room (refusal.Fault (TooDeep p)) h = absurd h.1
+flash_by bytes asked clock f room (refusal.Fault (TooMany what limit p)) h = absurd h.1
+flash_by bytes asked clock f room (refusal.Fault (Broken rule p)) h = absurd h.1
+flash_by bytes asked clock f room (refusal.Fault (InitTrap code p)) h = absurd h.1
+flash_by bytes asked clock f room (refusal.Fault InitSteps) h = absurd h.1
+flash_by bytes asked clock f room (refusal.Fault InitDepth) h = absurd h.1
+flash_by bytes asked clock f room (refusal.Fault (InitTouches address)) h = absurd h.1
+flash_by bytes asked clock f room (refusal.Fault InitTooBig) h = absurd h.1
+flash_by bytes asked clock f room (refusal.Fault (Allocates p line)) h = absurd h.1
+flash_by bytes asked clock f room (refusal.Fault (StaticFull need)) h = absurd h.1
+flash_by bytes asked clock f room (refusal.Fault (TableFull need)) h = absurd h.1
+flash_by bytes asked clock f room (refusal.Fault (StackFull need left)) h = absurd h.1
+flash_by bytes asked clock f room (refusal.Fault NoMember) h = absurd h.1
+
+-- the flash of writes is that of a program of constants
+pub by_writes : (bytes : List ℕ) (f : Fitted) (writes given : List DeviceWrite) (image : List ℕ) → given ≡ writes → IsFirst bytes writes
+    → ((floor stack : ℕ) → floor + stack ≡ 0x1100 → 2 ≤ stack → Agrees (first_session given) image floor stack)
+    → ((floor stack : ℕ) → floor + stack ≡ 0x1100 → 2 ≤ stack → NeverReaches image floor) → FlashBy bytes f (Ok image)
+by_writes bytes f writes given image same first agrees never =
+    inl (given, subst (λ ws. IsFirst bytes ws) (sym same) first, record { agrees = agrees; never = never })
+
+-- what is compiled of what is no program of constants
+pub by_compiled : (bytes : List ℕ) (f : Fitted) → IsNoFirst bytes → (r : Result (List ℕ) (Refusal Fault)) → CompiledBy f r → FlashBy bytes f r
+by_compiled bytes f none (Ok image) h = inr (none, h)
+by_compiled bytes f none (Err (refusal.Fault why)) h = (none, h)
+by_compiled bytes f none (Err refusal.NoMemory) h = tt

@@ -1,3 +1,5 @@
 pub mod Constants
+pub mod Stacks
+pub mod Rooms
 pub mod Images
 pub mod Faults

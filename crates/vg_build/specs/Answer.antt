@@ -1,13 +1,13 @@
 -- What `build` answers to the bytes of a source text.
-use Rattle.std.specs.Prelude.{ℕ, ◌≡◌, List, Option, Some, None, Result, Ok, Err}
+use Rattle.std.specs.Prelude.{ℕ, ◌≡◌, ◌≤◌, List, Option, Some, None, Result, Ok, Err}
 use Rattle.vg_base.specs.declared.place.Place.{Place}
 use Rattle.vg_base.specs.declared.refusal.Refusal.{Refusal}
 use Rattle.vg_base.specs.declared.refusal.Refusal.TheVariants as refusal
 use Rattle.vg_first_text.specs.declared.device_write.DeviceWrite.{DeviceWrite}
 use Rattle.vg_first_text.specs.FirstText.{IsFirst}
 use Rattle.vg_faults.specs.declared.fault.Fault.{Fault}
-use Rattle.vg_faults.specs.declared.fault.Fault.TheVariants.{NotBuilt}
-use Rattle.vg_faults.specs.Fitting.{HasFitFault, IsFittingIn}
+use Rattle.vg_faults.specs.declared.fault.Fault.TheVariants.{CodeFull, NotBuilt}
+use Rattle.vg_faults.specs.Room.{HasRoomFault, HasRoomIn}
 use Rattle.vg_build.specs.declared.building.Built.{Built}
 use Rattle.vg_build.specs.Image.{IsBuiltOf}
 
@@ -31,25 +31,28 @@ fault_in (Err refusal.NoMemory) = None
 abbrev pub IsNoFirst : List ℕ → Type 0
 IsNoFirst bytes = (writes : List DeviceWrite) → IsFirst bytes writes → ⊥
 
--- the bytes are a legal text that starts with this clock, whose live methods make nothing and which fits, of a form that is not built yet
-abbrev pub IsNotBuilt : List ℕ → (clock : ℕ) → Type 0
-IsNotBuilt bytes clock = IsFittingIn bytes clock × IsNoFirst bytes
+-- the bytes are a legal text that starts with this clock, whose live methods make nothing, which fits and whose stack has room, and no program of constants; of
+-- such texts alone some are not built
+abbrev pub IsNotBuilt : List ℕ → (asked : Option ℕ) → (clock : ℕ) → Type 0
+IsNotBuilt bytes asked clock = HasRoomIn bytes asked clock × IsNoFirst bytes
 
 -- the first place of a text
 abbrev pub first_place : Place
 first_place = record { line = 1; col = 1 }
 
--- the bytes have this fault, where initialisation has this clock; a form that is not built stands at the first place
-abbrev pub HasFault : Fault → List ℕ → (clock : ℕ) → Type 0
-HasFault (NotBuilt place) bytes clock = IsNotBuilt bytes clock × (place ≡ first_place)
-HasFault why bytes clock = HasFitFault why bytes clock
+-- the bytes have this fault, where this stack is asked for, or none, and initialisation has this clock; what is not built stands at the first place, and code
+-- that is too long has more words than 65,535
+abbrev pub HasFault : Fault → List ℕ → (asked : Option ℕ) → (clock : ℕ) → Type 0
+HasFault (NotBuilt place) bytes asked clock = IsNotBuilt bytes asked clock × (place ≡ first_place)
+HasFault (CodeFull words) bytes asked clock = IsNotBuilt bytes asked clock × (65536 ≤ words)
+HasFault why bytes asked clock = HasRoomFault why bytes asked clock
 
 -- why nothing was built of the bytes: they have a fault, or memory was wanting
-abbrev pub IsCause : Refusal Fault → List ℕ → (clock : ℕ) → Type 0
-IsCause (refusal.Fault why) bytes clock = HasFault why bytes clock
-IsCause refusal.NoMemory bytes clock = Unit {0}
+abbrev pub IsCause : Refusal Fault → List ℕ → (asked : Option ℕ) → (clock : ℕ) → Type 0
+IsCause (refusal.Fault why) bytes asked clock = HasFault why bytes asked clock
+IsCause refusal.NoMemory bytes asked clock = Unit {0}
 
 -- what an answer says of the bytes
-abbrev pub Answers : List ℕ → (clock : ℕ) → Answer → Type 0
-Answers bytes clock (Ok built) = IsBuiltOf bytes clock built
-Answers bytes clock (Err why) = IsCause why bytes clock
+abbrev pub Answers : List ℕ → (asked : Option ℕ) → (clock : ℕ) → Answer → Type 0
+Answers bytes asked clock (Ok built) = IsBuiltOf bytes asked clock built
+Answers bytes asked clock (Err why) = IsCause why bytes asked clock

@@ -1,12 +1,11 @@
 -- How an image uses SRAM, and how that is written.
-use Rattle.std.specs.Prelude.{ℕ, ◌-◌, ◌/◌, ◌%◌, List, [], ◌∷◌, ◌++◌, Option, Some, None, codes, decimal}
+use Rattle.std.specs.Prelude.{ℕ, ◌-◌, ◌/◌, ◌%◌, List, [], ◌∷◌, ◌++◌, Option, unwrap_or, codes, decimal}
 use Rattle.hex.specs.Hex.{encode_lower}
 use Rattle.vg_build.specs.declared.layout.Layout.{Layout}
 
 -- the stack that is stated: the one that is asked for, else all SRAM above the static area
 abbrev pub stated : (asked : Option ℕ) → (static_bytes : ℕ) → ℕ
-stated None static_bytes = 4096 - static_bytes
-stated (Some stack) static_bytes = stack
+stated asked static_bytes = unwrap_or asked (4096 - static_bytes)
 
 -- an address in four hexadecimal digits
 abbrev pub address_text : ℕ → List ℕ

@@ -1,29 +1,28 @@
 // From the bytes of a source text to its image.
-ghost use Rattle.std.specs.Prelude.{◌≡◌, ◌↔◌, ◌≤◌, ◌⊎◌, ℕ, List, length, Some, Err, IfErr, IfOk, IsOk};
+ghost use Rattle.std.specs.Prelude.{◌≡◌, ◌↔◌, ◌≤◌, ◌⊎◌, ℕ, List, length, Some, Err, IfErr, IfOk, IfSome, IsOk};
 ghost use Rattle.vg_base.specs.Limits.{text_limit};
 ghost use Rattle.vg_base.specs.declared.place.Place.{Place};
 ghost use Rattle.vg_syntax.specs.Faults.{NoTreeIn, TooDeepIn};
 ghost use Rattle.vg_first_text.specs.declared.device_write.DeviceWrite.{DeviceWrite as Write};
-ghost use Rattle.vg_first_text.specs.FirstSession.{AreDevices};
 ghost use Rattle.vg_first_text.specs.FirstText.{IsFirst};
 ghost use Rattle.vg_faults.specs.Faults.{IsOfInit};
 ghost use Rattle.vg_faults.specs.Judged.{RefusedIn};
 ghost use Rattle.vg_faults.specs.Living.{AllocatesIn};
 ghost use Rattle.vg_faults.specs.Fitting.{StaticFullIn, TableFullIn};
+ghost use Rattle.vg_faults.specs.Room.{StackFullIn};
 ghost use Rattle.vg_faults.specs.Starting.{FailsIn};
 ghost use Rattle.vg_faults.specs.declared.fault.Fault as fault;
 ghost use Rattle.vg_build.specs.Answer.{Answers, IsCause, IsNotBuilt, IsSettled, fault_in, first_place};
 ghost use Rattle.vg_build.specs.Image.{IsBuiltOf};
 ghost use Rattle.vg_rules.specs.declared.what.What.{What};
-ghost use Rattle.vg_build.specs.Mirrors.{FitsBy, IsMadeOf};
+ghost use Rattle.vg_build.specs.Mirrors.{IsPacked};
 
-use crate::layout::{Layout, layout_text};
+use crate::flash::flash_of;
+use crate::layout::{Layout, NoRoom, layout_above, layout_text};
 use avr_isa::Image;
 use std::alloc::Global;
-use vg_base::{NoMemory, Place, Refusal, Row};
+use vg_base::{NoMemory, Refusal, Row};
 use vg_faults::Fault;
-use vg_first_image::image_of;
-use vg_first_text::{DeviceWrite, read_first};
 use vg_fits::fit;
 use vg_hex::write;
 
@@ -39,17 +38,24 @@ pub struct Built {
     pub note: Row<u8>,
 }
 
-/// Builds the image of a source text of at most 262,144 bytes, whose stack has all of SRAM above the static area. Its initialisation may take so many
-/// ticks.
+/// Builds the image of a source text of at most 262,144 bytes. Its stack has the bytes that are asked for, from 1 to 4,096 of them; where none are, it has
+/// all of SRAM above the static area, 64 bytes at least. Its initialisation may take so many ticks.
 ///
-/// Today a text of the language is built where it is a program of constants: one component whose one method writes at most 100 bytes to device
-/// registers. Every other one that starts, whose live methods make nothing and whose fields and arrays fit is refused as not built, at its first place.
-pub fn build(alloc: Global, text: &[u8], init_steps: u32) -> Result<Built, Refusal<Fault>>
-    requires { length text.now ≤ text_limit }
+/// A text of the language that starts, whose live methods make nothing, whose fields and arrays fit and whose stack has room is built, but for some: those
+/// whose image would take more than 65,535 words of flash, and those of which no image is made, which are refused as not built, at their first place. A
+/// program of constants is none of them: one component whose one method writes at most 100 bytes to device registers.
+pub fn build(
+    alloc: Global,
+    text: &[u8],
+    asked: Option<u16>,
+    init_steps: u32,
+) -> Result<Built, Refusal<Fault>>
+    requires short { length text.now ≤ text_limit }
+    requires asked { IfSome asked (λ bytes. (1 ≤ bytes) × (bytes ≤ 4096)) }
 
     // The image, its HEX text and its layout, or why there are none.
-    ensures headline { IfOk result (λ built. IsBuiltOf text.now init_steps built) }
-    ensures refused { IfErr result (λ why. IsCause why text.now init_steps) }
+    ensures headline { IfOk result (λ built. IsBuiltOf text.now asked init_steps built) }
+    ensures refused { IfErr result (λ why. IsCause why text.now asked init_steps) }
 
     // Exactly which texts are refused, and which are built.
     ensures no_tree { IsSettled result → (place : Place) → (fault_in result ≡ Some (fault.Fault.NoTree place)) ↔ NoTreeIn text.now place }
@@ -63,59 +69,49 @@ pub fn build(alloc: Global, text: &[u8], init_steps: u32) -> Result<Built, Refus
         → (fault_in result ≡ Some (fault.Fault.Allocates place line)) ↔ AllocatesIn text.now init_steps place line }
     ensures static_full { IsSettled result → (need : ℕ) → (fault_in result ≡ Some (fault.Fault.StaticFull need)) ↔ StaticFullIn text.now init_steps need }
     ensures table_full { IsSettled result → (need : ℕ) → (fault_in result ≡ Some (fault.Fault.TableFull need)) ↔ TableFullIn text.now init_steps need }
-    ensures not_built { IsSettled result → (fault_in result ≡ Some (fault.Fault.NotBuilt first_place)) ↔ IsNotBuilt text.now init_steps }
+    ensures stack_full { IsSettled result → (need left : ℕ)
+        → (fault_in result ≡ Some (fault.Fault.StackFull need left)) ↔ StackFullIn text.now asked init_steps need left }
+    ensures code_full { (words : ℕ) → fault_in result ≡ Some (fault.Fault.CodeFull words) → IsNotBuilt text.now asked init_steps × (65536 ≤ words) }
+    ensures not_built { (place : Place) → fault_in result ≡ Some (fault.Fault.NotBuilt place) → IsNotBuilt text.now asked init_steps }
     ensures not_built_first { (place : Place) → fault_in result ≡ Some (fault.Fault.NotBuilt place) → place ≡ first_place }
     ensures complete { 1 ≤ init_steps → (writes : List Write) → IsFirst text.now writes → IsOk result ⊎ (result ≡ Err Refusal.NoMemory) }
 {
-    answer_to(alloc, text, init_steps)
+    answer_to(alloc, text, asked, init_steps)
 }
 
 // The same, said case by case.
-fn answer_to(alloc: Global, text: &[u8], init_steps: u32) -> Result<Built, Refusal<Fault>>
+fn answer_to(
+    alloc: Global,
+    text: &[u8],
+    asked: Option<u16>,
+    init_steps: u32,
+) -> Result<Built, Refusal<Fault>>
     requires { length text.now ≤ text_limit }
-    ensures { Answers text.now init_steps result }
+    ensures { Answers text.now asked init_steps result }
 {
-    match check_text(alloc, text, init_steps) {
-        Ok(()) => {}
+    let fitted = match fit(alloc, text, init_steps) {
+        Ok(fitted) => fitted,
         Err(refusal) => return Err(refusal),
-    }
-    let writes = match read_first(alloc, text) {
-        Ok(writes) => writes,
-        Err(Refusal::Fault(_)) => {
-            return Err(Refusal::Fault(Fault::NotBuilt(Place { line: 1, col: 1 })));
-        }
-        Err(Refusal::NoMemory) => return Err(Refusal::NoMemory),
     };
-    match made_of(alloc, writes.as_slice()) {
-        Ok(built) => Ok(built),
-        Err(NoMemory) => Err(Refusal::NoMemory),
-    }
-}
-
-// Whether the bytes are a legal text that starts, whose live methods make nothing and which fits.
-#[tactic(auto, using(crate::proofs::Faults::fits_by))]
-fn check_text(alloc: Global, text: &[u8], init_steps: u32) -> Result<(), Refusal<Fault>>
-    requires { length text.now ≤ text_limit }
-    ensures { FitsBy text.now init_steps result }
-{
-    match fit(alloc, text, init_steps) {
-        Ok(_fitted) => Ok(()),
+    let layout = match layout_above(fitted.placed.columns.static_bytes, asked) {
+        Ok(layout) => layout,
+        Err(NoRoom { need, left }) => {
+            return Err(Refusal::Fault(Fault::StackFull { need, left }));
+        }
+    };
+    match flash_of(alloc, text, &fitted) {
+        Ok(image) => match packed(alloc, image, layout) {
+            Ok(built) => Ok(built),
+            Err(NoMemory) => Err(Refusal::NoMemory),
+        },
         Err(refusal) => Err(refusal),
     }
 }
 
-// The image that makes these writes, with its texts. It keeps nothing in SRAM, so all of it is for the stack.
-fn made_of(alloc: Global, writes: &[DeviceWrite]) -> Result<Built, NoMemory>
-    requires devices { AreDevices writes.now }
-    requires short { length writes.now ≤ 100 }
-    ensures { IfOk result (IsMadeOf writes.now) }
+// An image with its layout and its texts.
+fn packed(alloc: Global, image: Image, layout: Layout) -> Result<Built, NoMemory>
+    ensures { IfOk result (IsPacked image layout) }
 {
-    let image = image_of(alloc, writes)?;
-    let layout = Layout {
-        static_bytes: 0,
-        floor: 0x0100,
-        stack: 4096,
-    };
     let hex = write(alloc, &image)?;
     let note = layout_text(alloc, layout)?;
     Ok(Built {

@@ -1,6 +1,7 @@
 // The layout of an image, and its text.
-ghost use Rattle.std.specs.Prelude.{◌≡◌, ◌++◌, IfOk, OnOk};
+ghost use Rattle.std.specs.Prelude.{◌≡◌, ◌≤◌, ◌++◌, IfOk, OnOk};
 ghost use Rattle.vg_build.specs.Layout.{address_text, layout_text};
+ghost use Rattle.vg_build.specs.Mirrors.{Lays};
 
 use hex::encode_to_slice;
 use itoa::Buffer;
@@ -16,6 +17,34 @@ pub struct Layout {
     pub floor: u16,
     /// The bytes of the stack, from the floor on.
     pub stack: u16,
+}
+
+// The bytes that a stack needs, and how many are left for it.
+#[derive(Clone, Copy, Debug, PartialEq, Eq)]
+pub struct NoRoom {
+    pub need: u32,
+    pub left: u32,
+}
+
+// The layout of an image with so many static bytes. A stack that is not asked for needs 64 bytes, and has all that are left.
+pub fn layout_above(static_bytes: u16, asked: Option<u16>) -> Result<Layout, NoRoom>
+    requires { static_bytes ≤ 4096 }
+    ensures { Lays static_bytes asked result }
+{
+    let left = 4096 - static_bytes;
+    let need = asked.unwrap_or(64);
+    if need > left {
+        return Err(NoRoom {
+            need: u32::from(need),
+            left: u32::from(left),
+        });
+    }
+    let stack = asked.unwrap_or(left);
+    Ok(Layout {
+        static_bytes,
+        floor: 0x1100 - stack,
+        stack,
+    })
 }
 
 /// The lines `static 0100 n` and `stack floor n` of a layout: addresses in four hexadecimal digits, sizes in decimal.

@@ -2,6 +2,7 @@
 #![tactic(auto)]
 
 mod building;
+mod flash;
 mod layout;
 
 pub use building::{Built, build};

@@ -18,23 +18,22 @@ use Rattle.vg_hex.specs.HexText.{hex_text}
 use Rattle.vg_build.specs.Answer as of_bytes
 use Rattle.vg_build.specs.Answer.{Answer, Answers, HasFault, IsNotBuilt, fault_in, first_place}
 use Rattle.vg_build.specs.Image.{IsBuiltOf, IsImageOf}
-use Rattle.vg_build.specs.Layout.{layout_text, stated}
+use Rattle.vg_build.specs.Layout.{layout_text}
 use Rattle.vg_build.specs.declared.building.Built.{Built}
 use Rattle.vg_faults.specs.declared.fault.Fault.{Fault}
 use Rattle.vg_faults.specs.declared.fault.Fault.TheVariants.{NoTree, TooDeep, TooMany, Broken, InitTrap, InitSteps, InitDepth, InitTouches, InitTooBig, Allocates, StaticFull, TableFull}
-use Rattle.vg_faults.specs.declared.fault.Fault.TheVariants.{NoMember, NotBuilt}
+use Rattle.vg_faults.specs.declared.fault.Fault.TheVariants.{StackFull, CodeFull, NoMember, NotBuilt}
 use Rattle.vg_faults.specs.Fitting.{StaticFullIn, TableFullIn}
-use Rattle.vg_static_source.proofs.Tests.{one_static}
-use Rattle.vg_build.proofs.Constants.{static_of}
+use Rattle.vg_faults.specs.Room.{StackFullIn}
 use Rattle.vg_build.specs.declared.layout.Layout.{Layout}
-use Rattle.vg_build.proofs.Faults.{complete_of, exactly, first_of}
+use Rattle.vg_build.proofs.Faults.{IsExact, answered_of, complete_of, exactly, first_of}
 use Rattle.vg_drive.specs.declared.status.Status.{Status}
 use Rattle.vg_drive.specs.declared.status.Status.TheVariants.{Done, Refused, ReadFault, WriteFault, NoMemory}
 use Rattle.vg_drive.specs.Answers.{AppendsBegun, ForImage}
-use Rattle.vg_drive.specs.Commands.{IsAnswerOfBuild, constants_layout}
+use Rattle.vg_drive.specs.Commands.{IsAnswerOfBuild}
 use Rattle.vg_drive.specs.Mirrors.{BuildBy, Change, Fails, GainsAll, GainsFront, IsSame, PutBy, PutFails}
 use Rattle.vg_drive.specs.Statuses.{IsBeforePuts, IsDoneOrNoMemory, IsSettled, IsShown, status_without_file}
-use Rattle.vg_drive.proofs.Files.{of_file, with_file}
+use Rattle.vg_drive.proofs.Files.{of_file, unless_missing, with_file}
 use Rattle.vg_drive.proofs.Statuses.{missing_no_refusal, missing_no_write, missing_not_shown, missing_of_build, missing_unsettled}
 use Rattle.vg_drive.proofs.Statuses.{refusal_no_write, refusal_not_shown}
 
@@ -79,35 +78,38 @@ before_same (Ok built) s out note (inr h) before = absurd (subst IsBeforePuts h.
 before_same (Err why) s out note h before = (h.1, h.2)
 
 -- each fault of the bytes is an answer: what is asked of them further is none
-fault_answer : (why : Fault) (bytes : List ℕ) (clock : ℕ) → HasFault why bytes clock → IsAnswerOfBuild (Refused why)
-fault_answer (NoTree p) bytes clock h = tt
-fault_answer (TooDeep p) bytes clock h = tt
-fault_answer (TooMany what limit p) bytes clock h = tt
-fault_answer (Broken rule p) bytes clock h = tt
-fault_answer (InitTrap code p) bytes clock h = tt
-fault_answer InitSteps bytes clock h = tt
-fault_answer InitDepth bytes clock h = tt
-fault_answer (InitTouches address) bytes clock h = tt
-fault_answer InitTooBig bytes clock h = tt
-fault_answer (Allocates p line) bytes clock h = tt
-fault_answer (StaticFull need) bytes clock h = tt
-fault_answer (TableFull need) bytes clock h = tt
-fault_answer NoMember bytes clock h = h
-fault_answer (NotBuilt p) bytes clock h = tt
+fault_answer : (why : Fault) (bytes : List ℕ) (asked : Option ℕ) (clock : ℕ) → HasFault why bytes asked clock → IsAnswerOfBuild (Refused why)
+fault_answer (NoTree p) bytes asked clock h = tt
+fault_answer (TooDeep p) bytes asked clock h = tt
+fault_answer (TooMany what limit p) bytes asked clock h = tt
+fault_answer (Broken rule p) bytes asked clock h = tt
+fault_answer (InitTrap code p) bytes asked clock h = tt
+fault_answer InitSteps bytes asked clock h = tt
+fault_answer InitDepth bytes asked clock h = tt
+fault_answer (InitTouches address) bytes asked clock h = tt
+fault_answer InitTooBig bytes asked clock h = tt
+fault_answer (Allocates p line) bytes asked clock h = tt
+fault_answer (StaticFull need) bytes asked clock h = tt
+fault_answer (TableFull need) bytes asked clock h = tt
+fault_answer (StackFull need left) bytes asked clock h = tt
+fault_answer (CodeFull words) bytes asked clock h = tt
+fault_answer NoMember bytes asked clock h = h
+fault_answer (NotBuilt p) bytes asked clock h = tt
 
-put_answer : (r : Answer) (s : Status) (bytes : List ℕ) (clock : ℕ) (out note : Change) → Answers bytes clock r → PutBy r s out note → IsAnswerOfBuild s
-put_answer (Ok built) s bytes clock out note says (inl h) = subst IsAnswerOfBuild (sym h.0) tt
-put_answer (Ok built) s bytes clock out note says (inr h) = subst IsAnswerOfBuild (sym h.0) tt
-put_answer (Err (refusal.Fault why)) s bytes clock out note says h = subst IsAnswerOfBuild (sym h.0) (fault_answer why bytes clock says)
-put_answer (Err refusal.NoMemory) s bytes clock out note says h = subst IsAnswerOfBuild (sym h.0) tt
+put_answer : (r : Answer) (s : Status) (bytes : List ℕ) (asked : Option ℕ) (clock : ℕ) (out note : Change)
+    → Answers bytes asked clock r → PutBy r s out note → IsAnswerOfBuild s
+put_answer (Ok built) s bytes asked clock out note says (inl h) = subst IsAnswerOfBuild (sym h.0) tt
+put_answer (Ok built) s bytes asked clock out note says (inr h) = subst IsAnswerOfBuild (sym h.0) tt
+put_answer (Err (refusal.Fault why)) s bytes asked clock out note says h = subst IsAnswerOfBuild (sym h.0) (fault_answer why bytes asked clock says)
+put_answer (Err refusal.NoMemory) s bytes asked clock out note says h = subst IsAnswerOfBuild (sym h.0) tt
 
 -- THE BYTES OF THE FILE
 
-of_image : (told : Option (List File)) (file : List ℕ) (clock : ℕ) (bytes : List ℕ) (built : Built) (P : List ℕ → Layout → Type 0)
-    → ForFile told file (λ b. b ≡ bytes) → IsBuiltOf bytes clock built → P built.image built.layout → ForImage told file clock P
-of_image None file clock bytes built P whole is h = (built.image, built.layout, h)
-of_image (Some files) file clock bytes built P whole is h =
-    (built.image, built.layout, subst (λ b. IsImageOf b clock None built.image built.layout) (sym whole) is.image, h)
+of_image : (told : Option (List File)) (file : List ℕ) (asked : Option ℕ) (clock : ℕ) (bytes : List ℕ) (built : Built) (P : List ℕ → Layout → Type 0)
+    → ForFile told file (λ b. b ≡ bytes) → IsBuiltOf bytes asked clock built → P built.image built.layout → ForImage told file asked clock P
+of_image None file asked clock bytes built P whole is h = (built.image, built.layout, h)
+of_image (Some files) file asked clock bytes built P whole is h =
+    (built.image, built.layout, subst (λ b. IsImageOf b asked clock built.image built.layout) (sym whole) is.image, h)
 
 -- REFUSALS
 
@@ -115,41 +117,73 @@ of_image (Some files) file clock bytes built P whole is h =
 chain : (A B C : Type 0) → A ↔ B → B ↔ C → A ↔ C
 chain A B C f g = (λ a. g.0 (f.0 a), λ c. f.1 (g.1 c))
 
--- exactly the faults of the bytes are named
-pub exactly_by : (s : Status) (told : Option (List File)) (file : List ℕ) (clock : ℕ) (out note : Change) → BuildBy s told file clock out note → IsSettled s
-    → ForFile told file (λ bytes. (why : Fault) → (s ≡ Refused why) ↔ HasFault why bytes clock)
-exactly_by s told file clock out note (inl h) settled = absurd (missing_unsettled h.0.reason (subst IsSettled h.0.tells settled))
-exactly_by s told file clock out note (inr h) settled =
-    of_file told file h.bytes (λ bytes. (why : Fault) → (s ≡ Refused why) ↔ HasFault why bytes clock) h.whole
-    (λ why. chain _ _ _ (refused_iff h.answer s out note h.puts why)
-    (exactly h.bytes clock h.answer h.says (settled_answer h.answer s out note h.puts settled) why))
+-- a fault that is exact is named exactly where the bytes have it
+pub exactly_by : (s : Status) (told : Option (List File)) (file : List ℕ) (asked : Option ℕ) (clock : ℕ) (out note : Change)
+    → BuildBy s told file asked clock out note → IsSettled s
+    → ForFile told file (λ bytes. (why : Fault) → IsExact why → (s ≡ Refused why) ↔ HasFault why bytes asked clock)
+exactly_by s told file asked clock out note (inl h) settled = absurd (missing_unsettled h.0.reason (subst IsSettled h.0.tells settled))
+exactly_by s told file asked clock out note (inr h) settled =
+    of_file told file h.bytes (λ bytes. (why : Fault) → IsExact why → (s ≡ Refused why) ↔ HasFault why bytes asked clock) h.whole
+    (λ why exact. chain _ _ _ (refused_iff h.answer s out note h.puts why)
+    (exactly h.bytes asked clock h.answer h.says (settled_answer h.answer s out note h.puts settled) why exact))
 
 -- exactly the texts that do not fit into RAM are refused so, with the bytes that they need
-pub static_full_by : (s : Status) (told : Option (List File)) (file : List ℕ) (clock : ℕ) (out note : Change) → BuildBy s told file clock out note → IsSettled s
+pub static_full_by : (s : Status) (told : Option (List File)) (file : List ℕ) (asked : Option ℕ) (clock : ℕ) (out note : Change)
+    → BuildBy s told file asked clock out note → IsSettled s
     → ForFile told file (λ bytes. (need : ℕ) → (s ≡ Refused (StaticFull need)) ↔ StaticFullIn bytes clock need)
-static_full_by s told file clock out note h settled =
-    with_file told file _ (λ bytes. (need : ℕ) → (s ≡ Refused (StaticFull need)) ↔ StaticFullIn bytes clock need) (λ bytes f need. f (StaticFull need))
-    (exactly_by s told file clock out note h settled)
+static_full_by s told file asked clock out note h settled =
+    with_file told file _ (λ bytes. (need : ℕ) → (s ≡ Refused (StaticFull need)) ↔ StaticFullIn bytes clock need) (λ bytes f need. f (StaticFull need) tt)
+    (exactly_by s told file asked clock out note h settled)
 
 -- and exactly those whose tables do not fit
-pub table_full_by : (s : Status) (told : Option (List File)) (file : List ℕ) (clock : ℕ) (out note : Change) → BuildBy s told file clock out note → IsSettled s
+pub table_full_by : (s : Status) (told : Option (List File)) (file : List ℕ) (asked : Option ℕ) (clock : ℕ) (out note : Change)
+    → BuildBy s told file asked clock out note → IsSettled s
     → ForFile told file (λ bytes. (need : ℕ) → (s ≡ Refused (TableFull need)) ↔ TableFullIn bytes clock need)
-table_full_by s told file clock out note h settled =
-    with_file told file _ (λ bytes. (need : ℕ) → (s ≡ Refused (TableFull need)) ↔ TableFullIn bytes clock need) (λ bytes f need. f (TableFull need))
-    (exactly_by s told file clock out note h settled)
+table_full_by s told file asked clock out note h settled =
+    with_file told file _ (λ bytes. (need : ℕ) → (s ≡ Refused (TableFull need)) ↔ TableFullIn bytes clock need) (λ bytes f need. f (TableFull need) tt)
+    (exactly_by s told file asked clock out note h settled)
 
--- exactly the legal texts of a form that is not built are refused so
-pub not_built_by : (s : Status) (told : Option (List File)) (file : List ℕ) (clock : ℕ) (out note : Change) → BuildBy s told file clock out note → IsSettled s
-    → ForFile told file (λ bytes. (s ≡ Refused (NotBuilt first_place)) ↔ IsNotBuilt bytes clock)
-not_built_by s told file clock out note h settled =
-    with_file told file _ (λ bytes. (s ≡ Refused (NotBuilt first_place)) ↔ IsNotBuilt bytes clock)
-    (λ bytes f. let same = f (NotBuilt first_place) in (λ e. (same.0 e).0, λ k. same.1 (k, refl))) (exactly_by s told file clock out note h settled)
+-- and exactly those whose stack has no room
+pub stack_full_by : (s : Status) (told : Option (List File)) (file : List ℕ) (asked : Option ℕ) (clock : ℕ) (out note : Change)
+    → BuildBy s told file asked clock out note → IsSettled s
+    → ForFile told file (λ bytes. (need left : ℕ) → (s ≡ Refused (StackFull need left)) ↔ StackFullIn bytes asked clock need left)
+stack_full_by s told file asked clock out note h settled =
+    with_file told file _ (λ bytes. (need left : ℕ) → (s ≡ Refused (StackFull need left)) ↔ StackFullIn bytes asked clock need left)
+    (λ bytes f need left. f (StackFull need left) tt) (exactly_by s told file asked clock out note h settled)
 
-pub first_by : (s : Status) (told : Option (List File)) (file : List ℕ) (clock : ℕ) (out note : Change) → BuildBy s told file clock out note
+-- a fault that is named is one of the bytes
+named_by : (s : Status) (told : Option (List File)) (file : List ℕ) (asked : Option ℕ) (clock : ℕ) (out note : Change)
+    → BuildBy s told file asked clock out note
+    → ForFile told file (λ bytes. (why : Fault) → s ≡ Refused why → HasFault why bytes asked clock)
+named_by s told file asked clock out note (inl h) =
+    unless_missing told file (λ bytes. (why : Fault) → s ≡ Refused why → HasFault why bytes asked clock)
+    (λ bytes why e. absurd (missing_no_refusal h.0.reason why (sym h.0.tells ∙ e)))
+named_by s told file asked clock out note (inr h) =
+    of_file told file h.bytes (λ bytes. (why : Fault) → s ≡ Refused why → HasFault why bytes asked clock) h.whole
+    (λ why e. answered_of h.bytes asked clock h.answer h.says why ((refused_iff h.answer s out note h.puts why).0 e))
+
+-- only a legal text that fits and whose stack has room is refused for the length of its code
+pub code_full_by : (s : Status) (told : Option (List File)) (file : List ℕ) (asked : Option ℕ) (clock : ℕ) (out note : Change)
+    → BuildBy s told file asked clock out note
+    → ForFile told file (λ bytes. (words : ℕ) → s ≡ Refused (CodeFull words) → IsNotBuilt bytes asked clock × (65536 ≤ words))
+code_full_by s told file asked clock out note h =
+    with_file told file _ (λ bytes. (words : ℕ) → s ≡ Refused (CodeFull words) → IsNotBuilt bytes asked clock × (65536 ≤ words))
+    (λ bytes f words e. f (CodeFull words) e) (named_by s told file asked clock out note h)
+
+-- and only such a one as not built
+pub not_built_by : (s : Status) (told : Option (List File)) (file : List ℕ) (asked : Option ℕ) (clock : ℕ) (out note : Change)
+    → BuildBy s told file asked clock out note
+    → ForFile told file (λ bytes. (place : Place) → s ≡ Refused (NotBuilt place) → IsNotBuilt bytes asked clock)
+not_built_by s told file asked clock out note h =
+    with_file told file _ (λ bytes. (place : Place) → s ≡ Refused (NotBuilt place) → IsNotBuilt bytes asked clock)
+    (λ bytes f place e. (f (NotBuilt place) e).0) (named_by s told file asked clock out note h)
+
+pub first_by : (s : Status) (told : Option (List File)) (file : List ℕ) (asked : Option ℕ) (clock : ℕ) (out note : Change)
+    → BuildBy s told file asked clock out note
     → (place : Place) → s ≡ Refused (NotBuilt place) → place ≡ first_place
-first_by s told file clock out note (inl h) place e = absurd (missing_no_refusal h.0.reason (NotBuilt place) (sym h.0.tells ∙ e))
-first_by s told file clock out note (inr h) place e =
-    first_of h.bytes clock h.answer h.says place ((refused_iff h.answer s out note h.puts (NotBuilt place)).0 e)
+first_by s told file asked clock out note (inl h) place e = absurd (missing_no_refusal h.0.reason (NotBuilt place) (sym h.0.tells ∙ e))
+first_by s told file asked clock out note (inr h) place e =
+    first_of h.bytes asked clock h.answer h.says place ((refused_iff h.answer s out note h.puts (NotBuilt place)).0 e)
 
 -- COMPLETENESS
 
@@ -182,28 +216,32 @@ or_rest : (A B shelf rest : Type 0) → (B → rest) → A ⊎ B → A ⊎ (shel
 or_rest A B shelf rest f (inl a) = inl a
 or_rest A B shelf rest f (inr b) = inr (inr (f b))
 
-pub complete_by : (s : Status) (told : Option (List File)) (file : List ℕ) (clock : ℕ) (out note : Change) (shelf rest : Type 0) → BuildBy s told file clock out note
+pub complete_by : (s : Status) (told : Option (List File)) (file : List ℕ) (asked : Option ℕ) (clock : ℕ) (out note : Change) (shelf rest : Type 0)
+    → BuildBy s told file asked clock out note
     → (s ≡ ReadFault → shelf) → (Fails out ⊎ Fails note → rest)
     → ForFile told file (λ bytes. (writes : List DeviceWrite) → IsFirst bytes writes → length bytes ≤ text_limit → IsDoneOrNoMemory s ⊎ (shelf ⊎ rest))
-complete_by s told file clock out note shelf rest (inl h) read fails =
+complete_by s told file asked clock out note shelf rest (inl h) read fails =
     unless_long told file _ (missing_completes h.0.reason s _ shelf rest h.0.tells h.0.too_long read)
-complete_by s told file clock out note shelf rest (inr h) read fails =
+complete_by s told file asked clock out note shelf rest (inr h) read fails =
     of_file told file h.bytes
     (λ bytes. (writes : List DeviceWrite) → IsFirst bytes writes → length bytes ≤ text_limit → IsDoneOrNoMemory s ⊎ (shelf ⊎ rest)) h.whole
-    (λ writes first short. or_rest _ _ shelf rest fails (put_completes h.answer s out note h.puts (complete_of h.bytes clock h.answer h.says h.some writes first)))
+    (λ writes first short. or_rest _ _ shelf rest fails
+    (put_completes h.answer s out note h.puts (complete_of h.bytes asked clock h.stack h.answer h.says h.some writes first)))
 
 -- WHAT IS PUT
 
 not_missing : (s : Status) (reason : NoFile) → s ≡ status_without_file reason → IsShown s → ⊥
 not_missing s reason tells shown = missing_not_shown reason (subst IsShown tells shown)
 
-pub headline_by : (s : Status) (told : Option (List File)) (file : List ℕ) (clock : ℕ) (out note : Change) → BuildBy s told file clock out note → s ≡ Done
-    → ForImage told file clock (λ image layout. GainsAll out (hex_text image) × AppendsBegun note.before note.after (layout_text layout))
-headline_by s told file clock out note (inl h) e = absurd (not_missing s h.0.reason h.0.tells (subst IsShown (sym e) tt))
-headline_by s told file clock out note (inr h) e =
+pub headline_by : (s : Status) (told : Option (List File)) (file : List ℕ) (asked : Option ℕ) (clock : ℕ) (out note : Change)
+    → BuildBy s told file asked clock out note → s ≡ Done
+    → ForImage told file asked clock (λ image layout. GainsAll out (hex_text image) × AppendsBegun note.before note.after (layout_text layout))
+headline_by s told file asked clock out note (inl h) e = absurd (not_missing s h.0.reason h.0.tells (subst IsShown (sym e) tt))
+headline_by s told file asked clock out note (inr h) e =
     let (built, same, hex, lines) = done_is h.answer s out note h.puts (subst IsShown (sym e) tt) in
-    let is : IsBuiltOf h.bytes clock built = subst (λ r. Answers h.bytes clock r) same h.says in
-    of_image told file clock h.bytes built (λ image layout. GainsAll out (hex_text image) × AppendsBegun note.before note.after (layout_text layout)) h.whole is
+    let is : IsBuiltOf h.bytes asked clock built = subst (λ r. Answers h.bytes asked clock r) same h.says in
+    of_image told file asked clock h.bytes built
+    (λ image layout. GainsAll out (hex_text image) × AppendsBegun note.before note.after (layout_text layout)) h.whole is
     (subst (λ t. GainsAll out t) is.hex hex, ([], subst (λ t. GainsAll note t) (is.note ∙ sym (append-nil (layout_text built.layout))) lines))
 
 -- a piece is a front of itself
@@ -229,57 +267,51 @@ fails_of_put : (built : Built) (out note : Change) → PutFails built out note �
 fails_of_put built out note (inl f) = inl f.1
 fails_of_put built out note (inr f) = inr f.2
 
-pub out_front_by : (s : Status) (told : Option (List File)) (file : List ℕ) (clock : ℕ) (out note : Change) → BuildBy s told file clock out note → s ≡ WriteFault
-    → ForImage told file clock (λ image layout. GainsFront out (hex_text image) × (Fails out ⊎ GainsAll out (hex_text image)))
-out_front_by s told file clock out note (inl h) e = absurd (missing_no_write h.0.reason (sym h.0.tells ∙ e))
-out_front_by s told file clock out note (inr h) e =
+pub out_front_by : (s : Status) (told : Option (List File)) (file : List ℕ) (asked : Option ℕ) (clock : ℕ) (out note : Change)
+    → BuildBy s told file asked clock out note → s ≡ WriteFault
+    → ForImage told file asked clock (λ image layout. GainsFront out (hex_text image) × (Fails out ⊎ GainsAll out (hex_text image)))
+out_front_by s told file asked clock out note (inl h) e = absurd (missing_no_write h.0.reason (sym h.0.tells ∙ e))
+out_front_by s told file asked clock out note (inr h) e =
     let (built, same, fails) = failed_is h.answer s out note h.puts e in
-    let is : IsBuiltOf h.bytes clock built = subst (λ r. Answers h.bytes clock r) same h.says in
-    of_image told file clock h.bytes built (λ image layout. GainsFront out (hex_text image) × (Fails out ⊎ GainsAll out (hex_text image))) h.whole is
+    let is : IsBuiltOf h.bytes asked clock built = subst (λ r. Answers h.bytes asked clock r) same h.says in
+    of_image told file asked clock h.bytes built (λ image layout. GainsFront out (hex_text image) × (Fails out ⊎ GainsAll out (hex_text image))) h.whole is
     (subst (λ t. GainsFront out t × (Fails out ⊎ GainsAll out t)) is.hex (out_of_put built out note fails))
 
-pub write_fault_by : (s : Status) (told : Option (List File)) (file : List ℕ) (clock : ℕ) (out note : Change) → BuildBy s told file clock out note → s ≡ WriteFault
+pub write_fault_by : (s : Status) (told : Option (List File)) (file : List ℕ) (asked : Option ℕ) (clock : ℕ) (out note : Change)
+    → BuildBy s told file asked clock out note → s ≡ WriteFault
     → Fails out ⊎ Fails note
-write_fault_by s told file clock out note (inl h) e = absurd (missing_no_write h.0.reason (sym h.0.tells ∙ e))
-write_fault_by s told file clock out note (inr h) e =
+write_fault_by s told file asked clock out note (inl h) e = absurd (missing_no_write h.0.reason (sym h.0.tells ∙ e))
+write_fault_by s told file asked clock out note (inr h) e =
     let (built, same, fails) = failed_is h.answer s out note h.puts e in fails_of_put built out note fails
 
-pub before_by : (s : Status) (told : Option (List File)) (file : List ℕ) (clock : ℕ) (out note : Change) → BuildBy s told file clock out note → IsBeforePuts s
+pub before_by : (s : Status) (told : Option (List File)) (file : List ℕ) (asked : Option ℕ) (clock : ℕ) (out note : Change)
+    → BuildBy s told file asked clock out note → IsBeforePuts s
     → IsSame out × IsSame note
-before_by s told file clock out note (inl h) before = (h.0.out_same, h.1)
-before_by s told file clock out note (inr h) before = before_same h.answer s out note h.puts before
+before_by s told file asked clock out note (inl h) before = (h.0.out_same, h.1)
+before_by s told file asked clock out note (inr h) before = before_same h.answer s out note h.puts before
 
-pub answers_by : (s : Status) (told : Option (List File)) (file : List ℕ) (clock : ℕ) (out note : Change) → BuildBy s told file clock out note → IsAnswerOfBuild s
-answers_by s told file clock out note (inl h) = subst IsAnswerOfBuild (sym h.0.tells) (missing_of_build h.0.reason)
-answers_by s told file clock out note (inr h) = put_answer h.answer s h.bytes clock out note h.says h.puts
+pub answers_by : (s : Status) (told : Option (List File)) (file : List ℕ) (asked : Option ℕ) (clock : ℕ) (out note : Change)
+    → BuildBy s told file asked clock out note → IsAnswerOfBuild s
+answers_by s told file asked clock out note (inl h) = subst IsAnswerOfBuild (sym h.0.tells) (missing_of_build h.0.reason)
+answers_by s told file asked clock out note (inr h) = put_answer h.answer s h.bytes asked clock out note h.says h.puts
 
 -- THE SECOND SINK
 
--- a program of constants has no static area, so all SRAM is for its stack
-layout_is : (bytes : List ℕ) (clock : ℕ) (image : List ℕ) (layout : Layout) → IsImageOf bytes clock None image layout → layout ≡ constants_layout
-layout_is bytes clock image layout is =
-    let none : layout.static_bytes ≡ 0 =
-    one_static is.tree is.heap layout.static_bytes 0 is.static_is (static_of bytes clock is.writes is.tree is.heap is.legal is.starts is.first) in
-    let all : layout.stack ≡ 4096 = is.stack_is ∙ ap (λ n. stated None n) none in
-    let floor : layout.floor ≡ 0x0100 = let sum = is.floor_is in omega (arith, all, sum) in
-    ap (λ n. record layout { static_bytes = n }) none ∙ ap (λ n. record layout { static_bytes = 0; floor = n }) floor
-    ∙ ap (λ n. record { static_bytes = 0; floor = 0x0100; stack = n }) all
-
-note_is : (bytes : List ℕ) (clock : ℕ) (built : Built) → IsBuiltOf bytes clock built → built.note ≡ layout_text constants_layout
-note_is bytes clock built is = is.note ∙ ap layout_text (layout_is bytes clock built.image built.layout is.image)
-
-pub second_by : (s : Status) (told : Option (List File)) (file : List ℕ) (clock : ℕ) (out note : Change) → BuildBy s told file clock out note → IsShown s
-    → GainsAll note (layout_text constants_layout)
-second_by s told file clock out note (inl h) shown = absurd (not_missing s h.0.reason h.0.tells shown)
-second_by s told file clock out note (inr h) shown =
+pub second_by : (s : Status) (told : Option (List File)) (file : List ℕ) (asked : Option ℕ) (clock : ℕ) (out note : Change)
+    → BuildBy s told file asked clock out note → IsShown s
+    → ForImage told file asked clock (λ image layout. GainsAll note (layout_text layout))
+second_by s told file asked clock out note (inl h) shown = absurd (not_missing s h.0.reason h.0.tells shown)
+second_by s told file asked clock out note (inr h) shown =
     let (built, same, hex, lines) = done_is h.answer s out note h.puts shown in
-    let is : IsBuiltOf h.bytes clock built = subst (λ r. Answers h.bytes clock r) same h.says in
-    subst (λ t. GainsAll note t) (note_is h.bytes clock built is) lines
+    let is : IsBuiltOf h.bytes asked clock built = subst (λ r. Answers h.bytes asked clock r) same h.says in
+    of_image told file asked clock h.bytes built (λ image layout. GainsAll note (layout_text layout)) h.whole is (subst (λ t. GainsAll note t) is.note lines)
 
-pub second_front_by : (s : Status) (told : Option (List File)) (file : List ℕ) (clock : ℕ) (out note : Change) → BuildBy s told file clock out note → s ≡ WriteFault
-    → GainsFront note (layout_text constants_layout)
-second_front_by s told file clock out note (inl h) e = absurd (missing_no_write h.0.reason (sym h.0.tells ∙ e))
-second_front_by s told file clock out note (inr h) e =
+pub second_front_by : (s : Status) (told : Option (List File)) (file : List ℕ) (asked : Option ℕ) (clock : ℕ) (out note : Change)
+    → BuildBy s told file asked clock out note → s ≡ WriteFault
+    → ForImage told file asked clock (λ image layout. GainsFront note (layout_text layout))
+second_front_by s told file asked clock out note (inl h) e = absurd (missing_no_write h.0.reason (sym h.0.tells ∙ e))
+second_front_by s told file asked clock out note (inr h) e =
     let (built, same, fails) = failed_is h.answer s out note h.puts e in
-    let is : IsBuiltOf h.bytes clock built = subst (λ r. Answers h.bytes clock r) same h.says in
-    subst (λ t. GainsFront note t) (note_is h.bytes clock built is) (note_of_put built out note fails)
+    let is : IsBuiltOf h.bytes asked clock built = subst (λ r. Answers h.bytes asked clock r) same h.says in
+    of_image told file asked clock h.bytes built (λ image layout. GainsFront note (layout_text layout)) h.whole is
+    (subst (λ t. GainsFront note t) is.note (note_of_put built out note fails))

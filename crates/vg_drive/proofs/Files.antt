@@ -34,3 +34,8 @@ pub with_file : (told : Option (List File)) (file : List ℕ) (P Q : List ℕ �
     → ForFile told file Q
 with_file None file P Q f h = tt
 with_file (Some files) file P Q f h = f (bytes_under files file) h
+
+-- what holds of all bytes
+pub unless_missing : (told : Option (List File)) (file : List ℕ) (P : List ℕ → Type 0) → ((bytes : List ℕ) → P bytes) → ForFile told file P
+unless_missing None file P f = tt
+unless_missing (Some files) file P f = f (bytes_under files file)

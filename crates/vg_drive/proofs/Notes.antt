@@ -10,12 +10,12 @@ use Rattle.vg_drive.specs.declared.status.Status.{Status}
 use Rattle.vg_drive.specs.declared.status.Status.TheVariants.{Done, Refused, Usage, ReadFault, WriteFault, NoMemory, TooLong}
 use Rattle.vg_drive.specs.declared.status.Status.TheVariants.{Stopped, Wants, Budget, Depth, HexRefused, ScriptRefused, BadInstruction}
 use Rattle.vg_drive.specs.Lines.{fault_line}
-use Rattle.vg_drive.specs.Answers.{AppendsBegun, AppendsFronts, AppendsFrontAndAll, ForImage}
-use Rattle.vg_drive.specs.Commands.{OnBuild, second_text}
+use Rattle.vg_drive.specs.Answers.{AppendsBegun, AppendsFronts, AppendsFrontAndAll, ForImage, ForSecond}
+use Rattle.vg_drive.specs.Commands.{OnBuild}
 use Rattle.vg_drive.specs.Mirrors.{AnswerBy, Change, GainsAll, GainsFront}
 use Rattle.vg_drive.specs.Statuses.{IsBeforePuts, IsShown}
 use Rattle.vg_drive.proofs.Builds.{all_is_front, headline_by, no_front, second_by, second_front_by}
-use Rattle.vg_drive.proofs.Commands.{note_before_of, of_image, on_build}
+use Rattle.vg_drive.proofs.Commands.{note_before_of, of_image, on_build, with_second}
 
 -- nothing is appended
 nothing : (old new : Option (List ℕ)) → new ≡ old → AppendsAll old new []
@@ -23,9 +23,9 @@ nothing None new e = e
 nothing (Some old) new e = e ∙ ap Some (sym (append-nil old))
 
 second_all : (c : Option Command) (s : Status) (told : Option (List File)) (out note : Change) → AnswerBy c s told out note → IsShown s
-    → GainsAll note (second_text c)
+    → ForSecond c told (λ second. GainsAll note second)
 second_all None s told out note h shown = nothing note.before note.after h.2
-second_all (Some (Build file clock)) s told out note h shown = second_by s told file clock out note h shown
+second_all (Some (Build file asked clock)) s told out note h shown = second_by s told file asked clock out note h shown
 second_all (Some (Run file script steps)) s told out note h shown = nothing note.before note.after h.1
 second_all (Some (Sim hex script steps)) s told out note h shown = nothing note.before note.after h.1
 second_all (Some (Why file member)) s told out note h shown = nothing note.before note.after h.1
@@ -33,27 +33,28 @@ second_all (Some (Why file member)) s told out note h shown = nothing note.befor
 -- a second text that was put whole, where nothing came behind it
 pub second_of : (c : Option Command) (s : Status) (told : Option (List File)) (out note : Change) (new : Option (List ℕ)) → AnswerBy c s told out note
     → IsShown s
-    → new ≡ note.after → AppendsAll note.before new (second_text c)
-second_of c s told out note new h shown e = subst (λ x. AppendsAll note.before x (second_text c)) (sym e) (second_all c s told out note h shown)
+    → new ≡ note.after → ForSecond c told (λ second. AppendsAll note.before new second)
+second_of c s told out note new h shown e =
+    subst (λ x. ForSecond c told (λ second. AppendsAll note.before x second)) (sym e) (second_all c s told out note h shown)
 
 -- the layout of the image, where nothing came behind the second text
 pub headline_of : (c : Option Command) (s : Status) (told : Option (List File)) (out note : Change) (new : Option (List ℕ)) → AnswerBy c s told out note
     → (IsShown s → new ≡ note.after) → s ≡ Done
-    → OnBuild c (λ file clock. ForImage told file clock (λ image layout. GainsAll out (hex_text image) × AppendsBegun note.before new (layout_text layout)))
+    → OnBuild c (λ file asked clock. ForImage told file asked clock (λ image layout. GainsAll out (hex_text image) × AppendsBegun note.before new (layout_text layout)))
 headline_of c s told out note new h same e =
     on_build c s told out note
-    (λ file clock. ForImage told file clock (λ image layout. GainsAll out (hex_text image) × AppendsBegun note.before new (layout_text layout))) h
-    (λ file clock b. of_image told file clock
+    (λ file asked clock. ForImage told file asked clock (λ image layout. GainsAll out (hex_text image) × AppendsBegun note.before new (layout_text layout))) h
+    (λ file asked clock b. of_image told file asked clock
     (λ image layout. GainsAll out (hex_text image) × AppendsBegun note.before note.after (layout_text layout))
     (λ image layout. GainsAll out (hex_text image) × AppendsBegun note.before new (layout_text layout))
     (λ image layout k. (k.0, subst (λ x. AppendsBegun note.before x (layout_text layout)) (sym (same (subst IsShown (sym e) tt))) k.1))
-    (headline_by s told file clock out note b e))
+    (headline_by s told file asked clock out note b e))
 
 -- a front of the second text where a put failed
 second_front : (c : Option Command) (s : Status) (told : Option (List File)) (out note : Change) → AnswerBy c s told out note → s ≡ WriteFault
-    → GainsFront note (second_text c)
+    → ForSecond c told (λ second. GainsFront note second)
 second_front None s told out note h e = no_front note.before note.after [] h.2
-second_front (Some (Build file clock)) s told out note h e = second_front_by s told file clock out note h e
+second_front (Some (Build file asked clock)) s told out note h e = second_front_by s told file asked clock out note h e
 second_front (Some (Run file script steps)) s told out note h e = no_front note.before note.after [] h.1
 second_front (Some (Sim hex script steps)) s told out note h e = no_front note.before note.after [] h.1
 second_front (Some (Why file member)) s told out note h e = no_front note.before note.after [] h.1
@@ -73,16 +74,19 @@ front_and_all (Some old) mid new first second (m, e) k = (m, subst (λ x. Append
 
 pub fronts_of : (c : Option Command) (s : Status) (told : Option (List File)) (out note : Change) (new : Option (List ℕ)) (line : List ℕ)
     → AnswerBy c s told out note
-    → AppendsFront note.after new line → s ≡ WriteFault → AppendsFronts note.before new (second_text c) line
-fronts_of c s told out note new line h k e = fronts note.before note.after new (second_text c) line (second_front c s told out note h e) k
+    → AppendsFront note.after new line → s ≡ WriteFault → ForSecond c told (λ second. AppendsFronts note.before new second line)
+fronts_of c s told out note new line h k e =
+    with_second c told (λ second. GainsFront note second) (λ second. AppendsFronts note.before new second line)
+    (λ second front. fronts note.before note.after new second line front k) (second_front c s told out note h e)
 
 pub line_last_of : (c : Option Command) (s : Status) (told : Option (List File)) (out note : Change) (new : Option (List ℕ)) (line : List ℕ)
     (rose later : Type 0)
     → AnswerBy c s told out note → rose ⊎ AppendsAll note.after new line → (rose → later) → s ≡ WriteFault
-    → later ⊎ AppendsFrontAndAll note.before new (second_text c) line
+    → later ⊎ ForSecond c told (λ second. AppendsFrontAndAll note.before new second line)
 line_last_of c s told out note new line rose later h (inl r) up e = inl (up r)
 line_last_of c s told out note new line rose later h (inr k) up e =
-    inr (front_and_all note.before note.after new (second_text c) line (second_front c s told out note h e) k)
+    inr (with_second c told (λ second. GainsFront note second) (λ second. AppendsFrontAndAll note.before new second line)
+    (λ second front. front_and_all note.before note.after new second line front k) (second_front c s told out note h e))
 
 -- before the first put the second sink is as it was
 pub line_front_of : (c : Option Command) (s : Status) (told : Option (List File)) (out note : Change) (new : Option (List ℕ)) (line : List ℕ)

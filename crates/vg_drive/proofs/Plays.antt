@@ -13,7 +13,7 @@ use Rattle.vg_script.specs.Script.{IsScript, Lists, first_bad}
 use Rattle.avr_sim.specs.Run.{trace_lines}
 use Rattle.vg_faults.specs.declared.fault.Fault.{Fault}
 use Rattle.vg_faults.specs.declared.fault.Fault.TheVariants.{NoTree, TooDeep, TooMany, Broken, InitTrap, InitSteps, InitDepth, InitTouches, InitTooBig, Allocates, StaticFull, TableFull}
-use Rattle.vg_faults.specs.declared.fault.Fault.TheVariants.{NoMember, NotBuilt}
+use Rattle.vg_faults.specs.declared.fault.Fault.TheVariants.{StackFull, CodeFull, NoMember, NotBuilt}
 use Rattle.vg_faults.specs.Judged.{IsLegal}
 use Rattle.vg_faults.specs.Starting.{StartsIn, init_steps}
 use Rattle.vg_faults.specs.Faults.{HasFault}
@@ -88,6 +88,8 @@ fault_answer InitTooBig bytes h = tt
 fault_answer (Allocates p line) bytes h = h
 fault_answer (StaticFull need) bytes h = h
 fault_answer (TableFull need) bytes h = h
+fault_answer (StackFull need left) bytes h = h
+fault_answer (CodeFull words) bytes h = h
 fault_answer NoMember bytes h = h
 fault_answer (NotBuilt p) bytes h = h
 

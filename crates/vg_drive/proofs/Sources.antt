@@ -6,11 +6,12 @@ use Rattle.vg_words.specs.Commands.{Command}
 use Rattle.vg_fetch.specs.Told.{ForFile}
 use Rattle.vg_faults.specs.declared.fault.Fault.{Fault}
 use Rattle.vg_faults.specs.declared.fault.Fault.TheVariants.{NoTree, TooDeep, TooMany, Broken, InitTrap, InitSteps, InitDepth, InitTouches, InitTooBig, Allocates, StaticFull, TableFull}
-use Rattle.vg_faults.specs.declared.fault.Fault.TheVariants.{NoMember, NotBuilt}
+use Rattle.vg_faults.specs.declared.fault.Fault.TheVariants.{StackFull, CodeFull, NoMember, NotBuilt}
 use Rattle.vg_faults.specs.Faults.{HasFault, IsOfInit}
 use Rattle.vg_faults.specs.Starting.{FailsIn, init_steps}
 use Rattle.vg_faults.specs.Living.{AllocatesIn}
 use Rattle.vg_build.specs.Answer as of_build
+use Rattle.vg_build.proofs.Faults.{IsExact}
 use Rattle.vg_why.specs.Answer as of_why
 use Rattle.vg_drive.specs.declared.status.Status.{Status}
 use Rattle.vg_drive.specs.declared.status.Status.TheVariants.{Refused}
@@ -28,27 +29,32 @@ abbrev pub IsOfText : Fault → Type 0
 IsOfText (Allocates p line) = ⊥
 IsOfText (StaticFull need) = ⊥
 IsOfText (TableFull need) = ⊥
+IsOfText (StackFull need left) = ⊥
+IsOfText (CodeFull words) = ⊥
 IsOfText NoMember = ⊥
 IsOfText (NotBuilt p) = ⊥
 IsOfText _ = Unit {0}
 
 -- `build` has it where the text has it
-of_text : (why : Fault) (s : Status) (bytes : List ℕ) (clock : ℕ) → IsOfText why → (s ≡ Refused why) ↔ of_build.HasFault why bytes clock
+of_text : (why : Fault) (s : Status) (bytes : List ℕ) (asked : Option ℕ) (clock : ℕ) → IsOfText why
+    → (IsExact why → (s ≡ Refused why) ↔ of_build.HasFault why bytes asked clock)
     → (s ≡ Refused why) ↔ HasFault why bytes clock
-of_text (NoTree p) s bytes clock asked f = f
-of_text (TooDeep p) s bytes clock asked f = f
-of_text (TooMany what limit p) s bytes clock asked f = f
-of_text (Broken rule p) s bytes clock asked f = f
-of_text (InitTrap code p) s bytes clock asked f = f
-of_text InitSteps s bytes clock asked f = f
-of_text InitDepth s bytes clock asked f = f
-of_text (InitTouches address) s bytes clock asked f = f
-of_text InitTooBig s bytes clock asked f = f
-of_text (Allocates p line) s bytes clock asked f = absurd asked
-of_text (StaticFull need) s bytes clock asked f = absurd asked
-of_text (TableFull need) s bytes clock asked f = absurd asked
-of_text NoMember s bytes clock asked f = absurd asked
-of_text (NotBuilt p) s bytes clock asked f = absurd asked
+of_text (NoTree p) s bytes asked clock is f = f tt
+of_text (TooDeep p) s bytes asked clock is f = f tt
+of_text (TooMany what limit p) s bytes asked clock is f = f tt
+of_text (Broken rule p) s bytes asked clock is f = f tt
+of_text (InitTrap code p) s bytes asked clock is f = f tt
+of_text InitSteps s bytes asked clock is f = f tt
+of_text InitDepth s bytes asked clock is f = f tt
+of_text (InitTouches address) s bytes asked clock is f = f tt
+of_text InitTooBig s bytes asked clock is f = f tt
+of_text (Allocates p line) s bytes asked clock is f = absurd is
+of_text (StaticFull need) s bytes asked clock is f = absurd is
+of_text (TableFull need) s bytes asked clock is f = absurd is
+of_text (StackFull need left) s bytes asked clock is f = absurd is
+of_text (CodeFull words) s bytes asked clock is f = absurd is
+of_text NoMember s bytes asked clock is f = absurd is
+of_text (NotBuilt p) s bytes asked clock is f = absurd is
 
 -- and `why` too
 of_asked : (why : Fault) (s : Status) (bytes member : List ℕ) → IsOfText why → (s ≡ Refused why) ↔ of_why.HasFault why bytes member
@@ -65,6 +71,8 @@ of_asked InitTooBig s bytes member asked f = f
 of_asked (Allocates p line) s bytes member asked f = absurd asked
 of_asked (StaticFull need) s bytes member asked f = absurd asked
 of_asked (TableFull need) s bytes member asked f = absurd asked
+of_asked (StackFull need left) s bytes member asked f = absurd asked
+of_asked (CodeFull words) s bytes member asked f = absurd asked
 of_asked NoMember s bytes member asked f = absurd asked
 of_asked (NotBuilt p) s bytes member asked f = absurd asked
 
@@ -76,8 +84,8 @@ pub exactly_of : (c : Option Command) (s : Status) (told : Option (List File)) (
     → OnSource c (λ file clock. ForFile told file (λ bytes. Exactly s bytes clock))
 exactly_of c s told out note h settled =
     on_source c s told out note (λ file clock. ForFile told file (λ bytes. Exactly s bytes clock)) h
-    (λ file clock b. with_file told file _ (λ bytes. Exactly s bytes clock) (λ bytes f why asked. of_text why s bytes clock asked (f why))
-    (builds.exactly_by s told file clock out note b settled))
+    (λ file asked clock b. with_file told file _ (λ bytes. Exactly s bytes clock) (λ bytes f why is. of_text why s bytes asked clock is (f why))
+    (builds.exactly_by s told file asked clock out note b settled))
     (λ file script steps p. with_file told file _ (λ bytes. Exactly s bytes init_steps) (λ bytes f why asked. f why)
     (plays.exactly_by s told file script steps out p settled))
     (λ file member w. with_file told file _ (λ bytes. Exactly s bytes init_steps) (λ bytes f why asked. of_asked why s bytes member asked (f why))
@@ -91,8 +99,8 @@ pub allocates_of : (c : Option Command) (s : Status) (told : Option (List File))
     → OnLive c (λ file clock. ForFile told file (λ bytes. AllocatesSo s bytes clock))
 allocates_of c s told out note h settled =
     on_live c s told out note (λ file clock. ForFile told file (λ bytes. AllocatesSo s bytes clock)) h
-    (λ file clock b. with_file told file _ (λ bytes. AllocatesSo s bytes clock) (λ bytes f place line. f (Allocates place line))
-    (builds.exactly_by s told file clock out note b settled))
+    (λ file asked clock b. with_file told file _ (λ bytes. AllocatesSo s bytes clock) (λ bytes f place line. f (Allocates place line) tt)
+    (builds.exactly_by s told file asked clock out note b settled))
     (λ file member w. with_file told file _ (λ bytes. AllocatesSo s bytes init_steps) (λ bytes f place line. f (Allocates place line))
     (whys.exactly_by s told file member out w settled))
 
@@ -118,5 +126,7 @@ init_is s bytes clock f InitTooBig asked = f InitTooBig tt
 init_is s bytes clock f (Allocates p line) asked = absurd asked
 init_is s bytes clock f (StaticFull need) asked = absurd asked
 init_is s bytes clock f (TableFull need) asked = absurd asked
+init_is s bytes clock f (StackFull need left) asked = absurd asked
+init_is s bytes clock f (CodeFull words) asked = absurd asked
 init_is s bytes clock f NoMember asked = absurd asked
 init_is s bytes clock f (NotBuilt p) asked = absurd asked

@@ -8,7 +8,7 @@ use Rattle.vg_io.specs.declared.file.File.{File}
 use Rattle.vg_fetch.specs.Told.{ForFile}
 use Rattle.vg_faults.specs.declared.fault.Fault.{Fault}
 use Rattle.vg_faults.specs.declared.fault.Fault.TheVariants.{NoTree, TooDeep, TooMany, Broken, InitTrap, InitSteps, InitDepth, InitTouches, InitTooBig, Allocates, StaticFull, TableFull}
-use Rattle.vg_faults.specs.declared.fault.Fault.TheVariants.{NoMember, NotBuilt}
+use Rattle.vg_faults.specs.declared.fault.Fault.TheVariants.{StackFull, CodeFull, NoMember, NotBuilt}
 use Rattle.vg_why.specs.Answer as of_bytes
 use Rattle.vg_why.specs.Answer.{Answer, Answers, HasFault, fault_in}
 use Rattle.vg_why.specs.Asked.{IsDeclaredIn, NoMemberIn, WhyIn}
@@ -75,6 +75,8 @@ fault_answer InitTooBig bytes member h = tt
 fault_answer (Allocates p line) bytes member h = tt
 fault_answer (StaticFull need) bytes member h = h
 fault_answer (TableFull need) bytes member h = h
+fault_answer (StackFull need left) bytes member h = h
+fault_answer (CodeFull words) bytes member h = h
 fault_answer NoMember bytes member h = tt
 fault_answer (NotBuilt p) bytes member h = h
 

@@ -1,11 +1,9 @@
--- What a command asks the shelf for, what it writes to its second sink, and what its answers may be.
+-- What a command asks the shelf for, what is said of its files, and what its answers may be.
 use Rattle.std.specs.Prelude.{ℕ, ◌≡◌, List, [], ◌∷◌, Option, Some, None}
 use Rattle.vg_base.specs.Limits.{image_text_limit, text_limit}
 use Rattle.vg_words.specs.Commands.{Command, Build, Run, Sim, Why}
 use Rattle.vg_fetch.specs.Asking.{Request}
-use Rattle.vg_faults.specs.declared.fault.Fault.TheVariants.{Allocates, StaticFull, TableFull, NoMember, NotBuilt}
-use Rattle.vg_build.specs.Layout.{layout_text}
-use Rattle.vg_build.specs.declared.layout.Layout.{Layout}
+use Rattle.vg_faults.specs.declared.fault.Fault.TheVariants.{Allocates, StaticFull, TableFull, StackFull, CodeFull, NoMember, NotBuilt}
 use Rattle.vg_faults.specs.Starting.{init_steps as default_steps}
 use Rattle.vg_drive.specs.declared.status.Status.{Status}
 use Rattle.vg_drive.specs.declared.status.Status.TheVariants.{Done, Refused, Usage, ReadFault, WriteFault, NoMemory, TooLong, Depth, HexRefused, BadInstruction}
@@ -14,25 +12,16 @@ use Rattle.vg_drive.specs.Statuses.{IsBeforeLines, IsBeforePuts}
 -- `build FILE` and `why FILE MEMBER` ask for FILE, `run FILE SCRIPT` for FILE and then SCRIPT, and `sim HEX SCRIPT` for HEX and then SCRIPT, each with its limit
 abbrev pub requests_of : Option Command → List Request
 requests_of None = []
-requests_of (Some (Build file init_steps)) = record { name = file; limit = text_limit } ∷ []
+requests_of (Some (Build file asked init_steps)) = record { name = file; limit = text_limit } ∷ []
 requests_of (Some (Run file script steps)) =
     record { name = file; limit = text_limit } ∷ record { name = script; limit = image_text_limit } ∷ []
 requests_of (Some (Sim hex script steps)) =
     record { name = hex; limit = image_text_limit } ∷ record { name = script; limit = image_text_limit } ∷ []
 requests_of (Some (Why file member)) = record { name = file; limit = text_limit } ∷ []
 
--- the layout of an image of constants: no static bytes, and all SRAM from 0x0100 on for the stack
-abbrev pub constants_layout : Layout
-constants_layout = record { static_bytes = 0; floor = 0x0100; stack = 4096 }
-
--- `build` writes the layout to its second sink, which is `static 0100 0` and `stack 0100 4096`; the others write nothing
-abbrev pub second_text : Option Command → List ℕ
-second_text (Some (Build file init_steps)) = layout_text constants_layout
-second_text _ = []
-
--- where the command is `build`: P holds of its file and of the clock of its initialisation
-abbrev pub OnBuild : Option Command → (P : (file : List ℕ) → (clock : ℕ) → Type 0) → Type 0
-OnBuild (Some (Build file init_steps)) P = P file init_steps
+-- where the command is `build`: P holds of its file, of the stack that it asks for, or none, and of the clock of its initialisation
+abbrev pub OnBuild : Option Command → (P : (file : List ℕ) → (asked : Option ℕ) → (clock : ℕ) → Type 0) → Type 0
+OnBuild (Some (Build file asked init_steps)) P = P file asked init_steps
 OnBuild _ P = Unit {0}
 
 -- where the command is `run`: P holds of its two files and of its steps
@@ -42,14 +31,14 @@ OnRun _ P = Unit {0}
 
 -- where the command reads a source text: P holds of its file and of the clock of its initialisation
 abbrev pub OnSource : Option Command → (P : (file : List ℕ) → (clock : ℕ) → Type 0) → Type 0
-OnSource (Some (Build file init_steps)) P = P file init_steps
+OnSource (Some (Build file asked init_steps)) P = P file init_steps
 OnSource (Some (Run file script steps)) P = P file default_steps
 OnSource (Some (Why file member)) P = P file default_steps
 OnSource _ P = Unit {0}
 
 -- where the command asks what of a source text is live: P holds of its file and of the clock of its initialisation
 abbrev pub OnLive : Option Command → (P : (file : List ℕ) → (clock : ℕ) → Type 0) → Type 0
-OnLive (Some (Build file init_steps)) P = P file init_steps
+OnLive (Some (Build file asked init_steps)) P = P file init_steps
 OnLive (Some (Why file member)) P = P file default_steps
 OnLive _ P = Unit {0}
 
@@ -77,6 +66,8 @@ abbrev pub IsAnswerOfRun : Status → Type 0
 IsAnswerOfRun (Refused (Allocates place line)) = ⊥
 IsAnswerOfRun (Refused (StaticFull need)) = ⊥
 IsAnswerOfRun (Refused (TableFull need)) = ⊥
+IsAnswerOfRun (Refused (StackFull need left)) = ⊥
+IsAnswerOfRun (Refused (CodeFull words)) = ⊥
 IsAnswerOfRun (Refused NoMember) = ⊥
 IsAnswerOfRun (Refused (NotBuilt place)) = ⊥
 IsAnswerOfRun Usage = ⊥
@@ -94,6 +85,8 @@ abbrev pub IsAnswerOfWhy : Status → Type 0
 IsAnswerOfWhy Done = Unit {0}
 IsAnswerOfWhy (Refused (StaticFull need)) = ⊥
 IsAnswerOfWhy (Refused (TableFull need)) = ⊥
+IsAnswerOfWhy (Refused (StackFull need left)) = ⊥
+IsAnswerOfWhy (Refused (CodeFull words)) = ⊥
 IsAnswerOfWhy (Refused (NotBuilt place)) = ⊥
 IsAnswerOfWhy (Refused fault) = Unit {0}
 IsAnswerOfWhy ReadFault = Unit {0}
@@ -105,7 +98,7 @@ IsAnswerOfWhy _ = ⊥
 -- the answers that a command may have; words without a meaning have one
 abbrev pub IsAnswerOf : Option Command → Status → Type 0
 IsAnswerOf None s = s ≡ Usage
-IsAnswerOf (Some (Build file init_steps)) s = IsAnswerOfBuild s
+IsAnswerOf (Some (Build file asked init_steps)) s = IsAnswerOfBuild s
 IsAnswerOf (Some (Run file script steps)) s = IsAnswerOfRun s
 IsAnswerOf (Some (Sim hex script steps)) s = IsAnswerOfSim s
 IsAnswerOf (Some (Why file member)) s = IsAnswerOfWhy s

@@ -6,7 +6,7 @@ use Rattle.vg_rules.specs.declared.what.What.{What}
 use Rattle.vg_rules.specs.declared.what.What.TheVariants.{Classes, Methods, Locals, Height}
 use Rattle.vg_faults.specs.declared.fault.Fault.{Fault}
 use Rattle.vg_faults.specs.declared.fault.Fault.TheVariants.{NoTree, TooDeep, TooMany, Broken, InitTrap, InitSteps, InitDepth, InitTouches, InitTooBig, Allocates, StaticFull, TableFull}
-use Rattle.vg_faults.specs.declared.fault.Fault.TheVariants.{NoMember, NotBuilt}
+use Rattle.vg_faults.specs.declared.fault.Fault.TheVariants.{StackFull, CodeFull, NoMember, NotBuilt}
 use Rattle.vg_faults.specs.Living.{place_text}
 use Rattle.vg_script.specs.Traces.{byte_digits}
 use Rattle.vg_drive.specs.declared.lines.FaultLine.{FaultLine}
@@ -34,6 +34,8 @@ refusal_line InitTooBig = codes "init too big\n"
 refusal_line (Allocates place line) = line
 refusal_line (StaticFull need) = codes "static full " ++ decimal need ++ codes "\n"
 refusal_line (TableFull need) = codes "table full " ++ decimal need ++ codes "\n"
+refusal_line (StackFull need left) = codes "stack full " ++ decimal need ++ codes " " ++ decimal left ++ codes "\n"
+refusal_line (CodeFull words) = codes "code full " ++ decimal words ++ codes "\n"
 refusal_line NoMember = codes "no member\n"
 refusal_line (NotBuilt place) = codes "not built at " ++ place_text place ++ codes "\n"
 

@@ -1,5 +1,5 @@
 -- Mirrors: what the functions below the top call leave. No public clause cites one.
-use Rattle.std.specs.Prelude.{ℕ, ◌≡◌, ◌<◌, ◌≤◌, ◌⊎◌, List, length, Option, Some, None, Ok, Err}
+use Rattle.std.specs.Prelude.{ℕ, ◌≡◌, ◌<◌, ◌≤◌, ◌⊎◌, List, length, Option, Some, None, IfSome, Ok, Err}
 use Rattle.vg_base.specs.Limits.{image_text_limit, text_limit}
 use Rattle.vg_io.specs.Count.{Rose}
 use Rattle.vg_io.specs.Piece.{AppendsAll, AppendsFront}
@@ -87,18 +87,19 @@ PutBy (Ok built) s out note =
 PutBy (Err why) s out note = (s ≡ status_of_refusal why) × IsSame out × IsSame note
 
 -- the bytes of the file were answered, and the answer put
-pub record BuildsFile (s : Status) (told : Option (List File)) (file : List ℕ) (clock : ℕ) (out note : Change) : Type 0 where
+pub record BuildsFile (s : Status) (told : Option (List File)) (file : List ℕ) (asked : Option ℕ) (clock : ℕ) (out note : Change) : Type 0 where
   pub some : 1 ≤ clock
+  pub stack : IfSome asked (λ bytes. (1 ≤ bytes) × (bytes ≤ 4096))
   pub bytes : List ℕ
   pub whole : ForFile told file (λ b. b ≡ bytes)
   pub answer : Answer
-  pub says : Answers bytes clock answer
+  pub says : Answers bytes asked clock answer
   pub puts : PutBy answer s out note
 
 -- what `build` leaves
-abbrev pub BuildBy : Status → (told : Option (List File)) → (file : List ℕ) → (clock : ℕ) → (out note : Change) → Type 0
-BuildBy s told file clock out note =
-    (FilesMissing s (ForFile told file (λ bytes. text_limit < length bytes)) out × IsSame note) ⊎ BuildsFile s told file clock out note
+abbrev pub BuildBy : Status → (told : Option (List File)) → (file : List ℕ) → (asked : Option ℕ) → (clock : ℕ) → (out note : Change) → Type 0
+BuildBy s told file asked clock out note =
+    (FilesMissing s (ForFile told file (λ bytes. text_limit < length bytes)) out × IsSame note) ⊎ BuildsFile s told file asked clock out note
 
 -- RUN
 
@@ -171,7 +172,7 @@ WhyBy s told file member out =
 -- what a command, or words without a meaning, leaves
 abbrev pub AnswerBy : Option Command → Status → (told : Option (List File)) → (out note : Change) → Type 0
 AnswerBy None s told out note = (s ≡ Usage) × IsSame out × IsSame note
-AnswerBy (Some (Build file clock)) s told out note = BuildBy s told file clock out note
+AnswerBy (Some (Build file asked clock)) s told out note = BuildBy s told file asked clock out note
 AnswerBy (Some (Run file script steps)) s told out note = PlayBy s told file script steps out × IsSame note
 AnswerBy (Some (Sim hex script steps)) s told out note = SimBy s told hex script steps out × IsSame note
 AnswerBy (Some (Why file member)) s told out note = WhyBy s told file member out × IsSame note

@@ -5,7 +5,7 @@ ghost use Rattle.vg_base.specs.Limits.{image_text_limit, text_limit};
 ghost use Rattle.vg_base.specs.declared.place.Place.{Place};
 ghost use Rattle.vg_io.specs.Count.{Rose};
 ghost use Rattle.vg_io.specs.Piece.{AppendsAll, AppendsFront};
-ghost use Rattle.vg_words.specs.Commands.{HasSteps, command_of, words_in};
+ghost use Rattle.vg_words.specs.Commands.{HasStack, HasSteps, command_of, words_in};
 ghost use Rattle.vg_words.specs.Views.{command_in};
 ghost use Rattle.vg_fetch.specs.Asking.{AsksAll, AsksFront, HasFailed, HasPassedLimit, gained, last_of};
 ghost use Rattle.vg_fetch.specs.Told.{ForFile, ForFiles};
@@ -21,6 +21,7 @@ ghost use Rattle.vg_faults.specs.Faults.{IsOfInit};
 ghost use Rattle.vg_faults.specs.Judged.{IsLegal, RefusedIn};
 ghost use Rattle.vg_faults.specs.Living.{AllocatesIn};
 ghost use Rattle.vg_faults.specs.Fitting.{StaticFullIn, TableFullIn};
+ghost use Rattle.vg_faults.specs.Room.{StackFullIn};
 ghost use Rattle.vg_faults.specs.Starting.{FailsIn, StartsIn, init_steps};
 ghost use Rattle.vg_faults.specs.declared.fault.Fault as fault;
 ghost use Rattle.vg_build.specs.Answer.{IsNotBuilt, first_place};
@@ -34,8 +35,8 @@ ghost use Rattle.vg_sim.specs.Shown.{ForRun, lines_of};
 ghost use Rattle.vg_run.specs.Shown as of_run;
 ghost use Rattle.vg_run.specs.Shown.{ForSession};
 ghost use Rattle.vg_why.specs.Asked.{IsDeclaredIn, NoMemberIn};
-ghost use Rattle.vg_drive.specs.Answers.{AppendsBegun, AppendsFrontAndAll, AppendsFronts, ForImage, ForLines, ForText, ForTexts};
-ghost use Rattle.vg_drive.specs.Commands.{IsAnswerOf, OnBuild, OnLive, OnRun, OnSim, OnSource, OnWhy, PutsNothing, requests_of, second_text};
+ghost use Rattle.vg_drive.specs.Answers.{AppendsBegun, AppendsFrontAndAll, AppendsFronts, ForImage, ForLines, ForSecond, ForText, ForTexts};
+ghost use Rattle.vg_drive.specs.Commands.{IsAnswerOf, OnBuild, OnLive, OnRun, OnSim, OnSource, OnWhy, PutsNothing, requests_of};
 ghost use Rattle.vg_drive.specs.Lines.{fault_line};
 ghost use Rattle.vg_drive.specs.Mirrors.{AnswerBy, FetchedBy, change};
 ghost use Rattle.vg_drive.specs.Statuses.{IsBeforePuts, IsDoneOrNoMemory, IsSettled, IsShown, status_of_end, status_of_ending};
@@ -53,11 +54,12 @@ use vg_words::{Command, command_of};
 /// Does what the words behind the program's name say, and answers how it went.
 ///
 /// `build FILE` fetches FILE, which has at most 262,144 bytes, initialises its components in at most `--init-steps` ticks, puts the HEX text of its image
-/// to `out` in one put, and then the layout to `note` in one put. `run FILE SCRIPT` fetches such a text and one of at most 1,048,576 bytes, runs the first
-/// by the language's meaning on the second for at most `--steps` ticks, and puts the lines of its trace and of its ending to `out`. `sim HEX SCRIPT` fetches two texts of at most 1,048,576 bytes each, runs the image of the first
-/// on the second for at most `--steps` instructions, and puts the lines of its trace and of its ending to `out`. `why FILE MEMBER` fetches such a text
-/// as `build`, and puts the lines that say why the member is live to `out` in one put. Behind an answer that
-/// is no success and no ending it tries one put of the fault line to `note`.
+/// to `out` in one put, and then the layout to `note` in one put. The stack of the image has `--stack` bytes, or else all SRAM above the static area.
+/// `run FILE SCRIPT` fetches such a text and one of at most 1,048,576 bytes, runs the first by the language's meaning on the second for at most `--steps`
+/// ticks, and puts the lines of its trace and of its ending to `out`. `sim HEX SCRIPT` fetches two texts of at most 1,048,576 bytes each, runs the image of
+/// the first on the second for at most `--steps` instructions, and puts the lines of its trace and of its ending to `out`. `why FILE MEMBER` fetches such a
+/// text as `build`, and puts the lines that say why the member is live to `out` in one put. Behind an answer that is no success and no ending it tries one
+/// put of the fault line to `note`.
 pub fn run<S: Shelf, O: Sink, N: Sink>(
     alloc: Global,
     words: &[String],
@@ -93,24 +95,30 @@ pub fn run<S: Shelf, O: Sink, N: Sink>(
     ensures allocates { IsSettled result → OnLive (command_of (words_in words.now)) (λ file clock. ForFile (S.told shelf.old) file (λ bytes.
         (place : Place) (line : List ℕ) → (result ≡ Status.Refused (fault.Fault.Allocates place line)) ↔ AllocatesIn bytes clock place line)) }
 
-    // `build`: what does not fit into RAM, and whose tables do not fit into flash.
-    ensures static_full { IsSettled result → OnBuild (command_of (words_in words.now)) (λ file clock. ForFile (S.told shelf.old) file (λ bytes.
+    // `build`: what does not fit into RAM, whose tables do not fit into flash, and whose stack has no room in RAM.
+    ensures static_full { IsSettled result → OnBuild (command_of (words_in words.now)) (λ file asked clock. ForFile (S.told shelf.old) file (λ bytes.
         (need : ℕ) → (result ≡ Status.Refused (fault.Fault.StaticFull need)) ↔ StaticFullIn bytes clock need)) }
-    ensures table_full { IsSettled result → OnBuild (command_of (words_in words.now)) (λ file clock. ForFile (S.told shelf.old) file (λ bytes.
+    ensures table_full { IsSettled result → OnBuild (command_of (words_in words.now)) (λ file asked clock. ForFile (S.told shelf.old) file (λ bytes.
         (need : ℕ) → (result ≡ Status.Refused (fault.Fault.TableFull need)) ↔ TableFullIn bytes clock need)) }
+    ensures stack_full { IsSettled result → OnBuild (command_of (words_in words.now)) (λ file asked clock. ForFile (S.told shelf.old) file (λ bytes.
+        (need left : ℕ) → (result ≡ Status.Refused (fault.Fault.StackFull need left)) ↔ StackFullIn bytes asked clock need left)) }
 
-    // `build`: which legal texts are not built, and which are.
-    ensures not_built { IsSettled result → OnBuild (command_of (words_in words.now)) (λ file clock. ForFile (S.told shelf.old) file (λ bytes.
-        (result ≡ Status.Refused (fault.Fault.NotBuilt first_place)) ↔ IsNotBuilt bytes clock)) }
+    // `build`: which legal texts alone have too long a code or are not built, and which are built.
+    ensures code_full { OnBuild (command_of (words_in words.now)) (λ file asked clock. ForFile (S.told shelf.old) file (λ bytes.
+        (count : ℕ) → result ≡ Status.Refused (fault.Fault.CodeFull count) → IsNotBuilt bytes asked clock × (65536 ≤ count))) }
+    ensures not_built { OnBuild (command_of (words_in words.now)) (λ file asked clock. ForFile (S.told shelf.old) file (λ bytes.
+        (place : Place) → result ≡ Status.Refused (fault.Fault.NotBuilt place) → IsNotBuilt bytes asked clock)) }
     ensures not_built_first { (place : Place) → result ≡ Status.Refused (fault.Fault.NotBuilt place) → place ≡ first_place }
-    ensures complete { OnBuild (command_of (words_in words.now)) (λ file clock. ForFile (S.told shelf.old) file (λ bytes.
+    ensures complete { OnBuild (command_of (words_in words.now)) (λ file asked clock. ForFile (S.told shelf.old) file (λ bytes.
         (writes : List DeviceWrite) → IsFirst bytes writes → length bytes ≤ text_limit → IsDoneOrNoMemory result
         ⊎ (Rose (S.faults shelf.old) (S.faults shelf.new) ⊎ (Rose (O.faults out.old) (O.faults out.new) ⊎ Rose (N.faults note.old) (N.faults note.new))))) }
 
     // `build`: the image, whole on `out` with Done, and its layout on `note`.
-    ensures headline { result ≡ Status.Done → OnBuild (command_of (words_in words.now)) (λ file clock. ForImage (S.told shelf.old) file clock (λ image layout.
+    ensures headline { result ≡ Status.Done → OnBuild (command_of (words_in words.now)) (λ file asked clock.
+        ForImage (S.told shelf.old) file asked clock (λ image layout.
         AppendsAll (O.told out.old) (O.told out.new) (hex_text image) × AppendsBegun (N.told note.old) (N.told note.new) (layout_text layout))) }
-    ensures out_front { result ≡ Status.WriteFault → OnBuild (command_of (words_in words.now)) (λ file clock. ForImage (S.told shelf.old) file clock (λ image layout.
+    ensures out_front { result ≡ Status.WriteFault → OnBuild (command_of (words_in words.now)) (λ file asked clock.
+        ForImage (S.told shelf.old) file asked clock (λ image layout.
         AppendsFront (O.told out.old) (O.told out.new) (hex_text image)
         × (Rose (O.faults out.old) (O.faults out.new) ⊎ AppendsAll (O.told out.old) (O.told out.new) (hex_text image)))) }
 
@@ -162,11 +170,13 @@ pub fn run<S: Shelf, O: Sink, N: Sink>(
     ensures out_none { PutsNothing (command_of (words_in words.now)) result → O.told out.new ≡ O.told out.old }
 
     // The second text of the command and the fault line, which are whole where the count of `note` did not rise.
-    ensures note_second { IsShown result → AppendsAll (N.told note.old) (N.told note.new) (second_text (command_of (words_in words.now))) }
-    ensures note_fronts { result ≡ Status.WriteFault
-        → AppendsFronts (N.told note.old) (N.told note.new) (second_text (command_of (words_in words.now))) (fault_line result) }
+    ensures note_second { IsShown result → ForSecond (command_of (words_in words.now)) (S.told shelf.old) (λ second.
+        AppendsAll (N.told note.old) (N.told note.new) second) }
+    ensures note_fronts { result ≡ Status.WriteFault → ForSecond (command_of (words_in words.now)) (S.told shelf.old) (λ second.
+        AppendsFronts (N.told note.old) (N.told note.new) second (fault_line result)) }
     ensures note_line_last { result ≡ Status.WriteFault → Rose (N.faults note.old) (N.faults note.new)
-        ⊎ AppendsFrontAndAll (N.told note.old) (N.told note.new) (second_text (command_of (words_in words.now))) (fault_line result) }
+        ⊎ ForSecond (command_of (words_in words.now)) (S.told shelf.old) (λ second.
+        AppendsFrontAndAll (N.told note.old) (N.told note.new) second (fault_line result)) }
     ensures note_line_front { IsBeforePuts result → AppendsFront (N.told note.old) (N.told note.new) (fault_line result) }
     ensures note_line { IsBeforePuts result
         → Rose (N.faults note.old) (N.faults note.new) ⊎ AppendsAll (N.told note.old) (N.told note.new) (fault_line result) }
@@ -205,7 +215,8 @@ fn obey<S: Shelf, O: Sink, N: Sink>(
     out: &mut O,
     note: &mut N,
 ) -> Status
-    requires { HasSteps (command_in command) }
+    requires steps { HasSteps (command_in command) }
+    requires stack { HasStack (command_in command) }
     ensures fetched { FetchedBy result (S.asked shelf.old) (S.asked shelf.new) (requests_of (Some (command_in command.entry))) }
     ensures read { result ≡ Status.ReadFault → Rose (S.faults shelf.old) (S.faults shelf.new) }
     ensures holds { AnswerBy (Some (command_in command.entry)) result (S.told shelf.old)
@@ -214,9 +225,11 @@ fn obey<S: Shelf, O: Sink, N: Sink>(
     ensures later { N.faults note.old ≤ N.faults note.new }
 {
     match command {
-        Command::Build { file, init_steps } => {
-            run_build(alloc, file, init_steps, shelf, out, note)
-        }
+        Command::Build {
+            file,
+            stack,
+            init_steps,
+        } => run_build(alloc, file, stack, init_steps, shelf, out, note),
         Command::Run {
             file,
             script,

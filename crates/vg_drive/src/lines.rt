@@ -88,6 +88,8 @@ fn refusal_line(fault: &Fault) -> ArrayString<LONGEST_LINE>
         Fault::Allocates { .. } => unreachable!(),
         Fault::StaticFull { need } => full_line("static full ", *need),
         Fault::TableFull { need } => full_line("table full ", *need),
+        Fault::StackFull { need, left } => stack_full_line(*need, *left),
+        Fault::CodeFull { words } => numbered_line("code full ", *words),
         Fault::NoMember => plain_line("no member\n"),
         Fault::NotBuilt(place) => placed_line("not built at ", *place),
     }
@@ -222,6 +224,19 @@ fn full_line(says: &str, need: u64) -> ArrayString<LONGEST_LINE>
     let mut line = ArrayString::new();
     line.push_str(says);
     line.push_str(Buffer::new().format(need));
+    line.push_str("\n");
+    line
+}
+
+// The bytes of stack that are needed, and those that are left.
+fn stack_full_line(need: u32, left: u32) -> ArrayString<LONGEST_LINE>
+    ensures { result.bytes ≡ codes "stack full " ++ decimal need ++ codes " " ++ decimal left ++ codes "\n" }
+{
+    let mut line = ArrayString::new();
+    line.push_str("stack full ");
+    line.push_str(Buffer::new().format(need));
+    line.push_str(" ");
+    line.push_str(Buffer::new().format(left));
     line.push_str("\n");
     line
 }

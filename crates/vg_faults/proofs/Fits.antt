@@ -6,7 +6,7 @@ use Rattle.vg_static_source.specs.Sums.{IsStatic, AreTables}
 use Rattle.vg_static_source.proofs.Tests.{one_static, one_tables}
 use Rattle.vg_faults.specs.declared.fault.Fault.{Fault}
 use Rattle.vg_faults.specs.declared.fault.Fault.TheVariants.{NoTree, TooDeep, TooMany, Broken, InitTrap, InitSteps, InitDepth, InitTouches, InitTooBig}
-use Rattle.vg_faults.specs.declared.fault.Fault.TheVariants.{Allocates, StaticFull, TableFull, NoMember, NotBuilt}
+use Rattle.vg_faults.specs.declared.fault.Fault.TheVariants.{Allocates, StaticFull, TableFull, StackFull, CodeFull, NoMember, NotBuilt}
 use Rattle.vg_faults.specs.Living.{IsFirm, HasLiveFault}
 use Rattle.vg_faults.specs.Fitting.{StaticFullIn, TableFullIn, IsFitting, IsFittingIn, HasFitFault}
 use Rattle.vg_faults.proofs.Makers.{no_live_fault, one_live_fault, one_start}
@@ -16,7 +16,7 @@ module _ (bytes : List ℕ) (clock : ℕ) (t u : Node) (h k : Heap) (firm : IsFi
   same_text : (t ≡ u) × (h ≡ k)
   same_text = one_start bytes clock t u h k firm.legal other.legal firm.starts other.starts
 
-  same_static : (m n : ℕ) → IsStatic t h m → IsStatic u k n → m ≡ n
+  pub same_static : (m n : ℕ) → IsStatic t h m → IsStatic u k n → m ≡ n
   same_static m n a b =
       one_static u k m n (subst (λ z. IsStatic z k m) same_text.0 (subst (λ z. IsStatic t z m) same_text.1 a)) b
 
@@ -38,6 +38,8 @@ Sorted why bytes clock =
 sorted : (why : Fault) (bytes : List ℕ) (clock : ℕ) → HasFitFault why bytes clock → Sorted why bytes clock
 sorted (StaticFull need) bytes clock h = inl (need, refl, h)
 sorted (TableFull need) bytes clock h = inr (inl (need, refl, h))
+sorted (StackFull need left) bytes clock h = inr (inr h)
+sorted (CodeFull words) bytes clock h = inr (inr h)
 sorted (NoTree p) bytes clock h = inr (inr h)
 sorted (TooDeep p) bytes clock h = inr (inr h)
 sorted (TooMany what limit p) bytes clock h = inr (inr h)
@@ -55,6 +57,8 @@ sorted (NotBuilt p) bytes clock h = inr (inr h)
 pub is_fit_fault : (why : Fault) (bytes : List ℕ) (clock : ℕ) → HasLiveFault why bytes clock → HasFitFault why bytes clock
 is_fit_fault (StaticFull need) bytes clock h = absurd h
 is_fit_fault (TableFull need) bytes clock h = absurd h
+is_fit_fault (StackFull need left) bytes clock h = h
+is_fit_fault (CodeFull words) bytes clock h = h
 is_fit_fault (NoTree p) bytes clock h = h
 is_fit_fault (TooDeep p) bytes clock h = h
 is_fit_fault (TooMany what limit p) bytes clock h = h

@@ -13,7 +13,7 @@ use Rattle.vg_live_source.specs.Uses.{steps_in}
 use Rattle.vg_live_source.specs.Making.{IsFirstMaker, MakesNothing, least_made, made_in, number_in}
 use Rattle.vg_faults.specs.declared.fault.Fault.{Fault}
 use Rattle.vg_faults.specs.declared.fault.Fault.TheVariants.{NoTree, TooDeep, TooMany, Broken, InitTrap, InitSteps, InitDepth, InitTouches, InitTooBig, Allocates, StaticFull, TableFull}
-use Rattle.vg_faults.specs.declared.fault.Fault.TheVariants.{NoMember, NotBuilt}
+use Rattle.vg_faults.specs.declared.fault.Fault.TheVariants.{StackFull, CodeFull, NoMember, NotBuilt}
 use Rattle.vg_faults.specs.Judged.{IsLegal, place_in}
 use Rattle.vg_faults.specs.Starting.{StartsIn}
 use Rattle.vg_faults.specs.Faults.{HasFault}
@@ -127,6 +127,8 @@ sorted (InitTouches address) bytes clock h = inr h
 sorted InitTooBig bytes clock h = inr h
 sorted (StaticFull need) bytes clock h = inr h
 sorted (TableFull need) bytes clock h = inr h
+sorted (StackFull need left) bytes clock h = inr h
+sorted (CodeFull words) bytes clock h = inr h
 sorted NoMember bytes clock h = inr h
 sorted (NotBuilt p) bytes clock h = inr h
 
@@ -144,6 +146,8 @@ is_live_fault (InitTouches address) bytes clock h = h
 is_live_fault InitTooBig bytes clock h = h
 is_live_fault (StaticFull need) bytes clock h = h
 is_live_fault (TableFull need) bytes clock h = h
+is_live_fault (StackFull need left) bytes clock h = h
+is_live_fault (CodeFull words) bytes clock h = h
 is_live_fault NoMember bytes clock h = h
 is_live_fault (NotBuilt p) bytes clock h = h
 

@@ -11,7 +11,7 @@ use Rattle.vg_texts.proofs.Once.{no_fault, not_deep, one_cause, one_end, one_bra
 use Rattle.vg_texts.proofs.Values.{one_tree}
 use Rattle.vg_faults.specs.declared.fault.Fault.{Fault}
 use Rattle.vg_faults.specs.declared.fault.Fault.TheVariants.{NoTree, TooDeep, TooMany, Broken, InitTrap, InitSteps, InitDepth, InitTouches, InitTooBig, Allocates, StaticFull, TableFull}
-use Rattle.vg_faults.specs.declared.fault.Fault.TheVariants.{NoMember, NotBuilt}
+use Rattle.vg_faults.specs.declared.fault.Fault.TheVariants.{StackFull, CodeFull, NoMember, NotBuilt}
 use Rattle.vg_faults.specs.Judged.{IsLegal, RefusedIn, fault_of, tree_fault}
 use Rattle.vg_faults.specs.Starting.{FailsIn, StartsIn, start_fault}
 use Rattle.vg_faults.specs.Faults.{HasFault}
@@ -35,6 +35,8 @@ sorted InitTooBig bytes clock h = inr (inr (inr h))
 sorted (Allocates p line) bytes clock h = absurd h
 sorted (StaticFull need) bytes clock h = absurd h
 sorted (TableFull need) bytes clock h = absurd h
+sorted (StackFull need left) bytes clock h = absurd h
+sorted (CodeFull words) bytes clock h = absurd h
 sorted NoMember bytes clock h = absurd h
 sorted (NotBuilt p) bytes clock h = absurd h
 

@@ -3,7 +3,7 @@ use Rattle.std.specs.Prelude.{ℕ, List}
 use Rattle.vg_syntax.specs.Faults.{NoTreeIn, TooDeepIn}
 use Rattle.vg_faults.specs.declared.fault.Fault.{Fault}
 use Rattle.vg_faults.specs.declared.fault.Fault.TheVariants.{NoTree, TooDeep, TooMany, Broken, InitTrap, InitSteps, InitDepth, InitTouches, InitTooBig, Allocates, StaticFull, TableFull}
-use Rattle.vg_faults.specs.declared.fault.Fault.TheVariants.{NoMember, NotBuilt}
+use Rattle.vg_faults.specs.declared.fault.Fault.TheVariants.{StackFull, CodeFull, NoMember, NotBuilt}
 use Rattle.vg_faults.specs.Judged.{RefusedIn}
 use Rattle.vg_faults.specs.Starting.{FailsIn}
 
@@ -25,6 +25,8 @@ HasFault (Broken rule place) bytes clock = RefusedIn bytes (Broken rule place)
 HasFault (Allocates place line) bytes clock = ⊥
 HasFault (StaticFull need) bytes clock = ⊥
 HasFault (TableFull need) bytes clock = ⊥
+HasFault (StackFull need left) bytes clock = ⊥
+HasFault (CodeFull words) bytes clock = ⊥
 HasFault NoMember bytes clock = ⊥
 HasFault (NotBuilt place) bytes clock = ⊥
 HasFault why bytes clock = FailsIn bytes clock why

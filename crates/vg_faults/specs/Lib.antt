@@ -3,3 +3,4 @@ pub mod Starting
 pub mod Faults
 pub mod Living
 pub mod Fitting
+pub mod Room

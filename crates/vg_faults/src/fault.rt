@@ -47,8 +47,18 @@ pub enum Fault {
     TableFull {
         need: u64,
     },
+    /// The stack has no room in RAM above the static bytes: so many bytes are needed, those that are asked for, or 64 where none are, and so many are left.
+    StackFull {
+        need: u32,
+        left: u32,
+    },
+    /// The image would take so many words of flash, which are more than 65,535: the last word stays free.
+    CodeFull {
+        words: u32,
+    },
     /// No class or component of the text declares the member that is asked for.
     NoMember,
-    /// The text is a legal one that starts and that allocates nothing, and a form that is not built yet stands at this place.
+    /// The text is a legal one that starts, that allocates nothing, that fits and whose stack has room, and no image is made of it. The place is the first one of
+    /// the text: line 1, column 1.
     NotBuilt(Place),
 }

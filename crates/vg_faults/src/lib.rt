@@ -8,4 +8,4 @@ mod laws;
 
 pub use clock::INIT_STEPS;
 pub use fault::Fault;
-pub use laws::{faults_exclude, fit_faults_exclude, live_faults_exclude};
+pub use laws::{faults_exclude, fit_faults_exclude, live_faults_exclude, room_faults_exclude};

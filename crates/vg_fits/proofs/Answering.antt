@@ -25,7 +25,7 @@ use Rattle.vg_room.proofs.Runs.{started_fits}
 use Rattle.vg_written.specs.Written.{IsOwner, parts_of}
 use Rattle.vg_faults.specs.declared.fault.Fault.{Fault}
 use Rattle.vg_faults.specs.declared.fault.Fault.TheVariants.{NoTree, TooDeep, TooMany, Broken, InitTrap, InitSteps, InitDepth, InitTouches, InitTooBig}
-use Rattle.vg_faults.specs.declared.fault.Fault.TheVariants.{Allocates, StaticFull, TableFull, NoMember, NotBuilt}
+use Rattle.vg_faults.specs.declared.fault.Fault.TheVariants.{Allocates, StaticFull, TableFull, StackFull, CodeFull, NoMember, NotBuilt}
 use Rattle.vg_faults.specs.Fitting.{StaticFullIn, TableFullIn, IsFitting, HasFitFault}
 use Rattle.vg_faults.proofs.Fits.{is_fit_fault}
 use Rattle.vg_alive.specs.declared.finding.Alive.{Alive}
@@ -79,7 +79,7 @@ module _ (bytes : List ℕ) (clock : ℕ) (a : Alive) (is : IsAliveOf bytes cloc
       }
 
   -- the sums over numbers are those over names
-  static_is : IsStatic (tree_at a.start.names a.start.tree) (named_start_heap a.start) (home_bytes Ram (columns_of a))
+  pub static_is : IsStatic (tree_at a.start.names a.start.tree) (named_start_heap a.start) (home_bytes Ram (columns_of a))
   static_is =
       static_named a.start.names (program_at a.start.program) is.start.program.told is.start.program.typed (tree_at a.start.names a.start.tree)
       (parts_of is.start.program.written) is.start.program.named a.start.heap is.start.typed.0 is.start.typed.1 a.live is.set
@@ -131,6 +131,8 @@ module _ (bytes : List ℕ) (clock : ℕ) (a : Alive) (is : IsAliveOf bytes cloc
   pub refused_by : (why : Refusal Fault) → PlacedBy a (Err why) → Fits bytes clock (Err why)
   refused_by (refusal.Fault (StaticFull need)) (full, e) = static_full need full e
   refused_by (refusal.Fault (TableFull need)) (fits, full, e) = table_full need fits full e
+  refused_by (refusal.Fault (StackFull need left)) h = absurd h
+  refused_by (refusal.Fault (CodeFull words)) h = absurd h
   refused_by (refusal.Fault (NoTree p)) h = absurd h
   refused_by (refusal.Fault (TooDeep p)) h = absurd h
   refused_by (refusal.Fault (TooMany what limit p)) h = absurd h

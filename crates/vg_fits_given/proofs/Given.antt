@@ -11,9 +11,9 @@ use Rattle.vg_live.specs.Rules.{Live}
 use Rattle.vg_live_source.specs.Making.{MakesNothing}
 use Rattle.vg_reach.specs.Reaches.{made_in}
 use Rattle.vg_packed.specs.Given.{IsGiven}
-use Rattle.vg_packed_runs.specs.Ready.{IsReady}
-use Rattle.vg_ranged.specs.Ranges.{HaveRanges}
-use Rattle.vg_ranged.proofs.Ready.{elements, is_ready}
+use Rattle.vg_packed.specs.Ready.{IsReady}
+use Rattle.vg_packed.specs.Ranges.{HaveRanges}
+use Rattle.vg_packed.proofs.Ready.{elements, is_ready}
 use Rattle.vg_text_beside.proofs.Beside.{few_methods, few_parameters, few_arguments, ranges}
 use Rattle.vg_front.specs.declared.starting.Start.{Start}
 use Rattle.vg_alive.specs.Answer.{named_start_heap}

@@ -3,7 +3,7 @@ ghost use Rattle.std.specs.Prelude.{◌≤◌, ℕ, List, length};
 ghost use Rattle.vg_base.specs.Limits.{text_limit};
 ghost use Rattle.vg_core.specs.HeldProgram.{program_at};
 ghost use Rattle.vg_packed.specs.Given.{IsGiven};
-ghost use Rattle.vg_packed_runs.specs.Ready.{IsReady};
+ghost use Rattle.vg_packed.specs.Ready.{IsReady};
 ghost use Rattle.vg_fits.specs.declared.fitting.Fitted.{Fitted};
 ghost use Rattle.vg_fits.specs.Answer.{IsFittedOf};
 

@@ -25,7 +25,7 @@ use Rattle.vg_session.specs.declared.initialisation.InitFault.{InitFault}
 use Rattle.vg_session.specs.Initialises.{Initialises, why_of}
 use Rattle.vg_faults.specs.declared.fault.Fault.{Fault}
 use Rattle.vg_faults.specs.declared.fault.Fault.TheVariants.{NoTree, TooDeep, TooMany, Broken, InitTrap, InitSteps, InitDepth, InitTouches, InitTooBig, Allocates, StaticFull, TableFull}
-use Rattle.vg_faults.specs.declared.fault.Fault.TheVariants.{NoMember, NotBuilt}
+use Rattle.vg_faults.specs.declared.fault.Fault.TheVariants.{StackFull, CodeFull, NoMember, NotBuilt}
 use Rattle.vg_front.specs.declared.starting.Start.{Start}
 use Rattle.vg_faults.specs.Judged.{IsLegal, RefusedIn, fault_of, tree_fault}
 use Rattle.vg_faults.specs.Starting.{FailsIn, StartsIn, failure_of, start_fault}
@@ -78,6 +78,8 @@ of_tree bytes clock InitTooBig asked h = absurd asked
 of_tree bytes clock (Allocates p line) asked h = absurd asked
 of_tree bytes clock (StaticFull need) asked h = absurd asked
 of_tree bytes clock (TableFull need) asked h = absurd asked
+of_tree bytes clock (StackFull need left) asked h = absurd asked
+of_tree bytes clock (CodeFull words) asked h = absurd asked
 of_tree bytes clock NoMember asked h = absurd asked
 of_tree bytes clock (NotBuilt p) asked h = absurd asked
 
@@ -116,6 +118,8 @@ of_start bytes clock InitTooBig failure h = h
 of_start bytes clock (Allocates p line) failure h = absurd failure
 of_start bytes clock (StaticFull need) failure h = absurd failure
 of_start bytes clock (TableFull need) failure h = absurd failure
+of_start bytes clock (StackFull need left) failure h = absurd failure
+of_start bytes clock (CodeFull words) failure h = absurd failure
 of_start bytes clock NoMember failure h = absurd failure
 of_start bytes clock (NotBuilt p) failure h = absurd failure
 

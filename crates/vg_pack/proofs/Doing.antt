@@ -9,8 +9,8 @@ use Rattle.vg_place.specs.declared.placing.Columns.{Columns}
 use Rattle.vg_packed.specs.declared.program.FirmProgram.{FirmProgram}
 use Rattle.vg_packed.specs.Given.{IsGiven}
 use Rattle.vg_packed.specs.Packed.{IsPackedFrom}
-use Rattle.vg_packed_runs.specs.Ready.{IsReady}
-use Rattle.vg_packed_runs.proofs.Placed.{do_the_same}
+use Rattle.vg_packed.specs.Ready.{IsReady}
+use Rattle.vg_packed.proofs.Placed.{do_the_same}
 use Rattle.vg_pack.specs.Rows.{IsPackedWhole, RowsFitIn}
 use Rattle.vg_pack.specs.Same.{DoTheSame}
 

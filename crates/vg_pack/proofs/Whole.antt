@@ -24,7 +24,7 @@ use Rattle.vg_packing.specs.Laid.{SameEntry, IsTabled}
 use Rattle.vg_packing.specs.Layout.{Spot, spot}
 use Rattle.vg_packing.specs.Packs.{IsKeptPlace, columns_at, entry_at}
 use Rattle.vg_pack_bodies.specs.Procedures.{packed_methods}
-use Rattle.vg_pack_laws.proofs.Listed.{listed}
+use Rattle.vg_packed.proofs.Listed.{listed}
 use Rattle.vg_place.specs.declared.placing.Columns.{Columns}
 use Rattle.vg_place.specs.Counting.{elements_in}
 use Rattle.vg_place.proofs.Glue.{are_few, are_small}

@@ -9,7 +9,7 @@ use Rattle.vg_place.specs.declared.placing.Columns.{Columns}
 use Rattle.vg_table_bytes.specs.Rows.{HasRows}
 use Rattle.vg_packed.specs.declared.program.FirmProgram.{FirmProgram}
 use Rattle.vg_packed.specs.Packed.{IsPackedFrom}
-use Rattle.vg_packed_runs.specs.Ready.{IsReady}
+use Rattle.vg_packed.specs.Ready.{IsReady}
 
 -- Its columns and tables have rows that fit into their bytes, whatever the code numbers of its procedures.
 abbrev pub RowsFitIn : Program → Heap → Columns → FirmProgram → Type 0

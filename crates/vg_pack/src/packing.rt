@@ -3,7 +3,7 @@ ghost use Rattle.std.specs.Prelude.{IfOk};
 ghost use Rattle.vg_core.specs.HeldProgram.{program_at};
 ghost use Rattle.vg_packed.specs.Given.{IsGiven};
 ghost use Rattle.vg_packed.specs.Packed.{IsPackedFrom};
-ghost use Rattle.vg_packed_runs.specs.Ready.{IsReady};
+ghost use Rattle.vg_packed.specs.Ready.{IsReady};
 ghost use Rattle.vg_pack.specs.Rows.{IsPackedWhole, RowsFitIn};
 ghost use Rattle.vg_pack.specs.Same.{DoTheSame};
 

@@ -1,4 +1,14 @@
+pub mod Apart
+pub mod Counted
+pub mod Plain
+pub mod Uses
+pub mod IsOf
+pub mod IsPlaced
+pub mod Few
+pub mod Columns
 pub mod Programs
 pub mod Given
 pub mod Plans
 pub mod Packed
+pub mod Ready
+pub mod Ranges

@@ -13,8 +13,8 @@ use Rattle.vg_placement.specs.declared.column.Held.TheVariants.{Field as TheFiel
 use Rattle.vg_placement.specs.Columns.{column_width, home_of}
 use Rattle.vg_placement.specs.Needs.{needs}
 use Rattle.vg_place.specs.declared.placing.Columns.{Columns}
-use Rattle.vg_columns.specs.Apart.{HasColumns}
-use Rattle.vg_start.specs.Uses.{HasDelegates, Calls}
+use Rattle.vg_packed.specs.Apart.{HasColumns}
+use Rattle.vg_packed.specs.Uses.{HasDelegates, Calls}
 use Rattle.vg_pack_code.specs.declared.plan.Plan.{Plan}
 use Rattle.vg_pack_code.specs.Plans.{layout_by}
 use Rattle.vg_pack_calls.specs.Procedures.{procedures_from}

@@ -5,7 +5,7 @@ use Rattle.vg_firm.specs.declared.step.Home.{Home}
 use Rattle.vg_firm.specs.declared.step.Home.TheVariants.{Ram, Flash}
 use Rattle.vg_placement.specs.declared.column.Held.{Held}
 use Rattle.vg_placement.specs.declared.column.Column.{Column}
-use Rattle.vg_columns.specs.Apart.{held_where, held_in}
+use Rattle.vg_packed.specs.Apart.{held_where, held_in}
 use Rattle.vg_packed.specs.Packed.{if_ram, ram_columns}
 
 -- A column of these holds it, and has this place among those in RAM.

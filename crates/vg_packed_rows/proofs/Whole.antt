@@ -32,11 +32,11 @@ use Rattle.vg_placement.specs.declared.column.Column.{Column}
 use Rattle.vg_placement.specs.Columns.{Needs, item_width, column_width}
 use Rattle.vg_placement.specs.Needs.{needs}
 use Rattle.vg_place.specs.declared.placing.Columns.{Columns}
-use Rattle.vg_columns.specs.Apart.{held_in}
-use Rattle.vg_columns.proofs.Counted.{two_bytes}
-use Rattle.vg_start.specs.IsPlaced.{IsPlaced}
-use Rattle.vg_start.proofs.Starting.{holds_first}
-use Rattle.vg_pack_laws.proofs.Listed.{listed}
+use Rattle.vg_packed.specs.Apart.{held_in}
+use Rattle.vg_packed.proofs.Counted.{two_bytes}
+use Rattle.vg_packed.specs.IsPlaced.{IsPlaced}
+use Rattle.vg_packed.proofs.Starting.{holds_first}
+use Rattle.vg_packed.proofs.Listed.{listed}
 use Rattle.vg_tables.specs.declared.entry.Entry.{Entry}
 use Rattle.vg_tables.specs.declared.entry.Entry.TheVariants.{Number}
 use Rattle.vg_tables.specs.Entries.{number_in}
@@ -51,9 +51,9 @@ use Rattle.vg_packed.specs.Given.{IsGiven}
 use Rattle.vg_packed.specs.Packed.{IsPackedFrom, ram_columns}
 use Rattle.vg_packed.specs.Plans.{planned}
 use Rattle.vg_packed.specs.Programs.{program_of}
-use Rattle.vg_packed_runs.specs.Ready.{IsReady}
-use Rattle.vg_packed_runs.proofs.Live.{is_of}
-use Rattle.vg_packed_runs.proofs.Placed.{is_placed}
+use Rattle.vg_packed.specs.Ready.{IsReady}
+use Rattle.vg_packed.proofs.Live.{is_of}
+use Rattle.vg_packed.proofs.Placed.{is_placed}
 use Rattle.vg_packed_rows.specs.Made.{IsMade}
 use Rattle.vg_packed_rows.proofs.Sizes.{Sized, SizedOf, all_sized}
 use Rattle.vg_packed_rows.proofs.Rams.{held_in_ram}

@@ -10,7 +10,7 @@ ghost use Rattle.vg_table_bytes.specs.Rows.{HasRows};
 ghost use Rattle.vg_packed.specs.declared.program.FirmProgram.{FirmProgram};
 ghost use Rattle.vg_packed.specs.Given.{IsGiven};
 ghost use Rattle.vg_packed.specs.Packed.{IsPackedFrom};
-ghost use Rattle.vg_packed_runs.specs.Ready.{IsReady};
+ghost use Rattle.vg_packed.specs.Ready.{IsReady};
 ghost use Rattle.vg_packed_rows.specs.Made.{IsMade};
 
 /// A packed program whose columns have the values of the heap, and whose tables are the rows of its kept arrays, has a row of entries for each column in

@@ -35,8 +35,8 @@ use Rattle.vg_plan_uses.specs.Binding.{named_by, named, bound_by, is_bound}
 use Rattle.vg_plan_uses.specs.Calling.{called_by, called, edges_from}
 use Rattle.vg_plan_uses.specs.Held.{in_value, in_option, in_items, in_components, in_object, in_cell, in_cells}
 use Rattle.vg_plan_uses.specs.Sets as sets
-use Rattle.vg_start.specs.Uses as used
-use Rattle.vg_start.specs.Uses.{Has, Finds, HasDelegates, Calls}
+use Rattle.vg_packed.specs.Uses as used
+use Rattle.vg_packed.specs.Uses.{Has, Finds, HasDelegates, Calls}
 use Rattle.vg_plan_laws.proofs.Among.{split, with_split, one_is, one}
 use Rattle.vg_plan_bound.proofs.Bound.{step_in, step_out, named_split, bound_split, called_split, edge_split, delegate_split}
 use Rattle.vg_plan_bound.proofs.Found.{there_place, asked_there, own_some, cases_split}

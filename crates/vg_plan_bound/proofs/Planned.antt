@@ -13,7 +13,7 @@ use Rattle.vg_plan.specs.declared.planning.Planned.{Planned}
 use Rattle.vg_plan.specs.Planned.{Plans, tables_alone, calls_alone}
 use Rattle.vg_plan_uses.specs.Binding.{bound_by, is_bound}
 use Rattle.vg_plan_uses.specs.Calling.{edges_from}
-use Rattle.vg_start.specs.Uses.{Calls, HasDelegates}
+use Rattle.vg_packed.specs.Uses.{Calls, HasDelegates}
 use Rattle.vg_plan_bound.proofs.Only.{ds, only_bindable, only_edges}
 
 module _ (p : Program) (h : Heap) (s : LiveSet) (n : Numbers) (cs : List Column) (x : Planned) (live : IsLiveSet p h s) (plans : Plans p h s n cs x) where

@@ -10,7 +10,7 @@ ghost use Rattle.vg_packed.specs.Plans.{planned};
 ghost use Rattle.vg_placement.specs.declared.column.Column.{Column};
 ghost use Rattle.vg_plan.specs.declared.planning.Planned.{Planned};
 ghost use Rattle.vg_plan.specs.Planned.{Plans};
-ghost use Rattle.vg_start.specs.Uses.{Calls, HasDelegates};
+ghost use Rattle.vg_packed.specs.Uses.{Calls, HasDelegates};
 
 /// A method may be the value of a delegate, and a procedure names another, only where a live method or a live place gives the reason. The body is
 /// empty: its contract is a law of the definitions.

@@ -10,7 +10,7 @@ use Rattle.vg_numbers.specs.Keys.{class_key, before, inside}
 use Rattle.vg_numbers.specs.Numbers.{way, is_of_hierarchy, way_of, objects, numbered, number, first, count}
 use Rattle.vg_number.specs.declared.numbers.Numbers.{Numbers}
 use Rattle.vg_number.specs.Numbering.{IsNumbering}
-use Rattle.vg_columns.specs.Counted.{IsCounted}
+use Rattle.vg_packed.specs.Counted.{IsCounted}
 use Rattle.vg_pack_code.specs.declared.plan.Plan.{Plan}
 use Rattle.vg_pack_code.specs.Plans.{first_in, count_of, layout_by}
 

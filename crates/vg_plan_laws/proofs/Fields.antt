@@ -13,7 +13,7 @@ use Rattle.vg_placement.specs.declared.column.Held.{Held}
 use Rattle.vg_placement.specs.declared.column.Held.TheVariants.{Initial, Field as TheField, Elements as TheItems, Table as TheTable}
 use Rattle.vg_placement.specs.declared.column.Column.{Column}
 use Rattle.vg_placement.specs.Columns.{address_for, ram_behind, flash_behind}
-use Rattle.vg_columns.specs.Apart.{held_where, held_in}
+use Rattle.vg_packed.specs.Apart.{held_where, held_in}
 use Rattle.vg_pack_code.specs.declared.plan.ColumnPlace.{ColumnPlace}
 use Rattle.vg_pack_code.specs.Plans.{column_of}
 use Rattle.vg_plan_columns.specs.Fields.{field_noted, fields_from}

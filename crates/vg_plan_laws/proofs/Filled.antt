@@ -35,9 +35,9 @@ use Rattle.vg_placement.specs.declared.column.Column.{Column}
 use Rattle.vg_placement.specs.Columns.{Needs, items_count, owner_count}
 use Rattle.vg_placement.specs.Needs.{needs}
 use Rattle.vg_place.specs.declared.placing.Columns.{Columns}
-use Rattle.vg_columns.specs.Apart.{held_where, held_in, HasNumbers}
-use Rattle.vg_columns.proofs.Apart.{apart}
-use Rattle.vg_columns.proofs.Counted.{has_numbers}
+use Rattle.vg_packed.specs.Apart.{held_where, held_in, HasNumbers}
+use Rattle.vg_packed.proofs.Apart.{apart}
+use Rattle.vg_packed.proofs.Counted.{has_numbers}
 use Rattle.vg_pack_code.specs.declared.plan.Plan.{Plan}
 use Rattle.vg_tables.specs.declared.entry.Entry.{Entry}
 use Rattle.vg_tables.specs.declared.entry.Entry.TheVariants.{Number}

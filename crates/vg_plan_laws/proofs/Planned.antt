@@ -22,7 +22,7 @@ use Rattle.vg_pack_calls.specs.Asked.{steps_from}
 use Rattle.vg_pack_code.specs.declared.plan.ColumnPlace.{ColumnPlace}
 use Rattle.vg_pack_code.specs.declared.plan.Plan.{Plan}
 use Rattle.vg_pack_code.specs.Plans.{column_of, items_in}
-use Rattle.vg_pack_laws.proofs.Listed.{listed}
+use Rattle.vg_packed.proofs.Listed.{listed}
 use Rattle.vg_packing.specs.Layout.{Column}
 use Rattle.vg_placement.specs.declared.column.Column as placement
 use Rattle.vg_placement.specs.declared.column.Held.{Held}
@@ -32,8 +32,8 @@ use Rattle.vg_placement.specs.Needs.{needs}
 use Rattle.vg_place.specs.declared.placing.Columns.{Columns}
 use Rattle.vg_place.specs.Counting.{elements_in}
 use Rattle.vg_place.proofs.Glue.{are_small}
-use Rattle.vg_columns.specs.Apart.{held_where, held_in, HasColumns}
-use Rattle.vg_columns.specs.Counted.{IsCounted}
+use Rattle.vg_packed.specs.Apart.{held_where, held_in, HasColumns}
+use Rattle.vg_packed.specs.Counted.{IsCounted}
 use Rattle.vg_plan.specs.Planned.{HasTables}
 use Rattle.vg_plan_columns.specs.Arrays.{place_at, tables_of, AreRows, Fit}
 use Rattle.vg_plan_columns.specs.Items.{items_from, no_items}

@@ -21,7 +21,7 @@ use Rattle.vg_placement.specs.declared.column.Held.TheVariants.{Elements as TheI
 use Rattle.vg_placement.specs.declared.column.Column.{Column}
 use Rattle.vg_placement.specs.Columns.{Needs, elements, start_of, items_count, item_width, column_width, placed, home_bytes, address_for, all_columns}
 use Rattle.vg_place.specs.Counting.{size_in, elements_in}
-use Rattle.vg_columns.proofs.Standing.{within}
+use Rattle.vg_packed.proofs.Standing.{within}
 use Rattle.vg_plan_columns.specs.Arrays.{place_at, tables_of, AreRows, Fit}
 use Rattle.vg_plan_columns.specs.Items.{items_from, no_items}
 use Rattle.vg_plan_columns.proofs.Rowed.{in_row}

@@ -15,8 +15,8 @@ use Rattle.vg_placement.specs.declared.column.Column as placement
 use Rattle.vg_placement.specs.declared.column.Held.TheVariants.{Field as TheField}
 use Rattle.vg_placement.specs.Columns.{column_width}
 use Rattle.vg_place.specs.declared.placing.Columns.{Columns}
-use Rattle.vg_columns.specs.Apart.{HasColumns}
-use Rattle.vg_columns.specs.Counted.{IsCounted}
+use Rattle.vg_packed.specs.Apart.{HasColumns}
+use Rattle.vg_packed.specs.Counted.{IsCounted}
 use Rattle.vg_pack_code.specs.declared.plan.Plan.{Plan}
 use Rattle.vg_packed.specs.Plans.{planned}
 

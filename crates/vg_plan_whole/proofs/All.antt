@@ -29,13 +29,13 @@ use Rattle.vg_number.specs.Numbering.{has_reason, kept_in, kinds_of}
 use Rattle.vg_pack_calls.specs.Asked.{is_there, asked_from, steps_from}
 use Rattle.vg_pack_calls.specs.Cases.{procedure_of, cases_of}
 use Rattle.vg_pack_calls.specs.Procedures.{procedures_from}
-use Rattle.vg_pack_cases.proofs.Receivers.{slot_there}
+use Rattle.vg_packed.proofs.Receivers.{slot_there}
 use Rattle.vg_pack_code.specs.declared.plan.Asked.{Asked}
 use Rattle.vg_pack_code.specs.declared.plan.Plan.{Plan}
 use Rattle.vg_pack_code.specs.Plans.{holds, place_of, row_in}
-use Rattle.vg_pack_laws.proofs.Listed.{listed}
-use Rattle.vg_pack_live.proofs.Cells.{reason_there}
-use Rattle.vg_packed_runs.proofs.Delegates.{delegates_there}
+use Rattle.vg_packed.proofs.Listed.{listed}
+use Rattle.vg_packed.proofs.Cells.{reason_there}
+use Rattle.vg_packed.proofs.Delegates.{delegates_there}
 use Rattle.vg_plan_bound.proofs.Bound.{step_out, named_join}
 use Rattle.vg_plan_bound.proofs.Found.{there_place, asked_there, own_pos, cases_join}
 use Rattle.vg_plan_laws.proofs.Among.{one_among, with_left, with_right, there, back}
@@ -44,8 +44,8 @@ use Rattle.vg_plan_uses.specs.Calling.{called_by, called, edges_from}
 use Rattle.vg_plan_uses.specs.Held.{in_value, in_option, in_object, in_cell, in_components, in_cells}
 use Rattle.vg_plan_uses.specs.Sets as sets
 use Rattle.vg_sound.specs.Good.{HasTypedHeap}
-use Rattle.vg_start.specs.Uses as used
-use Rattle.vg_start.specs.Uses.{Has, Finds, HasDelegates, Calls}
+use Rattle.vg_packed.specs.Uses as used
+use Rattle.vg_packed.specs.Uses.{Has, Finds, HasDelegates, Calls}
 use Rattle.vg_plan_whole.proofs.Joined.{bound_join, delegate_join, called_join, edge_join, components_join, object_join, items_join, cells_join}
 
 -- an object of a class is of its kind

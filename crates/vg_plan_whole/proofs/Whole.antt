@@ -25,7 +25,7 @@ use Rattle.vg_plan_bound.proofs.Planned.{has_delegates, has_calls}
 use Rattle.vg_plan_laws.specs.Stands.{StandsIn}
 use Rattle.vg_plan_uses.specs.Binding.{bound_by, is_bound}
 use Rattle.vg_plan_uses.specs.Calling.{edges_from}
-use Rattle.vg_start.specs.Uses.{Calls, HasDelegates}
+use Rattle.vg_packed.specs.Uses.{Calls, HasDelegates}
 use Rattle.vg_plan_whole.proofs.All.{all_bindable, all_edges}
 
 -- ---- dispatches go by procedures alone

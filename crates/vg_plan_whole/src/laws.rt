@@ -13,7 +13,7 @@ ghost use Rattle.vg_placement.specs.declared.column.Column.{Column};
 ghost use Rattle.vg_plan.specs.declared.planning.Planned.{Planned};
 ghost use Rattle.vg_plan.specs.Planned.{Plans};
 ghost use Rattle.vg_plan_laws.specs.Stands.{StandsIn};
-ghost use Rattle.vg_start.specs.Uses.{Calls, HasDelegates};
+ghost use Rattle.vg_packed.specs.Uses.{Calls, HasDelegates};
 
 /// Each method of which a live method or a live place makes a delegate may be the value of one, and a procedure names that of each method that
 /// its own may call. The body is empty: its contract is a law of the definitions, as those below.

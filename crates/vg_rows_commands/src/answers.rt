@@ -1,6 +1,6 @@
 // What a row answers.
 use crate::files::{fetched, given_file, given_files, given_steadily};
-use crate::sinks::{nothing_kept, puts, ran, ran_unseen};
+use crate::sinks::{noted, nothing_kept, puts, ran, ran_unseen};
 use crate::statuses::status_told;
 use crate::table::Table;
 use itoa::Buffer;
@@ -19,6 +19,7 @@ pub fn answer_to(table: &mut Table, kind: &str, words: &str) -> Result<Option<Ro
         "whole" => given_file(table, words),
         "pair" => given_files(table, words),
         "run" => ran(table, words),
+        "noted" => noted(table, words),
         "unseen" => ran_unseen(table, words),
         "status" => status_told(table.alloc, words),
         _ => Ok(None),
@@ -53,7 +54,7 @@ pub fn words_of(table: &Table, words: &str) -> Result<Option<Vec<String>>, NoMem
     Ok(Some(list))
 }
 
-// `words WORD ..`: `build FILE STEPS`, `run FILE SCRIPT STEPS`, `sim HEX SCRIPT STEPS`, `why FILE MEMBER` or `none`.
+// `words WORD ..`: `build FILE STEPS` and behind it the stack that is asked for, `run FILE SCRIPT STEPS`, `sim HEX SCRIPT STEPS`, `why FILE MEMBER` or `none`.
 fn meaning(table: &Table, words: &str) -> Result<Option<Row<u8>>, NoMemory> {
     let Some(list) = words_of(table, words)? else {
         return Ok(None);
@@ -61,11 +62,13 @@ fn meaning(table: &Table, words: &str) -> Result<Option<Row<u8>>, NoMemory> {
     let mut answer = Row::new(table.alloc);
     match command_of(&list) {
         None => push_part(&mut answer, b"none")?,
-        Some(Command::Build { file, init_steps }) => {
-            push_part(&mut answer, b"build")?;
-            push_part(&mut answer, file.as_bytes())?;
-            push_part(&mut answer, Buffer::new().format(init_steps).as_bytes())?;
-        }
+        Some(
+            Command::Build {
+                file,
+                stack,
+                init_steps,
+            },
+        ) => push_build(&mut answer, file, stack, init_steps)?,
         Some(
             Command::Run {
                 file,
@@ -83,6 +86,22 @@ fn meaning(table: &Table, words: &str) -> Result<Option<Row<u8>>, NoMemory> {
         }
     }
     Ok(Some(answer))
+}
+
+// The command `build`, its file, its steps, and the stack that it asks for.
+fn push_build(
+    answer: &mut Row<u8>,
+    file: &str,
+    stack: Option<u16>,
+    init_steps: u32,
+) -> Result<(), NoMemory> {
+    push_part(answer, b"build")?;
+    push_part(answer, file.as_bytes())?;
+    push_part(answer, Buffer::new().format(init_steps).as_bytes())?;
+    match stack {
+        Some(bytes) => push_part(answer, Buffer::new().format(bytes).as_bytes()),
+        None => Ok(()),
+    }
 }
 
 // A command, its two files and its steps.

@@ -68,6 +68,25 @@ pub fn ran(table: &mut Table, words: &str) -> Result<Option<Row<u8>>, NoMemory> 
     Ok(Some(answer))
 }
 
+/// `noted WORD ..`: the number of the status, and what `note` holds, with the shelf that never fails and an `out` that keeps nothing.
+pub fn noted(table: &mut Table, words: &str) -> Result<Option<Row<u8>>, NoMemory> {
+    let Some(list) = words_of(table, words)? else {
+        return Ok(None);
+    };
+    let mut note = sink_with(table.alloc, ROOM, None)?;
+    let status = run(
+        table.alloc,
+        &list,
+        &mut table.steady,
+        &mut NullSink::new(),
+        &mut note,
+    );
+    let mut answer = Row::new(table.alloc);
+    push_part(&mut answer, Buffer::new().format(status.code()).as_bytes())?;
+    push_part(&mut answer, note.bytes())?;
+    Ok(Some(answer))
+}
+
 /// `unseen WORD ..`: the number of the status and its fault line, with the shelf that never fails and sinks that keep nothing.
 pub fn ran_unseen(table: &mut Table, words: &str) -> Result<Option<Row<u8>>, NoMemory> {
     let Some(list) = words_of(table, words)? else {

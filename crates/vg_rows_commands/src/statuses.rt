@@ -70,6 +70,11 @@ fn refused(name: &str, first: u32, second: u32) -> Option<Status> {
         "table-full" => Some(Status::Refused(Fault::TableFull {
             need: u64::from(first),
         })),
+        "stack-full" => Some(Status::Refused(Fault::StackFull {
+            need: first,
+            left: second,
+        })),
+        "code-full" => Some(Status::Refused(Fault::CodeFull { words: first })),
         "no-member" => Some(Status::Refused(Fault::NoMember)),
         "not-built" => Some(Status::Refused(Fault::NotBuilt(place))),
         "hex-form" => Some(Status::HexRefused(HexFault::Form(first))),

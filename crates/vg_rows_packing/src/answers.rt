@@ -1,5 +1,7 @@
 // What a line of the table asks.
 use crate::bytes::bytes_text;
+use crate::deepest::deepest_text;
+use crate::linear::{counts_text, linear_played};
 use crate::named::{dispatches_text, procedure_text, procedures_text};
 use crate::packing::{Whole, packed, refused};
 use crate::runs::played;
@@ -21,11 +23,16 @@ pub fn answer_of(alloc: Global, line: TextLine<'_>) -> Result<String, NoMemory> 
 }
 
 fn answer_by(alloc: Global, line: TextLine<'_>, whole: &Whole) -> Result<String, NoMemory> {
-    match line.question {
+    let (question, _) = line.question.split_once(':').unwrap_or((line.question, ""));
+    match question {
         "bytes" => bytes_text(alloc, whole),
         "code" => procedure_text(alloc, whole, line.word),
         "procedures" => procedures_text(alloc, whole),
         "dispatches" => dispatches_text(alloc, whole),
-        _ => played(alloc, whole, line),
+        "linear" => linear_played(alloc, whole, line),
+        "instructions" => counts_text(alloc, whole),
+        "deepest" => deepest_text(alloc, whole),
+        "run" => played(alloc, whole, line),
+        _ => said(alloc, "no such question"),
     }
 }

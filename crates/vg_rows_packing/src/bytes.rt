@@ -131,7 +131,8 @@ fn number_at(bytes: &[Datum], from: usize, width: u8) -> u32 {
     number
 }
 
-fn byte_of(datum: Datum) -> u32 {
+/// The byte that a datum stands for, where code numbers are those of the machine of packed programs.
+pub fn byte_of(datum: Datum) -> u32 {
     match datum {
         Datum::Byte(byte) => u32::from(byte),
         Datum::CodeLow(procedure) => code_number(procedure) % 256,

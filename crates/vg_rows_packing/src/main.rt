@@ -1,9 +1,12 @@
 //! A table of packed programs: a question about a text a line comes in, with its answer; each line that differs goes out, and how many there are. The questions are
-//! what a method's procedure is, which procedures and dispatches there are, which bytes the tables have, and what the packed program shows on a script.
+//! what a method's procedure is, which procedures and dispatches there are, which bytes the tables have, what the packed program and its linear code show on a
+//! script, how many instructions the linear code has, and how many calls are active at most.
 #![tactic(auto)]
 
 mod answers;
 mod bytes;
+mod deepest;
+mod linear;
 mod named;
 mod packing;
 mod runs;

@@ -10,8 +10,8 @@ use vg_packed::{Entrance, FirmProgram};
 use vg_rows_lines::{TextLine, said, spelled};
 use vg_script::{Script, read_script};
 
-// The bytes of room for the lines of a run.
-const ROOM: usize = 1_000_000;
+/// The bytes of room for the lines of a run.
+pub const ROOM: usize = 1_000_000;
 
 /// What the packed program shows on the script of a line, with a comma behind each event, and how it ends. It begins with what its tables say.
 pub fn played(alloc: Global, whole: &Whole, line: TextLine<'_>) -> Result<String, NoMemory> {
@@ -68,8 +68,8 @@ fn handler_of(handlers: &[Entrance], vector: u8) -> Option<u16> {
     None
 }
 
-// The lines of a trace, with a comma behind each.
-fn shown(alloc: Global, bytes: &[u8]) -> Result<String, NoMemory> {
+/// The lines of a trace, with a comma behind each.
+pub fn shown(alloc: Global, bytes: &[u8]) -> Result<String, NoMemory> {
     let mut text = String::new(alloc);
     for byte in bytes {
         match *byte {

@@ -25,11 +25,11 @@ use Rattle.vg_numbers.specs.Numbers.{IsChain, AreChains}
 use Rattle.vg_placement.specs.declared.column.Held.TheVariants.{Field as OfField}
 use Rattle.vg_placement.specs.declared.column.Column.{Column}
 use Rattle.vg_placement.specs.Columns.{item_width, columns}
-use Rattle.vg_columns.specs.Apart.{held_in, HasColumns}
-use Rattle.vg_start.specs.Uses.{Has, HasDelegates, Calls, held}
-use Rattle.vg_start.specs.Uses as used
-use Rattle.vg_start.specs.IsOf.{IsOf}
-use Rattle.vg_start.specs.IsPlaced.{IsPlaced}
+use Rattle.vg_packed.specs.Apart.{held_in, HasColumns}
+use Rattle.vg_packed.specs.Uses.{Has, HasDelegates, Calls, held}
+use Rattle.vg_packed.specs.Uses as used
+use Rattle.vg_packed.specs.IsOf.{IsOf}
+use Rattle.vg_packed.specs.IsPlaced.{IsPlaced}
 use Rattle.vg_start_examples.specs.Worked.{program, heap, kinds, kept, layout, procedure_of, codes, firm, main_signature}
 
 -- ---- what is live

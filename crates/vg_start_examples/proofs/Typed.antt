@@ -18,7 +18,7 @@ use Rattle.vg_sound.specs.Good.{HasTypedHeap}
 use Rattle.vg_sound.proofs.Values.{the_same, none_some}
 use Rattle.vg_live.specs.Uses.{steps_of}
 use Rattle.vg_packing.specs.Allowed.{IsSmall, AreSmall}
-use Rattle.vg_start.specs.Plain.{IsRanged, AreRanged, IsPlainStep, IsPlain}
+use Rattle.vg_packed.specs.Plain.{IsRanged, AreRanged, IsPlainStep, IsPlain}
 use Rattle.vg_start_examples.specs.Worked.{program, heap, kinds}
 
 false_true : {X : Type 0} → false ≡ true → X

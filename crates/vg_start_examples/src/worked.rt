@@ -3,9 +3,9 @@ ghost use Rattle.std.specs.Prelude.{◌≡◌};
 ghost use Rattle.vg_core.specs.Session.{started, Started};
 ghost use Rattle.vg_core.specs.Typing.{WellTyped};
 ghost use Rattle.vg_sound.specs.Good.{HasTypedHeap};
-ghost use Rattle.vg_start.specs.Plain.{IsPlain, AreRanged};
-ghost use Rattle.vg_start.specs.IsOf.{IsOf};
-ghost use Rattle.vg_start.specs.IsPlaced.{IsPlaced};
+ghost use Rattle.vg_packed.specs.Plain.{IsPlain, AreRanged};
+ghost use Rattle.vg_packed.specs.IsOf.{IsOf};
+ghost use Rattle.vg_packed.specs.IsPlaced.{IsPlaced};
 ghost use Rattle.vg_start_examples.specs.Worked.{program, heap, layout, codes, firm};
 
 /// There are a well typed program with an object in its heap, a layout of its live set, and a program to which it is packed: what the laws of

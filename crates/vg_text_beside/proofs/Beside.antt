@@ -24,8 +24,8 @@ use Rattle.vg_written.specs.Written.{parts_of}
 use Rattle.vg_live.specs.Uses.{steps_of}
 use Rattle.vg_packing.specs.Allowed.{IsSmall}
 use Rattle.vg_pack_bodies.specs.Procedures.{HaveFewParameters}
-use Rattle.vg_pack_laws.specs.Few.{HasFewArguments, HaveFewArguments}
-use Rattle.vg_packed_runs.specs.Ready.{HaveWideFields}
+use Rattle.vg_packed.specs.Few.{HasFewArguments, HaveFewArguments}
+use Rattle.vg_packed.specs.Ready.{HaveWideFields}
 use Rattle.vg_text_limits.specs.Calls.{IsShortCall}
 use Rattle.vg_text_limits.proofs.Limits as limits
 use Rattle.vg_text_limits.proofs.Limits.{is_legal}
@@ -34,7 +34,7 @@ use Rattle.vg_text_limits.proofs.FieldTypes.{fields_fit}
 use Rattle.vg_text_limits.proofs.Calling.{calls_are_short}
 use Rattle.vg_types_declared.specs.Apart.{have_members}
 use Rattle.vg_types.specs.Programs.{IsProgramOf}
-use Rattle.vg_ranged.specs.Ranges.{HaveRanges}
+use Rattle.vg_packed.specs.Ranges.{HaveRanges}
 use Rattle.vg_text_ranges.specs.Beside.{IsSafeBeside}
 use Rattle.vg_text_ranges.proofs.Named.{declarations_only, small_type, wide_type, have_ranges}
 

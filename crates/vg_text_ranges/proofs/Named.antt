@@ -31,7 +31,7 @@ use Rattle.vg_source_ranges.proofs.Routines.{ranged_routine}
 use Rattle.vg_types_declared.specs.Apart.{are_members, have_members}
 use Rattle.vg_placement.specs.Columns.{column_width}
 use Rattle.vg_text_limits.proofs.Standing.{stands_at}
-use Rattle.vg_ranged.specs.Ranges.{AreBytes, IsRangedStep, HaveRanges}
+use Rattle.vg_packed.specs.Ranges.{AreBytes, IsRangedStep, HaveRanges}
 use Rattle.vg_text_ranges.specs.Beside.{IsSafeBeside}
 
 -- ---- lists

@@ -4,8 +4,8 @@ use Rattle.vg_core.specs.declared.program.Field.{Field}
 use Rattle.vg_core.specs.declared.program.Target.{Target}
 use Rattle.vg_core.specs.Program.{Body, Program, Signature, signature_of, body_of}
 use Rattle.vg_packing.specs.Allowed.{IsSmall}
-use Rattle.vg_pack_laws.specs.Few.{HaveFewArguments}
-use Rattle.vg_packed_runs.specs.Ready.{HaveWideFields}
+use Rattle.vg_packed.specs.Few.{HaveFewArguments}
+use Rattle.vg_packed.specs.Ready.{HaveWideFields}
 
 pub record IsSafeBeside (p : Program) : Type 0 where
   -- there are no bodies but those of what can be called

@@ -9,7 +9,7 @@ ghost use Rattle.vg_core.specs.Naming as naming;
 ghost use Rattle.vg_core.specs.Program.{Program};
 ghost use Rattle.vg_renamed.specs.NamesTell.{NamesTell};
 ghost use Rattle.vg_types_declared.specs.Apart.{have_members};
-ghost use Rattle.vg_ranged.specs.Ranges.{HaveRanges};
+ghost use Rattle.vg_packed.specs.Ranges.{HaveRanges};
 ghost use Rattle.vg_text_ranges.specs.Beside.{IsSafeBeside};
 
 /// The typed program of a legal text has its constants, casts, literals, locals and results in their ranges, and its methods run no construction of a

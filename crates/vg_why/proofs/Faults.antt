@@ -8,7 +8,7 @@ use Rattle.vg_live_source.specs.Members.{Member}
 use Rattle.vg_live_source.specs.Asking.{member_of}
 use Rattle.vg_faults.specs.declared.fault.Fault.{Fault}
 use Rattle.vg_faults.specs.declared.fault.Fault.TheVariants.{NoTree, TooDeep, TooMany, Broken, InitTrap, InitSteps, InitDepth, InitTouches, InitTooBig, Allocates, StaticFull, TableFull}
-use Rattle.vg_faults.specs.declared.fault.Fault.TheVariants.{NoMember, NotBuilt}
+use Rattle.vg_faults.specs.declared.fault.Fault.TheVariants.{StackFull, CodeFull, NoMember, NotBuilt}
 use Rattle.vg_faults.specs.Faults.{IsOfInit}
 use Rattle.vg_faults.specs.Starting.{FailsIn, init_steps}
 use Rattle.vg_faults.specs.Living.{HasLiveFault, IsFirmIn}
@@ -45,6 +45,8 @@ sorted InitTooBig bytes word h = inr h
 sorted (Allocates p line) bytes word h = inr h
 sorted (StaticFull need) bytes word h = inr h
 sorted (TableFull need) bytes word h = inr h
+sorted (StackFull need left) bytes word h = inr h
+sorted (CodeFull words) bytes word h = inr h
 sorted NoMember bytes word h = inl (refl, h)
 sorted (NotBuilt p) bytes word h = inr h
 
@@ -62,6 +64,8 @@ has_fault InitTooBig bytes word h = h
 has_fault (Allocates p line) bytes word h = h
 has_fault (StaticFull need) bytes word h = h
 has_fault (TableFull need) bytes word h = h
+has_fault (StackFull need left) bytes word h = h
+has_fault (CodeFull words) bytes word h = h
 has_fault NoMember bytes word h = absurd h
 has_fault (NotBuilt p) bytes word h = h
 
@@ -113,6 +117,8 @@ init_of bytes word r h settled InitTooBig of_init = exactly bytes word r h settl
 init_of bytes word r h settled (Allocates p line) of_init = absurd of_init
 init_of bytes word r h settled (StaticFull need) of_init = absurd of_init
 init_of bytes word r h settled (TableFull need) of_init = absurd of_init
+init_of bytes word r h settled (StackFull need left) of_init = absurd of_init
+init_of bytes word r h settled (CodeFull words) of_init = absurd of_init
 init_of bytes word r h settled NoMember of_init = absurd of_init
 init_of bytes word r h settled (NotBuilt p) of_init = absurd of_init
 

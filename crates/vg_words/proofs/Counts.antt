@@ -42,8 +42,8 @@ more_than_two (a ∷ []) w e = cc
 more_than_two (a ∷ b ∷ []) w e = cc
 more_than_two (a ∷ b ∷ d ∷ ws) w e = refl
 
-pub given_once : (absent : Option ℕ) (read : List ℕ → Option ℕ) (vs : List (List ℕ)) (v : List ℕ) → Some v ≡ slice_get vs 0 → None ≡ slice_get vs 1
-    → read v ≡ at_most_once absent read vs
+pub given_once : {A : Type 0} (absent : Option A) (read : List ℕ → Option A) (vs : List (List ℕ)) (v : List ℕ) → Some v ≡ slice_get vs 0
+    → None ≡ slice_get vs 1 → read v ≡ at_most_once absent read vs
 given_once absent read [] v e f = cc
 given_once absent read (a ∷ []) v e f = let h : v ≡ a = cc in ap read h
 given_once absent read (a ∷ b ∷ vs) v e f = cc

@@ -2,7 +2,8 @@
 --
 -- The first word is the command. Behind it stand options and plain words in any order. A command takes exactly so many
 -- plain words, and the options that its line names, each at most once. Words that no command takes mean nothing.
-use Rattle.std.specs.Prelude.{ℕ, ◌≤◌, ◌&&◌, Bool, true, false, List, [], ◌∷◌, Option, Some, None, option_map, if◌then◌else◌, map, String, string_bytes, codes}
+use Rattle.std.specs.Prelude.{ℕ, ◌≤◌, ◌&&◌, Bool, true, false, List, [], ◌∷◌, Option, Some, None, IfSome, option_map}
+use Rattle.std.specs.Prelude.{if◌then◌else◌, map, String, string_bytes, codes}
 use Rattle.std.specs.Global.{Global}
 use Rattle.std.specs.List.{list_any}
 use Rattle.std.specs.Str.{bytes_eq}
@@ -15,7 +16,7 @@ words_in = map string_bytes
 
 -- what a command line asks for
 pub data Command : Type 0 where
-  Build : (file : List ℕ) (init_steps : ℕ) → Command
+  Build : (file : List ℕ) (stack : Option ℕ) (init_steps : ℕ) → Command
   Run : (file script : List ℕ) (steps : ℕ) → Command
   Sim : (hex script : List ℕ) (steps : ℕ) → Command
   Why : (file member : List ℕ) → Command
@@ -41,13 +42,23 @@ steps_in given = at_most_once (Some 10000000) (number 10 1000000000) (values_of 
 abbrev pub init_steps_in : List Item → Option ℕ
 init_steps_in given = at_most_once (Some 1000000) (number 9 100000000) (values_of (codes "--init-steps") given)
 
--- `build FILE`, with `--init-steps N`
-abbrev pub build_with : Option (List ℕ) → Option ℕ → Option Command
-build_with (Some file) (Some init_steps) = Some (Build file init_steps)
-build_with _ _ = None
+-- `--stack N`: N from 1 to 4096 in at most four digits, and no stack is asked for where it is absent
+abbrev pub stack_value : List ℕ → Option (Option ℕ)
+stack_value text = option_map Some (number 4 4096 text)
+
+abbrev pub stack_in : List Item → Option (Option ℕ)
+stack_in given = at_most_once (Some None) stack_value (values_of (codes "--stack") given)
+
+-- `build FILE`, with `--stack N` and `--init-steps N`
+abbrev pub build_with : Option (List ℕ) → Option (Option ℕ) → Option ℕ → Option Command
+build_with (Some file) (Some stack) (Some init_steps) = Some (Build file stack init_steps)
+build_with _ _ _ = None
 
 abbrev pub build_of : List Item → Option Command
-build_of given = if knows (codes "--init-steps" ∷ []) given then build_with (one (plain_words given)) (init_steps_in given) else None
+build_of given =
+    if knows (codes "--stack" ∷ codes "--init-steps" ∷ []) given
+    then build_with (one (plain_words given)) (stack_in given) (init_steps_in given)
+    else None
 
 -- two plain words, of which the second is a script, with `--steps N`
 abbrev pub two_with : Option (List ℕ × List ℕ) → Option ℕ → Option (List ℕ × List ℕ × ℕ)
@@ -81,7 +92,12 @@ command_of (name ∷ words) =
 
 -- the steps of a command are within their range
 abbrev pub HasSteps : Command → Type 0
-HasSteps (Build file init_steps) = (1 ≤ init_steps) × (init_steps ≤ 100000000)
+HasSteps (Build file stack init_steps) = (1 ≤ init_steps) × (init_steps ≤ 100000000)
 HasSteps (Run file script steps) = (1 ≤ steps) × (steps ≤ 1000000000)
 HasSteps (Sim hex script steps) = (1 ≤ steps) × (steps ≤ 1000000000)
 HasSteps (Why file member) = Unit {0}
+
+-- the stack that a command asks for, if it does, is within its range
+abbrev pub HasStack : Command → Type 0
+HasStack (Build file stack init_steps) = IfSome stack (λ bytes. (1 ≤ bytes) × (bytes ≤ 4096))
+HasStack _ = Unit {0}

@@ -4,7 +4,7 @@ use Rattle.vg_words.specs.declared.command.Command.TheVariants as variant
 use Rattle.vg_words.specs.Commands.{Command, Build, Run, Sim, Why}
 
 abbrev pub command_in : declared.Command → Command
-command_in (variant.Build file init_steps) = Build file.now init_steps
+command_in (variant.Build file stack init_steps) = Build file.now stack init_steps
 command_in (variant.Run file script steps) = Run file.now script.now steps
 command_in (variant.Sim hex script steps) = Sim hex.now script.now steps
 command_in (variant.Why file member) = Why file.now member.now

@@ -1,6 +1,7 @@
 // The command that words mean.
 ghost use Rattle.std.specs.Prelude.{◌≡◌, ◌≤◌, IfSome, option_map};
-ghost use Rattle.vg_words.specs.Commands.{HasSteps, build_of, command_of, init_steps_in, on_script, run_of, sim_of, steps_in, why_of, words_in};
+ghost use Rattle.vg_words.specs.Commands.{HasStack, HasSteps, command_of, words_in};
+ghost use Rattle.vg_words.specs.Commands.{build_of, init_steps_in, on_script, run_of, sim_of, stack_in, stack_value, steps_in, why_of};
 ghost use Rattle.vg_words.specs.Views.{command_in};
 ghost use Rattle.vg_words.specs.Items.{items};
 
@@ -11,10 +12,11 @@ use crate::plain::{one_word, two_words};
 /// What a command line asks for.
 #[derive(Clone, Copy, Debug, PartialEq, Eq)]
 pub enum Command<'a> {
-    /// `build FILE`: the source text in this file is to be built, in whose initialisation at most `init_steps` ticks are to be
-    /// spent, from 1 to 100,000,000.
+    /// `build FILE`: the source text in this file is to be built, with a stack of `stack` bytes, from 1 to 4096, where one is
+    /// asked for, and at most `init_steps` ticks are to be spent in its initialisation, from 1 to 100,000,000.
     Build {
         file: &'a str,
+        stack: Option<u16>,
         init_steps: u32,
     },
     /// `run FILE SCRIPT`: the source text in this file is to be run on the script in the file `script`, for at most `steps`
@@ -42,12 +44,14 @@ pub enum Command<'a> {
 ///
 /// The first word is the command, and behind it stand options and plain words in any order. `--name VALUE` and
 /// `--name=VALUE` are options, each of which may stand once; behind `--` each word is plain. `build FILE` has one plain
-/// word and the option `--init-steps N`, with N from 1 to 100,000,000 in at most nine digits, and 1,000,000 where it is
-/// absent. `run FILE SCRIPT` and `sim HEX SCRIPT` have two and the option `--steps N`, with N from 1 to 1,000,000,000 in at
-/// most ten digits, and 10,000,000 where it is absent. `why FILE MEMBER` has two and no option.
+/// word and two options: `--stack N`, with N from 1 to 4096 in at most four digits, which asks for no stack where it is absent,
+/// and `--init-steps N`, with N from 1 to 100,000,000 in at most nine digits, and 1,000,000 where it is absent. `run FILE SCRIPT`
+/// and `sim HEX SCRIPT` have two and the option `--steps N`, with N from 1 to 1,000,000,000 in at most ten digits, and 10,000,000
+/// where it is absent. `why FILE MEMBER` has two and no option.
 pub fn command_of(words: &[String]) -> Option<Command<'_>>
     ensures meaning { option_map command_in result ≡ command_of (words_in words.entry.now) }
     ensures steps { IfSome result (λ command. HasSteps (command_in command)) }
+    ensures stack { IfSome result (λ command. HasStack (command_in command)) }
 {
     match words {
         [] => None,
@@ -67,16 +71,21 @@ pub fn command_of(words: &[String]) -> Option<Command<'_>>
     }
 }
 
-// `build FILE`, with `--init-steps N`
+// `build FILE`, with `--stack N` and `--init-steps N`
 fn build_of(words: &[String]) -> Option<Command<'_>>
     ensures meaning { option_map command_in result ≡ build_of (items (words_in words.entry.now)) }
     ensures steps { IfSome result (λ command. HasSteps (command_in command)) }
+    ensures stack { IfSome result (λ command. HasStack (command_in command)) }
 {
-    if !knows(&[b"--init-steps"], words) {
+    if !knows(&[b"--stack", b"--init-steps"], words) {
         return None;
     }
-    match (one_word(words), init_steps_in(words)) {
-        (Some(file), Some(init_steps)) => Some(Command::Build { file, init_steps }),
+    match (one_word(words), stack_in(words), init_steps_in(words)) {
+        (Some(file), Some(stack), Some(init_steps)) => Some(Command::Build {
+            file,
+            stack,
+            init_steps,
+        }),
         _ => None,
     }
 }
@@ -85,6 +94,7 @@ fn build_of(words: &[String]) -> Option<Command<'_>>
 fn run_of(words: &[String]) -> Option<Command<'_>>
     ensures meaning { option_map command_in result ≡ run_of (items (words_in words.entry.now)) }
     ensures steps { IfSome result (λ command. HasSteps (command_in command)) }
+    ensures stack { IfSome result (λ command. HasStack (command_in command)) }
 {
     match on_script(words) {
         Some((file, script, steps)) => Some(Command::Run {
@@ -100,6 +110,7 @@ fn run_of(words: &[String]) -> Option<Command<'_>>
 fn sim_of(words: &[String]) -> Option<Command<'_>>
     ensures meaning { option_map command_in result ≡ sim_of (items (words_in words.entry.now)) }
     ensures steps { IfSome result (λ command. HasSteps (command_in command)) }
+    ensures stack { IfSome result (λ command. HasStack (command_in command)) }
 {
     match on_script(words) {
         Some((hex, script, steps)) => Some(Command::Sim { hex, script, steps }),
@@ -111,6 +122,7 @@ fn sim_of(words: &[String]) -> Option<Command<'_>>
 fn why_of(words: &[String]) -> Option<Command<'_>>
     ensures meaning { option_map command_in result ≡ why_of (items (words_in words.entry.now)) }
     ensures steps { IfSome result (λ command. HasSteps (command_in command)) }
+    ensures stack { IfSome result (λ command. HasStack (command_in command)) }
 {
     if !knows(&[], words) {
         return None;
@@ -132,6 +144,31 @@ fn on_script(words: &[String]) -> Option<(&str, &str, u32)>
     match (two_words(words), steps_in(words)) {
         (Some((first, script)), Some(steps)) => Some((first, script, steps)),
         _ => None,
+    }
+}
+
+// The stack that `--stack N` asks for, or that none is asked for.
+fn stack_in(words: &[String]) -> Option<Option<u16>>
+    ensures meaning { result ≡ stack_in (items (words_in words.now)) }
+    ensures within { IfSome result (λ stack. IfSome stack (λ bytes. (1 ≤ bytes) × (bytes ≤ 4096))) }
+{
+    match value_of(words, b"--stack", 0) {
+        None => Some(None),
+        Some(value) => match value_of(words, b"--stack", 1) {
+            None => stack_value(value),
+            Some(_) => None,
+        },
+    }
+}
+
+// The stack of a value of `--stack`.
+fn stack_value(text: &[u8]) -> Option<Option<u16>>
+    ensures meaning { result ≡ stack_value text.now }
+    ensures within { IfSome result (λ stack. IfSome stack (λ bytes. (1 ≤ bytes) × (bytes ≤ 4096))) }
+{
+    match number(4, 4096, text) {
+        Some(bytes) => Some(Some(bytes as u16)),
+        None => None,
     }
 }
 

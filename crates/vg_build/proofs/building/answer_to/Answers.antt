@@ -1,11 +1,24 @@
-use Rattle.std.proofs.Common.{Err, ap, refl}
+use Rattle.vg_text_image.proofs.Texts.{can_compile}
+use Rattle.vg_build.proofs.Faults.{fits_by, flash_by}
 use Rattle.vg_build.proofs.Images.{built_of}
-use Rattle.vg_build.proofs.Faults.{fitting_is_start}
+use Rattle.vg_build.proofs.Rooms.{full_of, is_small, room_of}
 use Rattle.vg_build.proofs.building.answer_to.Goals as goal
 
-pub returns-in-Err-Fault : goal.returns-in-Err-Fault
-returns-in-Err-Fault c = ((c.in-Ok.ensures, c.in-Err-Fault.ensures.not c.in-Err-Fault.field-0-0 (ap Err c.in-Err-Fault.field-0-is)), refl)
+pub layout_above-requires : goal.layout_above-requires
+layout_above-requires c = is_small _ _ _ c.in-Ok.ensures
 
-pub returns-in-Ok-made_of : goal.returns-in-Ok-made_of
-returns-in-Ok-made_of c =
-    built_of _ _ _ _ _ c.as_slice.ensures (fitting_is_start _ _ c.in-Ok.ensures) c.in-Ok-read_first.ensures.ok c.in-Ok-made_of.ensures
+pub flash_of-requires-clause-given : goal.flash_of-requires-clause-given
+flash_of-requires-clause-given c = can_compile _ _ _ c.in-Ok.ensures c.requires
+
+pub returns-in-Err : goal.returns-in-Err
+returns-in-Err c = fits_by _ _ _ _ c.in-Err.ensures
+
+pub returns-in-Err-layout_above : goal.returns-in-Err-layout_above
+returns-in-Err-layout_above c = full_of _ _ _ c.in-Ok.ensures _ _ _ c.in-Err-layout_above.ensures
+
+pub returns : goal.returns
+returns c = flash_by _ _ _ c.in-Ok.fitted (room_of _ _ _ c.in-Ok.ensures _ c.in-Ok-layout_above.ensures.0) _ c.in-Err-flash_of.ensures
+
+pub returns-in-Ok-packed : goal.returns-in-Ok-packed
+returns-in-Ok-packed c =
+    built_of _ _ _ _ c.in-Ok.ensures c.requires _ c.in-Ok-layout_above.ensures _ c.in-Ok-flash_of.ensures _ c.in-Ok-packed.ensures

@@ -56,15 +56,23 @@ returns-clause-allocates g c = λ settled. allocates_of _ _ _ _ _ c.answer-statu
 
 pub returns-clause-static_full : goal.returns-clause-static_full
 returns-clause-static_full g c =
-    λ settled. on_build _ _ _ _ _ _ c.answer-status.ensures.holds (λ file clock h. builds.static_full_by _ _ file clock _ _ h settled)
+    λ settled. on_build _ _ _ _ _ _ c.answer-status.ensures.holds (λ file asked clock h. builds.static_full_by _ _ file asked clock _ _ h settled)
 
 pub returns-clause-table_full : goal.returns-clause-table_full
 returns-clause-table_full g c =
-    λ settled. on_build _ _ _ _ _ _ c.answer-status.ensures.holds (λ file clock h. builds.table_full_by _ _ file clock _ _ h settled)
+    λ settled. on_build _ _ _ _ _ _ c.answer-status.ensures.holds (λ file asked clock h. builds.table_full_by _ _ file asked clock _ _ h settled)
+
+pub returns-clause-stack_full : goal.returns-clause-stack_full
+returns-clause-stack_full g c =
+    λ settled. on_build _ _ _ _ _ _ c.answer-status.ensures.holds (λ file asked clock h. builds.stack_full_by _ _ file asked clock _ _ h settled)
+
+pub returns-clause-code_full : goal.returns-clause-code_full
+returns-clause-code_full g c =
+    on_build _ _ _ _ _ _ c.answer-status.ensures.holds (λ file asked clock h. builds.code_full_by _ _ file asked clock _ _ h)
 
 pub returns-clause-not_built : goal.returns-clause-not_built
 returns-clause-not_built g c =
-    λ settled. on_build _ _ _ _ _ _ c.answer-status.ensures.holds (λ file clock h. builds.not_built_by _ _ file clock _ _ h settled)
+    on_build _ _ _ _ _ _ c.answer-status.ensures.holds (λ file asked clock h. builds.not_built_by _ _ file asked clock _ _ h)
 
 pub returns-clause-not_built_first : goal.returns-clause-not_built_first
 returns-clause-not_built_first g c = first_of _ _ _ _ _ c.answer-status.ensures.holds
@@ -72,14 +80,14 @@ returns-clause-not_built_first g c = first_of _ _ _ _ _ c.answer-status.ensures.
 pub returns-clause-complete : goal.returns-clause-complete
 returns-clause-complete g c =
     on_build _ _ _ _ _ _ c.answer-status.ensures.holds
-    (λ file clock h. builds.complete_by _ _ file clock _ _ _ _ h c.answer-status.ensures.read (either_later _ _ _ _ c.put_fault_line.ensures.later))
+    (λ file asked clock h. builds.complete_by _ _ file asked clock _ _ _ _ h c.answer-status.ensures.read (either_later _ _ _ _ c.put_fault_line.ensures.later))
 
 pub returns-clause-headline : goal.returns-clause-headline
 returns-clause-headline g c = headline_of _ _ _ _ _ _ c.answer-status.ensures.holds c.put_fault_line.ensures.none
 
 pub returns-clause-out_front : goal.returns-clause-out_front
 returns-clause-out_front g c =
-    λ e. on_build _ _ _ _ _ _ c.answer-status.ensures.holds (λ file clock h. builds.out_front_by _ _ file clock _ _ h e)
+    λ e. on_build _ _ _ _ _ _ c.answer-status.ensures.holds (λ file asked clock h. builds.out_front_by _ _ file asked clock _ _ h e)
 
 pub returns-clause-hex_refused : goal.returns-clause-hex_refused
 returns-clause-hex_refused g c =

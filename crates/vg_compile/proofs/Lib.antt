@@ -1,0 +1,4 @@
+pub mod Following
+pub mod Linking
+pub mod Unlinked
+pub mod Does

@@ -1,0 +1,7 @@
+use Rattle.vg_compile.proofs.Unlinked.{is_unlinked}
+use Rattle.vg_compile.proofs.unlinking.unlinked.Goals as goal
+
+pub returns : goal.returns
+returns c =
+    is_unlinked c.args.columns.now c.args.firm c.args.linear c.as_slice.result.now c.as_slice-2.result.now c.in_ok-tables.tables c.in_ok-handlers.handlers
+    c.as_slice.ensures c.as_slice-2.ensures c.in_ok-tables.ensures c.in_ok-handlers.ensures

@@ -1,0 +1,3 @@
+pub mod Compiled
+pub mod Linkable
+pub mod Compile

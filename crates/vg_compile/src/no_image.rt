@@ -1,0 +1,16 @@
+// Why there is no image.
+use vg_flatten_shapes::Fault;
+use vg_link::CodeFull;
+
+/// Why a program has no image.
+#[derive(Clone, Copy, Debug, PartialEq, Eq)]
+pub enum NoImage {
+    /// It has no linear code: a procedure is not taken, or there are too many instructions or procedures.
+    NotLinear(Fault),
+    /// A procedure takes more of the stack than the method costs that it is.
+    Costly,
+    /// What it was packed to cannot be linked.
+    Unfit,
+    /// It takes more words of flash than there are.
+    Full(CodeFull),
+}

@@ -1,0 +1,46 @@
+// What is linked of a packed program and its linear one.
+ghost use Rattle.std.specs.Prelude.{◌≡◌, map, IfOk};
+ghost use Rattle.vg_compile.specs.Compiled.{IsUnlinked};
+ghost use Rattle.vg_compile.specs.Compile.{handler_of};
+
+use std::alloc::Global;
+use vg_base::{NoMemory, Row};
+use vg_linear::Linear;
+use vg_link::{Handler, Unlinked};
+use vg_packed::{Entrance, FirmProgram};
+use vg_place::Columns;
+use vg_table_bytes::tables;
+
+/// The procedures of the linear program, with the dispatches, the handlers and the bytes of the tables of the packed one.
+pub fn unlinked(
+    alloc: Global,
+    columns: &Columns,
+    firm: FirmProgram,
+    linear: Linear,
+) -> Result<Unlinked, NoMemory>
+    ensures { IfOk result (IsUnlinked columns.now firm linear) }
+{
+    let tables = tables(alloc, &firm, columns.list.as_slice())?;
+    let handlers = handlers_of(alloc, firm.handlers.as_slice())?;
+    Ok(Unlinked {
+        procedures: linear.procedures,
+        start: linear.start,
+        dispatches: firm.dispatches,
+        tables,
+        static_bytes: columns.static_bytes,
+        handlers,
+    })
+}
+
+fn handlers_of(alloc: Global, entrances: &[Entrance]) -> Result<Row<Handler>, NoMemory>
+    ensures { IfOk result (λ handlers. handlers ≡ map handler_of entrances.now) }
+{
+    let mut handlers = Row::new(alloc);
+    for entrance in entrances {
+        handlers.push(Handler {
+            vector: entrance.vector,
+            procedure: entrance.procedure,
+        })?;
+    }
+    Ok(handlers)
+}

@@ -1,6 +1,0 @@
-use Rattle.vg_compiled.proofs.Following.{follows}
-use Rattle.vg_compiled.proofs.laws.compiled_programs_follow.Goals as goal
-
-pub returns : goal.returns
-returns g p h s n c f l u linked given ready packed linear made can is costs fit e flash static floor slept woken =
-    follows p h s n c f l u linked given ready packed linear made can is costs fit e flash static floor slept woken

@@ -1,5 +1,0 @@
-use Rattle.vg_pack_cases.proofs.Asked.{is_asked}
-use Rattle.vg_pack_cases.proofs.laws.live_steps_are_asked.Goals as goal
-
-pub returns : goal.returns
-returns c = λ p live m i s a l e q. is_asked p live m i s a l e q

@@ -1,6 +1,0 @@
-use Rattle.vg_pack_cases.proofs.Cases.{in_its_dispatch}
-use Rattle.vg_pack_cases.proofs.laws.objects_find_their_procedures.Goals as goal
-
-pub returns : goal.returns
-returns c = λ p formed chains κ kept n numbers own counts x cl s j d m q asked is ks below found procedure.
-    in_its_dispatch p formed chains κ kept n numbers own counts x cl s j d m q asked is ks below found procedure

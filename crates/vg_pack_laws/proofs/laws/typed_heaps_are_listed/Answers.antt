@@ -1,5 +1,0 @@
-use Rattle.vg_pack_laws.proofs.Listed.{listed}
-use Rattle.vg_pack_laws.proofs.laws.typed_heaps_are_listed.Goals as goal
-
-pub returns : goal.returns
-returns c = λ p h t. listed p h t

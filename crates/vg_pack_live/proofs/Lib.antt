@@ -1,4 +1,0 @@
-pub mod Counted
-pub mod Holding
-pub mod Cells
-pub mod Fields

@@ -1,4 +1,0 @@
-pub mod Making
-pub mod Delegates
-pub mod Live
-pub mod Placed

@@ -1,0 +1,144 @@
+// The most that active calls may cost.
+ghost use Rattle.std.specs.Prelude.{◌≤◌, IfOk, IfSome, IsTrue};
+ghost use Rattle.std.specs.List.{AllByRecursion};
+ghost use Rattle.vg_codes.specs.Codes.{Codes};
+ghost use Rattle.vg_packed.specs.Programs.{program_of};
+ghost use Rattle.vg_packed.specs.declared.program.Entrance.{Entrance as TheEntrance};
+ghost use Rattle.vg_stack_bound.specs.Enough.{IsEnough};
+ghost use Rattle.vg_stack_bound.specs.Covered.{AreCovered, Covers, IsBoundBy};
+
+use crate::spreading::noted;
+use std::alloc::Global;
+use vg_base::NoMemory;
+use vg_firm::Procedure;
+use vg_frame_costs::counting::cost_of;
+use vg_packed::{Entrance, FirmProgram};
+
+/// So many bytes that no active calls of a packed program cost more, by costs of methods, where its procedures do not idle. There are none where procedures
+/// that name one another among those that they may call go round, and where the bytes do not fit into 32 bits.
+#[tactic(auto, using(crate::proofs::Bounds::enough))]
+pub fn stack_bound(
+    alloc: Global,
+    firm: &FirmProgram,
+    costs: &[u32],
+) -> Result<Option<u32>, NoMemory>
+    ensures { IfOk result (λ bound. IfSome bound (λ bytes. (k : Codes) → IsEnough (program_of k firm.now) costs.now bytes)) }
+{
+    let noted = noted(alloc, firm, costs)?;
+    let bytes = largest(noted.as_slice());
+    if is_bound(firm, costs, noted.as_slice(), bytes) {
+        Ok(Some(bytes))
+    } else {
+        Ok(None)
+    }
+}
+
+fn largest(noted: &[u32]) -> u32 {
+    let mut most = 0;
+    for bytes in noted {
+        if most < *bytes {
+            most = *bytes;
+        }
+    }
+    most
+}
+
+// Whether what is noted of procedures bounds what calls of them cost, with all calls below.
+#[tactic(auto, using(crate::proofs::Bounds::bounded))]
+fn is_bound(firm: &FirmProgram, costs: &[u32], noted: &[u32], bytes: u32) -> bool
+    ensures { IsTrue result → IsBoundBy firm.now costs.now noted.now bytes }
+{
+    let all = firm.procedures.as_slice();
+    if !are_covered(all, costs, noted, all, noted) {
+        return false;
+    }
+    if !covers(all, costs, noted, 0, firm.main) {
+        return false;
+    }
+    if !are_entries_covered(all, costs, noted, firm.handlers.as_slice()) {
+        return false;
+    }
+    are_few(noted, bytes)
+}
+
+fn are_covered(
+    all: &[Procedure],
+    costs: &[u32],
+    noted: &[u32],
+    procedures: &[Procedure],
+    bytes: &[u32],
+) -> bool
+    ensures { IsTrue result → AreCovered all.now costs.now noted.now procedures.now bytes.now }
+{
+    match procedures {
+        [] => true,
+        [procedure, more @ ..] => match bytes {
+            [] => false,
+            [below, others @ ..] => {
+                all_are_covered(
+                    all,
+                    costs,
+                    noted,
+                    *below as usize,
+                    procedure.calls.as_slice(),
+                ) && are_covered(all, costs, noted, more, others)
+            }
+        },
+    }
+}
+
+fn all_are_covered(
+    all: &[Procedure],
+    costs: &[u32],
+    noted: &[u32],
+    below: usize,
+    calls: &[u16],
+) -> bool
+    ensures { IsTrue result → AllByRecursion (Covers all.now costs.now noted.now below) calls.now }
+{
+    match calls {
+        [] => true,
+        [callee, more @ ..] => {
+            covers(all, costs, noted, below, *callee)
+                && all_are_covered(all, costs, noted, below, more)
+        }
+    }
+}
+
+fn are_entries_covered(
+    all: &[Procedure],
+    costs: &[u32],
+    noted: &[u32],
+    entries: &[Entrance],
+) -> bool
+    ensures { IsTrue result → AllByRecursion (λ (e : TheEntrance). Covers all.now costs.now noted.now 0 e.procedure) entries.now }
+{
+    match entries {
+        [] => true,
+        [entry, more @ ..] => {
+            covers(all, costs, noted, 0, entry.procedure)
+                && are_entries_covered(all, costs, noted, more)
+        }
+    }
+}
+
+fn covers(all: &[Procedure], costs: &[u32], noted: &[u32], below: usize, callee: u16) -> bool
+    ensures { IsTrue result → Covers all.now costs.now noted.now below callee }
+{
+    match all.get(usize::from(callee)) {
+        Some(procedure) => {
+            let bytes = cost_of(noted, callee);
+            below <= bytes && cost_of(costs, procedure.method) <= bytes - below
+        }
+        None => true,
+    }
+}
+
+fn are_few(noted: &[u32], most: u32) -> bool
+    ensures { IsTrue result → AllByRecursion (λ u. u ≤ most) noted.now }
+{
+    match noted {
+        [] => true,
+        [bytes, more @ ..] => *bytes <= most && are_few(more, most),
+    }
+}

@@ -1,0 +1,8 @@
+//! How much active calls of a packed program may cost at most, and that a stack which holds that is never left.
+#![tactic(auto)]
+
+pub mod bounding;
+pub mod laws;
+pub mod spreading;
+
+pub use bounding::stack_bound;

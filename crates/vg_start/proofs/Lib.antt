@@ -1,4 +1,0 @@
-pub mod There
-pub mod Bodies
-pub mod Starting
-pub mod Whole

@@ -1,6 +1,0 @@
-use Rattle.vg_start.proofs.Whole as whole
-use Rattle.vg_start.proofs.laws.same_sessions.Goals as goal
-
-pub returns : goal.returns
-returns g c = λ r p good plain h typed ranged l k f is at history deepest reads interrupts clock bytes.
-    whole.same_sessions p good plain h typed ranged l k f is at r history deepest reads interrupts clock bytes

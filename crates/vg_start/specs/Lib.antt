@@ -1,4 +1,0 @@
-pub mod Plain
-pub mod Uses
-pub mod IsOf
-pub mod IsPlaced

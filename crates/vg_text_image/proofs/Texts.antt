@@ -1,0 +1,187 @@
+-- The image of a text that fits does what the text does.
+use Rattle.std.specs.Prelude.{ℕ, zero, suc, ◌+◌, ◌-◌, ◌<◌, ◌≤◌, Bool, true, false, ◌==◌, ◌||◌, List, [], ◌∷◌, length, Option, slice_get, unwrap_or, Result, Ok, Err}
+use Rattle.std.specs.List.{AllByRecursion}
+use Rattle.std.proofs.Common.{◌≡◌, ◌⊎◌, inl, inr, refl, sym, ap, ◌∙◌, subst, arith}
+use Rattle.vg_base.specs.Limits.{text_limit}
+use Rattle.vg_base.specs.declared.refusal.Refusal.{Refusal}
+use Rattle.vg_base.specs.declared.refusal.Refusal.TheVariants as refusal
+use Rattle.vg_meaning.specs.declared.event.Event.{Event}
+use Rattle.vg_syntax.specs.Tree.{Node}
+use Rattle.vg_source.specs.Values.{Heap as SourceHeap}
+use Rattle.vg_source.specs.Peak.{costs, sessions}
+use Rattle.vg_source.specs.Program.{source_of}
+use Rattle.vg_static_source.specs.Sums.{IsStatic}
+use Rattle.vg_static_named.proofs.Sums.{static_named}
+use Rattle.avr_isa.specs.Agrees.{Agrees}
+use Rattle.avr_bytes.specs.Bytes.{IsFlash}
+use Rattle.avr_view.specs.Run.{Run}
+use Rattle.vg_faults.specs.Fitting.{IsFitting}
+use Rattle.vg_tree_walks.specs.Whole.{tree_at}
+use Rattle.vg_core.specs.HeldProgram.{program_at}
+use Rattle.vg_core.specs.Naming.{Naming, naming_of}
+use Rattle.vg_core.specs.Program.{Program}
+use Rattle.vg_renamed.specs.IsNamed.{IsNamed}
+use Rattle.vg_renamed.proofs.Named.{is_named}
+use Rattle.vg_packed.specs.Ready.{IsReady}
+use Rattle.vg_written.specs.Written.{parts_of}
+use Rattle.vg_alive.specs.Answer.{named_start_heap}
+use Rattle.vg_front.specs.declared.starting.Start.{Start}
+use Rattle.vg_fits.specs.declared.fitting.Fitted.{Fitted}
+use Rattle.vg_fits.specs.Answer.{IsFittedOf}
+use Rattle.vg_fits_given.proofs.Given.{given, ready}
+use Rattle.vg_costs.proofs.Bounded.{small}
+use Rattle.vg_costs.proofs.Limited.{not_too_many}
+use Rattle.vg_link.specs.declared.linked.Linked.{Linked}
+use Rattle.vg_agrees.proofs.Agreeing.{agrees}
+use Rattle.vg_agrees.specs.Does.{DoesAsProgram}
+use Rattle.vg_agrees.specs.Whole.{with_whole}
+use Rattle.vg_memory.specs.Memory.{KeepsMemory}
+use Rattle.vg_memory.proofs.Keeping.{keeps}
+use Rattle.vg_text_image.specs.declared.making.TextImage.{TextImage}
+use Rattle.vg_text_image.specs.declared.unmade.Unmade.{Unmade}
+use Rattle.vg_text_image.specs.declared.unmade.Unmade.TheVariants.{CodeFull, NotBuilt}
+use Rattle.vg_compile.specs.Compile.{DoesInImage}
+use Rattle.vg_text_image.specs.Made.{CanCompile, DoesText, IsCompiledOf, IsFullFor}
+
+-- ---- bytes of flash
+
+-- where all bytes are, the flash reads bytes everywhere
+byte_at : (flash : List ℕ) → AllByRecursion (λ b. b < 256) flash → (address : ℕ) → unwrap_or (slice_get flash address) 0xFF < 256
+byte_at [] h address = omega arith
+byte_at (b ∷ bs) h zero = h.0
+byte_at (b ∷ bs) h (suc address) = byte_at bs h.1 address
+
+is_itself : (a : ℕ) → (a == a) ≡ true
+is_itself a = grind arith
+
+either_true : (a b : Bool) → b ≡ true → (a || b) ≡ true
+either_true true b e = refl
+either_true false b e = e
+
+one_true : (a b : Bool) → (a || b) ≡ true → (a ≡ true) ⊎ (b ≡ true)
+one_true true b e = inl refl
+one_true false b e = inr e
+
+same_number : (a b : ℕ) → (a == b) ≡ true → a ≡ b
+same_number a b e = grind arith
+
+one_behind : (a b : ℕ) → a ≡ b + 2 → a ≡ suc (b + 1)
+one_behind a b e = omega (arith, e)
+
+-- where interrupts are let in that is the idle SLEEP or the word behind it
+sleeps : (idle a : ℕ) → ((a == idle + 1) || (a == idle + 2)) ≡ true → (a ≡ idle + 1) ⊎ (a ≡ suc (idle + 1))
+sleeps idle a e =
+    elim (one_true (a == idle + 1) (a == idle + 2) e) [
+      | inl h ↦ inl (same_number a (idle + 1) h)
+      | inr h ↦ inr (one_behind a idle (same_number a (idle + 2) h))
+    ]
+
+-- ---- SRAM
+
+-- a stack for which there is room begins behind the static area
+room : (n stack : ℕ) → n + stack ≤ 4096 → 0x0100 + n ≤ 0x1100 - stack
+room n stack h = omega (arith, h)
+
+floor_is : (n stack : ℕ) → n + stack ≤ 4096 → 0x1100 - stack + stack ≡ 0x1100
+floor_is n stack h = omega (arith, h)
+
+floor_low : (stack : ℕ) → 0x1100 - stack ≤ 0x1100
+floor_low stack = omega arith
+
+module _ (bytes : List ℕ) (clock : ℕ) (f : Fitted) (is : IsFittedOf bytes clock f) (short : length bytes ≤ text_limit) where
+  abbrev s : Start
+  s = f.alive.start
+
+  abbrev p : Program
+  p = program_at s.program
+
+  abbrev text : Node
+  text = tree_at s.names s.tree
+
+  abbrev names : Naming
+  names = naming_of s.names s.program.tables
+
+  abbrev n : ℕ
+  n = f.placed.columns.static_bytes
+
+  low : n ≤ 4096
+  low = subst (λ z. z ≤ 4096) (sym is.placed.static_is) is.placed.fits
+
+  pub can_compile : CanCompile f
+  can_compile = record {
+    given = given bytes clock f is short;
+    costs = small bytes s.names s.tree short is.alive.start.legal.reads (not_too_many text is.alive.start.legal.legal);
+  }
+
+  named : IsNamed names p (source_of text)
+  named = subst (λ q. IsNamed names p q) (sym is.alive.start.program.named) (is_named names p is.alive.start.program.told)
+
+  needs_static : IsStatic text (named_start_heap s) n
+  needs_static =
+      subst (λ z. IsStatic text (named_start_heap s) z) (sym is.placed.static_is)
+      (static_named s.names p is.alive.start.program.told is.alive.start.program.typed text (parts_of is.alive.start.program.written)
+      is.alive.start.program.named s.heap is.alive.start.typed.0 is.alive.start.typed.1 f.alive.live is.alive.set)
+
+  module _ (i : TextImage) (m : IsCompiledOf f i) (stack : ℕ) (fits : n + stack ≤ 4096) where
+    abbrev linked : Linked
+    linked = m.linked
+
+    abbrev run : Run
+    run = record {
+      flash = i.flash;
+      static = n;
+      floor = 0x1100 - stack;
+      whole = [];
+      lets_in = λ a. (a == linked.idle + 1) || (a == linked.idle + 2);
+      is_flash = byte_at i.flash m.are_bytes;
+      apart = room n stack fits;
+    }
+
+    slept : ((linked.idle + 1 == linked.idle + 1) || (linked.idle + 1 == linked.idle + 2)) ≡ true
+    slept = ap (λ b. b || (linked.idle + 1 == linked.idle + 2)) (is_itself (linked.idle + 1))
+
+    woken : ((linked.idle + 2 == linked.idle + 1) || (linked.idle + 2 == linked.idle + 2)) ≡ true
+    woken = either_true (linked.idle + 2 == linked.idle + 1) (linked.idle + 2 == linked.idle + 2) (is_itself (linked.idle + 2))
+
+    does : (whole : List Event) → DoesAsProgram (with_whole run whole) (costs text) p s.heap
+    does whole = m.does s.names (ready bytes clock f is short) (with_whole run whole) m.flash refl (floor_low stack) slept woken
+
+    agreed : Agrees (sessions text (named_start_heap s)) i.flash (0x1100 - stack) stack
+    agreed = agrees names p text named is.alive.start.program.typed s.heap is.alive.start.typed run stack (floor_is n stack fits) does
+
+    kept : KeepsMemory i.flash n (0x1100 - stack) (linked.idle + 1)
+    kept =
+        keeps names p text named is.alive.start.program.typed s.heap is.alive.start.typed run (costs text) (linked.idle + 1)
+        (sleeps linked.idle) does
+
+  pub does_text : (i : TextImage) → IsCompiledOf f i → DoesText bytes clock i
+  does_text i m = record {
+    tree = text;
+    heap = named_start_heap s;
+    fitting = is.fitting;
+    static_is = subst (λ z. IsStatic text (named_start_heap s) z) (sym m.static_is) needs_static;
+    fits = subst (λ z. z ≤ 4096) (sym m.static_is) low;
+    are_bytes = m.are_bytes;
+    agrees = λ stack h. agreed i m stack (subst (λ z. z + stack ≤ 4096) m.static_is h);
+    idle = m.linked.idle + 1;
+    memory = λ stack h.
+        subst (λ z. KeepsMemory i.flash z (0x1100 - stack) (m.linked.idle + 1)) (sym m.static_is)
+        (kept i m stack (subst (λ z. z + stack ≤ 4096) m.static_is h));
+  }
+
+-- what is linked of what fits is its image
+pub compiled_of : (f : Fitted) (i : TextImage) (linked : Linked) (cs : List ℕ) → ((texts : List (List ℕ)) → cs ≡ costs (tree_at texts f.alive.start.tree))
+    → (IsReady (program_at f.alive.start.program) f.alive.start.heap
+    → DoesInImage linked f.placed.columns cs (program_at f.alive.start.program) f.alive.start.heap)
+    → i.flash ≡ linked.flash → AllByRecursion (λ b. b < 256) i.flash → i.static_bytes ≡ f.placed.columns.static_bytes → IsCompiledOf f i
+compiled_of f i linked cs are does flash bytes static = record {
+  linked = linked;
+  does = λ texts r. subst (λ z. DoesInImage linked f.placed.columns z (program_at f.alive.start.program) f.alive.start.heap) (are texts) (does r);
+  flash = flash;
+  are_bytes = bytes;
+  static_is = static;
+}
+
+-- where the flash is full, more words are needed than it has
+pub full_of : (r : Result TextImage (Refusal Unmade)) → IsFullFor r → (words : ℕ) → r ≡ Err (refusal.Fault (CodeFull words)) → 65536 ≤ words
+full_of r h words e = subst IsFullFor e h

@@ -1,0 +1,64 @@
+-- What it means that an image is made of a text that fits.
+use Rattle.std.specs.Prelude.{ℕ, ◌≡◌, ◌+◌, ◌-◌, ◌<◌, ◌≤◌, List, [], Result, Ok, Err}
+use Rattle.std.specs.List.{AllByRecursion}
+use Rattle.vg_base.specs.declared.refusal.Refusal.{Refusal}
+use Rattle.vg_base.specs.declared.refusal.Refusal.TheVariants as refusal
+use Rattle.vg_syntax.specs.Tree.{Node}
+use Rattle.vg_source.specs.Values.{Heap}
+use Rattle.vg_source.specs.Peak.{costs, sessions}
+use Rattle.vg_static_source.specs.Sums.{IsStatic}
+use Rattle.avr_isa.specs.Agrees.{Agrees}
+use Rattle.vg_faults.specs.Fitting.{IsFitting}
+use Rattle.vg_tree_walks.specs.Whole.{tree_at}
+use Rattle.vg_core.specs.HeldProgram.{program_at}
+use Rattle.vg_packed.specs.Given.{IsGiven}
+use Rattle.vg_packed.specs.Ready.{IsReady}
+use Rattle.vg_fits.specs.declared.fitting.Fitted.{Fitted}
+use Rattle.vg_link.specs.declared.linked.Linked.{Linked}
+use Rattle.vg_costs.specs.Small.{AreSmall}
+use Rattle.vg_compile.specs.Compile.{DoesInImage}
+use Rattle.vg_memory.specs.Memory.{KeepsMemory}
+use Rattle.vg_text_image.specs.declared.making.TextImage.{TextImage}
+use Rattle.vg_text_image.specs.declared.unmade.Unmade.{Unmade}
+use Rattle.vg_text_image.specs.declared.unmade.Unmade.TheVariants.{CodeFull, NotBuilt}
+
+-- The image does what the bytes say, where initialisation has this clock, with every stack for which there is room above the static area.
+pub record DoesText (bytes : List ℕ) (clock : ℕ) (i : TextImage) : Type 0 where
+  -- the bytes are a text of the language with this tree, which keeps all rules and is initialised to this heap; its live methods make nothing, and it fits
+  pub tree : Node
+  pub heap : Heap
+  pub fitting : IsFitting bytes clock tree heap
+  -- the static area has the bytes that the tree and the heap need
+  pub static_is : IsStatic tree heap i.static_bytes
+  pub fits : i.static_bytes ≤ 4096
+  pub are_bytes : AllByRecursion (λ b. b < 256) i.flash
+  -- on this flash the machine does what the text does from its heap, with its stack at or above the floor; or the active calls cost more than the stack, and
+  -- it reaches below the floor first
+  pub agrees : (stack : ℕ) → i.static_bytes + stack ≤ 4096 → Agrees (sessions tree heap) i.flash (0x1100 - stack) stack
+  -- with each such stack it writes to SRAM in the static area and on the stack alone, and lets interrupts in only at its idle SLEEP and at the CLI behind it
+  pub idle : ℕ
+  pub memory : (stack : ℕ) → i.static_bytes + stack ≤ 4096 → KeepsMemory i.flash i.static_bytes (0x1100 - stack) idle
+
+-- What fits can be compiled.
+pub record CanCompile (f : Fitted) : Type 0 where
+  pub given : IsGiven (program_at f.alive.start.program) f.alive.start.heap f.alive.live f.placed.numbers f.placed.columns
+  pub costs : AreSmall (costs (tree_at [] f.alive.start.tree))
+
+-- The image of what fits: the program, which is ready to be packed, does in its flash what it does from its heap, by the costs of its methods.
+pub record IsCompiledOf (f : Fitted) (i : TextImage) : Type 0 where
+  pub linked : Linked
+  pub does : (texts : List (List ℕ)) → IsReady (program_at f.alive.start.program) f.alive.start.heap
+      → DoesInImage linked f.placed.columns (costs (tree_at texts f.alive.start.tree)) (program_at f.alive.start.program) f.alive.start.heap
+  pub flash : i.flash ≡ linked.flash
+  pub are_bytes : AllByRecursion (λ b. b < 256) i.flash
+  pub static_is : i.static_bytes ≡ f.placed.columns.static_bytes
+
+-- Where the cause is that the flash is full, more words are needed than it has.
+abbrev pub IsFullCause : Unmade → Type 0
+IsFullCause (CodeFull words) = 65536 ≤ words
+IsFullCause NotBuilt = Unit {0}
+
+abbrev pub IsFullFor : Result TextImage (Refusal Unmade) → Type 0
+IsFullFor (Ok i) = Unit {0}
+IsFullFor (Err (refusal.Fault why)) = IsFullCause why
+IsFullFor (Err refusal.NoMemory) = Unit {0}

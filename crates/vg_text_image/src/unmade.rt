@@ -1,0 +1,10 @@
+// Why a text has no image.
+
+/// Why there is no image of a text that fits.
+#[derive(Clone, Copy, Debug, PartialEq, Eq)]
+pub enum Unmade {
+    /// It would take so many words of flash, which are more than 65,535: the last word stays free.
+    CodeFull { words: u32 },
+    /// It has no linear code, a procedure takes more of the stack than its method costs, or it cannot be linked.
+    NotBuilt,
+}
