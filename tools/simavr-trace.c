@@ -1,5 +1,6 @@
-/* Runs an image on simavr's ATmega128 and prints its device trace (tools/simavr-trace says how). The processor is simavr's; its device registers are taken
-   away, and those of docs/MACHINE.md stand in their place: a script gives the reads, and the interrupts come where the program sleeps. */
+/* Runs an image on simavr's ATmega128 and prints its device trace, and on standard error how many bytes its stack took at most (tools/try-simavr asks for both).
+   The processor is simavr's; its device registers are taken away, and those of docs/MACHINE.md stand in their place: a script gives the reads, and the interrupts
+   come where the program sleeps. */
 #include <sim_avr.h>
 #include <sim_core.h>
 #include <sim_hex.h>
@@ -7,10 +8,11 @@
 #include <stdlib.h>
 #include <string.h>
 
-enum { RAMPZ = 0x5B, SRAM = 0x100, ITEMS = 1 << 20 };
+enum { RAMPZ = 0x5B, SRAM = 0x100, ITEMS = 1 << 20, OUT_SPH = 0xBE0E, OUT_SPL = 0xBE0D, OUT_MASK = 0xFE0F };
 
 static uint8_t reads[ITEMS], interrupts[ITEMS];
 static int read_count, interrupt_count, next_read, next_interrupt;
+static int is_set, lowest = 0x10FF; /* whether both bytes of SP were written, and its lowest value since */
 
 static void end(const char *how, int status)
 {
@@ -76,6 +78,16 @@ static avr_t *made(const char *name)
 
 static uint16_t stack_pointer(const avr_t *avr) { return avr->data[R_SPL] | avr->data[R_SPH] << 8; }
 
+/* Looks at SP behind an instruction, and behind the push of an interrupt. Between its two bytes SP is none. */
+static void look_at_stack(const avr_t *avr, uint16_t code)
+{
+    if ((code & OUT_MASK) == OUT_SPH) is_set = 0;
+    if ((code & OUT_MASK) == OUT_SPL) is_set = 1;
+    if (is_set && stack_pointer(avr) < lowest) lowest = stack_pointer(avr);
+}
+
+static void tell_stack(void) { fprintf(stderr, "stack %d\n", 0x10FF - lowest); }
+
 /* Takes the next interrupt at a SLEEP, as the datasheet says: the program counter is pushed, in words, and I is cleared. */
 static void interrupt(avr_t *avr)
 {
@@ -98,6 +110,7 @@ int main(int count, char **words)
     if (count != 4) { fprintf(stderr, "simavr-trace HEX SCRIPT STEPS\n"); return 2; }
     avr_t *avr = made(words[1]);
     take_script(words[2]);
+    atexit(tell_stack);
     for (long steps = atol(words[3]); steps > 0; steps--) {
         uint16_t code = avr->flash[avr->pc] | avr->flash[avr->pc + 1] << 8;
         if (code == 0xCFFF && !avr->sreg[S_I]) {
@@ -114,6 +127,7 @@ int main(int count, char **words)
             if (avr->sreg[S_I]) interrupt(avr);
             else avr->state = cpu_Running;
         }
+        look_at_stack(avr, code);
     }
     end("budget", 9);
 }

@@ -1,5 +1,5 @@
-// What the laws of templates ask of a layout, for the locations of frames.
-ghost use Rattle.std.specs.Prelude.{ℕ, suc, ◌≡◌, ◌+◌, ◌*◌, ◌≤◌, length};
+// What the laws of templates ask of a layout, for the locations of procedures.
+ghost use Rattle.std.specs.Prelude.{ℕ, suc, ◌+◌, ◌*◌, ◌≤◌, length};
 ghost use Rattle.vg_lin.specs.declared.instr.Operand.{Operand};
 ghost use Rattle.vg_lin.specs.Program.{Procedure};
 ghost use Rattle.vg_lin.specs.Sound.{IsSound, IsLocal, IsOperand};
@@ -9,7 +9,7 @@ ghost use Rattle.vg_templates.specs.Outcomes.{IsKept};
 ghost use Rattle.vg_templates.specs.Calls.{HasPushed, sum_of};
 ghost use Rattle.vg_templates.specs.Framed.{framed};
 
-/// Laws of the layout with all locals in the frame, for each procedure of linear code: it is a sound one, its parameters lie where they were
+/// Laws of the layout of each procedure of linear code: it is a sound one, its parameters lie where they were
 /// pushed, operands are there to be read at each place, each local can be set at each place, and what is needed at a place was needed before it.
 pub fn frames_serve_templates()
     ensures layout { (p : Procedure) → IsSound p → IsLayout (framed p.widths p.params) }
@@ -21,8 +21,9 @@ pub fn frames_serve_templates()
     ensures kept { (p : Procedure) (place next : ℕ) → IsKept ((framed p.widths p.params).live place) ((framed p.widths p.params).live next) }
 {}
 
-/// Laws of its bytes: a frame has those of its locals and four more, for the saved Y and the return address. So it has at most 1,012.
+/// Laws of its bytes: a frame has at most those of its locals and four more, for the saved Y and the return address; where locals are in registers, these are
+/// saved in it, and Y is not. So it has at most 1,012.
 pub fn frames_are_counted()
-    ensures bytes { (p : Procedure) → frame_size (framed p.widths p.params) ≡ sum_of p.widths + 4 }
+    ensures bytes { (p : Procedure) → frame_size (framed p.widths p.params) ≤ sum_of p.widths + 4 }
     ensures few { (p : Procedure) → IsSound p → frame_size (framed p.widths p.params) ≤ 4 * length p.widths + 4 }
 {}

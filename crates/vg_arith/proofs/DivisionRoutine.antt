@@ -1,46 +1,33 @@
--- That the routine of division computes quotient and remainder. The run is in four parts: the signs are taken off, by cases; the steps
--- follow one another, by induction over those to come; and the result that is wanted gets its sign.
-use Rattle.std.specs.Prelude.{ℕ, zero, suc, ◌+◌, ◌-◌, ◌*◌, ◌/◌, ◌%◌, ◌^◌, ◌<◌, ◌≤◌, Bool, true, false, List, [], ◌∷◌, ◌++◌, length, replicate}
+-- That the routine of division computes quotient and remainder. The run is in four parts: the signs are taken off, by cases; one instruction makes
+-- the steps, by induction over those to come; and the result that is wanted gets its sign.
+use Rattle.std.specs.Prelude.{ℕ, zero, suc, ◌-◌, ◌*◌, ◌/◌, ◌%◌, ◌^◌, ◌<◌, ◌≤◌, Bool, true, false, List, [], ◌∷◌}
 use Rattle.std.specs.Prelude.{ℤ, int_rem, Option, Some, None, slice_get}
 use Rattle.std.specs.Int.{w32, cast_unsigned, int_wrapping_div}
-use Rattle.std.proofs.Common.{◌≡◌, refl, ap, ◌∙◌, subst, arith}
+use Rattle.std.proofs.Common.{◌≡◌, refl, sym, ap, ◌∙◌, subst, arith}
 use Rattle.std.proofs.Math.Nat.{pow-succ', mod-le}
 use Rattle.vg_meaning.specs.History.{History}
 use Rattle.vg_meaning.specs.World.{World}
 use Rattle.vg_lin.specs.declared.instr.Operator.TheVariants.{Divide, Remainder}
 use Rattle.vg_lin.specs.declared.instr.Instr.{Instr}
+use Rattle.vg_lin.specs.declared.instr.Operand.TheVariants.{Local}
 use Rattle.vg_lin.specs.Values.{low, signed, divided as divided_by, computed, next_remainder, next_dividend}
 use Rattle.vg_lin.specs.Sound.{IsWidth}
 use Rattle.vg_lin.specs.Program.{Program}
-use Rattle.vg_lin.specs.State.{LocalState, State}
+use Rattle.vg_lin.specs.State.{LocalState, State, division_steps, divides as makes_steps}
 use Rattle.vg_lin.specs.Meaning.{begun, resume, language, codes_in}
-use Rattle.vg_lin.specs.Steps.{Frame, Config, branched, performed}
+use Rattle.vg_lin.specs.Steps.{Frame, Config, Goes, branched, performed, went}
 use Rattle.vg_lin.specs.Follows.{Leads, conf}
 use Rattle.vg_lin.proofs.Followed.{leads_then, free}
 use Rattle.vg_arith.specs.Routines.{with_locals, Gives, IsRoutineOf}
-use Rattle.vg_arith.specs.Division.{divide, divide_step, of_dividend, of_divisor, of_result}
+use Rattle.vg_arith.specs.Division.{divide, of_steps}
 use Rattle.vg_arith.proofs.ShiftRoutines.{some_is, fetch_of, low_same, low_low, gives_low}
 use Rattle.vg_arith.proofs.DivisionLaws.{Divides, divides_on, divides_fits, divides_first, divides_last, is_positive, magnitude, turned, with_sign, same}
 use Rattle.vg_arith.proofs.DivisionLaws.{turned_is, magnitude_small, magnitude_below, magnitude_some, negative_some}
 use Rattle.vg_arith.proofs.DivisionLaws.{sign_test, divides, leaves, divide_low, leave_low}
 
--- ---- the code
-
-repeated : {A : Type 0} (a : A) (rest : List A) (n k : ℕ) → k < n → slice_get (replicate n a ++ rest) k ≡ Some a
-repeated a rest zero k h = absurd (omega arith)
-repeated a rest (suc n) zero h = refl
-repeated a rest (suc n) (suc k) h = repeated a rest n k (omega arith)
-
-behind : {A : Type 0} (front rest : List A) (k : ℕ) → slice_get (front ++ rest) (k + length front) ≡ slice_get rest k
-behind [] rest k = ap (slice_get rest) (omega arith)
-behind (a ∷ front) rest k =
-    let e : k + suc (length front) ≡ suc (k + length front) = omega arith in ap (slice_get (a ∷ front ++ rest)) e ∙ behind front rest k
-
-step_at : (pc : ℕ) → 9 ≤ pc → pc < 41 → slice_get divide.code pc ≡ Some divide_step
-step_at pc h g =
-    let e : pc - 9 + 9 ≡ pc = omega arith in
-    subst (λ z. slice_get divide.code z ≡ Some divide_step) e
-    (behind (of_dividend ++ of_divisor) (replicate 32 divide_step ++ of_result) (pc - 9) ∙ repeated divide_step of_result 32 (pc - 9) (omega arith))
+steps_count : division_steps ≡ 32
+unfolding division_steps
+steps_count = refl
 
 module _ (p : Program) (q : ℕ) (has : slice_get p.procedures q ≡ Some divide) (f : Frame State) (fs : List (Frame State)) (ram : List ℕ)
     (w : World History) where
@@ -114,31 +101,26 @@ module _ (p : Program) (q : ℕ) (has : slice_get p.procedures q ≡ Some divide
       (one 7 x (2 ^ 32 - y) 1 (Some 0) n _ _ refl refl))
 
   -- the steps, so many of which are to come
-  pub record Divided (d0 v c : ℕ) (n : Option ℕ) (from : Config State) : Type 0 where
-    pub by : To from (at 41 (d0 / v) v c (Some (d0 % v)) n)
-
-  by_steps : (d0 v c : ℕ) (n : Option ℕ) (from : Config State) → v ≤ 2 ^ 31 → (left pc P r d : ℕ) → 9 ≤ pc → pc + left ≡ 41
-      → Divides d0 v P (2 ^ left) r d → To from (at pc d v c (Some r) n) → Divided d0 v c n from
-  by_steps d0 v c n from small zero pc P r d h e g t =
+  steps_make : (d0 v c : ℕ) (n : Option ℕ) → v ≤ 2 ^ 31 → (left P r d : ℕ) → Divides d0 v P (2 ^ left) r d
+      → makes_steps left 3 0 (Local 1) (held d v c (Some r) n) w.outside ≡ Goes (held (d0 / v) v c (Some (d0 % v)) n) w.outside
+  steps_make d0 v c n small zero P r d g =
       let last : (d ≡ d0 / v) × (r ≡ d0 % v) = divides_last d0 v P r d g in
-      let here : pc ≡ 41 = omega (arith, e) in
-      record {
-        by = subst (λ z. To from (at z (d0 / v) v c (Some (d0 % v)) n)) here
-            (subst (λ z. To from (at pc z v c (Some (d0 % v)) n)) (last.0) (subst (λ z. To from (at pc d v c (Some z) n)) (last.1) t));
-      }
-  by_steps d0 v c n from small (suc left) pc P r d h e g t =
-      let next : Divides d0 v (2 * P) (2 ^ left) (next_remainder r d v) (next_dividend r d v) =
-      divides_on d0 v P (2 ^ left) r d small (subst (λ z. Divides d0 v P z r d) (pow-succ' 2 left) g) in
-      let fit : (low 4 (next_remainder r d v) ≡ next_remainder r d v) × (low 4 (next_dividend r d v) ≡ next_dividend r d v) =
-      divides_fits d0 v (2 * P) (2 ^ left) (next_remainder r d v) (next_dividend r d v) small next in
-      by_steps d0 v c n from small left (suc pc) (2 * P) (next_remainder r d v) (next_dividend r d v) (omega (arith, h)) (omega (arith, e)) next
-      (then from (at pc d v c (Some r) n) (at (suc pc) (next_dividend r d v) v c (Some (next_remainder r d v)) n) t
-      (one pc d v c (Some r) n divide_step _ (step_at pc h (omega (arith, e)))
-      (ap (λ z. at (suc pc) (low 4 (next_dividend r d v)) v c (Some z) n) (fit.0)
-      ∙ ap (λ z. at (suc pc) z v c (Some (next_remainder r d v)) n) (fit.1))))
+      ap (λ z. Goes (held z v c (Some r) n) w.outside) (last.0) ∙ ap (λ z. Goes (held (d0 / v) v c (Some z) n) w.outside) (last.1)
+  steps_make d0 v c n small (suc left) P r d g =
+      let R = next_remainder r d v in
+      let D = next_dividend r d v in
+      let next : Divides d0 v (2 * P) (2 ^ left) R D = divides_on d0 v P (2 ^ left) r d small (subst (λ z. Divides d0 v P z r d) (pow-succ' 2 left) g) in
+      let fit : (low 4 R ≡ R) × (low 4 D ≡ D) = divides_fits d0 v (2 * P) (2 ^ left) R D small next in
+      ap (λ z. makes_steps left 3 0 (Local 1) (held (low 4 D) v c (Some z) n) w.outside) (fit.0)
+      ∙ ap (λ z. makes_steps left 3 0 (Local 1) (held z v c (Some R) n) w.outside) (fit.1)
+      ∙ steps_make d0 v c n small left (2 * P) R D next
 
-  divided : (d0 v c : ℕ) (n : Option ℕ) (from : Config State) → d0 < 2 ^ 32 → 0 < v → v ≤ 2 ^ 31 → To from (at 9 d0 v c (Some 0) n) → Divided d0 v c n from
-  divided d0 v c n from h some small t = by_steps d0 v c n from small 32 9 1 0 d0 (omega arith) (omega arith) (divides_first d0 v h some) t
+  divided : (d0 v c : ℕ) (n : Option ℕ) (from : Config State) → d0 < 2 ^ 32 → 0 < v → v ≤ 2 ^ 31 → To from (at 9 d0 v c (Some 0) n)
+      → To from (at 10 (d0 / v) v c (Some (d0 % v)) n)
+  divided d0 v c n from h some small t =
+      let first : Divides d0 v 1 (2 ^ division_steps) 0 d0 = subst (λ k. Divides d0 v 1 (2 ^ k) 0 d0) (sym steps_count) (divides_first d0 v h some) in
+      then from (at 9 d0 v c (Some 0) n) (at 10 (d0 / v) v c (Some (d0 % v)) n) t
+      (one 9 d0 v c (Some 0) n of_steps _ refl (ap (went (at 9 d0 v c (Some 0) n)) (steps_make d0 v c n small division_steps 1 0 d0 first)))
 
   -- the configuration in which the routine begins
   abbrev pub begins : (x y c : ℕ) → Config State
@@ -160,38 +142,38 @@ module _ (p : Program) (q : ℕ) (has : slice_get p.procedures q ≡ Some divide
   abbrev pub Back : ℕ → Config State → Type 0
   Back v c = (left : List LocalState) × To c (conf f.proc (suc f.pc) fs (resume f.awaits f.kept (with_locals ram left) (low 4 v)) w)
 
-  signed_result : (a : Bool) (x y c : ℕ) (r : Option ℕ) (from : Config State) → To from (at 43 x y c r (Some (bit a))) → Back (with_sign a x) from
+  signed_result : (a : Bool) (x y c : ℕ) (r : Option ℕ) (from : Config State) → To from (at 12 x y c r (Some (bit a))) → Back (with_sign a x) from
   signed_result true x y c r from t = (
     _,
-    then from (at 43 x y c r (Some 0)) _ t
-        (then (at 43 x y c r (Some 0)) (at 45 x y c r (Some 0)) _ (one 43 x y c r (Some 0) _ _ refl refl) (one 45 x y c r (Some 0) _ _ refl refl)),
+    then from (at 12 x y c r (Some 0)) _ t
+        (then (at 12 x y c r (Some 0)) (at 14 x y c r (Some 0)) _ (one 12 x y c r (Some 0) _ _ refl refl) (one 14 x y c r (Some 0) _ _ refl refl)),
   )
   signed_result false x y c r from t = (
     _,
-    then from (at 43 x y c r (Some 1)) _ t
-        (then (at 43 x y c r (Some 1)) (at 44 x y c r (Some 1)) _ (one 43 x y c r (Some 1) _ _ refl refl)
-        (then (at 44 x y c r (Some 1)) (at 45 (turned x) y c r (Some 1)) _ (one 44 x y c r (Some 1) _ _ refl refl)
-        (one 45 (turned x) y c r (Some 1) _ _ refl refl))),
+    then from (at 12 x y c r (Some 1)) _ t
+        (then (at 12 x y c r (Some 1)) (at 13 x y c r (Some 1)) _ (one 12 x y c r (Some 1) _ _ refl refl)
+        (then (at 13 x y c r (Some 1)) (at 14 (turned x) y c r (Some 1)) _ (one 13 x y c r (Some 1) _ _ refl refl)
+        (one 14 (turned x) y c r (Some 1) _ _ refl refl))),
   )
 
   -- the whole routine
   gives_quotient : (a b : Bool) (x y : ℕ) → x < 2 ^ 32 → y < 2 ^ 32 → 0 < y → is_positive x ≡ a → is_positive y ≡ b
       → Back (with_sign (same a b) (magnitude a x / magnitude b y)) (begins x y 0)
   gives_quotient a b x y hx hy some ea eb =
-      let s : Divided (magnitude a x) (magnitude b y) 0 (Some (bit (same a b))) (begins x y 0) =
+      let s : To (begins x y 0) (at 10 (magnitude a x / magnitude b y) (magnitude b y) 0 (Some (magnitude a x % magnitude b y)) (Some (bit (same a b)))) =
       divided (magnitude a x) (magnitude b y) 0 (Some (bit (same a b))) (begins x y 0) (magnitude_below a x hx ea) (magnitude_some b y hy some)
       (magnitude_small b y hy eb)
       (then (begins x y 0) (at 5 (magnitude a x) y 0 (Some 0) (Some (bit a))) _
       (then (begins x y 0) (at 2 x y 0 (Some 0) (Some 0)) _ (opens x y 0 hx hy (omega arith)) (dividend a x y 0 hx ea))
       (divisor_false b (magnitude a x) y hy eb a)) in
       signed_result (same a b) (magnitude a x / magnitude b y) (magnitude b y) 0 (Some (magnitude a x % magnitude b y)) (begins x y 0)
-      (then (begins x y 0) (at 41 (magnitude a x / magnitude b y) (magnitude b y) 0 (Some (magnitude a x % magnitude b y)) (Some (bit (same a b)))) _ s.by
-      (one 41 (magnitude a x / magnitude b y) (magnitude b y) 0 (Some (magnitude a x % magnitude b y)) (Some (bit (same a b))) _ _ refl refl))
+      (then (begins x y 0) (at 10 (magnitude a x / magnitude b y) (magnitude b y) 0 (Some (magnitude a x % magnitude b y)) (Some (bit (same a b)))) _ s
+      (one 10 (magnitude a x / magnitude b y) (magnitude b y) 0 (Some (magnitude a x % magnitude b y)) (Some (bit (same a b))) _ _ refl refl))
 
   gives_remainder : (a b : Bool) (x y : ℕ) → x < 2 ^ 32 → y < 2 ^ 32 → 0 < y → is_positive x ≡ a → is_positive y ≡ b
       → Back (with_sign a (magnitude a x % magnitude b y)) (begins x y 1)
   gives_remainder a b x y hx hy some ea eb =
-      let s : Divided (magnitude a x) (magnitude b y) 1 (Some (bit a)) (begins x y 1) =
+      let s : To (begins x y 1) (at 10 (magnitude a x / magnitude b y) (magnitude b y) 1 (Some (magnitude a x % magnitude b y)) (Some (bit a))) =
       divided (magnitude a x) (magnitude b y) 1 (Some (bit a)) (begins x y 1) (magnitude_below a x hx ea) (magnitude_some b y hy some)
       (magnitude_small b y hy eb)
       (then (begins x y 1) (at 5 (magnitude a x) y 1 (Some 0) (Some (bit a))) _
@@ -199,12 +181,12 @@ module _ (p : Program) (q : ℕ) (has : slice_get p.procedures q ≡ Some divide
       (divisor_true b (magnitude a x) y (Some (bit a)) hy eb)) in
       let rest : magnitude a x % magnitude b y < 2 ^ 32 = let e = mod-le (magnitude a x) (magnitude b y) in omega (arith, e, magnitude_below a x hx ea) in
       signed_result a (magnitude a x % magnitude b y) (magnitude b y) 1 (Some (magnitude a x % magnitude b y)) (begins x y 1)
-      (then (begins x y 1) (at 41 (magnitude a x / magnitude b y) (magnitude b y) 1 (Some (magnitude a x % magnitude b y)) (Some (bit a))) _ s.by
-      (then (at 41 (magnitude a x / magnitude b y) (magnitude b y) 1 (Some (magnitude a x % magnitude b y)) (Some (bit a)))
-      (at 42 (magnitude a x / magnitude b y) (magnitude b y) 1 (Some (magnitude a x % magnitude b y)) (Some (bit a))) _
-      (one 41 (magnitude a x / magnitude b y) (magnitude b y) 1 (Some (magnitude a x % magnitude b y)) (Some (bit a)) _ _ refl refl)
-      (one 42 (magnitude a x / magnitude b y) (magnitude b y) 1 (Some (magnitude a x % magnitude b y)) (Some (bit a)) _ _ refl
-      (ap (λ z. at 43 z (magnitude b y) 1 (Some (magnitude a x % magnitude b y)) (Some (bit a))) (low_same _ rest)))))
+      (then (begins x y 1) (at 10 (magnitude a x / magnitude b y) (magnitude b y) 1 (Some (magnitude a x % magnitude b y)) (Some (bit a))) _ s
+      (then (at 10 (magnitude a x / magnitude b y) (magnitude b y) 1 (Some (magnitude a x % magnitude b y)) (Some (bit a)))
+      (at 11 (magnitude a x / magnitude b y) (magnitude b y) 1 (Some (magnitude a x % magnitude b y)) (Some (bit a))) _
+      (one 10 (magnitude a x / magnitude b y) (magnitude b y) 1 (Some (magnitude a x % magnitude b y)) (Some (bit a)) _ _ refl refl)
+      (one 11 (magnitude a x / magnitude b y) (magnitude b y) 1 (Some (magnitude a x % magnitude b y)) (Some (bit a)) _ _ refl
+      (ap (λ z. at 12 z (magnitude b y) 1 (Some (magnitude a x % magnitude b y)) (Some (bit a))) (low_same _ rest)))))
 
 -- at the width of four bytes
 gives_divide : (x y v : ℕ) → x < 2 ^ 32 → y < 2 ^ 32 → computed Divide 4 x y ≡ Some v → Gives divide (x ∷ y ∷ 0 ∷ []) (low 4 v)

@@ -8,7 +8,7 @@ use Rattle.vg_lin.specs.declared.instr.Operand.TheVariants.{Local, Known}
 use Rattle.vg_lin.specs.declared.instr.Operator.{Operator}
 use Rattle.vg_lin.specs.declared.instr.Test.{Test}
 use Rattle.vg_lin.specs.declared.instr.Plain.{Plain as PlainInstr}
-use Rattle.vg_lin.specs.declared.instr.Plain.TheVariants.{Copy, Compute, Product, DivideStep, Load, Store, ReadDevice, WriteDevice, Push, Pop, Find, CodeOf, Stop}
+use Rattle.vg_lin.specs.declared.instr.Plain.TheVariants.{Copy, Compute, Product, DivideSteps, Load, Store, ReadDevice, WriteDevice, Push, Pop, Find, CodeOf, Stop}
 use Rattle.vg_lin.specs.declared.instr.Instr.{Instr}
 use Rattle.vg_lin.specs.declared.instr.Instr.TheVariants.{Plain, When, Unless, Jump, Call, Return, Idle}
 use Rattle.vg_lin.specs.Program.{Procedure}
@@ -33,7 +33,7 @@ abbrev is_plain : Procedure → PlainInstr → Bool
 is_plain m (Copy to a) = is_local m to && is_operand m a
 is_plain m (Compute c) = is_width c.width && (is_local m c.to && (is_operand m c.left && is_operand m c.right))
 is_plain m (Product to a b) = is_local m to && (is_operand m a && is_operand m b)
-is_plain m (DivideStep r d a) = is_local m r && (is_local m d && (not (r == d) && is_operand m a))
+is_plain m (DivideSteps r d a) = is_local m r && (is_local m d && (not (r == d) && is_operand m a))
 is_plain m _ = false
 
 abbrev is_test : Procedure → Test → Bool
@@ -108,7 +108,7 @@ a_plain m (Product to a b) e = (
   an_operand m b
       (second_of _ _ (second_of _ _ e)),
 )
-a_plain m (DivideStep r d a) e =
+a_plain m (DivideSteps r d a) e =
     let f : (is_local m d && (not (r == d) && is_operand m a)) ≡ true = second_of _ _ e in
     let g : (not (r == d) && is_operand m a) ≡ true = second_of _ _ f in
     (a_local m r (first_of _ _ e), a_local m d (first_of _ _ f), not_same r d (first_of _ _ g), an_operand m a (second_of _ _ g))
@@ -144,7 +144,7 @@ plain_waits : (m : Procedure) (at : ℕ) (p : PlainInstr) → is_plain m p ≡ t
 plain_waits m at (Copy to a) e h = (h, refl)
 plain_waits m at (Compute c) e h = (h, refl)
 plain_waits m at (Product to a b) e h = (h, refl)
-plain_waits m at (DivideStep r d a) e h = (h, refl)
+plain_waits m at (DivideSteps r d a) e h = (h, refl)
 plain_waits m at (Load x w to a) e h = (h, refl)
 plain_waits m at (Store w a from) e h = (h, refl)
 plain_waits m at (ReadDevice to a) e h = (h, refl)
@@ -181,7 +181,7 @@ plain_leaves : (m : Procedure) (p : PlainInstr) → is_plain m p ≡ true → []
 plain_leaves m (Copy to a) e = refl
 plain_leaves m (Compute c) e = refl
 plain_leaves m (Product to a b) e = refl
-plain_leaves m (DivideStep r d a) e = refl
+plain_leaves m (DivideSteps r d a) e = refl
 plain_leaves m (Load x w to a) e = refl
 plain_leaves m (Store w a from) e = refl
 plain_leaves m (ReadDevice to a) e = refl

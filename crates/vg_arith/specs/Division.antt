@@ -1,10 +1,10 @@
 -- The routine of division, for quotient and remainder.
-use Rattle.std.specs.Prelude.{ℕ, List, [], ◌∷◌, ◌++◌, replicate, None}
+use Rattle.std.specs.Prelude.{ℕ, List, [], ◌∷◌, ◌++◌, None}
 use Rattle.vg_lin.specs.declared.instr.Operand.TheVariants.{Local, Known}
 use Rattle.vg_lin.specs.declared.instr.Operator.TheVariants.{Minus}
 use Rattle.vg_lin.specs.declared.instr.Comparison.TheVariants.{Less, Same}
 use Rattle.vg_lin.specs.declared.instr.Test.{Test}
-use Rattle.vg_lin.specs.declared.instr.Plain.TheVariants.{Copy, Compute, DivideStep}
+use Rattle.vg_lin.specs.declared.instr.Plain.TheVariants.{Copy, Compute, DivideSteps}
 use Rattle.vg_lin.specs.declared.instr.Instr.{Instr}
 use Rattle.vg_lin.specs.declared.instr.Instr.TheVariants.{Plain, When, Unless, Return}
 use Rattle.vg_lin.specs.Program.{Procedure}
@@ -22,8 +22,9 @@ is_zero i = record { comparison = Same; width = 1; left = Local i; right = Known
 abbrev pub negated : (local : ℕ) → Instr
 negated i = Plain (Compute (record { operator = Minus; width = 4; to = i; left = Known 0; right = Local i }))
 
-abbrev pub divide_step : Instr
-divide_step = Plain (DivideStep 3 0 (Local 1))
+-- All steps of the division of what then are magnitudes.
+abbrev pub of_steps : Instr
+of_steps = Plain (DivideSteps 3 0 (Local 1))
 
 -- The dividend without its sign. A result is negative with the dividend.
 abbrev pub of_dividend : List Instr
@@ -37,9 +38,8 @@ of_divisor =
 
 -- The result that is wanted, with its sign.
 abbrev pub of_result : List Instr
-of_result = When (is_zero 2) 43 ∷ Plain (Copy 0 (Local 3)) ∷ When (is_zero 4) 45 ∷ negated 0 ∷ Return 4 (Local 0) ∷ []
+of_result = When (is_zero 2) 12 ∷ Plain (Copy 0 (Local 3)) ∷ When (is_zero 4) 14 ∷ negated 0 ∷ Return 4 (Local 0) ∷ []
 
--- Between them stand as many steps of the division as the dividend has bits.
 abbrev pub divide : Procedure
 divide =
     record {
@@ -47,5 +47,5 @@ divide =
       params = 3;
       result = 4;
       widths = 4 ∷ 4 ∷ 1 ∷ 4 ∷ 1 ∷ [];
-      code = of_dividend ++ (of_divisor ++ (replicate 32 divide_step ++ of_result));
+      code = of_dividend ++ (of_divisor ++ (of_steps ∷ of_result));
     }

@@ -1,9 +1,9 @@
 // The routine of division.
-ghost use Rattle.std.specs.Prelude.{◌≡◌, ◌++◌, [], ◌∷◌, replicate, IfOk, OnOk};
+ghost use Rattle.std.specs.Prelude.{◌≡◌, ◌++◌, [], ◌∷◌, IfOk, OnOk};
 ghost use Rattle.vg_lin.specs.declared.instr.Operator.TheVariants.{Divide, Remainder};
 ghost use Rattle.vg_lin.specs.Sound.{IsSound};
 ghost use Rattle.vg_arith.specs.Routines.{IsRoutineOf, IsShort};
-ghost use Rattle.vg_arith.specs.Division.{divide, divide_step, of_dividend, of_divisor, of_result, is_negative, is_zero, negated};
+ghost use Rattle.vg_arith.specs.Division.{divide, of_steps, of_dividend, of_divisor, of_result, is_negative, is_zero, negated};
 
 use std::alloc::Global;
 use vg_base::{NoMemory, Row};
@@ -36,7 +36,7 @@ fn division_code(alloc: Global) -> Result<Row<Instr>, NoMemory>
     let mut code = Row::new(alloc);
     push_dividend(&mut code)?;
     push_divisor(&mut code)?;
-    push_steps(&mut code)?;
+    code.push(steps())?;
     push_result(&mut code)?;
     Ok(code)
 }
@@ -68,24 +68,22 @@ fn push_divisor(code: &mut Row<Instr>) -> Result<(), NoMemory>
     Ok(())
 }
 
-fn push_steps(code: &mut Row<Instr>) -> Result<(), NoMemory>
-    ensures { OnOk result (code.new ≡ code.old ++ replicate 32 divide_step) }
-{
-    for _step in 0..32u8 {
-        code.push(Instr::Plain(Plain::DivideStep(3, 0, Operand::Local(1))))?;
-    }
-    Ok(())
-}
-
 fn push_result(code: &mut Row<Instr>) -> Result<(), NoMemory>
     ensures { OnOk result (code.new ≡ code.old ++ of_result) }
 {
-    code.push(Instr::When(zero(2), 43))?;
+    code.push(Instr::When(zero(2), 12))?;
     code.push(Instr::Plain(Plain::Copy(0, Operand::Local(3))))?;
-    code.push(Instr::When(zero(4), 45))?;
+    code.push(Instr::When(zero(4), 14))?;
     code.push(negate(0))?;
     code.push(Instr::Return(4, Operand::Local(0)))?;
     Ok(())
+}
+
+// All steps of the division of the magnitudes.
+fn steps() -> Instr
+    ensures { result ≡ of_steps }
+{
+    Instr::Plain(Plain::DivideSteps(3, 0, Operand::Local(1)))
 }
 
 // Whether the number in a local is negative.

@@ -1,5 +1,5 @@
 -- What an answer says of the bytes: which texts are refused, and which are built.
-use Rattle.std.proofs.Common.{◌≡◌, ℕ, zero, suc, ◌+◌, ◌≤◌, ◌⊎◌, ◌↔◌, List, Option, Some, None, Result, Ok, Err, refl, sym, ap, ◌∙◌, subst, inl, inr, arith}
+use Rattle.std.proofs.Common.{◌≡◌, ℕ, zero, suc, ◌+◌, ◌<◌, ◌≤◌, ◌⊎◌, ◌↔◌, List, Option, Some, None, Result, Ok, Err, refl, sym, ap, ◌∙◌, subst, inl, inr, arith}
 use Rattle.std.specs.Prelude.{IfSome, IsOk}
 use Rattle.vg_base.specs.declared.place.Place.{Place}
 use Rattle.vg_base.specs.declared.refusal.Refusal.{Refusal}
@@ -22,15 +22,19 @@ use Rattle.vg_faults.specs.declared.fault.Fault.TheVariants.{NoTree, TooDeep, To
 use Rattle.vg_faults.specs.declared.fault.Fault.TheVariants.{StackFull, CodeFull, NoMember, NotBuilt}
 use Rattle.vg_faults.specs.Faults.{IsOfInit}
 use Rattle.vg_faults.specs.Judged.{IsLegal}
-use Rattle.vg_faults.specs.Room.{HasRoomFault, HasRoomIn, needed}
+use Rattle.vg_faults.specs.Room.{HasRoomFault, HasRoomIn, HasStack, StackFullIn, needed}
 use Rattle.vg_faults.specs.Starting.{FailsIn}
 use Rattle.vg_faults.proofs.Room.{is_room_fault, no_room_fault, one_room_fault}
 use Rattle.vg_fits.specs.declared.fitting.Fitted.{Fitted}
 use Rattle.vg_fits.specs.Answer.{IsFittedOf, Fits}
 use Rattle.vg_build.specs.Image.{IsBuiltOf}
 use Rattle.vg_build.specs.declared.building.Built.{Built}
-use Rattle.vg_build.specs.Answer.{Answer, Answers, HasFault, IsCause, IsNoFirst, IsNotBuilt, IsSettled, fault_in, first_place}
-use Rattle.vg_build.specs.Mirrors.{CompiledBy, FlashBy}
+use Rattle.vg_build.specs.Answer.{Answer, Answers, HasFault, IsCause, IsNoFirst, IsNotBuilt, IsOverStack, IsSettled, fault_in, first_place}
+use Rattle.vg_build.specs.Mirrors.{CompiledBy, FlashBy, Lays, WrittenBy}
+use Rattle.vg_build.specs.Stated.{stated}
+use Rattle.vg_build.specs.declared.flash.Flash.{Flash}
+use Rattle.vg_build.specs.declared.room.Room.{Room}
+use Rattle.vg_build.proofs.Rooms.{over_of, room_of}
 use Rattle.vg_build.proofs.Constants.{fitting_of, static_of}
 
 same_fault : (a b : Fault) → Some a ≡ Some b → a ≡ b
@@ -45,14 +49,44 @@ none_some a e = cc
 abbrev pub IsExact : Fault → Type 0
 IsExact (NotBuilt place) = ⊥
 IsExact (CodeFull words) = ⊥
+IsExact (StackFull need left) = ⊥
 IsExact why = Unit {0}
 
+-- what is no program of constants with a stack of four bytes or more
+abbrev IsBeside : List ℕ → Option ℕ → Type 0
+IsBeside bytes asked = (writes : List DeviceWrite) → IsFirst bytes writes → 4 ≤ needed asked → ⊥
+
 abbrev Sorted : Fault → List ℕ → Option ℕ → ℕ → Type 0
-Sorted why bytes asked clock = IsNotBuilt bytes asked clock ⊎ HasRoomFault why bytes asked clock
+Sorted why bytes asked clock = (HasRoomIn bytes asked clock × IsBeside bytes asked) ⊎ HasRoomFault why bytes asked clock
+
+not_built_beside : (bytes : List ℕ) (asked : Option ℕ) (clock : ℕ) → IsNotBuilt bytes asked clock → HasRoomIn bytes asked clock × IsBeside bytes asked
+not_built_beside bytes asked clock (room, none) = (room, λ writes first large. none writes first)
+
+stated_large : (asked : Option ℕ) (n : ℕ) → HasStack asked n → 4 ≤ needed asked → 4 ≤ stated asked n
+stated_large None n room large = omega (arith, room)
+stated_large (Some stack) n room large = large
+
+too_few : (need left at : ℕ) → left ≡ at → left < need → 4 ≤ at → need ≡ 4 → ⊥
+too_few need left at same more large four = omega (arith, same, more, large, four)
+
+over_beside : (bytes : List ℕ) (asked : Option ℕ) (clock need left : ℕ) → IsOverStack bytes asked clock need left
+    → HasRoomIn bytes asked clock × IsBeside bytes asked
+over_beside bytes asked clock need left over = (
+  record {
+    tree = over.tree;
+    heap = over.heap;
+    fitting = over.fitting;
+    static_bytes = over.static_bytes;
+    has_static = over.has_static;
+    room = over.room;
+  },
+  λ writes first large.
+      too_few need left (stated asked over.static_bytes) over.left_is over.more (stated_large asked over.static_bytes over.room large) (over.few writes first),
+)
 
 sorted : (why : Fault) (bytes : List ℕ) (asked : Option ℕ) (clock : ℕ) → HasFault why bytes asked clock → Sorted why bytes asked clock
-sorted (NotBuilt p) bytes asked clock h = inl h.0
-sorted (CodeFull words) bytes asked clock h = inl h.0
+sorted (NotBuilt p) bytes asked clock h = inl (not_built_beside bytes asked clock h.0)
+sorted (CodeFull words) bytes asked clock h = inl (not_built_beside bytes asked clock h.0)
 sorted (NoTree p) bytes asked clock h = inr h
 sorted (TooDeep p) bytes asked clock h = inr h
 sorted (TooMany what limit p) bytes asked clock h = inr h
@@ -65,7 +99,8 @@ sorted InitTooBig bytes asked clock h = inr h
 sorted (Allocates p line) bytes asked clock h = inr h
 sorted (StaticFull need) bytes asked clock h = inr h
 sorted (TableFull need) bytes asked clock h = inr h
-sorted (StackFull need left) bytes asked clock h = inr h
+sorted (StackFull need left) bytes asked clock (inl h) = inr h
+sorted (StackFull need left) bytes asked clock (inr over) = inl (over_beside bytes asked clock need left over)
 sorted NoMember bytes asked clock h = inr h
 
 -- an exact one is a fault of the text
@@ -84,7 +119,7 @@ exact_fault InitTooBig bytes asked clock exact h = h
 exact_fault (Allocates p line) bytes asked clock exact h = h
 exact_fault (StaticFull need) bytes asked clock exact h = h
 exact_fault (TableFull need) bytes asked clock exact h = h
-exact_fault (StackFull need left) bytes asked clock exact h = h
+exact_fault (StackFull need left) bytes asked clock exact h = absurd exact
 exact_fault NoMember bytes asked clock exact h = h
 
 -- and a fault of the text is one of the command
@@ -103,7 +138,7 @@ has_fault InitTooBig bytes asked clock h = h
 has_fault (Allocates p line) bytes asked clock h = h
 has_fault (StaticFull need) bytes asked clock h = h
 has_fault (TableFull need) bytes asked clock h = h
-has_fault (StackFull need left) bytes asked clock h = h
+has_fault (StackFull need left) bytes asked clock h = inl h
 has_fault NoMember bytes asked clock h = h
 
 -- the bytes have at most one exact fault, and then no other
@@ -136,9 +171,13 @@ first_has_room bytes asked (suc clock) writes some small first =
     constants_fit bytes asked (suc clock) writes first small tree empty_heap legal (text_starts bytes writes tree first reads clock)
 
 first_has_none : (why : Fault) (bytes : List ℕ) (asked : Option ℕ) (clock : ℕ) (writes : List DeviceWrite) → HasRoomIn bytes asked clock → IsFirst bytes writes
-    → Sorted why bytes asked clock → ⊥
-first_has_none why bytes asked clock writes room first (inl h) = h.1 writes first
-first_has_none why bytes asked clock writes room first (inr h) = no_room_fault bytes asked clock why room h
+    → 4 ≤ needed asked → Sorted why bytes asked clock → ⊥
+first_has_none why bytes asked clock writes room first large (inl h) = h.1 writes first large
+first_has_none why bytes asked clock writes room first large (inr h) = no_room_fault bytes asked clock why room h
+
+needs_four : (asked : Option ℕ) → IfSome asked (λ stack. 4 ≤ stack) → 4 ≤ needed asked
+needs_four None h = omega arith
+needs_four (Some stack) h = h
 
 needs_few : (asked : Option ℕ) → IfSome asked (λ stack. (1 ≤ stack) × (stack ≤ 4096)) → needed asked ≤ 4096
 needs_few None h = omega arith
@@ -206,14 +245,29 @@ pub first_of : (bytes : List ℕ) (asked : Option ℕ) (clock : ℕ) (r : Answer
     → fault_in r ≡ Some (NotBuilt place) → place ≡ first_place
 first_of bytes asked clock r h place e = (answered_of bytes asked clock r h (NotBuilt place) e).1
 
--- a program of constants is built, or memory is wanting
+-- a stack that has no room is refused, where memory suffices
+pub stack_full_of : (bytes : List ℕ) (asked : Option ℕ) (clock : ℕ) (r : Answer) → Answers bytes asked clock r → IsSettled r → (need left : ℕ)
+    → StackFullIn bytes asked clock need left → fault_in r ≡ Some (StackFull need left)
+stack_full_of bytes asked clock (Ok built) h settled need left k =
+    absurd (no_room_fault bytes asked clock (StackFull need left) (built_has_room bytes asked clock built h) k)
+stack_full_of bytes asked clock (Err (refusal.Fault w)) h settled need left k =
+    ap Some (one_fault w (StackFull need left) bytes asked clock (sorted w bytes asked clock h) k)
+stack_full_of bytes asked clock (Err refusal.NoMemory) h settled need left k = absurd settled
+
+-- and no other is, but for a stack that is smaller than what calls may need
+pub stack_short_of : (bytes : List ℕ) (asked : Option ℕ) (clock : ℕ) (r : Answer) → Answers bytes asked clock r → (need left : ℕ)
+    → fault_in r ≡ Some (StackFull need left) → StackFullIn bytes asked clock need left ⊎ IsOverStack bytes asked clock need left
+stack_short_of bytes asked clock r h need left e = answered_of bytes asked clock r h (StackFull need left) e
+
+-- a program of constants is built where its stack has four bytes or more, or memory is wanting
 pub complete_of : (bytes : List ℕ) (asked : Option ℕ) (clock : ℕ) → IfSome asked (λ stack. (1 ≤ stack) × (stack ≤ 4096)) → (r : Answer)
-    → Answers bytes asked clock r → 1 ≤ clock → (writes : List DeviceWrite) → IsFirst bytes writes → IsOk r ⊎ (r ≡ Err refusal.NoMemory)
-complete_of bytes asked clock small (Ok built) h some writes first = inl refl
-complete_of bytes asked clock small (Err (refusal.Fault why)) h some writes first =
+    → Answers bytes asked clock r → 1 ≤ clock → IfSome asked (λ stack. 4 ≤ stack) → (writes : List DeviceWrite) → IsFirst bytes writes
+    → IsOk r ⊎ (r ≡ Err refusal.NoMemory)
+complete_of bytes asked clock small (Ok built) h some large writes first = inl refl
+complete_of bytes asked clock small (Err (refusal.Fault why)) h some large writes first =
     absurd (first_has_none why bytes asked clock writes (first_has_room bytes asked clock writes some (needs_few asked small) first) first
-    (sorted why bytes asked clock h))
-complete_of bytes asked clock small (Err refusal.NoMemory) h some writes first = inr refl
+    (needs_four asked large) (sorted why bytes asked clock h))
+complete_of bytes asked clock small (Err refusal.NoMemory) h some large writes first = inr refl
 
 -- ---- what is answered to a text is answered by the command
 
@@ -221,35 +275,66 @@ pub fits_by : (bytes : List ℕ) (asked : Option ℕ) (clock : ℕ) (why : Refus
 fits_by bytes asked clock (refusal.Fault why) h = has_fault why bytes asked clock (is_room_fault why bytes asked clock h)
 fits_by bytes asked clock refusal.NoMemory h = tt
 
-pub flash_by : (bytes : List ℕ) (asked : Option ℕ) (clock : ℕ) (f : Fitted) → HasRoomIn bytes asked clock → (why : Refusal Fault)
-    → FlashBy bytes f (Err why) → IsCause why bytes asked clock
-flash_by bytes asked clock f room (refusal.Fault (NotBuilt place)) (none, h) = ((room, none), h)
-flash_by bytes asked clock f room (refusal.Fault (CodeFull words)) (none, h) = ((room, none), h)
-flash_by bytes asked clock f room refusal.NoMemory h = tt
-flash_by bytes asked clock f room (refusal.Fault (NoTree p)) h = absurd h.1
-flash_by bytes asked clock f room (refusal.Fault (TooDeep p)) h = absurd h.1
-flash_by bytes asked clock f room (refusal.Fault (TooMany what limit p)) h = absurd h.1
-flash_by bytes asked clock f room (refusal.Fault (Broken rule p)) h = absurd h.1
-flash_by bytes asked clock f room (refusal.Fault (InitTrap code p)) h = absurd h.1
-flash_by bytes asked clock f room (refusal.Fault InitSteps) h = absurd h.1
-flash_by bytes asked clock f room (refusal.Fault InitDepth) h = absurd h.1
-flash_by bytes asked clock f room (refusal.Fault (InitTouches address)) h = absurd h.1
-flash_by bytes asked clock f room (refusal.Fault InitTooBig) h = absurd h.1
-flash_by bytes asked clock f room (refusal.Fault (Allocates p line)) h = absurd h.1
-flash_by bytes asked clock f room (refusal.Fault (StaticFull need)) h = absurd h.1
-flash_by bytes asked clock f room (refusal.Fault (TableFull need)) h = absurd h.1
-flash_by bytes asked clock f room (refusal.Fault (StackFull need left)) h = absurd h.1
-flash_by bytes asked clock f room (refusal.Fault NoMember) h = absurd h.1
+module _ (bytes : List ℕ) (asked : Option ℕ) (clock : ℕ) (f : Fitted) (is : IsFittedOf bytes clock f) (room : Room)
+    (lays : Lays f.placed.columns.static_bytes asked (Ok room)) where
+  abbrev stack : ℕ
+  stack = room.stack
+
+  stack_is : stack ≡ stated asked f.placed.columns.static_bytes
+  stack_is = ap (λ (z : Room). z.stack) lays.1
+
+  has_room : HasRoomIn bytes asked clock
+  has_room = room_of bytes clock f is asked lays.0
+
+  over : (need left : ℕ) → left ≡ stack → left < need → ((writes : List DeviceWrite) → IsFirst bytes writes → need ≡ 4)
+      → HasFault (StackFull need left) bytes asked clock
+  over need left same more few = inr (over_of bytes clock f is asked lays.0 need left (same ∙ stack_is) more few)
+
+  pub flash_by : (why : Refusal Fault) → FlashBy bytes f stack (Err why) → IsCause why bytes asked clock
+  flash_by (refusal.Fault (NotBuilt place)) (inl (writes, first, h)) = absurd h
+  flash_by (refusal.Fault (NotBuilt place)) (inr (none, h)) = ((has_room, none), h)
+  flash_by (refusal.Fault (CodeFull words)) (inl (writes, first, h)) = absurd h
+  flash_by (refusal.Fault (CodeFull words)) (inr (none, h)) = ((has_room, none), h)
+  flash_by (refusal.Fault (StackFull need left)) (inl (writes, first, (four, same, more))) = over need left same more (λ ws fst. four)
+  flash_by (refusal.Fault (StackFull need left)) (inr (none, (same, more))) = over need left same more (λ ws fst. absurd (none ws fst))
+  flash_by refusal.NoMemory h = tt
+  flash_by (refusal.Fault (NoTree p)) (inl (writes, first, h)) = absurd h
+  flash_by (refusal.Fault (NoTree p)) (inr (none, h)) = absurd h
+  flash_by (refusal.Fault (TooDeep p)) (inl (writes, first, h)) = absurd h
+  flash_by (refusal.Fault (TooDeep p)) (inr (none, h)) = absurd h
+  flash_by (refusal.Fault (TooMany what limit p)) (inl (writes, first, h)) = absurd h
+  flash_by (refusal.Fault (TooMany what limit p)) (inr (none, h)) = absurd h
+  flash_by (refusal.Fault (Broken rule p)) (inl (writes, first, h)) = absurd h
+  flash_by (refusal.Fault (Broken rule p)) (inr (none, h)) = absurd h
+  flash_by (refusal.Fault (InitTrap code p)) (inl (writes, first, h)) = absurd h
+  flash_by (refusal.Fault (InitTrap code p)) (inr (none, h)) = absurd h
+  flash_by (refusal.Fault InitSteps) (inl (writes, first, h)) = absurd h
+  flash_by (refusal.Fault InitSteps) (inr (none, h)) = absurd h
+  flash_by (refusal.Fault InitDepth) (inl (writes, first, h)) = absurd h
+  flash_by (refusal.Fault InitDepth) (inr (none, h)) = absurd h
+  flash_by (refusal.Fault (InitTouches address)) (inl (writes, first, h)) = absurd h
+  flash_by (refusal.Fault (InitTouches address)) (inr (none, h)) = absurd h
+  flash_by (refusal.Fault InitTooBig) (inl (writes, first, h)) = absurd h
+  flash_by (refusal.Fault InitTooBig) (inr (none, h)) = absurd h
+  flash_by (refusal.Fault (Allocates p line)) (inl (writes, first, h)) = absurd h
+  flash_by (refusal.Fault (Allocates p line)) (inr (none, h)) = absurd h
+  flash_by (refusal.Fault (StaticFull need)) (inl (writes, first, h)) = absurd h
+  flash_by (refusal.Fault (StaticFull need)) (inr (none, h)) = absurd h
+  flash_by (refusal.Fault (TableFull need)) (inl (writes, first, h)) = absurd h
+  flash_by (refusal.Fault (TableFull need)) (inr (none, h)) = absurd h
+  flash_by (refusal.Fault NoMember) (inl (writes, first, h)) = absurd h
+  flash_by (refusal.Fault NoMember) (inr (none, h)) = absurd h
 
 -- the flash of writes is that of a program of constants
-pub by_writes : (bytes : List ℕ) (f : Fitted) (writes given : List DeviceWrite) (image : List ℕ) → given ≡ writes → IsFirst bytes writes
-    → ((floor stack : ℕ) → floor + stack ≡ 0x1100 → 2 ≤ stack → Agrees (first_session given) image floor stack)
-    → ((floor stack : ℕ) → floor + stack ≡ 0x1100 → 2 ≤ stack → NeverReaches image floor) → FlashBy bytes f (Ok image)
-by_writes bytes f writes given image same first agrees never =
-    inl (given, subst (λ ws. IsFirst bytes ws) (sym same) first, record { agrees = agrees; never = never })
+pub by_writes : (bytes : List ℕ) (f : Fitted) (stack : ℕ) (writes given : List DeviceWrite) → given ≡ writes → IsFirst bytes writes
+    → (r : Result Flash (Refusal Fault)) → WrittenBy given stack r → FlashBy bytes f stack r
+by_writes bytes f stack writes given same first (Ok flash) h = inl (given, subst (λ ws. IsFirst bytes ws) (sym same) first, h)
+by_writes bytes f stack writes given same first (Err (refusal.Fault why)) h = inl (given, subst (λ ws. IsFirst bytes ws) (sym same) first, h)
+by_writes bytes f stack writes given same first (Err refusal.NoMemory) h = tt
 
 -- what is compiled of what is no program of constants
-pub by_compiled : (bytes : List ℕ) (f : Fitted) → IsNoFirst bytes → (r : Result (List ℕ) (Refusal Fault)) → CompiledBy f r → FlashBy bytes f r
-by_compiled bytes f none (Ok image) h = inr (none, h)
-by_compiled bytes f none (Err (refusal.Fault why)) h = (none, h)
-by_compiled bytes f none (Err refusal.NoMemory) h = tt
+pub by_compiled : (bytes : List ℕ) (f : Fitted) (stack : ℕ) → IsNoFirst bytes → (r : Result Flash (Refusal Fault)) → CompiledBy f stack r
+    → FlashBy bytes f stack r
+by_compiled bytes f stack none (Ok flash) h = inr (none, h)
+by_compiled bytes f stack none (Err (refusal.Fault why)) h = inr (none, h)
+by_compiled bytes f stack none (Err refusal.NoMemory) h = tt

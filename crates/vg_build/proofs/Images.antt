@@ -25,11 +25,18 @@ use Rattle.vg_text_image.specs.declared.making.TextImage.{TextImage}
 use Rattle.vg_text_image.specs.Made.{DoesText, IsCompiledOf}
 use Rattle.vg_text_image.proofs.Texts.{does_text}
 use Rattle.vg_build.specs.declared.building.Built.{Built}
-use Rattle.vg_build.specs.declared.layout.Layout.{Layout}
+use Rattle.vg_build.specs.declared.flash.Flash.{Flash}
+use Rattle.vg_build.specs.declared.room.Room.{Room}
+use Rattle.vg_layout.specs.Few.{IsFew}
+use Rattle.vg_layout.specs.declared.stack_bound.StackBound.{StackBound}
+use Rattle.vg_layout.specs.declared.stack_bound.StackBound.TheVariants as held
+use Rattle.vg_layout.specs.declared.layout.Bound.{Bound}
+use Rattle.vg_layout.specs.declared.layout.Bound.TheVariants as said
+use Rattle.vg_layout.specs.declared.layout.Layout.{Layout}
 use Rattle.vg_build.specs.Answer.{IsNoFirst}
 use Rattle.vg_build.specs.Image.{IsBuiltOf, IsImageOf}
-use Rattle.vg_build.specs.Layout.{stated}
-use Rattle.vg_build.specs.Mirrors.{CompiledBy, FlashBy, IsMadeOf, IsPacked, Lays, layout_above}
+use Rattle.vg_build.specs.Stated.{stated}
+use Rattle.vg_build.specs.Mirrors.{FlashBy, IsFlashOf, IsLayoutOf, IsMadeOf, IsPacked, Lays, SaysBound, room_above}
 use Rattle.vg_build.proofs.Constants.{heap_is}
 use Rattle.vg_build.proofs.Rooms.{heap_of, needs_static, text_of}
 use Rattle.vg_build.proofs.Stacks.{on_smaller}
@@ -58,47 +65,62 @@ never_on writes image made stack large fits = made.never (0x1100 - stack) stack 
 
 -- ---- the flash of a text
 
--- on each stack that has room above the static area the machine does what the text does, a program of constants keeps to it, and any other keeps memory
-record DoesOnStacks (bytes : List ℕ) (tree : Node) (heap : Heap) (static_bytes : ℕ) (image : List ℕ) : Type 0 where
-  agrees : (stack : ℕ) → static_bytes + stack ≤ 4096 → Agrees (sessions tree heap) image (0x1100 - stack) stack
-  never : (writes : List DeviceWrite) → IsFirst bytes writes → (stack : ℕ) → 2 ≤ stack → stack ≤ 4096 → NeverReaches image (0x1100 - stack)
+-- on each stack that has room above the static area the machine does what the text does, a program of constants keeps to it, and any other keeps memory; and
+-- where the stack is bounded it is never left
+record DoesOnStacks (bytes : List ℕ) (tree : Node) (heap : Heap) (static_bytes : ℕ) (flash : Flash) : Type 0 where
+  agrees : (stack : ℕ) → static_bytes + stack ≤ 4096 → Agrees (sessions tree heap) flash.image (0x1100 - stack) stack
+  never : (writes : List DeviceWrite) → IsFirst bytes writes → (stack : ℕ) → 2 ≤ stack → stack ≤ 4096 → NeverReaches flash.image (0x1100 - stack)
   idle : ℕ
-  memory : IsNoFirst bytes → (stack : ℕ) → static_bytes + stack ≤ 4096 → KeepsMemory image static_bytes (0x1100 - stack) idle
+  idle_is : idle < 65536 → flash.idle ≡ idle
+  memory : IsNoFirst bytes → (stack : ℕ) → static_bytes + stack ≤ 4096 → KeepsMemory flash.image static_bytes (0x1100 - stack) idle
+  bounded : (need : ℕ) → flash.bound ≡ held.Bytes need → static_bytes + need ≤ 4096 → NeverReaches flash.image (0x1100 - need)
 
 within : (n stack : ℕ) → n + stack ≤ 4096 → stack ≤ 4096
 within n stack fits = omega (arith, fits)
 
+same_bytes : (a b : ℕ) → held.Bytes a ≡ held.Bytes b → a ≡ b
+same_bytes a b e = cc
+
 module _ (bytes : List ℕ) (clock : ℕ) (tree : Node) (heap : Heap) (is : IsFitting bytes clock tree heap) (n : ℕ) (static_is : IsStatic tree heap n) where
-  does_writes : (image : List ℕ) (writes : List DeviceWrite) → IsFirst bytes writes → IsMadeOf writes image → DoesOnStacks bytes tree heap n image
-  does_writes image writes first made =
+  does_writes : (flash : Flash) (writes : List DeviceWrite) → IsFirst bytes writes → IsMadeOf writes flash.image → flash.bound ≡ held.Bytes 4
+      → DoesOnStacks bytes tree heap n flash
+  does_writes flash writes first made four =
       record {
         agrees = λ stack fits.
-            subst (λ h. Agrees (sessions tree h) image (0x1100 - stack) stack)
+            subst (λ h. Agrees (sessions tree h) flash.image (0x1100 - stack) stack)
             (heap_is bytes clock writes tree heap is.firm.legal first is.firm.starts)
-            (subst (λ s. Agrees s image (0x1100 - stack) stack) (sym (text_sessions bytes writes tree first is.firm.legal.reads))
-            (on_each writes image made stack (within n stack fits)));
-        never = λ other fst. never_on writes image made;
-        idle = 0;
+            (subst (λ s. Agrees s flash.image (0x1100 - stack) stack) (sym (text_sessions bytes writes tree first is.firm.legal.reads))
+            (on_each writes flash.image made stack (within n stack fits)));
+        never = λ other fst. never_on writes flash.image made;
+        idle = flash.idle;
+        idle_is = λ low. refl;
         memory = λ none. absurd (none writes first);
+        bounded = λ need e fits.
+            subst (λ z. NeverReaches flash.image (0x1100 - z)) (same_bytes 4 need (sym four ∙ e))
+            (never_on writes flash.image made 4 (omega arith) (omega arith));
       }
 
-  does_compiled : (i : TextImage) (image : List ℕ) → image ≡ i.flash → IsNoFirst bytes → DoesText bytes clock i → DoesOnStacks bytes tree heap n image
-  does_compiled i image same none does =
+  does_compiled : (i : TextImage) (flash : Flash) → IsFlashOf i flash → IsNoFirst bytes → DoesText bytes clock i → DoesOnStacks bytes tree heap n flash
+  does_compiled i flash of none does =
       let firm = does.fitting.firm in
       let (one_tree, one_heap) = one_start bytes clock does.tree tree does.heap heap firm.legal is.firm.legal firm.starts is.firm.starts in
       let one_static = same_static bytes clock does.tree tree does.heap heap firm is.firm i.static_bytes n does.static_is static_is in
       record {
         agrees = λ stack fits.
-            subst (λ x. Agrees (sessions tree heap) x (0x1100 - stack) stack) (sym same)
+            subst (λ x. Agrees (sessions tree heap) x (0x1100 - stack) stack) (sym of.image)
             (subst (λ h. Agrees (sessions tree h) i.flash (0x1100 - stack) stack) one_heap
             (subst (λ t. Agrees (sessions t does.heap) i.flash (0x1100 - stack) stack) one_tree
             (does.agrees stack (subst (λ m. m + stack ≤ 4096) (sym one_static) fits))));
         never = λ writes first. absurd (none writes first);
-        idle = does.idle;
+        idle = i.idle + 1;
+        idle_is = of.idle;
         memory = λ no stack fits.
-            subst (λ x. KeepsMemory x n (0x1100 - stack) does.idle) (sym same)
-            (subst (λ m. KeepsMemory i.flash m (0x1100 - stack) does.idle) one_static
+            subst (λ x. KeepsMemory x n (0x1100 - stack) (i.idle + 1)) (sym of.image)
+            (subst (λ m. KeepsMemory i.flash m (0x1100 - stack) (i.idle + 1)) one_static
             (does.memory stack (subst (λ m. m + stack ≤ 4096) (sym one_static) fits)));
+        bounded = λ need e fits.
+            subst (λ x. NeverReaches x (0x1100 - need)) (sym of.image)
+            (does.never need (sym of.bound ∙ e) (subst (λ m. m + need ≤ 4096) (sym one_static) fits));
       }
 
 -- ---- the layout
@@ -111,6 +133,25 @@ stated_fits (Some stack) n room = room
 floor_is : (stack : ℕ) → stack ≤ 4096 → 0x1100 - stack + stack ≡ 0x1100
 floor_is stack fits = omega (arith, fits)
 
+-- a bound that is said is one that holds
+says_bytes : (b : StackBound) (l : Bound) → SaysBound b l → (need : ℕ) → l ≡ said.Bytes need → b ≡ held.Bytes need
+says_bytes (held.Bytes n) (said.Bytes m) e need same = ap (λ z. held.Bytes z) (sym e ∙ same_said m need same)
+  where
+    same_said : (a b : ℕ) → said.Bytes a ≡ said.Bytes b → a ≡ b
+    same_said a b h = cc
+says_bytes (held.Bytes n) (said.Cycle names) e need same = absurd e
+says_bytes (held.Cycle methods) (said.Bytes m) e need same = absurd e
+says_bytes (held.Cycle methods) (said.Cycle names) e need same = absurd (none_such names need same)
+  where
+    none_such : (names : List (List ℕ)) (need : ℕ) → said.Cycle names ≡ said.Bytes need → ⊥
+    none_such names need h = cc
+
+few_bytes : (stack : ℕ) (b : StackBound) (need : ℕ) → IsFew stack b → b ≡ held.Bytes need → need ≤ stack
+few_bytes stack b need few e = subst (λ z. IsFew stack z) e few
+
+enough_above : (n need stack : ℕ) → n + stack ≤ 4096 → need ≤ stack → n + need ≤ 4096
+enough_above n need stack fits few = omega (arith, fits, few)
+
 module _ (bytes : List ℕ) (asked : Option ℕ) (clock : ℕ) (tree : Node) (heap : Heap) (is : IsFitting bytes clock tree heap) (n : ℕ)
     (static_is : IsStatic tree heap n) (room : HasStack asked n) where
   abbrev stack : ℕ
@@ -119,47 +160,67 @@ module _ (bytes : List ℕ) (asked : Option ℕ) (clock : ℕ) (tree : Node) (he
   fits : n + stack ≤ 4096
   fits = stated_fits asked n room
 
-  image_above : (image : List ℕ) → DoesOnStacks bytes tree heap n image → HexImage (hex_text image) image
-      → IsImageOf bytes asked clock image (layout_above n asked)
-  image_above image does spelled =
+  image_above : (flash : Flash) → DoesOnStacks bytes tree heap n flash → IsFew stack flash.bound → (layout : Layout)
+      → IsLayoutOf flash (room_above n asked) layout → HexImage (hex_text flash.image) flash.image → IsImageOf bytes asked clock flash.image layout
+  image_above flash does few layout of spelled =
       record {
         tree = tree;
         heap = heap;
         fitting = is;
-        static_is = static_is;
-        room = room;
-        stack_is = refl;
-        fits = fits;
-        floor_is = floor_is stack (within n stack fits);
-        agrees = does.agrees stack fits;
-        never = λ writes first large. does.never writes first stack large (within n stack fits);
+        static_is = subst (λ z. IsStatic tree heap z) (sym of.static_is) static_is;
+        room = subst (λ z. HasStack asked z) (sym of.static_is) room;
+        stack_is = of.stack_is ∙ ap (λ z. stated asked z) (sym of.static_is);
+        fits = subst (λ z. z + layout.stack ≤ 4096) (sym of.static_is) (subst (λ z. n + z ≤ 4096) (sym of.stack_is) fits);
+        floor_is = subst (λ z. z + layout.stack ≡ 0x1100) (sym of.floor_is)
+            (subst (λ z. 0x1100 - stack + z ≡ 0x1100) (sym of.stack_is) (floor_is stack (within n stack fits)));
+        agrees = subst (λ z. Agrees (sessions tree heap) flash.image z layout.stack) (sym of.floor_is)
+            (subst (λ z. Agrees (sessions tree heap) flash.image (0x1100 - stack) z) (sym of.stack_is) (does.agrees stack fits));
+        never = λ writes first large.
+            subst (λ z. NeverReaches flash.image z) (sym of.floor_is)
+            (does.never writes first stack (subst (λ z. 2 ≤ z) of.stack_is large) (within n stack fits));
         idle = does.idle;
-        memory = λ none. does.memory none stack fits;
+        idle_is = λ low. of.idle ∙ does.idle_is low;
+        memory = λ none.
+            subst (λ z. KeepsMemory flash.image layout.static_bytes z does.idle) (sym of.floor_is)
+            (subst (λ z. KeepsMemory flash.image z (0x1100 - stack) does.idle) (sym of.static_is) (does.memory none stack fits));
+        bounded = λ need same.
+            let held_bytes = says_bytes flash.bound layout.bound of.bound need same in
+            let low = few_bytes stack flash.bound need few held_bytes in (
+              subst (λ z. need ≤ z) (sym of.stack_is) low,
+              does.bounded need held_bytes (enough_above n need stack fits low),
+            );
         spelled = spelled;
         only = λ other h. one_image _ _ _ h spelled;
       }
 
-  built_above : (image : List ℕ) → DoesOnStacks bytes tree heap n image → (built : Built) → IsPacked image (layout_above n asked) built
-      → IsBuiltOf bytes asked clock built
-  built_above image does built packed =
-      let spelled : HexImage (hex_text image) image = subst (λ x. HexImage (hex_text x) x) packed.image_is packed.spelled in
+  built_above : (flash : Flash) → DoesOnStacks bytes tree heap n flash → IsFew stack flash.bound → (built : Built)
+      → IsPacked flash (room_above n asked) built → IsBuiltOf bytes asked clock built
+  built_above flash does few built packed =
+      let spelled : HexImage (hex_text flash.image) flash.image = subst (λ x. HexImage (hex_text x) x) packed.image_is packed.spelled in
       let here : IsImageOf bytes asked clock built.image built.layout =
-      subst (λ l. IsImageOf bytes asked clock built.image l) (sym packed.layout_is)
-      (subst (λ x. IsImageOf bytes asked clock x (layout_above n asked)) (sym packed.image_is) (image_above image does spelled)) in
+      subst (λ x. IsImageOf bytes asked clock x built.layout) (sym packed.image_is) (image_above flash does few built.layout packed.layout_is spelled) in
       record { image = here; hex = packed.hex; note = packed.note }
 
 -- ---- what fits
 
 module _ (bytes : List ℕ) (asked : Option ℕ) (clock : ℕ) (f : Fitted) (is : IsFittedOf bytes clock f) (short : length bytes ≤ text_limit) where
-  does_flash : (image : List ℕ) → FlashBy bytes f (Ok image) → DoesOnStacks bytes (text_of f) (heap_of f) f.placed.columns.static_bytes image
-  does_flash image (inl (writes, first, made)) =
-      does_writes bytes clock (text_of f) (heap_of f) is.fitting f.placed.columns.static_bytes (needs_static bytes clock f is) image writes first made
-  does_flash image (inr (none, (i, compiled, same))) =
-      does_compiled bytes clock (text_of f) (heap_of f) is.fitting f.placed.columns.static_bytes (needs_static bytes clock f is) i image same none
-      (does_text bytes clock f is short i compiled)
+  abbrev n : ℕ
+  n = f.placed.columns.static_bytes
 
-  pub built_of : (layout : Layout) → Lays f.placed.columns.static_bytes asked (Ok layout) → (image : List ℕ) → FlashBy bytes f (Ok image) → (built : Built)
-      → IsPacked image layout built → IsBuiltOf bytes asked clock built
-  built_of layout (room, e) image flash built packed =
-      built_above bytes asked clock (text_of f) (heap_of f) is.fitting f.placed.columns.static_bytes (needs_static bytes clock f is) room image
-      (does_flash image flash) built (subst (λ l. IsPacked image l built) e packed)
+  does_flash : (stack : ℕ) (flash : Flash) → FlashBy bytes f stack (Ok flash)
+      → DoesOnStacks bytes (text_of f) (heap_of f) n flash × IsFew stack flash.bound
+  does_flash stack flash (inl (writes, first, ((made, four), large))) = (
+    does_writes bytes clock (text_of f) (heap_of f) is.fitting n (needs_static bytes clock f is) flash writes first made four,
+    subst (λ z. IsFew stack z) (sym four) large,
+  )
+  does_flash stack flash (inr (none, (i, compiled, of, few))) = (
+    does_compiled bytes clock (text_of f) (heap_of f) is.fitting n (needs_static bytes clock f is) i flash of none (does_text bytes clock f is short i compiled),
+    subst (λ z. IsFew stack z) (sym of.bound) few,
+  )
+
+  pub built_of : (room : Room) → Lays n asked (Ok room) → (flash : Flash) → FlashBy bytes f room.stack (Ok flash) → (built : Built)
+      → IsPacked flash room built → IsBuiltOf bytes asked clock built
+  built_of room (has, e) flash by built packed =
+      let (does, few) = does_flash (stated asked n) flash (subst (λ (z : Room). FlashBy bytes f z.stack (Ok flash)) e by) in
+      built_above bytes asked clock (text_of f) (heap_of f) is.fitting n (needs_static bytes clock f is) has flash does few built
+      (subst (λ z. IsPacked flash z built) e packed)

@@ -1,10 +1,14 @@
 -- The static bytes of what fits are those of its columns: so it is known whether a stack has room.
-use Rattle.std.proofs.Common.{◌≡◌, ℕ, ◌≤◌, List, Option, sym, subst}
+use Rattle.std.proofs.Common.{◌≡◌, ℕ, ◌<◌, ◌≤◌, List, Option, sym, subst}
 use Rattle.vg_syntax.specs.Tree.{Node}
 use Rattle.vg_source.specs.Values.{Heap}
 use Rattle.vg_static_source.specs.Sums.{IsStatic}
 use Rattle.vg_tree_walks.specs.Whole.{tree_at}
 use Rattle.vg_faults.specs.Room.{HasRoomIn, HasStack, LacksStack, StackFullIn}
+use Rattle.vg_first_text.specs.declared.device_write.DeviceWrite.{DeviceWrite}
+use Rattle.vg_first_text.specs.FirstText.{IsFirst}
+use Rattle.vg_build.specs.Answer.{IsOverStack}
+use Rattle.vg_build.specs.Stated.{stated}
 use Rattle.vg_alive.specs.Answer.{named_start_heap}
 use Rattle.vg_fits.specs.declared.fitting.Fitted.{Fitted}
 use Rattle.vg_fits.specs.Answer.{IsFittedOf}
@@ -44,4 +48,19 @@ module _ (bytes : List ℕ) (clock : ℕ) (f : Fitted) (is : IsFittedOf bytes cl
         static_bytes = f.placed.columns.static_bytes;
         has_static = needs_static;
         lacks = lacks;
+      }
+
+  pub over_of : (asked : Option ℕ) → HasStack asked f.placed.columns.static_bytes → (need left : ℕ) → left ≡ stated asked f.placed.columns.static_bytes
+      → left < need → ((writes : List DeviceWrite) → IsFirst bytes writes → need ≡ 4) → IsOverStack bytes asked clock need left
+  over_of asked room need left left_is more few =
+      record {
+        tree = text_of f;
+        heap = heap_of f;
+        fitting = is.fitting;
+        static_bytes = f.placed.columns.static_bytes;
+        has_static = needs_static;
+        room = room;
+        left_is = left_is;
+        more = more;
+        few = few;
       }

@@ -1,13 +1,18 @@
 -- What `build` answers to the bytes of a source text.
-use Rattle.std.specs.Prelude.{ℕ, ◌≡◌, ◌≤◌, List, Option, Some, None, Result, Ok, Err}
+use Rattle.std.specs.Prelude.{ℕ, ◌≡◌, ◌<◌, ◌≤◌, ◌⊎◌, List, Option, Some, None, Result, Ok, Err}
 use Rattle.vg_base.specs.declared.place.Place.{Place}
 use Rattle.vg_base.specs.declared.refusal.Refusal.{Refusal}
 use Rattle.vg_base.specs.declared.refusal.Refusal.TheVariants as refusal
 use Rattle.vg_first_text.specs.declared.device_write.DeviceWrite.{DeviceWrite}
 use Rattle.vg_first_text.specs.FirstText.{IsFirst}
 use Rattle.vg_faults.specs.declared.fault.Fault.{Fault}
-use Rattle.vg_faults.specs.declared.fault.Fault.TheVariants.{CodeFull, NotBuilt}
-use Rattle.vg_faults.specs.Room.{HasRoomFault, HasRoomIn}
+use Rattle.vg_faults.specs.declared.fault.Fault.TheVariants.{CodeFull, NotBuilt, StackFull}
+use Rattle.vg_faults.specs.Fitting.{IsFitting}
+use Rattle.vg_faults.specs.Room.{HasRoomFault, HasRoomIn, HasStack, StackFullIn}
+use Rattle.vg_syntax.specs.Tree.{Node}
+use Rattle.vg_source.specs.Values.{Heap}
+use Rattle.vg_static_source.specs.Sums.{IsStatic}
+use Rattle.vg_build.specs.Stated.{stated}
 use Rattle.vg_build.specs.declared.building.Built.{Built}
 use Rattle.vg_build.specs.Image.{IsBuiltOf}
 
@@ -40,11 +45,25 @@ IsNotBuilt bytes asked clock = HasRoomIn bytes asked clock × IsNoFirst bytes
 abbrev pub first_place : Place
 first_place = record { line = 1; col = 1 }
 
+-- The bytes are a legal text that starts with this clock, whose live methods make nothing, which fits and whose stack has room; its calls may need so many bytes
+-- of stack, which are more than are stated. A program of constants needs four.
+pub record IsOverStack (bytes : List ℕ) (asked : Option ℕ) (clock need left : ℕ) : Type 0 where
+  pub tree : Node
+  pub heap : Heap
+  pub fitting : IsFitting bytes clock tree heap
+  pub static_bytes : ℕ
+  pub has_static : IsStatic tree heap static_bytes
+  pub room : HasStack asked static_bytes
+  pub left_is : left ≡ stated asked static_bytes
+  pub more : left < need
+  pub few : (writes : List DeviceWrite) → IsFirst bytes writes → need ≡ 4
+
 -- the bytes have this fault, where this stack is asked for, or none, and initialisation has this clock; what is not built stands at the first place, and code
 -- that is too long has more words than 65,535
 abbrev pub HasFault : Fault → List ℕ → (asked : Option ℕ) → (clock : ℕ) → Type 0
 HasFault (NotBuilt place) bytes asked clock = IsNotBuilt bytes asked clock × (place ≡ first_place)
 HasFault (CodeFull words) bytes asked clock = IsNotBuilt bytes asked clock × (65536 ≤ words)
+HasFault (StackFull need left) bytes asked clock = StackFullIn bytes asked clock need left ⊎ IsOverStack bytes asked clock need left
 HasFault why bytes asked clock = HasRoomFault why bytes asked clock
 
 -- why nothing was built of the bytes: they have a fault, or memory was wanting

@@ -1,5 +1,5 @@
 -- What it means that an image does what the bytes of a source text say.
-use Rattle.std.specs.Prelude.{ℕ, ◌≡◌, ◌+◌, ◌≤◌, List, Option}
+use Rattle.std.specs.Prelude.{ℕ, ◌≡◌, ◌+◌, ◌-◌, ◌<◌, ◌≤◌, List, Option}
 use Rattle.vg_syntax.specs.Tree.{Node}
 use Rattle.vg_source.specs.Values.{Heap}
 use Rattle.vg_source.specs.Peak.{sessions}
@@ -13,8 +13,10 @@ use Rattle.vg_memory.specs.Memory.{KeepsMemory}
 use Rattle.vg_hex.specs.HexText.{hex_text}
 use Rattle.vg_hex.specs.HexImage.{HexImage}
 use Rattle.vg_build.specs.declared.building.Built.{Built}
-use Rattle.vg_build.specs.declared.layout.Layout.{Layout}
-use Rattle.vg_build.specs.Layout.{layout_text, stated}
+use Rattle.vg_layout.specs.Text.{layout_text}
+use Rattle.vg_layout.specs.declared.layout.Bound.TheVariants.{Bytes}
+use Rattle.vg_layout.specs.declared.layout.Layout.{Layout}
+use Rattle.vg_build.specs.Stated.{stated}
 
 -- The image does what the bytes say, where this stack is asked for, or none, and initialisation has this clock.
 pub record IsImageOf (bytes : List ℕ) (asked : Option ℕ) (clock : ℕ) (image : List ℕ) (layout : Layout) : Type 0 where
@@ -36,7 +38,10 @@ pub record IsImageOf (bytes : List ℕ) (asked : Option ℕ) (clock : ℕ) (imag
   pub never : (writes : List DeviceWrite) → IsFirst bytes writes → 2 ≤ layout.stack → NeverReaches image layout.floor
   -- an image of any other text writes to SRAM in the static area and on the stack alone, and lets interrupts in only at its idle SLEEP and at the CLI behind it
   pub idle : ℕ
+  pub idle_is : idle < 65536 → layout.idle ≡ idle
   pub memory : ((writes : List DeviceWrite) → IsFirst bytes writes → ⊥) → KeepsMemory image layout.static_bytes layout.floor idle
+  -- where the stack is bounded, the bound is at most the stack, and no run brings a stack of so many bytes below its floor
+  pub bounded : (need : ℕ) → layout.bound ≡ Bytes need → (need ≤ layout.stack) × NeverReaches image (0x1100 - need)
   -- the HEX text spells this image, and no other
   pub spelled : HexImage (hex_text image) image
   pub only : (other : List ℕ) → HexImage (hex_text image) other → other ≡ image

@@ -1,4 +1,4 @@
-pub mod Layout
+pub mod Stated
 pub mod Image
 pub mod Answer
 pub mod Mirrors

@@ -1,5 +1,5 @@
 -- Mirrors: predicates by cases that follow the code's own functions. No clause of an exported function cites one.
-use Rattle.std.specs.Prelude.{ℕ, ◌≡◌, ◌+◌, ◌-◌, ◌≤◌, ◌⊎◌, List, Option, Result, Ok, Err}
+use Rattle.std.specs.Prelude.{ℕ, ◌≡◌, ◌+◌, ◌-◌, ◌<◌, ◌≤◌, ◌⊎◌, List, Option, Result, Ok, Err}
 use Rattle.vg_base.specs.declared.refusal.Refusal.{Refusal}
 use Rattle.vg_base.specs.declared.refusal.Refusal.TheVariants as refusal
 use Rattle.vg_first_text.specs.declared.device_write.DeviceWrite.{DeviceWrite}
@@ -9,25 +9,33 @@ use Rattle.avr_isa.specs.Agrees.{Agrees, NeverReaches}
 use Rattle.vg_hex.specs.HexText.{hex_text}
 use Rattle.vg_hex.specs.HexImage.{HexImage}
 use Rattle.vg_faults.specs.declared.fault.Fault.{Fault}
-use Rattle.vg_faults.specs.declared.fault.Fault.TheVariants.{CodeFull, NotBuilt}
+use Rattle.vg_faults.specs.declared.fault.Fault.TheVariants.{CodeFull, NotBuilt, StackFull}
+use Rattle.vg_layout.specs.Few.{IsFew}
+use Rattle.vg_layout.specs.declared.stack_bound.StackBound.{StackBound}
+use Rattle.vg_layout.specs.declared.stack_bound.StackBound.TheVariants as held
+use Rattle.vg_layout.specs.Text.{layout_text}
+use Rattle.vg_layout.specs.declared.layout.Bound.{Bound}
+use Rattle.vg_layout.specs.declared.layout.Bound.TheVariants as said
+use Rattle.vg_layout.specs.declared.layout.Layout.{Layout}
 use Rattle.vg_faults.specs.Room.{HasStack, LacksStack}
 use Rattle.vg_fits.specs.declared.fitting.Fitted.{Fitted}
 use Rattle.vg_text_image.specs.declared.making.TextImage.{TextImage}
 use Rattle.vg_text_image.specs.Made.{IsCompiledOf}
 use Rattle.vg_build.specs.declared.building.Built.{Built}
-use Rattle.vg_build.specs.declared.layout.Layout.{Layout}
-use Rattle.vg_build.specs.declared.layout.NoRoom.{NoRoom}
+use Rattle.vg_build.specs.declared.flash.Flash.{Flash}
+use Rattle.vg_build.specs.declared.room.NoRoom.{NoRoom}
+use Rattle.vg_build.specs.declared.room.Room.{Room}
 use Rattle.vg_build.specs.Answer.{IsNoFirst, first_place}
-use Rattle.vg_build.specs.Layout.{layout_text, stated}
+use Rattle.vg_build.specs.Stated.{stated}
 
 -- the stated stack stands at the end of SRAM
-abbrev pub layout_above : (static_bytes : ℕ) → (asked : Option ℕ) → Layout
-layout_above static_bytes asked =
+abbrev pub room_above : (static_bytes : ℕ) → (asked : Option ℕ) → Room
+room_above static_bytes asked =
     record { static_bytes = static_bytes; floor = 0x1100 - stated asked static_bytes; stack = stated asked static_bytes }
 
 -- a stack has room and is stated, or it lacks room
-abbrev pub Lays : (static_bytes : ℕ) → (asked : Option ℕ) → Result Layout NoRoom → Type 0
-Lays static_bytes asked (Ok layout) = HasStack asked static_bytes × (layout ≡ layout_above static_bytes asked)
+abbrev pub Lays : (static_bytes : ℕ) → (asked : Option ℕ) → Result Room NoRoom → Type 0
+Lays static_bytes asked (Ok room) = HasStack asked static_bytes × (room ≡ room_above static_bytes asked)
 Lays static_bytes asked (Err lacks) = LacksStack asked static_bytes lacks.need lacks.left
 
 -- what is made of writes, with each stack that has room for the two bytes that an interrupt pushes
@@ -35,24 +43,59 @@ pub record IsMadeOf (writes : List DeviceWrite) (image : List ℕ) : Type 0 wher
   pub agrees : (floor stack : ℕ) → floor + stack ≡ 0x1100 → 2 ≤ stack → Agrees (first_session writes) image floor stack
   pub never : (floor stack : ℕ) → floor + stack ≡ 0x1100 → 2 ≤ stack → NeverReaches image floor
 
--- the flash of what is compiled, or it is not built
-abbrev pub CompiledBy : Fitted → Result (List ℕ) (Refusal Fault) → Type 0
-CompiledBy f (Ok image) = (i : TextImage) × IsCompiledOf f i × (image ≡ i.flash)
-CompiledBy f (Err (refusal.Fault (CodeFull words))) = 65536 ≤ words
-CompiledBy f (Err (refusal.Fault (NotBuilt place))) = place ≡ first_place
-CompiledBy f (Err (refusal.Fault why)) = ⊥
-CompiledBy f (Err refusal.NoMemory) = Unit {0}
+-- the flash of writes, for which four bytes of stack are enough; or there are fewer
+abbrev pub IsFlashOfWrites : List DeviceWrite → Flash → Type 0
+IsFlashOfWrites writes flash = IsMadeOf writes flash.image × (flash.bound ≡ held.Bytes 4)
+
+abbrev pub WrittenBy : List DeviceWrite → (stack : ℕ) → Result Flash (Refusal Fault) → Type 0
+WrittenBy writes stack (Ok flash) = IsFlashOfWrites writes flash × (4 ≤ stack)
+WrittenBy writes stack (Err (refusal.Fault (StackFull need left))) = (need ≡ 4) × (left ≡ stack) × (left < need)
+WrittenBy writes stack (Err (refusal.Fault why)) = ⊥
+WrittenBy writes stack (Err refusal.NoMemory) = Unit {0}
+
+-- the flash of an image
+pub record IsFlashOf (i : TextImage) (flash : Flash) : Type 0 where
+  pub image : flash.image ≡ i.flash
+  pub bound : flash.bound ≡ i.bound
+  pub idle : i.idle + 1 < 65536 → flash.idle ≡ i.idle + 1
+
+-- the flash of what is compiled, whose bound is at most the stack; or it needs more, or is not built
+abbrev pub CompiledBy : Fitted → (stack : ℕ) → Result Flash (Refusal Fault) → Type 0
+CompiledBy f stack (Ok flash) = (i : TextImage) × IsCompiledOf f i × IsFlashOf i flash × IsFew stack i.bound
+CompiledBy f stack (Err (refusal.Fault (CodeFull words))) = 65536 ≤ words
+CompiledBy f stack (Err (refusal.Fault (StackFull need left))) = (left ≡ stack) × (left < need)
+CompiledBy f stack (Err (refusal.Fault (NotBuilt place))) = place ≡ first_place
+CompiledBy f stack (Err (refusal.Fault why)) = ⊥
+CompiledBy f stack (Err refusal.NoMemory) = Unit {0}
 
 -- the flash of a program of constants, or else of what is compiled
-abbrev pub FlashBy : List ℕ → Fitted → Result (List ℕ) (Refusal Fault) → Type 0
-FlashBy bytes f (Ok image) = ((writes : List DeviceWrite) × IsFirst bytes writes × IsMadeOf writes image) ⊎ (IsNoFirst bytes × CompiledBy f (Ok image))
-FlashBy bytes f (Err refusal.NoMemory) = Unit {0}
-FlashBy bytes f (Err why) = IsNoFirst bytes × CompiledBy f (Err why)
+abbrev pub FlashAs : List ℕ → Fitted → (stack : ℕ) → Result Flash (Refusal Fault) → Type 0
+FlashAs bytes f stack r = ((writes : List DeviceWrite) × IsFirst bytes writes × WrittenBy writes stack r) ⊎ (IsNoFirst bytes × CompiledBy f stack r)
+
+abbrev pub FlashBy : List ℕ → Fitted → (stack : ℕ) → Result Flash (Refusal Fault) → Type 0
+FlashBy bytes f stack (Ok flash) = FlashAs bytes f stack (Ok flash)
+FlashBy bytes f stack (Err (refusal.Fault why)) = FlashAs bytes f stack (Err (refusal.Fault why))
+FlashBy bytes f stack (Err refusal.NoMemory) = Unit {0}
+
+-- how much stack is enough, with names in place of numbers
+abbrev pub SaysBound : StackBound → Bound → Type 0
+SaysBound (held.Bytes need) (said.Bytes same) = same ≡ need
+SaysBound (held.Bytes need) (said.Cycle names) = ⊥
+SaysBound (held.Cycle methods) (said.Bytes need) = ⊥
+SaysBound (held.Cycle methods) (said.Cycle names) = Unit {0}
+
+-- the layout of a flash whose stack has this room
+pub record IsLayoutOf (flash : Flash) (room : Room) (layout : Layout) : Type 0 where
+  pub static_is : layout.static_bytes ≡ room.static_bytes
+  pub floor_is : layout.floor ≡ room.floor
+  pub stack_is : layout.stack ≡ room.stack
+  pub bound : SaysBound flash.bound layout.bound
+  pub idle : layout.idle ≡ flash.idle
 
 -- an image with its layout and its texts
-pub record IsPacked (image : List ℕ) (layout : Layout) (built : Built) : Type 0 where
-  pub image_is : built.image ≡ image
-  pub layout_is : built.layout ≡ layout
+pub record IsPacked (flash : Flash) (room : Room) (built : Built) : Type 0 where
+  pub image_is : built.image ≡ flash.image
+  pub layout_is : IsLayoutOf flash room built.layout
   pub hex : built.hex ≡ hex_text built.image
   pub spelled : HexImage (hex_text built.image) built.image
   pub note : built.note ≡ layout_text built.layout

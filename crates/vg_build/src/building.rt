@@ -12,19 +12,22 @@ ghost use Rattle.vg_faults.specs.Fitting.{StaticFullIn, TableFullIn};
 ghost use Rattle.vg_faults.specs.Room.{StackFullIn};
 ghost use Rattle.vg_faults.specs.Starting.{FailsIn};
 ghost use Rattle.vg_faults.specs.declared.fault.Fault as fault;
-ghost use Rattle.vg_build.specs.Answer.{Answers, IsCause, IsNotBuilt, IsSettled, fault_in, first_place};
+ghost use Rattle.vg_build.specs.Answer.{Answers, IsCause, IsNotBuilt, IsOverStack, IsSettled, fault_in, first_place};
 ghost use Rattle.vg_build.specs.Image.{IsBuiltOf};
 ghost use Rattle.vg_rules.specs.declared.what.What.{What};
 ghost use Rattle.vg_build.specs.Mirrors.{IsPacked};
 
-use crate::flash::flash_of;
-use crate::layout::{Layout, NoRoom, layout_above, layout_text};
+use crate::flash::{Flash, flash_of};
+use crate::laying::{known_of, layout_of};
+use crate::room::{NoRoom, Room, room_above};
 use avr_isa::Image;
 use std::alloc::Global;
 use vg_base::{NoMemory, Refusal, Row};
 use vg_faults::Fault;
-use vg_fits::fit;
+use vg_fits::{Fitted, fit};
 use vg_hex::write;
+use vg_inventory::{count_methods, count_objects};
+use vg_layout::{Layout, layout_text};
 
 /// What is built of a source text.
 #[derive(Drop)]
@@ -36,14 +39,19 @@ pub struct Built {
     pub hex: Row<u8>,
     /// The lines of the layout.
     pub note: Row<u8>,
+    /// How many objects are live.
+    pub objects: u32,
+    /// How many methods are live.
+    pub methods: u32,
 }
 
 /// Builds the image of a source text of at most 262,144 bytes. Its stack has the bytes that are asked for, from 1 to 4,096 of them; where none are, it has
 /// all of SRAM above the static area, 64 bytes at least. Its initialisation may take so many ticks.
 ///
 /// A text of the language that starts, whose live methods make nothing, whose fields and arrays fit and whose stack has room is built, but for some: those
-/// whose image would take more than 65,535 words of flash, and those of which no image is made, which are refused as not built, at their first place. A
-/// program of constants is none of them: one component whose one method writes at most 100 bytes to device registers.
+/// whose calls do not go round and may need more bytes than the stack has, those whose image would take more than 65,535 words of flash, and those of which no
+/// image is made, which are refused as not built, at their first place. A program of constants with a stack of four bytes or more is none of them: one component
+/// whose one method writes at most 100 bytes to device registers.
 pub fn build(
     alloc: Global,
     text: &[u8],
@@ -69,12 +77,15 @@ pub fn build(
         → (fault_in result ≡ Some (fault.Fault.Allocates place line)) ↔ AllocatesIn text.now init_steps place line }
     ensures static_full { IsSettled result → (need : ℕ) → (fault_in result ≡ Some (fault.Fault.StaticFull need)) ↔ StaticFullIn text.now init_steps need }
     ensures table_full { IsSettled result → (need : ℕ) → (fault_in result ≡ Some (fault.Fault.TableFull need)) ↔ TableFullIn text.now init_steps need }
-    ensures stack_full { IsSettled result → (need left : ℕ)
-        → (fault_in result ≡ Some (fault.Fault.StackFull need left)) ↔ StackFullIn text.now asked init_steps need left }
+    ensures stack_full { IsSettled result → (need left : ℕ) → StackFullIn text.now asked init_steps need left
+        → fault_in result ≡ Some (fault.Fault.StackFull need left) }
+    ensures stack_short { (need left : ℕ) → fault_in result ≡ Some (fault.Fault.StackFull need left)
+        → StackFullIn text.now asked init_steps need left ⊎ IsOverStack text.now asked init_steps need left }
     ensures code_full { (words : ℕ) → fault_in result ≡ Some (fault.Fault.CodeFull words) → IsNotBuilt text.now asked init_steps × (65536 ≤ words) }
     ensures not_built { (place : Place) → fault_in result ≡ Some (fault.Fault.NotBuilt place) → IsNotBuilt text.now asked init_steps }
     ensures not_built_first { (place : Place) → fault_in result ≡ Some (fault.Fault.NotBuilt place) → place ≡ first_place }
-    ensures complete { 1 ≤ init_steps → (writes : List Write) → IsFirst text.now writes → IsOk result ⊎ (result ≡ Err Refusal.NoMemory) }
+    ensures complete { 1 ≤ init_steps → IfSome asked (λ bytes. 4 ≤ bytes) → (writes : List Write) → IsFirst text.now writes
+        → IsOk result ⊎ (result ≡ Err Refusal.NoMemory) }
 {
     answer_to(alloc, text, asked, init_steps)
 }
@@ -93,14 +104,14 @@ fn answer_to(
         Ok(fitted) => fitted,
         Err(refusal) => return Err(refusal),
     };
-    let layout = match layout_above(fitted.placed.columns.static_bytes, asked) {
-        Ok(layout) => layout,
+    let room = match room_above(fitted.placed.columns.static_bytes, asked) {
+        Ok(room) => room,
         Err(NoRoom { need, left }) => {
             return Err(Refusal::Fault(Fault::StackFull { need, left }));
         }
     };
-    match flash_of(alloc, text, &fitted) {
-        Ok(image) => match packed(alloc, image, layout) {
+    match flash_of(alloc, text, &fitted, room.stack) {
+        Ok(flash) => match packed(alloc, &fitted, flash, room) {
             Ok(built) => Ok(built),
             Err(NoMemory) => Err(Refusal::NoMemory),
         },
@@ -108,16 +119,21 @@ fn answer_to(
     }
 }
 
-// An image with its layout and its texts.
-fn packed(alloc: Global, image: Image, layout: Layout) -> Result<Built, NoMemory>
-    ensures { IfOk result (IsPacked image layout) }
+// A flash with its layout and its texts.
+fn packed(alloc: Global, fitted: &Fitted, flash: Flash, room: Room) -> Result<Built, NoMemory>
+    ensures { IfOk result (IsPacked flash room) }
 {
+    let layout = layout_of(alloc, fitted, &flash, room)?;
+    let note = layout_text(alloc, &layout)?;
+    let known = known_of(fitted);
+    let image = flash.image;
     let hex = write(alloc, &image)?;
-    let note = layout_text(alloc, layout)?;
     Ok(Built {
         image,
         layout,
         hex,
         note,
+        objects: count_objects(known),
+        methods: count_methods(known),
     })
 }

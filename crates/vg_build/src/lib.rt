@@ -3,7 +3,7 @@
 
 mod building;
 mod flash;
-mod layout;
+mod laying;
+mod room;
 
 pub use building::{Built, build};
-pub use layout::{Layout, layout_text};

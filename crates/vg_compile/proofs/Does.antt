@@ -1,5 +1,6 @@
--- The machine does in the image of a packed program what the program does.
-use Rattle.std.specs.Prelude.{ℕ, List}
+-- The machine does in the image of a packed program what the program does, and how much stack is enough for it.
+use Rattle.std.specs.Prelude.{ℕ, ◌+◌, ◌≤◌, List}
+use Rattle.std.proofs.Common.{◌≡◌, sym, subst, arith}
 use Rattle.vg_core.specs.declared.heap.Heap.{Heap}
 use Rattle.vg_core.specs.Program.{Program}
 use Rattle.vg_live.specs.declared.live_set.LiveSet.{LiveSet}
@@ -9,13 +10,48 @@ use Rattle.vg_packed.specs.declared.program.FirmProgram.{FirmProgram}
 use Rattle.vg_packed.specs.Given.{IsGiven}
 use Rattle.vg_packed.specs.Packed.{IsPackedFrom}
 use Rattle.vg_packed.specs.Ready.{IsReady}
-use Rattle.vg_pack.specs.Rows.{RowsFitIn}
-use Rattle.vg_link.specs.declared.linked.Linked.{Linked}
-use Rattle.vg_compile.proofs.Following.{follows}
-use Rattle.vg_compile.specs.Compile.{DoesInImage, IsImageOf}
+use Rattle.vg_pack.specs.Rows.{IsPackedWhole, RowsFitIn}
+use Rattle.vg_frame_costs.specs.Fitting.{FramesFit}
+use Rattle.vg_stack_bound.specs.declared.need.Need.{Need}
+use Rattle.vg_stack_bound.specs.declared.need.Need.TheVariants as need
+use Rattle.vg_compile.proofs.Following.{follows, peaks_hold}
+use Rattle.vg_compile.specs.Bounds.{HasNeed, HoldsBound, IsBoundOf}
+use Rattle.vg_compile.specs.Compile.{IsImageOf}
+use Rattle.vg_compile.specs.Runs.{DoesInImage}
+use Rattle.vg_compile.specs.declared.compiled.Compiled.{Compiled}
+use Rattle.vg_layout.specs.declared.stack_bound.StackBound.{StackBound}
+use Rattle.vg_layout.specs.declared.stack_bound.StackBound.TheVariants.{Bytes, Cycle}
 
-pub does : (p : Program) (h : Heap) (s : LiveSet) (n : Numbers) (c : Columns) (f : FirmProgram) (costs : List ℕ) (linked : Linked) → IsGiven p h s n c
-    → IsPackedFrom p h s n c f → RowsFitIn p h c f → IsImageOf c f costs linked → IsReady p h → DoesInImage linked c costs p h
-does p h s n c f costs linked given from rows image ready e flash static floor slept woken =
-    follows p h s n c f image.linear image.unlinked linked given ready (record { from = from; rows = rows }) image.is_linear image.is_unlinked
-    image.can_be_linked image.is_linked costs image.fit e flash static floor slept woken
+lower : (floor bytes enough : ℕ) → 4 + enough ≤ bytes → floor + bytes ≤ 0x1100 → floor + (4 + enough) ≤ 0x1100
+lower floor bytes enough h k = omega (arith, h, k)
+
+module _ (p : Program) (h : Heap) (s : LiveSet) (n : Numbers) (c : Columns) (f : FirmProgram) (costs : List ℕ) (compiled : Compiled)
+    (given : IsGiven p h s n c) (from : IsPackedFrom p h s n c f) (rows : RowsFitIn p h c f) (image : IsImageOf c f costs compiled)
+    (ready : IsReady p h) where
+  packed : IsPackedWhole p h s n c f
+  packed = record { from = from; rows = rows }
+
+  does_by : (frames : List ℕ) → FramesFit image.linear.procedures image.linear.start frames → DoesInImage compiled.linked c frames p h
+  does_by frames fit e flash static floor slept woken =
+      follows p h s n c f image.linear image.unlinked compiled.linked given ready packed image.is_linear image.is_unlinked image.can_be_linked image.is_linked
+      frames fit e flash static floor slept woken
+
+  pub does : DoesInImage compiled.linked c costs p h
+  does = does_by costs image.fit
+
+  bound_by : (need : Need) (bound : StackBound) → IsBoundOf need bound → HasNeed f image.linear need → HoldsBound compiled.linked c p h bound
+  bound_by (need.Bytes bytes) (Bytes same) e has =
+      let (enough, low, is_enough) = has.is_need in
+      subst (λ z. HoldsBound compiled.linked c p h (Bytes z)) (sym e) (
+        has.frames,
+        does_by has.frames has.fit,
+        λ floor fits.
+            peaks_hold p h s n c f image.linear image.unlinked compiled.linked given ready packed image.is_linear image.is_unlinked image.can_be_linked
+            image.is_linked has.frames enough is_enough floor (lower floor bytes enough low fits),
+      )
+  bound_by (need.Bytes bytes) (Cycle methods) e has = tt
+  bound_by (need.Cycle procedures) (Bytes bytes) e has = absurd e
+  bound_by (need.Cycle procedures) (Cycle methods) e has = tt
+
+  pub bound_holds : HoldsBound compiled.linked c p h compiled.bound
+  bound_holds = bound_by image.need compiled.bound image.is_bound image.has_need

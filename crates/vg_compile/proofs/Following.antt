@@ -65,6 +65,9 @@ use Rattle.vg_laid.specs.Laid.{codes_by}
 use Rattle.vg_link.specs.Linking as linking
 use Rattle.vg_link.specs.Linking.{CanBeLinked, IsLinked}
 use Rattle.vg_link.proofs.Beginning.{stands, begins}
+use Rattle.vg_memory.specs.Holds.{HoldsPeaks}
+use Rattle.vg_stack_bound.specs.Enough.{IsEnough}
+use Rattle.vg_stack_bound.proofs.Holding as stack_bound
 use Rattle.vg_compile.specs.Compiled.{IsUnlinked}
 
 -- the first of what is made of two lists
@@ -162,7 +165,7 @@ module _ (p : Program) (h : Heap) (s : LiveSet) (n : Numbers) (c : Columns) (f :
       ∙ ap (λ z. record (linking.program_of u linked.codes) { procedures = l.procedures; dispatches = f.dispatches; tables = tables; ram = ram; start = z })
       made.start)))
 
-  -- its procedures are sound, each with all its locals in its frame, and its handlers are packed procedures, which stand before the start
+  -- its procedures are sound, each with its locals where its layout says, and its handlers are packed procedures, which stand before the start
   fit_frames : (costs : List ℕ) → FramesFit l.procedures l.start costs → HasFitFrames is.links image costs
   fit_frames costs fit = record {
     sound = λ m procedure e. is.program.sound m procedure (here m procedure e);
@@ -173,6 +176,11 @@ module _ (p : Program) (h : Heap) (s : LiveSet) (n : Numbers) (c : Columns) (f :
     where
       here : (m : ℕ) (procedure : LinProcedure) → slice_get l.procedures m ≡ Some procedure → slice_get u.procedures m ≡ Some procedure
       here m procedure e = ap (λ z. slice_get z m) made.procedures ∙ e
+
+  -- a stack that holds what walks of the packed program cost holds what the active calls cost
+  pub peaks_hold : (costs : List ℕ) (bytes : ℕ) → ((every : Codes) → IsEnough (program_of every f) costs bytes) → (floor : ℕ)
+      → floor + (4 + bytes) ≤ 0x1100 → HoldsPeaks floor costs p h
+  peaks_hold costs bytes enough floor fits = stack_bound.holds p h s n c f given ready packed.from k codes costs bytes (enough k) floor fits
 
   module _ (costs : List ℕ) (fit : FramesFit l.procedures l.start costs) (e : Run) (flash : e.flash ≡ linked.flash) (static : e.static ≡ c.static_bytes)
       (floor : e.floor ≤ 0x1100) (slept : e.lets_in (linked.idle + 1) ≡ true) (woken : e.lets_in (linked.idle + 2) ≡ true) where

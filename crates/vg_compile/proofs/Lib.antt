@@ -2,3 +2,4 @@ pub mod Following
 pub mod Linking
 pub mod Unlinked
 pub mod Does
+pub mod Needs

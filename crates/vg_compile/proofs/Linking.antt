@@ -6,7 +6,7 @@ use Rattle.vg_meaning.specs.Outside.{IsVector}
 use Rattle.vg_codes.specs.declared.case.Case.{Case}
 use Rattle.vg_codes.specs.Dispatch.{cases_of}
 use Rattle.vg_lin.specs.declared.instr.Plain.{Plain as PlainInstr}
-use Rattle.vg_lin.specs.declared.instr.Plain.TheVariants.{Copy, Compute, Product, DivideStep, Load, Store, ReadDevice, WriteDevice, Push, Pop, Find, CodeOf, Stop}
+use Rattle.vg_lin.specs.declared.instr.Plain.TheVariants.{Copy, Compute, Product, DivideSteps, Load, Store, ReadDevice, WriteDevice, Push, Pop, Find, CodeOf, Stop}
 use Rattle.vg_lin.specs.declared.instr.Instr.{Instr}
 use Rattle.vg_lin.specs.declared.instr.Instr.TheVariants.{Plain, When, Unless, Jump, Call, Return, Idle}
 use Rattle.vg_lin.specs.Program.{Procedure}
@@ -42,7 +42,7 @@ module _ (codes : ℕ → ℕ) (two : (q : ℕ) → codes q < 65536) where
   plain_fit : (ds : List (List Case)) → AreAllSmall ds → (q : PlainInstr) → IsPlainFitAlone q → IsPlainFit (with_codes codes ds) q
   plain_fit ds all (Find place to a) h = dispatch_cases ds all place
   plain_fit ds all (Compute c) h = h
-  plain_fit ds all (DivideStep r d a) h = h
+  plain_fit ds all (DivideSteps r d a) h = h
   plain_fit ds all (ReadDevice to address) h = h
   plain_fit ds all (WriteDevice address a) h = h
   plain_fit ds all (Copy to a) h = tt

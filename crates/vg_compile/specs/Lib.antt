@@ -1,3 +1,5 @@
+pub mod Runs
+pub mod Bounds
 pub mod Compiled
-pub mod Linkable
 pub mod Compile
+pub mod Linkable

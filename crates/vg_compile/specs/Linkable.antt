@@ -7,7 +7,7 @@ use Rattle.vg_codes.specs.declared.case.Case.{Case}
 use Rattle.vg_lin.specs.declared.instr.Operand.{Operand}
 use Rattle.vg_lin.specs.declared.instr.Operand.TheVariants.{Local, Known}
 use Rattle.vg_lin.specs.declared.instr.Plain.{Plain as PlainInstr}
-use Rattle.vg_lin.specs.declared.instr.Plain.TheVariants.{Compute, DivideStep, ReadDevice, WriteDevice}
+use Rattle.vg_lin.specs.declared.instr.Plain.TheVariants.{Compute, DivideSteps, ReadDevice, WriteDevice}
 use Rattle.vg_lin.specs.declared.instr.Instr.{Instr}
 use Rattle.vg_lin.specs.declared.instr.Instr.TheVariants.{Plain}
 use Rattle.vg_lin.specs.Program.{Procedure}
@@ -23,7 +23,7 @@ use Rattle.vg_link.specs.Linking.{IsAlone, handler_in}
 -- An instruction is fit, whatever the dispatches are.
 abbrev pub IsPlainFitAlone : PlainInstr → Type 0
 IsPlainFitAlone (Compute c) = IsExpanded c.operator c.right
-IsPlainFitAlone (DivideStep r d a) = IsFourBytes a
+IsPlainFitAlone (DivideSteps r d a) = IsFourBytes a
 IsPlainFitAlone (ReadDevice to address) = IsDeviceAddress address
 IsPlainFitAlone (WriteDevice address a) = IsDeviceAddress address
 IsPlainFitAlone q = Unit {0}

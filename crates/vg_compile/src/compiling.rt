@@ -1,5 +1,5 @@
 // From a typed program and its heap to an image.
-ghost use Rattle.std.specs.Prelude.{◌≤◌, ◌<◌, length, IfOk};
+ghost use Rattle.std.specs.Prelude.{◌≤◌, ◌<◌, length, IfOk, IfSome};
 ghost use Rattle.vg_base.specs.Limits.{flash_bytes};
 ghost use Rattle.vg_core.specs.HeldProgram.{program_at};
 ghost use Rattle.vg_packed.specs.Given.{IsGiven};
@@ -7,15 +7,22 @@ ghost use Rattle.vg_packed.specs.Ready.{IsReady};
 ghost use Rattle.vg_link.specs.Linking.{CanBeLinked, IsLinked};
 ghost use Rattle.vg_frame_costs.specs.Fitting.{FramesFit};
 ghost use Rattle.vg_linear.specs.Whole.{IsLinear};
-ghost use Rattle.vg_compile.specs.Compile.{DoesInImage, IsImageOf, IsFullFor};
+ghost use Rattle.vg_compile.specs.Bounds.{HasNeed, HoldsBound, IsBoundOf, IsFewOf};
+ghost use Rattle.vg_layout.specs.Few.{IsFew};
+ghost use Rattle.vg_compile.specs.Compile.{IsImageOf, IsRefusedFor};
+ghost use Rattle.vg_compile.specs.Runs.{DoesInImage};
 
+use crate::compiled::Compiled;
+use crate::frames::method_frames;
 use crate::linkable::can_be_linked;
 use crate::no_image::NoImage;
+use crate::pieces::pieces_of;
 use crate::unlinking::unlinked;
 use std::alloc::Global;
-use vg_base::{NoMemory, Refusal};
+use vg_base::{NoMemory, Refusal, Row};
 use vg_core::Program;
 use vg_frame_costs::frames_fit;
+use vg_layout::StackBound;
 use vg_linear::{Linear, make_linear};
 use vg_link::{Linked, Unlinked, link};
 use vg_live::LiveSet;
@@ -24,13 +31,15 @@ use vg_pack::pack;
 use vg_packed::FirmProgram;
 use vg_place::Columns;
 use vg_shape::Store;
+use vg_stack_bound::{Need, stack_need};
 
 /// The image of a typed program with the heap that its constructors left, of what is live, by its numbers and its columns: it is packed, made linear and
 /// linked. The machine does in it what the program does from that heap, where the program is ready to be packed; or it reaches below the floor of its stack
-/// first, for which the active calls must cost more than the stack. Costs are by the numbers of methods.
+/// first, for which the active calls must cost more than the stack. Costs are by the numbers of methods. Where calls do not go round, a stack of so many bytes
+/// as is said is enough for each run.
 ///
-/// It refuses what has no linear code, what has a procedure whose frame is more than its method costs, what cannot be linked, and what takes more words than
-/// the flash has: 65,535, since the last word stays free.
+/// It refuses what has no linear code, what has a procedure whose frame is more than its method costs, what needs more than a stack of so many bytes, what
+/// cannot be linked, and what takes more words than the flash has: 65,535, since the last word stays free.
 pub fn compile(
     alloc: Global,
     program: &Program,
@@ -39,16 +48,20 @@ pub fn compile(
     numbers: &Numbers,
     columns: &Columns,
     costs: &[u32],
-) -> Result<Linked, Refusal<NoImage>>
+    stack: u16,
+) -> Result<Compiled, Refusal<NoImage>>
     requires { IsGiven (program_at program.now) heap.now live.now numbers.now columns.now }
-    ensures does { IfOk result (λ linked. IsReady (program_at program.now) heap.now
-        → DoesInImage linked columns.now costs.now (program_at program.now) heap.now) }
-    ensures short { IfOk result (λ linked. length linked.flash ≤ flash_bytes) }
-    ensures full { IsFullFor result }
+    ensures does { IfOk result (λ compiled. IsReady (program_at program.now) heap.now
+        → DoesInImage compiled.linked columns.now costs.now (program_at program.now) heap.now) }
+    ensures bound { IfOk result (λ compiled. IsReady (program_at program.now) heap.now
+        → HoldsBound compiled.linked columns.now (program_at program.now) heap.now compiled.bound) }
+    ensures few { IfOk result (λ compiled. IsFew stack compiled.bound) }
+    ensures short { IfOk result (λ compiled. length compiled.linked.flash ≤ flash_bytes) }
+    ensures refused { IsRefusedFor stack result }
 {
     let firm = pack(alloc, program, heap, live, numbers, columns)?;
-    match image_of(alloc, columns, firm, costs) {
-        Ok(linked) => Ok(linked),
+    match image_of(alloc, columns, firm, costs, stack) {
+        Ok(compiled) => Ok(compiled),
         Err(why) => Err(why),
     }
 }
@@ -59,21 +72,35 @@ fn image_of(
     columns: &Columns,
     firm: FirmProgram,
     costs: &[u32],
-) -> Result<Linked, Refusal<NoImage>>
+    stack: u16,
+) -> Result<Compiled, Refusal<NoImage>>
     ensures image { IfOk result (IsImageOf columns.now firm costs.now) }
-    ensures short { IfOk result (λ linked. length linked.flash ≤ flash_bytes) }
-    ensures full { IsFullFor result }
+    ensures few { IfOk result (λ compiled. IsFew stack compiled.bound) }
+    ensures short { IfOk result (λ compiled. length compiled.linked.flash ≤ flash_bytes) }
+    ensures refused { IsRefusedFor stack result }
 {
     if usize::from(firm.main) >= firm.procedures.len() {
         return Err(Refusal::Fault(NoImage::Unfit));
     }
-    let linear = match linear_of(alloc, columns, &firm, costs) {
+    let linear = match linear_of(alloc, columns, &firm, costs, stack) {
         Ok(linear) => linear,
         Err(why) => return Err(why),
     };
+    let need = match need_of(alloc, &firm, &linear, costs.len(), stack) {
+        Ok(need) => need,
+        Err(why) => return Err(why),
+    };
+    let bound = bound_of(alloc, &firm, &need, stack)?;
     let unlinked = unlinked(alloc, columns, firm, linear)?;
-    match linked_of(alloc, &unlinked) {
-        Ok(linked) => Ok(linked),
+    match linked_of(alloc, &unlinked, stack) {
+        Ok(linked) => {
+            let pieces = pieces_of(alloc, &unlinked, &linked)?;
+            Ok(Compiled {
+                linked,
+                bound,
+                pieces,
+            })
+        }
         Err(why) => Err(why),
     }
 }
@@ -84,10 +111,11 @@ fn linear_of(
     columns: &Columns,
     firm: &FirmProgram,
     costs: &[u32],
+    stack: u16,
 ) -> Result<Linear, Refusal<NoImage>>
     requires { firm.now.main < length firm.now.procedures }
     ensures linear { IfOk result (λ linear. IsLinear columns.now.list firm.now linear × FramesFit linear.procedures linear.start costs.now) }
-    ensures full { IsFullFor result }
+    ensures refused { IsRefusedFor stack result }
 {
     match make_linear(alloc, columns.list.as_slice(), firm) {
         Ok(linear) => {
@@ -102,11 +130,84 @@ fn linear_of(
     }
 }
 
+// What the calls of a packed program need of the stack, by the frames of its procedures, where that is no more than it has.
+fn need_of(
+    alloc: Global,
+    firm: &FirmProgram,
+    linear: &Linear,
+    methods: usize,
+    stack: u16,
+) -> Result<Need, Refusal<NoImage>>
+    ensures need { IfOk result (HasNeed firm.now linear.now) }
+    ensures few { IfOk result (IsFewOf stack) }
+    ensures refused { IsRefusedFor stack result }
+{
+    let frames = method_frames(alloc, linear.procedures.as_slice(), methods)?;
+    match need_by(alloc, firm, linear, frames.as_slice())? {
+        Some(Need::Bytes(bytes)) => {
+            if bytes > u32::from(stack) {
+                return Err(Refusal::Fault(NoImage::Deep { need: bytes }));
+            }
+            Ok(Need::Bytes(bytes))
+        }
+        Some(Need::Cycle(cycle)) => Ok(Need::Cycle(cycle)),
+        None => Err(Refusal::Fault(NoImage::Unfit)),
+    }
+}
+
+// What they need by these frames, where all procedures are within them.
+fn need_by(
+    alloc: Global,
+    firm: &FirmProgram,
+    linear: &Linear,
+    frames: &[u32],
+) -> Result<Option<Need>, NoMemory>
+    ensures { IfOk result (λ need. IfSome need (HasNeed firm.now linear.now)) }
+{
+    if frames_fit(linear.procedures.as_slice(), linear.start, frames) {
+        stack_need(alloc, firm, frames)
+    } else {
+        Ok(None)
+    }
+}
+
+// How much stack is enough: the procedures of a cycle are methods.
+fn bound_of(
+    alloc: Global,
+    firm: &FirmProgram,
+    need: &Need,
+    stack: u16,
+) -> Result<StackBound, NoMemory>
+    requires { IsFewOf stack need.now }
+    ensures bound { IfOk result (IsBoundOf need.now) }
+    ensures few { IfOk result (IsFew stack) }
+{
+    match need {
+        Need::Bytes(bytes) => Ok(StackBound::Bytes(*bytes)),
+        Need::Cycle(procedures) => {
+            let methods = methods_of(alloc, firm, procedures.as_slice())?;
+            Ok(StackBound::Cycle(methods))
+        }
+    }
+}
+
+// The methods that procedures are.
+fn methods_of(alloc: Global, firm: &FirmProgram, procedures: &[u16]) -> Result<Row<u16>, NoMemory> {
+    let mut methods = Row::new(alloc);
+    for place in procedures {
+        match firm.procedures.as_slice().get(usize::from(*place)) {
+            Some(procedure) => methods.push(procedure.method)?,
+            None => {}
+        }
+    }
+    Ok(methods)
+}
+
 // What can be linked, linked.
-fn linked_of(alloc: Global, unlinked: &Unlinked) -> Result<Linked, Refusal<NoImage>>
+fn linked_of(alloc: Global, unlinked: &Unlinked, stack: u16) -> Result<Linked, Refusal<NoImage>>
     ensures linked { IfOk result (λ linked. CanBeLinked unlinked.now × IsLinked unlinked.now linked) }
     ensures short { IfOk result (λ linked. length linked.flash ≤ flash_bytes) }
-    ensures full { IsFullFor result }
+    ensures refused { IsRefusedFor stack result }
 {
     if !can_be_linked(unlinked) {
         return Err(Refusal::Fault(NoImage::Unfit));

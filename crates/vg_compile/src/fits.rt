@@ -46,7 +46,7 @@ fn is_plain_fit(plain: Plain) -> bool
 {
     match plain {
         Plain::Compute(c) => is_expanded(c.operator, c.right),
-        Plain::DivideStep(_, _, divisor) => is_four_bytes(divisor),
+        Plain::DivideSteps(_, _, divisor) => is_four_bytes(divisor),
         Plain::ReadDevice(_, address) => is_device_address(address),
         Plain::WriteDevice(address, _) => is_device_address(address),
         _ => true,

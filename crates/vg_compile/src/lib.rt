@@ -3,13 +3,17 @@
 #![tactic(auto)]
 
 pub mod cases;
+pub mod compiled;
 pub mod compiling;
 pub mod fits;
+pub mod frames;
 pub mod laws;
 pub mod linkable;
 pub mod no_image;
+pub mod pieces;
 pub mod unlinking;
 
+pub use compiled::Compiled;
 pub use compiling::compile;
 pub use linkable::can_be_linked;
 pub use no_image::NoImage;

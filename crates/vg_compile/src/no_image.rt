@@ -9,7 +9,9 @@ pub enum NoImage {
     NotLinear(Fault),
     /// A procedure takes more of the stack than the method costs that it is.
     Costly,
-    /// What it was packed to cannot be linked.
+    /// Its calls need so many bytes of stack, and it has fewer.
+    Deep { need: u32 },
+    /// What it was packed to cannot be linked, or there is neither a bound on what its calls need nor a cycle of calls.
     Unfit,
     /// It takes more words of flash than there are.
     Full(CodeFull),

@@ -1,7 +1,7 @@
--- That what the templates ask of a layout is granted by frames, instruction by instruction.
-use Rattle.std.specs.Prelude.{ℕ, zero, suc, ◌<◌, ◌≢◌, Bool, true, false, ◌&&◌, ◌==◌, ◌||◌, List, [], ◌∷◌, length, slice_index, Option, Some, None}
+-- That what the templates ask of a layout is granted by that of the procedure, instruction by instruction.
+use Rattle.std.specs.Prelude.{ℕ, zero, suc, ◌<◌, Bool, true, false, ◌&&◌, ◌==◌, ◌||◌, List, [], ◌∷◌, length, slice_index, Option, Some, None}
 use Rattle.std.specs.List.{AllByRecursion}
-use Rattle.std.proofs.Common.{◌≡◌, refl, sym, ap, ◌∙◌, subst, arith, ◌⊎◌, inl, inr}
+use Rattle.std.proofs.Common.{◌≡◌, refl, sym, subst, arith}
 use Rattle.vg_lin.specs.declared.instr.Memory.TheVariants.{Ram, Flash}
 use Rattle.vg_lin.specs.declared.instr.Operand.{Operand}
 use Rattle.vg_lin.specs.declared.instr.Operand.TheVariants.{Local, Known}
@@ -13,20 +13,19 @@ use Rattle.vg_lin.specs.declared.instr.Target.{Target}
 use Rattle.vg_lin.specs.declared.instr.Callee.{Callee}
 use Rattle.vg_lin.specs.declared.instr.Callee.TheVariants.{Procedure as ByNumber, Code as ByCode}
 use Rattle.vg_lin.specs.declared.instr.Plain.{Plain as PlainInstr}
-use Rattle.vg_lin.specs.declared.instr.Plain.TheVariants.{Copy, Compute, Product, DivideStep, Load, Store, ReadDevice, WriteDevice, Push, Pop, Find, CodeOf, Stop}
+use Rattle.vg_lin.specs.declared.instr.Plain.TheVariants.{Copy, Compute, Product, DivideSteps, Load, Store, ReadDevice, WriteDevice, Push, Pop, Find, CodeOf, Stop}
 use Rattle.vg_lin.specs.declared.instr.Instr.{Instr}
 use Rattle.vg_lin.specs.declared.instr.Instr.TheVariants.{Plain, When, Unless, Jump, Call, Return, Idle}
 use Rattle.vg_lin.specs.Meaning.{operands}
 use Rattle.vg_lin.specs.Program.{Procedure, Program}
 use Rattle.vg_lin.specs.Sound.{IsWidth, IsLocal, IsOperand, IsPassed, IsTo, IsCallee, IsPlain, AreOperands, IsSound}
-use Rattle.vg_templates.specs.Spots.{Apart}
 use Rattle.vg_templates.specs.Layouts.{Layout, width_of}
 use Rattle.vg_templates.specs.Held.{IsReady, IsSet}
 use Rattle.vg_templates.specs.Plain.{IsBytewise}
 use Rattle.vg_templates.specs.Framed.{framed}
 use Rattle.vg_templates.proofs.Framing.{framed-set}
 use Rattle.vg_alloc.proofs.Spotting.{can_be_framed, is_ready}
-use Rattle.vg_followed.specs.Covered.{CanCompute, CanDivide, CanBeCoded, CanAim, CanPass, CanTake, Covers, and_local}
+use Rattle.vg_followed.specs.Covered.{CanCompute, CanDivide, CanBeCoded, CanAim, CanPass, CanTake, Covers}
 use Rattle.vg_covered.specs.Fitting.{IsExpanded, IsPlainFit, IsFit}
 
 both_of : (a b : Bool) → (a && b) ≡ true → a ≡ true
@@ -70,16 +69,7 @@ module _ (m : Procedure) (s : IsSound m) (pc : ℕ) where
   computes p c ShiftRight (Known n) eo ea (hw, ht, hl, hr) f = (hw, (ready c.left hl, set c.to ht))
   computes p c ShiftRight (Local i) eo ea h f = absurd f
 
-  -- one local more
-  with_local : (d k : ℕ) → and_local live d k ≡ true → live k ≡ true ⊎ k ≡ d
-  with_local d k e = by_test (live k) (k == d) refl refl
-    where
-      by_test : (a b : Bool) → live k ≡ a → (k == d) ≡ b → live k ≡ true ⊎ k ≡ d
-      by_test true b ea eb = inl ea
-      by_test false true ea eb = inr (grind arith)
-      by_test false false ea eb = absurd (let clash : false ≡ true = sym (ap (λ z. z || false) ea) ∙ ap (λ z. live k || z) (sym eb) ∙ e in cc)
-
-  divides : (r d : ℕ) (a : Operand) (p : Program) → IsPlain m (DivideStep r d a) → IsPlainFit p (DivideStep r d a) → CanDivide l live live r d a
+  divides : (r d : ℕ) (a : Operand) (p : Program) → IsPlain m (DivideSteps r d a) → IsPlainFit p (DivideSteps r d a) → CanDivide l live live r d a
   divides r d a p (hr, hd, ne, ha) f =
       record {
         apart = ne;
@@ -87,24 +77,16 @@ module _ (m : Procedure) (s : IsSound m) (pc : ℕ) where
         ready_dividend = ready (Local d) hd;
         ready_divisor = ready a ha;
         narrow = f;
-        first = record { there = hr; others = λ k e n. first k e n };
-        second = record { there = hd; others = λ k e n. second k e n };
+        first = set r hr;
+        second = set d hd;
+        kept = λ k e. e;
       }
-    where
-      first : (k : ℕ) → and_local live d k ≡ true → k ≢ r → (live k ≡ true) × Apart (l.spots r) (width_of l r) (l.spots k) (width_of l k)
-      first k e n = elim (with_local d k e) [ inl a ↦ (set r hr).others k a n | inr q ↦ (set r hr).others k (subst (λ z. live z ≡ true) (sym q) (ready (Local d) hd).1) n ]
-
-      second : (k : ℕ) → live k ≡ true → k ≢ d → (and_local live d k ≡ true) × Apart (l.spots d) (width_of l d) (l.spots k) (width_of l k)
-      second k e n = let o = (set d hd).others k e n in (more k e, o.1)
-        where
-          more : (k : ℕ) → live k ≡ true → and_local live d k ≡ true
-          more k e = ap (λ z. z || (k == d)) e
 
   plains : (p : Program) (q : PlainInstr) → IsPlain m q → IsPlainFit p q → CanBeCoded l p live live q
   plains p (Copy to a) (ht, ha) f = (ready a ha, set to ht)
   plains p (Compute c) h f = computes p c c.operator c.right refl refl h f
   plains p (Product to a b) (ht, ha, hb) f = ((ready a ha, ready b hb), set to ht)
-  plains p (DivideStep r d a) h f = divides r d a p h f
+  plains p (DivideSteps r d a) h f = divides r d a p h f
   plains p (Load Ram w to a) (hw, ht, ha) f = (hw, (ready a.index ha, set to ht))
   plains p (Load Flash w to a) (hw, ht, ha) f = (hw, (ready a.index ha, set to ht))
   plains p (Store w a from) (hw, ha, hf) f = (hw, ((ready a.index ha, ready from hf), λ k e. e))

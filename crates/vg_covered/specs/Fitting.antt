@@ -7,7 +7,7 @@ use Rattle.vg_lin.specs.declared.instr.Operand.TheVariants.{Local}
 use Rattle.vg_lin.specs.declared.instr.Operator.{Operator}
 use Rattle.vg_lin.specs.declared.instr.Operator.TheVariants.{Times, Divide, Remainder, ShiftLeft, ShiftRight}
 use Rattle.vg_lin.specs.declared.instr.Plain.{Plain as PlainInstr}
-use Rattle.vg_lin.specs.declared.instr.Plain.TheVariants.{Compute, DivideStep, ReadDevice, WriteDevice, Find}
+use Rattle.vg_lin.specs.declared.instr.Plain.TheVariants.{Compute, DivideSteps, ReadDevice, WriteDevice, Find}
 use Rattle.vg_lin.specs.declared.instr.Instr.{Instr}
 use Rattle.vg_lin.specs.declared.instr.Instr.TheVariants.{Plain}
 use Rattle.vg_lin.specs.Program.{Program}
@@ -26,7 +26,7 @@ IsExpanded op a = Unit {0}
 -- What is read and written are device registers, a divisor that is known has four bytes, and the numbers of a dispatch have two.
 abbrev pub IsPlainFit : Program → PlainInstr → Type 0
 IsPlainFit p (Compute c) = IsExpanded c.operator c.right
-IsPlainFit p (DivideStep r d a) = IsFourBytes a
+IsPlainFit p (DivideSteps r d a) = IsFourBytes a
 IsPlainFit p (ReadDevice to address) = IsDeviceAddress address
 IsPlainFit p (WriteDevice address a) = IsDeviceAddress address
 IsPlainFit p (Find place to a) = AreCases p.codes.code (cases_of (slice_get p.dispatches place))

@@ -1,4 +1,4 @@
-//! That there is code for each instruction of a procedure that keeps all its locals in its frame.
+//! That there is code for each instruction of a procedure, by the layout that says where its locals lie.
 #![tactic(auto)]
 
 pub mod laws;

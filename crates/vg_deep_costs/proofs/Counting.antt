@@ -1,10 +1,10 @@
--- The depth of a configuration, counted by the procedures that are open in it.
-use Rattle.std.specs.Prelude.{ℕ, ◌+◌, ◌<◌, List, [], ◌∷◌, length, drop, take, Option, Some, None, slice_get}
-use Rattle.std.proofs.Common.{◌≡◌, inl, inr, refl, sym, ap, ◌∙◌, arith}
+-- The depth of a configuration, bounded by the procedures that are open in it.
+use Rattle.std.specs.Prelude.{ℕ, ◌+◌, ◌<◌, ◌≤◌, List, [], ◌∷◌, length, drop, Option, Some, None, slice_get}
+use Rattle.std.proofs.Common.{◌≡◌, inl, inr, refl, sym, ap, subst, arith}
 use Rattle.vg_meaning.specs.Answer.{Wrong}
 use Rattle.vg_source.specs.Peak.{most}
 use Rattle.vg_lin.specs.declared.instr.Plain.{Plain as PlainInstr}
-use Rattle.vg_lin.specs.declared.instr.Plain.TheVariants.{Copy, Compute, Product, DivideStep, Load, Store, ReadDevice, WriteDevice, Push, Pop, Find, CodeOf, Stop}
+use Rattle.vg_lin.specs.declared.instr.Plain.TheVariants.{Copy, Compute, Product, DivideSteps, Load, Store, ReadDevice, WriteDevice, Push, Pop, Find, CodeOf, Stop}
 use Rattle.vg_lin.specs.declared.instr.Passed.{Passed}
 use Rattle.vg_lin.specs.declared.instr.Call.{Call as CallTo}
 use Rattle.vg_lin.specs.declared.instr.Instr.{Instr}
@@ -16,9 +16,9 @@ use Rattle.vg_lin.specs.Steps.{Awaits, Result, Interrupt, Frame, Entry, Config, 
 use Rattle.avr_view.specs.Run.{Run}
 use Rattle.vg_templates.specs.Frames.{Places}
 use Rattle.vg_templates.specs.Frames as frames
-use Rattle.vg_templates.specs.Layouts.{frame_size}
+use Rattle.vg_templates.specs.Layouts.{Layout, frame_size}
 use Rattle.vg_templates.specs.Calls.{sum_of}
-use Rattle.vg_templates.specs.Framed.{framed}
+use Rattle.vg_templates.proofs.Framing.{framed-bytes, framed-taken}
 use Rattle.vg_templates.specs.Straight.{pushed_by}
 use Rattle.vg_templates.specs.Flow.{passed_bytes}
 use Rattle.vg_templates.specs.Whole.{Links}
@@ -32,7 +32,6 @@ use Rattle.vg_open_calls.proofs.Along.{runs_open}
 use Rattle.vg_frame_costs.specs.Fitting.{bytes_of}
 use Rattle.vg_open_costs.specs.Taken.{frame_in, frame_of, opening_in, opening_of, between, callers_take, pushes, passes, entry_takes, handler_takes, instr_takes}
 use Rattle.vg_open_costs.specs.Taken.{step_takes, taken}
-use Rattle.vg_open_costs.proofs.Fitted.{bytes_cut}
 use Rattle.vg_open_costs.proofs.Costing.{first_takes, costs}
 use Rattle.vg_deep_costs.specs.Fit.{HasFitFrames}
 
@@ -59,7 +58,7 @@ same_pushed (Push w a) = refl
 same_pushed (Copy to a) = refl
 same_pushed (Compute c) = refl
 same_pushed (Product to a b) = refl
-same_pushed (DivideStep r d a) = refl
+same_pushed (DivideSteps r d a) = refl
 same_pushed (Load memory w to a) = refl
 same_pushed (Store w a from) = refl
 same_pushed (ReadDevice to address) = refl
@@ -69,64 +68,62 @@ same_pushed (Find place to a) = refl
 same_pushed (CodeOf q to) = refl
 same_pushed (Stop code) = refl
 
-framed_bytes : (ws : List ℕ) (n : ℕ) → frame_size (framed ws n) ≡ bytes_of ws + 4
-framed_bytes ws n =
-    let cut = bytes_cut n ws in
-    let own = same_sum (drop n ws) in
-    let pushed = same_sum (take n ws) in omega (arith, cut, own, pushed)
-
 -- ---- what stands in a configuration
 
+-- Where locals are in registers, a procedure takes two bytes less than with a frame; so each of these numbers is at most what the program's procedures take.
 module _ (x : Links) (p : Program) (cs : List ℕ) (ready : IsReady p) (has : HasFitFrames x p cs) where
-  same_frame : (m : ℕ) (procedure : Procedure) → slice_get p.procedures m ≡ Some procedure → frame_size (x.places.layouts m) ≡ frame_of p m
-  same_frame m procedure e =
-      ap frame_size (has.layouts m procedure e) ∙ framed_bytes procedure.widths procedure.params ∙ sym (ap frame_in e)
+  few_frame : (m : ℕ) (procedure : Procedure) → slice_get p.procedures m ≡ Some procedure → frame_size (x.places.layouts m) ≤ frame_of p m
+  few_frame m procedure e =
+      let few = framed-bytes procedure.widths procedure.params in
+      let own = same_sum procedure.widths in
+      let there : frame_of p m ≡ bytes_of procedure.widths + 4 = ap frame_in e in
+      subst (λ l. frame_size l ≤ frame_of p m) (sym (has.layouts m procedure e)) (omega (arith, few, own, there))
 
-  same_opening : (m : ℕ) (procedure : Procedure) → slice_get p.procedures m ≡ Some procedure → opening_bytes x.places m ≡ opening_of p m
-  same_opening m procedure e =
-      ap (λ l. 2 + length l.saved + l.slots) (has.layouts m procedure e)
-      ∙ (let own = same_sum (drop procedure.params procedure.widths) in
-      let z : 2 + 2 + sum_of (drop procedure.params procedure.widths) ≡ bytes_of (drop procedure.params procedure.widths) + 4 = omega (arith, own) in z)
-      ∙ sym (ap opening_in e)
+  few_opening : (m : ℕ) (procedure : Procedure) → slice_get p.procedures m ≡ Some procedure → opening_bytes x.places m ≤ opening_of p m
+  few_opening m procedure e =
+      let few = framed-taken procedure.widths procedure.params in
+      let own = same_sum (drop procedure.params procedure.widths) in
+      let there : opening_of p m ≡ bytes_of (drop procedure.params procedure.widths) + 4 = ap opening_in e in
+      subst (λ (l : Layout). 2 + length l.saved + l.slots ≤ opening_of p m) (sym (has.layouts m procedure e)) (omega (arith, few, own, there))
 
-  same_callers : (m : ℕ) (fs : List (Frame State)) → AreOpen p m fs → frames_bytes x.places fs ≡ callers_take p fs
-  same_callers m [] h = refl
-  same_callers m (f ∷ fs) (opener, (w, rest)) =
+  few_callers : (m : ℕ) (fs : List (Frame State)) → AreOpen p m fs → frames_bytes x.places fs ≤ callers_take p fs
+  few_callers m [] h = omega arith
+  few_callers m (f ∷ fs) (opener, (w, rest)) =
       let space = same_between f.awaits in
       let waits = same_waiting f.kept.waiting in
-      let frame = same_frame f.proc w.procedure w.there in
-      let others = same_callers f.proc fs rest in omega (arith, space, waits, frame, others)
+      let frame = few_frame f.proc w.procedure w.there in
+      let others = few_callers f.proc fs rest in omega (arith, space, waits, frame, others)
 
-  same_entry : (call : CallTo) (s : State) (o : Option (Entry State)) → enter p call s ≡ o → entry_bytes x.places o ≡ entry_takes p o
-  same_entry call s None e = refl
-  same_entry call s (Some entry) e = let y = entered p call s entry e in same_opening entry.proc y.procedure y.there
+  few_entry : (call : CallTo) (s : State) (o : Option (Entry State)) → enter p call s ≡ o → entry_bytes x.places o ≤ entry_takes p o
+  few_entry call s None e = omega arith
+  few_entry call s (Some entry) e = let y = entered p call s entry e in few_opening entry.proc y.procedure y.there
 
-  same_handler : (v : ℕ) (o : Option ℕ) → p.handler v ≡ o → handler_bytes x.places o ≡ handler_takes p o
-  same_handler v None e = refl
-  same_handler v (Some q) e = let there = ready.handlers v q e in same_opening q there.0 there.1
+  few_handler : (v : ℕ) (o : Option ℕ) → p.handler v ≡ o → handler_bytes x.places o ≤ handler_takes p o
+  few_handler v None e = omega arith
+  few_handler v (Some q) e = let there = ready.handlers v q e in few_opening q there.0 there.1
 
-  same_instr : (s : State) (o : Option Instr) → instr_bytes x.places p s o ≡ instr_takes p s o
-  same_instr s None = refl
-  same_instr s (Some (Plain q)) = same_pushed q
-  same_instr s (Some (When t to)) = refl
-  same_instr s (Some (Unless t to)) = refl
-  same_instr s (Some (Jump to)) = refl
-  same_instr s (Some (Call call)) =
+  few_instr : (s : State) (o : Option Instr) → instr_bytes x.places p s o ≤ instr_takes p s o
+  few_instr s None = omega arith
+  few_instr s (Some (Plain q)) = let pushed = same_pushed q in omega (arith, pushed)
+  few_instr s (Some (When t to)) = omega arith
+  few_instr s (Some (Unless t to)) = omega arith
+  few_instr s (Some (Jump to)) = omega arith
+  few_instr s (Some (Call call)) =
       let passed = same_passed (operands call.registers) in
-      let entry = same_entry call s (enter p call s) refl in omega (arith, passed, entry)
-  same_instr s (Some (Return w a)) = refl
-  same_instr s (Some Idle) = refl
+      let entry = few_entry call s (enter p call s) refl in omega (arith, passed, entry)
+  few_instr s (Some (Return w a)) = omega arith
+  few_instr s (Some Idle) = omega arith
 
-  same_step : (c : Config State) (w : Option ℕ) → step_bytes x.places p c w ≡ step_takes p c w
-  same_step c (Some v) = ap (λ n. 4 + n) (same_handler v (p.handler v) refl)
-  same_step c None = same_instr c.state (fetch (codes_in p.procedures) c.proc c.pc)
+  few_step : (c : Config State) (w : Option ℕ) → step_bytes x.places p c w ≤ step_takes p c w
+  few_step c (Some v) = let few = few_handler v (p.handler v) refl in omega (arith, few)
+  few_step c None = few_instr c.state (fetch (codes_in p.procedures) c.proc c.pc)
 
-  same_depth : (c : Config State) → IsOpen p c → depth x.places p c ≡ taken p c
-  same_depth c h =
+  few_depth : (c : Config State) → IsOpen p c → depth x.places p c ≤ taken p c
+  few_depth c h =
       let waits = same_waiting c.state.waiting in
-      let frame = same_frame c.proc h.here.procedure h.here.there in
-      let callers = same_callers c.proc c.frames h.callers in
-      let steps = same_step c c.woken in omega (arith, waits, frame, callers, steps)
+      let frame = few_frame c.proc h.here.procedure h.here.there in
+      let callers = few_callers c.proc c.frames h.callers in
+      let steps = few_step c c.woken in omega (arith, waits, frame, callers, steps)
 
 -- ---- programs that stand are ready
 
@@ -146,9 +143,9 @@ pub deep_costs : (e : Run) (x : Links) (p : Program) (cs : List ℕ) → Stands 
     → 0x1100 < e.floor + (4 + most cs (run p n reads interrupts).openings)
 deep_costs e x p cs st b has n reads interrupts legal (inl first) =
     let ready = is_ready e x p cs st b has in
-    let opening = same_opening x p cs ready has p.start b.first b.there in
+    let opening = few_opening x p cs ready has p.start b.first b.there in
     let few = first_takes p cs ready has.fit has.handlers in omega (arith, first, opening, few)
 deep_costs e x p cs st b has n reads interrupts legal (inr (j, (less, deep))) =
     let ready = is_ready e x p cs st b has in
-    let same = same_depth x p cs ready has (run p j reads interrupts) (runs_open p ready j reads interrupts) in
-    let cost = costs p cs ready has.fit has.handlers reads interrupts j n less legal in omega (arith, deep, same, cost)
+    let most_taken = few_depth x p cs ready has (run p j reads interrupts) (runs_open p ready j reads interrupts) in
+    let cost = costs p cs ready has.fit has.handlers reads interrupts j n less legal in omega (arith, deep, most_taken, cost)

@@ -7,7 +7,7 @@ use Rattle.vg_templates.specs.Whole.{Links}
 use Rattle.vg_frame_costs.specs.Fitting.{FramesFit}
 use Rattle.vg_open_costs.specs.Taken.{HandlersBefore}
 
--- The procedures of a program are sound, each has all its locals in its frame, frames fit by these costs of methods, and the handlers stand before the
+-- The procedures of a program are sound, each has its locals where its layout says, frames fit by these costs of methods, and the handlers stand before the
 -- procedure with which a run begins.
 pub record HasFitFrames (x : Links) (p : Program) (costs : List ℕ) : Type 0 where
   pub sound : (m : ℕ) (procedure : Procedure) → slice_get p.procedures m ≡ Some procedure → IsSound procedure

@@ -6,7 +6,7 @@ use Rattle.vg_meaning.specs.Answer.{End, Stops, Wants, Done, Wrong}
 use Rattle.vg_meaning.specs.Outside.{before}
 use Rattle.avr_view.specs.Run.{Run}
 use Rattle.vg_lin.specs.declared.instr.Plain.{Plain as PlainInstr}
-use Rattle.vg_lin.specs.declared.instr.Plain.TheVariants.{Copy, Compute, Product, DivideStep, Load, Store, ReadDevice, WriteDevice}
+use Rattle.vg_lin.specs.declared.instr.Plain.TheVariants.{Copy, Compute, Product, DivideSteps, Load, Store, ReadDevice, WriteDevice}
 use Rattle.vg_lin.specs.declared.instr.Plain.TheVariants.{Push, Pop, Find, CodeOf, Stop}
 use Rattle.vg_lin.specs.declared.instr.Registers.{Registers}
 use Rattle.vg_lin.specs.declared.instr.Registers.TheVariants.{Empty, One, Two, Three, Four}
@@ -71,7 +71,7 @@ pushed_few m (Push w a) (h, k) = let x = h.1 in omega (arith, x)
 pushed_few m (Copy to a) h = omega arith
 pushed_few m (Compute c) h = omega arith
 pushed_few m (Product to a b) h = omega arith
-pushed_few m (DivideStep r d a) h = omega arith
+pushed_few m (DivideSteps r d a) h = omega arith
 pushed_few m (Load memory w to a) h = omega arith
 pushed_few m (Store w a from) h = omega arith
 pushed_few m (ReadDevice to address) h = omega arith

@@ -3,7 +3,7 @@
 use Rattle.std.proofs.Common.{◌≡◌, ℕ, ◌≤◌, ◌<◌, ◌⊎◌, ◌↔◌, List, [], ◌++◌, length, Option, Some, None, Ok, Err, refl, sym, ap, ◌∙◌, subst, arith, inl}
 use Rattle.std.proofs.Common.{inr, append-nil}
 use Rattle.std.proofs.lemmas.List.{take_all}
-use Rattle.std.specs.Prelude.{IsOk}
+use Rattle.std.specs.Prelude.{IfSome, IsOk}
 use Rattle.vg_base.specs.Limits.{text_limit}
 use Rattle.vg_base.specs.declared.place.Place.{Place}
 use Rattle.vg_base.specs.declared.refusal.Refusal.TheVariants as refusal
@@ -16,17 +16,17 @@ use Rattle.vg_first_text.specs.declared.device_write.DeviceWrite.{DeviceWrite}
 use Rattle.vg_first_text.specs.FirstText.{IsFirst}
 use Rattle.vg_hex.specs.HexText.{hex_text}
 use Rattle.vg_build.specs.Answer as of_bytes
-use Rattle.vg_build.specs.Answer.{Answer, Answers, HasFault, IsNotBuilt, fault_in, first_place}
+use Rattle.vg_build.specs.Answer.{Answer, Answers, HasFault, IsNotBuilt, IsOverStack, fault_in, first_place}
 use Rattle.vg_build.specs.Image.{IsBuiltOf, IsImageOf}
-use Rattle.vg_build.specs.Layout.{layout_text}
+use Rattle.vg_layout.specs.Text.{layout_text}
 use Rattle.vg_build.specs.declared.building.Built.{Built}
 use Rattle.vg_faults.specs.declared.fault.Fault.{Fault}
 use Rattle.vg_faults.specs.declared.fault.Fault.TheVariants.{NoTree, TooDeep, TooMany, Broken, InitTrap, InitSteps, InitDepth, InitTouches, InitTooBig, Allocates, StaticFull, TableFull}
 use Rattle.vg_faults.specs.declared.fault.Fault.TheVariants.{StackFull, CodeFull, NoMember, NotBuilt}
 use Rattle.vg_faults.specs.Fitting.{StaticFullIn, TableFullIn}
-use Rattle.vg_faults.specs.Room.{StackFullIn}
-use Rattle.vg_build.specs.declared.layout.Layout.{Layout}
-use Rattle.vg_build.proofs.Faults.{IsExact, answered_of, complete_of, exactly, first_of}
+use Rattle.vg_faults.specs.Room.{HasRoomFault, StackFullIn}
+use Rattle.vg_layout.specs.declared.layout.Layout.{Layout}
+use Rattle.vg_build.proofs.Faults.{IsExact, answered_of, complete_of, exactly, first_of, stack_full_of, stack_short_of}
 use Rattle.vg_drive.specs.declared.status.Status.{Status}
 use Rattle.vg_drive.specs.declared.status.Status.TheVariants.{Done, Refused, ReadFault, WriteFault, NoMemory}
 use Rattle.vg_drive.specs.Answers.{AppendsBegun, ForImage}
@@ -78,7 +78,7 @@ before_same (Ok built) s out note (inr h) before = absurd (subst IsBeforePuts h.
 before_same (Err why) s out note h before = (h.1, h.2)
 
 -- each fault of the bytes is an answer: what is asked of them further is none
-fault_answer : (why : Fault) (bytes : List ℕ) (asked : Option ℕ) (clock : ℕ) → HasFault why bytes asked clock → IsAnswerOfBuild (Refused why)
+pub fault_answer : (why : Fault) (bytes : List ℕ) (asked : Option ℕ) (clock : ℕ) → HasFault why bytes asked clock → IsAnswerOfBuild (Refused why)
 fault_answer (NoTree p) bytes asked clock h = tt
 fault_answer (TooDeep p) bytes asked clock h = tt
 fault_answer (TooMany what limit p) bytes asked clock h = tt
@@ -143,13 +143,49 @@ table_full_by s told file asked clock out note h settled =
     with_file told file _ (λ bytes. (need : ℕ) → (s ≡ Refused (TableFull need)) ↔ TableFullIn bytes clock need) (λ bytes f need. f (TableFull need) tt)
     (exactly_by s told file asked clock out note h settled)
 
--- and exactly those whose stack has no room
+-- those whose stack has no room are refused so
 pub stack_full_by : (s : Status) (told : Option (List File)) (file : List ℕ) (asked : Option ℕ) (clock : ℕ) (out note : Change)
     → BuildBy s told file asked clock out note → IsSettled s
-    → ForFile told file (λ bytes. (need left : ℕ) → (s ≡ Refused (StackFull need left)) ↔ StackFullIn bytes asked clock need left)
-stack_full_by s told file asked clock out note h settled =
-    with_file told file _ (λ bytes. (need left : ℕ) → (s ≡ Refused (StackFull need left)) ↔ StackFullIn bytes asked clock need left)
-    (λ bytes f need left. f (StackFull need left) tt) (exactly_by s told file asked clock out note h settled)
+    → ForFile told file (λ bytes. (need left : ℕ) → StackFullIn bytes asked clock need left → s ≡ Refused (StackFull need left))
+stack_full_by s told file asked clock out note (inl h) settled = absurd (missing_unsettled h.0.reason (subst IsSettled h.0.tells settled))
+stack_full_by s told file asked clock out note (inr h) settled =
+    of_file told file h.bytes (λ bytes. (need left : ℕ) → StackFullIn bytes asked clock need left → s ≡ Refused (StackFull need left)) h.whole
+    (λ need left full. (refused_iff h.answer s out note h.puts (StackFull need left)).1
+    (stack_full_of h.bytes asked clock h.answer h.says (settled_answer h.answer s out note h.puts settled) need left full))
+
+-- and no others but those whose stack is too small
+pub stack_short_by : (s : Status) (told : Option (List File)) (file : List ℕ) (asked : Option ℕ) (clock : ℕ) (out note : Change)
+    → BuildBy s told file asked clock out note
+    → ForFile told file (λ bytes. (need left : ℕ) → s ≡ Refused (StackFull need left)
+    → StackFullIn bytes asked clock need left ⊎ IsOverStack bytes asked clock need left)
+stack_short_by s told file asked clock out note (inl h) =
+    unless_missing told file
+    (λ bytes. (need left : ℕ) → s ≡ Refused (StackFull need left) → StackFullIn bytes asked clock need left ⊎ IsOverStack bytes asked clock need left)
+    (λ bytes need left e. absurd (missing_no_refusal h.0.reason (StackFull need left) (sym h.0.tells ∙ e)))
+stack_short_by s told file asked clock out note (inr h) =
+    of_file told file h.bytes
+    (λ bytes. (need left : ℕ) → s ≡ Refused (StackFull need left) → StackFullIn bytes asked clock need left ⊎ IsOverStack bytes asked clock need left) h.whole
+    (λ need left e. stack_short_of h.bytes asked clock h.answer h.says need left ((refused_iff h.answer s out note h.puts (StackFull need left)).0 e))
+
+-- a fault of the text is the answer to it
+pub refuses : (why : Fault) (bytes : List ℕ) (asked : Option ℕ) (clock : ℕ) (r : Answer) → Answers bytes asked clock r → of_bytes.IsSettled r
+    → HasRoomFault why bytes asked clock → fault_in r ≡ Some why
+refuses (NoTree p) bytes asked clock r says settled h = (exactly bytes asked clock r says settled (NoTree p) tt).1 h
+refuses (TooDeep p) bytes asked clock r says settled h = (exactly bytes asked clock r says settled (TooDeep p) tt).1 h
+refuses (TooMany what limit p) bytes asked clock r says settled h = (exactly bytes asked clock r says settled (TooMany what limit p) tt).1 h
+refuses (Broken rule p) bytes asked clock r says settled h = (exactly bytes asked clock r says settled (Broken rule p) tt).1 h
+refuses (InitTrap code p) bytes asked clock r says settled h = (exactly bytes asked clock r says settled (InitTrap code p) tt).1 h
+refuses InitSteps bytes asked clock r says settled h = (exactly bytes asked clock r says settled InitSteps tt).1 h
+refuses InitDepth bytes asked clock r says settled h = (exactly bytes asked clock r says settled InitDepth tt).1 h
+refuses (InitTouches address) bytes asked clock r says settled h = (exactly bytes asked clock r says settled (InitTouches address) tt).1 h
+refuses InitTooBig bytes asked clock r says settled h = (exactly bytes asked clock r says settled InitTooBig tt).1 h
+refuses (Allocates p line) bytes asked clock r says settled h = (exactly bytes asked clock r says settled (Allocates p line) tt).1 h
+refuses (StaticFull need) bytes asked clock r says settled h = (exactly bytes asked clock r says settled (StaticFull need) tt).1 h
+refuses (TableFull need) bytes asked clock r says settled h = (exactly bytes asked clock r says settled (TableFull need) tt).1 h
+refuses (StackFull need left) bytes asked clock r says settled h = stack_full_of bytes asked clock r says settled need left h
+refuses (CodeFull words) bytes asked clock r says settled h = absurd h
+refuses NoMember bytes asked clock r says settled h = (exactly bytes asked clock r says settled NoMember tt).1 h
+refuses (NotBuilt p) bytes asked clock r says settled h = absurd h
 
 -- a fault that is named is one of the bytes
 named_by : (s : Status) (told : Option (List File)) (file : List ℕ) (asked : Option ℕ) (clock : ℕ) (out note : Change)
@@ -197,11 +233,11 @@ pub not_both : (n : ℕ) → text_limit < n → n ≤ text_limit → ⊥
 not_both n long short = omega (arith, long, short)
 
 -- what holds of every file that is not too long
-unless_long : (told : Option (List File)) (file : List ℕ) (X : Type 0) → X ⊎ ForFile told file (λ bytes. text_limit < length bytes)
-    → ForFile told file (λ bytes. (writes : List DeviceWrite) → IsFirst bytes writes → length bytes ≤ text_limit → X)
-unless_long None file X h = tt
-unless_long (Some files) file X (inl x) = λ writes first short. x
-unless_long (Some files) file X (inr long) = λ writes first short. absurd (not_both _ long short)
+unless_long : (told : Option (List File)) (file : List ℕ) (X Large : Type 0) → X ⊎ ForFile told file (λ bytes. text_limit < length bytes)
+    → ForFile told file (λ bytes. Large → (writes : List DeviceWrite) → IsFirst bytes writes → length bytes ≤ text_limit → X)
+unless_long None file X Large h = tt
+unless_long (Some files) file X Large (inl x) = λ large writes first short. x
+unless_long (Some files) file X Large (inr long) = λ large writes first short. absurd (not_both _ long short)
 
 put_completes : (r : Answer) (s : Status) (out note : Change) → PutBy r s out note → IsOk r ⊎ (r ≡ Err refusal.NoMemory)
     → IsDoneOrNoMemory s ⊎ (Fails out ⊎ Fails note)
@@ -219,14 +255,16 @@ or_rest A B shelf rest f (inr b) = inr (inr (f b))
 pub complete_by : (s : Status) (told : Option (List File)) (file : List ℕ) (asked : Option ℕ) (clock : ℕ) (out note : Change) (shelf rest : Type 0)
     → BuildBy s told file asked clock out note
     → (s ≡ ReadFault → shelf) → (Fails out ⊎ Fails note → rest)
-    → ForFile told file (λ bytes. (writes : List DeviceWrite) → IsFirst bytes writes → length bytes ≤ text_limit → IsDoneOrNoMemory s ⊎ (shelf ⊎ rest))
+    → ForFile told file (λ bytes. IfSome asked (λ stack. 4 ≤ stack) → (writes : List DeviceWrite) → IsFirst bytes writes → length bytes ≤ text_limit
+    → IsDoneOrNoMemory s ⊎ (shelf ⊎ rest))
 complete_by s told file asked clock out note shelf rest (inl h) read fails =
-    unless_long told file _ (missing_completes h.0.reason s _ shelf rest h.0.tells h.0.too_long read)
+    unless_long told file _ (IfSome asked (λ stack. 4 ≤ stack)) (missing_completes h.0.reason s _ shelf rest h.0.tells h.0.too_long read)
 complete_by s told file asked clock out note shelf rest (inr h) read fails =
     of_file told file h.bytes
-    (λ bytes. (writes : List DeviceWrite) → IsFirst bytes writes → length bytes ≤ text_limit → IsDoneOrNoMemory s ⊎ (shelf ⊎ rest)) h.whole
-    (λ writes first short. or_rest _ _ shelf rest fails
-    (put_completes h.answer s out note h.puts (complete_of h.bytes asked clock h.stack h.answer h.says h.some writes first)))
+    (λ bytes. IfSome asked (λ stack. 4 ≤ stack) → (writes : List DeviceWrite) → IsFirst bytes writes → length bytes ≤ text_limit
+    → IsDoneOrNoMemory s ⊎ (shelf ⊎ rest)) h.whole
+    (λ large writes first short. or_rest _ _ shelf rest fails
+    (put_completes h.answer s out note h.puts (complete_of h.bytes asked clock h.stack h.answer h.says h.some large writes first)))
 
 -- WHAT IS PUT
 

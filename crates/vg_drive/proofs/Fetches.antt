@@ -1,7 +1,8 @@
 -- How the requests went, by the answer.
-use Rattle.std.proofs.Common.{◌≡◌, ◌↔◌, List, Option, Some, None, refl, sym, ◌∙◌, ap, subst}
+use Rattle.std.proofs.Common.{◌≡◌, ◌↔◌, List, [], ◌++◌, map, Option, Some, None, refl, sym, ◌∙◌, ap, subst, append-nil}
+use Rattle.std.proofs.Math.Seq.{drop-length}
 use Rattle.vg_io.specs.declared.asked.Asked.{Asked}
-use Rattle.vg_fetch.specs.Asking.{AsksAll, AsksFront, HasFailed, HasPassedLimit, Request, gained, last_of}
+use Rattle.vg_fetch.specs.Asking.{AreGivenButLast, AsksAll, AsksFront, HasFailed, HasPassedLimit, Request, gained, last_of, request_of}
 use Rattle.vg_fetch.specs.declared.fetch.NoFile.{NoFile}
 use Rattle.vg_fetch.specs.declared.fetch.NoFile.TheVariants as missing
 use Rattle.vg_drive.specs.declared.status.Status.{Status}
@@ -42,3 +43,23 @@ pub too_long_by : (s : Status) (old new : List Asked) (requests : List Request) 
     → (s ≡ TooLong) ↔ HasPassedLimit (last_of (gained old new))
 too_long_by s old new requests h =
     (λ e. h.went.passed (one_long h.reason s h.tells e), λ p. is_long h.reason s h.tells (h.went.only p))
+
+-- a command without a file asks for nothing
+none_gained : (asked : List Asked) → gained asked asked ≡ []
+none_gained asked = drop-length asked
+
+pub nothing_fetched : (s : Status) → IsBehindFiles s → (asked : List Asked) → FetchedBy s asked asked []
+nothing_fetched s behind asked =
+    let g = none_gained asked in
+    let keeps : asked ≡ asked ++ gained asked asked = sym (ap (λ l. asked ++ l) g ∙ append-nil asked) in
+    record {
+      reason = None;
+      went = record {
+        asks = record { keeps = keeps; count = 0; front = ap (λ l. map request_of l) g; in_turn = subst AreGivenButLast (sym g) tt };
+        all = λ e. record { keeps = keeps; all = ap (λ l. map request_of l) g };
+        failed = λ e. cc;
+        passed = λ e. cc;
+        only = λ p. absurd (subst (λ l. HasPassedLimit (last_of l)) g p);
+      };
+      tells = behind;
+    }

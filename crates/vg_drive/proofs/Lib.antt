@@ -4,6 +4,7 @@ pub mod Fetches
 pub mod Builds
 pub mod Sims
 pub mod Whys
+pub mod Tries
 pub mod Commands
 pub mod Notes
 pub mod Plays

@@ -3,19 +3,21 @@ use Rattle.std.proofs.Common.{◌≡◌, ℕ, zero, suc, ◌⊎◌, List, [], �
 use Rattle.std.specs.Prelude.{OnErr, OnOk}
 use Rattle.vg_io.specs.Piece.{AppendsAll, AppendsFront}
 use Rattle.vg_io.specs.declared.file.File.{File}
-use Rattle.vg_words.specs.Commands.{Command, Build, Run, Sim, Why}
+use Rattle.vg_words.specs.Commands.{Command, Build, Run, Sim, Why, Try}
 use Rattle.vg_hex.specs.HexText.{hex_text}
-use Rattle.vg_build.specs.Layout.{layout_text}
+use Rattle.vg_layout.specs.Text.{layout_text}
 use Rattle.vg_drive.specs.declared.status.Status.{Status}
 use Rattle.vg_drive.specs.declared.status.Status.TheVariants.{Done, Refused, Usage, ReadFault, WriteFault, NoMemory, TooLong}
 use Rattle.vg_drive.specs.declared.status.Status.TheVariants.{Stopped, Wants, Budget, Depth, HexRefused, ScriptRefused, BadInstruction}
 use Rattle.vg_drive.specs.Lines.{fault_line}
 use Rattle.vg_drive.specs.Answers.{AppendsBegun, AppendsFronts, AppendsFrontAndAll, ForImage, ForSecond}
-use Rattle.vg_drive.specs.Commands.{OnBuild}
+use Rattle.vg_drive.specs.Commands.{OnBuild, OnTry}
 use Rattle.vg_drive.specs.Mirrors.{AnswerBy, Change, GainsAll, GainsFront}
-use Rattle.vg_drive.specs.Statuses.{IsBeforePuts, IsShown}
+use Rattle.vg_drive.specs.Statuses.{IsBeforePuts, IsShown, status_of_ending}
+use Rattle.vg_drive.specs.Trials.{ForTry, trial_of, try_lines}
 use Rattle.vg_drive.proofs.Builds.{all_is_front, headline_by, no_front, second_by, second_front_by}
-use Rattle.vg_drive.proofs.Commands.{note_before_of, of_image, on_build, with_second}
+use Rattle.vg_drive.proofs.Commands.{note_before_of, of_image, on_build, on_try, with_second}
+use Rattle.vg_drive.proofs.Tries as tries
 
 -- nothing is appended
 nothing : (old new : Option (List ℕ)) → new ≡ old → AppendsAll old new []
@@ -29,6 +31,7 @@ second_all (Some (Build file asked clock)) s told out note h shown = second_by s
 second_all (Some (Run file script steps)) s told out note h shown = nothing note.before note.after h.1
 second_all (Some (Sim hex script steps)) s told out note h shown = nothing note.before note.after h.1
 second_all (Some (Why file member)) s told out note h shown = nothing note.before note.after h.1
+second_all (Some (Try objects)) s told out note h shown = tries.second_by s objects out note h shown
 
 -- a second text that was put whole, where nothing came behind it
 pub second_of : (c : Option Command) (s : Status) (told : Option (List File)) (out note : Change) (new : Option (List ℕ)) → AnswerBy c s told out note
@@ -50,6 +53,21 @@ headline_of c s told out note new h same e =
     (λ image layout k. (k.0, subst (λ x. AppendsBegun note.before x (layout_text layout)) (sym (same (subst IsShown (sym e) tt))) k.1))
     (headline_by s told file asked clock out note b e))
 
+-- what `try` shows, where nothing came behind the second text
+pub tried_of : (c : Option Command) (s : Status) (told : Option (List File)) (out note : Change) (new : Option (List ℕ)) → AnswerBy c s told out note
+    → (IsShown s → new ≡ note.after) → IsShown s
+    → OnTry c (λ n. ForTry n (λ built. (s ≡ status_of_ending (trial_of built.image).ended) × GainsAll out (try_lines n built)
+    × AppendsAll note.before new (hex_text built.image)))
+tried_of c s told out note new h same shown =
+    on_try c s told out note
+    (λ n. ForTry n (λ built. (s ≡ status_of_ending (trial_of built.image).ended) × GainsAll out (try_lines n built)
+    × AppendsAll note.before new (hex_text built.image))) h
+    (λ n t. tries.with_try n
+    (λ built. (s ≡ status_of_ending (trial_of built.image).ended) × GainsAll out (try_lines n built) × AppendsAll note.before note.after (hex_text built.image))
+    (λ built. (s ≡ status_of_ending (trial_of built.image).ended) × GainsAll out (try_lines n built) × AppendsAll note.before new (hex_text built.image))
+    (λ built k. (k.0, k.1, subst (λ x. AppendsAll note.before x (hex_text built.image)) (sym (same shown)) k.2))
+    (tries.shown_by s n out note t shown))
+
 -- a front of the second text where a put failed
 second_front : (c : Option Command) (s : Status) (told : Option (List File)) (out note : Change) → AnswerBy c s told out note → s ≡ WriteFault
     → ForSecond c told (λ second. GainsFront note second)
@@ -58,6 +76,7 @@ second_front (Some (Build file asked clock)) s told out note h e = second_front_
 second_front (Some (Run file script steps)) s told out note h e = no_front note.before note.after [] h.1
 second_front (Some (Sim hex script steps)) s told out note h e = no_front note.before note.after [] h.1
 second_front (Some (Why file member)) s told out note h e = no_front note.before note.after [] h.1
+second_front (Some (Try objects)) s told out note h e = tries.second_front_by s objects out note h e
 
 -- two fronts one behind the other
 fronts : (old mid new : Option (List ℕ)) (first second : List ℕ) → AppendsFront old mid first → AppendsFront mid new second → AppendsFronts old new first second

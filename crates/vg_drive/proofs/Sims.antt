@@ -26,7 +26,7 @@ use Rattle.vg_drive.specs.Commands.{IsAnswerOfSim}
 use Rattle.vg_drive.specs.Mirrors.{Change, Fails, GainsAll, GainsFront, IsBehindFiles, IsLong, IsSame, SimBy, Simulates}
 use Rattle.vg_drive.specs.Statuses.{IsBeforePuts, IsSettled, IsShown, status_of_ending, status_of_simulated, status_without_file}
 use Rattle.vg_drive.proofs.Files.{of_files, of_texts}
-use Rattle.vg_drive.proofs.Statuses.{missing_no_write, missing_not_shown, missing_of_sim, missing_unsettled}
+use Rattle.vg_drive.proofs.Statuses.{ending_not_before, ending_not_other, missing_no_write, missing_not_shown, missing_of_sim, missing_unsettled}
 
 -- what the clauses of a simulation say together
 pub simulates : (answer : Simulated) (hex script : List ℕ) (steps : ℕ) (out : Change)
@@ -68,21 +68,6 @@ simulated_answer PutFailed = tt
 simulated_answer (HexFails fault) = tt
 simulated_answer (ScriptFails line) = tt
 simulated_answer Wanting = tt
-
--- an ending has a status of its own
-ending_not_other : (end : Option MachineEnd) (s : Status) → (IsShown s → ⊥) → status_of_ending end ≡ s → ⊥
-ending_not_other None s other e = other (subst IsShown e tt)
-ending_not_other (Some machine_end.Idle) s other e = other (subst IsShown e tt)
-ending_not_other (Some (machine_end.Stop code)) s other e = other (subst IsShown e tt)
-ending_not_other (Some (machine_end.Wants address)) s other e = other (subst IsShown e tt)
-ending_not_other (Some (machine_end.Bad pc word)) s other e = other (subst IsShown e tt)
-
-ending_not_before : (end : Option MachineEnd) → IsBeforePuts (status_of_ending end) → ⊥
-ending_not_before None h = h
-ending_not_before (Some machine_end.Idle) h = h
-ending_not_before (Some (machine_end.Stop code)) h = h
-ending_not_before (Some (machine_end.Wants address)) h = h
-ending_not_before (Some (machine_end.Bad pc word)) h = h
 
 -- all was put: the machine has ended, or its budget is spent
 ended_is : (answer : Simulated) → IsShown (status_of_simulated answer) → (end : Option MachineEnd) × (answer ≡ Ended end)

@@ -1,5 +1,5 @@
 -- What a status says of the answer that it tells of.
-use Rattle.std.proofs.Common.{◌≡◌, Option, Some, None, refl}
+use Rattle.std.proofs.Common.{◌≡◌, Option, Some, None, refl, subst}
 use Rattle.vg_base.specs.declared.refusal.Refusal.{Refusal}
 use Rattle.vg_base.specs.declared.refusal.Refusal.TheVariants as refusal
 use Rattle.avr_isa.specs.declared.ending.MachineEnd.{MachineEnd}
@@ -7,9 +7,10 @@ use Rattle.avr_isa.specs.declared.ending.MachineEnd.TheVariants as machine_end
 use Rattle.vg_fetch.specs.declared.fetch.NoFile.{NoFile}
 use Rattle.vg_fetch.specs.declared.fetch.NoFile.TheVariants as missing
 use Rattle.vg_faults.specs.declared.fault.Fault.{Fault}
-use Rattle.vg_drive.specs.Commands.{IsAnswerOfBuild, IsAnswerOfRun, IsAnswerOfSim, IsAnswerOfWhy}
+use Rattle.vg_drive.specs.Commands.{IsAnswerOfBuild, IsAnswerOfRun, IsAnswerOfSim, IsAnswerOfTry, IsAnswerOfWhy}
 use Rattle.vg_drive.specs.Mirrors.{IsBehindFiles}
-use Rattle.vg_drive.specs.Statuses.{IsSettled, IsShown, status_of_ending, status_of_refusal, status_without_file}
+use Rattle.vg_drive.specs.Statuses.{IsBeforePuts, IsSettled, IsShown, status_of_ending, status_of_refusal, status_without_file}
+use Rattle.vg_drive.specs.declared.status.Status.{Status}
 use Rattle.vg_drive.specs.declared.status.Status.TheVariants.{Refused, ReadFault, WriteFault, TooLong}
 
 -- A FILE IS MISSING
@@ -86,3 +87,34 @@ ending_is_shown (Some machine_end.Idle) = tt
 ending_is_shown (Some (machine_end.Stop code)) = tt
 ending_is_shown (Some (machine_end.Wants address)) = tt
 ending_is_shown (Some (machine_end.Bad pc word)) = tt
+
+-- an ending has a status of its own
+pub ending_not_other : (end : Option MachineEnd) (s : Status) → (IsShown s → ⊥) → status_of_ending end ≡ s → ⊥
+ending_not_other None s other e = other (subst IsShown e tt)
+ending_not_other (Some machine_end.Idle) s other e = other (subst IsShown e tt)
+ending_not_other (Some (machine_end.Stop code)) s other e = other (subst IsShown e tt)
+ending_not_other (Some (machine_end.Wants address)) s other e = other (subst IsShown e tt)
+ending_not_other (Some (machine_end.Bad pc word)) s other e = other (subst IsShown e tt)
+
+pub ending_not_before : (end : Option MachineEnd) → IsBeforePuts (status_of_ending end) → ⊥
+ending_not_before None h = h
+ending_not_before (Some machine_end.Idle) h = h
+ending_not_before (Some (machine_end.Stop code)) h = h
+ending_not_before (Some (machine_end.Wants address)) h = h
+ending_not_before (Some (machine_end.Bad pc word)) h = h
+
+-- and tells of no file
+pub ending_behind_files : (end : Option MachineEnd) → IsBehindFiles (status_of_ending end)
+ending_behind_files None = tt
+ending_behind_files (Some machine_end.Idle) = tt
+ending_behind_files (Some (machine_end.Stop code)) = tt
+ending_behind_files (Some (machine_end.Wants address)) = tt
+ending_behind_files (Some (machine_end.Bad pc word)) = tt
+
+-- it is an answer of `try`
+pub ending_of_try : (end : Option MachineEnd) → IsAnswerOfTry (status_of_ending end)
+ending_of_try None = tt
+ending_of_try (Some machine_end.Idle) = tt
+ending_of_try (Some (machine_end.Stop code)) = tt
+ending_of_try (Some (machine_end.Wants address)) = tt
+ending_of_try (Some (machine_end.Bad pc word)) = tt

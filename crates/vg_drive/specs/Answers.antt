@@ -3,11 +3,13 @@ use Rattle.std.specs.Prelude.{ℕ, ◌≡◌, List, [], ◌++◌, take, Option, 
 use Rattle.vg_io.specs.Files.{bytes_under}
 use Rattle.vg_io.specs.Piece.{AppendsAll}
 use Rattle.vg_io.specs.declared.file.File.{File}
-use Rattle.vg_words.specs.Commands.{Command, Build}
+use Rattle.vg_words.specs.Commands.{Command, Build, Try}
 use Rattle.vg_why.specs.Asked.{WhyIn}
+use Rattle.vg_hex.specs.HexText.{hex_text}
 use Rattle.vg_build.specs.Image.{IsImageOf}
-use Rattle.vg_build.specs.Layout.{layout_text}
-use Rattle.vg_build.specs.declared.layout.Layout.{Layout}
+use Rattle.vg_layout.specs.Text.{layout_text}
+use Rattle.vg_layout.specs.declared.layout.Layout.{Layout}
+use Rattle.vg_drive.specs.Trials.{ForTry}
 
 -- P holds of some image and layout, which are those of the file where the shelf tells, with the stack that is asked for and this clock of initialisation
 abbrev pub ForImage : Option (List File) → (file : List ℕ) → (asked : Option ℕ) → (clock : ℕ) → (P : List ℕ → Layout → Type 0) → Type 0
@@ -15,9 +17,11 @@ ForImage None file asked clock P = (image : List ℕ) × (layout : Layout) × P 
 ForImage (Some files) file asked clock P =
     (image : List ℕ) × (layout : Layout) × IsImageOf (bytes_under files file) asked clock image layout × P image layout
 
--- P holds of what the command puts to its second sink: `build` the text of the layout of an image of its file, and the others nothing
+-- P holds of what the command puts to its second sink: `build` the text of the layout of an image of its file, `try` the HEX text of the image of its generated
+-- text, and the others nothing
 abbrev pub ForSecond : Option Command → (told : Option (List File)) → (P : List ℕ → Type 0) → Type 0
 ForSecond (Some (Build file asked clock)) told P = ForImage told file asked clock (λ image layout. P (layout_text layout))
+ForSecond (Some (Try objects)) told P = ForTry objects (λ built. P (hex_text built.image))
 ForSecond _ told P = P []
 
 -- P holds of a text, which is that of the file where the shelf tells

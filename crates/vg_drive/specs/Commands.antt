@@ -1,15 +1,16 @@
 -- What a command asks the shelf for, what is said of its files, and what its answers may be.
 use Rattle.std.specs.Prelude.{ℕ, ◌≡◌, List, [], ◌∷◌, Option, Some, None}
 use Rattle.vg_base.specs.Limits.{image_text_limit, text_limit}
-use Rattle.vg_words.specs.Commands.{Command, Build, Run, Sim, Why}
+use Rattle.vg_words.specs.Commands.{Command, Build, Run, Sim, Why, Try}
 use Rattle.vg_fetch.specs.Asking.{Request}
 use Rattle.vg_faults.specs.declared.fault.Fault.TheVariants.{Allocates, StaticFull, TableFull, StackFull, CodeFull, NoMember, NotBuilt}
 use Rattle.vg_faults.specs.Starting.{init_steps as default_steps}
 use Rattle.vg_drive.specs.declared.status.Status.{Status}
-use Rattle.vg_drive.specs.declared.status.Status.TheVariants.{Done, Refused, Usage, ReadFault, WriteFault, NoMemory, TooLong, Depth, HexRefused, BadInstruction}
+use Rattle.vg_drive.specs.declared.status.Status.TheVariants.{Done, Refused, Usage, ReadFault, WriteFault, NoMemory, TooLong, Depth, HexRefused, ScriptRefused, BadInstruction}
 use Rattle.vg_drive.specs.Statuses.{IsBeforeLines, IsBeforePuts}
 
--- `build FILE` and `why FILE MEMBER` ask for FILE, `run FILE SCRIPT` for FILE and then SCRIPT, and `sim HEX SCRIPT` for HEX and then SCRIPT, each with its limit
+-- `build FILE` and `why FILE MEMBER` ask for FILE, `run FILE SCRIPT` for FILE and then SCRIPT, and `sim HEX SCRIPT` for HEX and then SCRIPT, each with its limit;
+-- `try N` asks for nothing
 abbrev pub requests_of : Option Command → List Request
 requests_of None = []
 requests_of (Some (Build file asked init_steps)) = record { name = file; limit = text_limit } ∷ []
@@ -18,6 +19,7 @@ requests_of (Some (Run file script steps)) =
 requests_of (Some (Sim hex script steps)) =
     record { name = hex; limit = image_text_limit } ∷ record { name = script; limit = image_text_limit } ∷ []
 requests_of (Some (Why file member)) = record { name = file; limit = text_limit } ∷ []
+requests_of (Some (Try objects)) = []
 
 -- where the command is `build`: P holds of its file, of the stack that it asks for, or none, and of the clock of its initialisation
 abbrev pub OnBuild : Option Command → (P : (file : List ℕ) → (asked : Option ℕ) → (clock : ℕ) → Type 0) → Type 0
@@ -51,6 +53,11 @@ OnWhy _ P = Unit {0}
 abbrev pub OnSim : Option Command → (P : (hex script : List ℕ) → ℕ → Type 0) → Type 0
 OnSim (Some (Sim hex script steps)) P = P hex script steps
 OnSim _ P = Unit {0}
+
+-- where the command is `try`: P holds of its number of objects
+abbrev pub OnTry : Option Command → (P : (objects : ℕ) → Type 0) → Type 0
+OnTry (Some (Try objects)) P = P objects
+OnTry _ P = Unit {0}
 
 abbrev pub IsAnswerOfBuild : Status → Type 0
 IsAnswerOfBuild Done = Unit {0}
@@ -95,6 +102,17 @@ IsAnswerOfWhy NoMemory = Unit {0}
 IsAnswerOfWhy TooLong = Unit {0}
 IsAnswerOfWhy _ = ⊥
 
+-- what is refused is refused as by `build`
+abbrev pub IsAnswerOfTry : Status → Type 0
+IsAnswerOfTry (Refused fault) = IsAnswerOfBuild (Refused fault)
+IsAnswerOfTry Usage = ⊥
+IsAnswerOfTry ReadFault = ⊥
+IsAnswerOfTry TooLong = ⊥
+IsAnswerOfTry Depth = ⊥
+IsAnswerOfTry (HexRefused fault) = ⊥
+IsAnswerOfTry (ScriptRefused line) = ⊥
+IsAnswerOfTry _ = Unit {0}
+
 -- the answers that a command may have; words without a meaning have one
 abbrev pub IsAnswerOf : Option Command → Status → Type 0
 IsAnswerOf None s = s ≡ Usage
@@ -102,6 +120,7 @@ IsAnswerOf (Some (Build file asked init_steps)) s = IsAnswerOfBuild s
 IsAnswerOf (Some (Run file script steps)) s = IsAnswerOfRun s
 IsAnswerOf (Some (Sim hex script steps)) s = IsAnswerOfSim s
 IsAnswerOf (Some (Why file member)) s = IsAnswerOfWhy s
+IsAnswerOf (Some (Try objects)) s = IsAnswerOfTry s
 
 -- nothing was put to the first sink
 abbrev pub PutsNothing : Option Command → Status → Type 0

@@ -1,5 +1,6 @@
 pub mod Commands
 pub mod Statuses
 pub mod Lines
+pub mod Trials
 pub mod Answers
 pub mod Mirrors

@@ -1,11 +1,13 @@
 -- Mirrors: what the functions below the top call leave. No public clause cites one.
-use Rattle.std.specs.Prelude.{ℕ, ◌≡◌, ◌<◌, ◌≤◌, ◌⊎◌, List, length, Option, Some, None, IfSome, Ok, Err}
+use Rattle.std.specs.Prelude.{ℕ, ◌≡◌, ◌<◌, ◌≤◌, ◌⊎◌, List, [], ◌++◌, length, Option, Some, None, IfSome, Ok, Err}
 use Rattle.vg_base.specs.Limits.{image_text_limit, text_limit}
+use Rattle.avr_isa.specs.Machine.{State}
+use Rattle.avr_sim.specs.Run as machine
 use Rattle.vg_io.specs.Count.{Rose}
 use Rattle.vg_io.specs.Piece.{AppendsAll, AppendsFront}
 use Rattle.vg_io.specs.declared.asked.Asked.{Asked}
 use Rattle.vg_io.specs.declared.file.File.{File}
-use Rattle.vg_words.specs.Commands.{Command, Build, Run, Sim, Why}
+use Rattle.vg_words.specs.Commands.{Command, Build, Run, Sim, Why, Try}
 use Rattle.vg_fetch.specs.Asking.{Fetched, Request}
 use Rattle.vg_fetch.specs.Told.{ForFile, ForFiles}
 use Rattle.vg_fetch.specs.declared.fetch.NoFile.{NoFile}
@@ -17,13 +19,18 @@ use Rattle.vg_run.specs.declared.playing.Played.{Played}
 use Rattle.vg_run.specs.declared.playing.Played.TheVariants as played
 use Rattle.vg_why.specs.Answer as why
 use Rattle.vg_hex.specs.HexImage.{fault_in}
+use Rattle.vg_faults.specs.Starting.{init_steps}
+use Rattle.vg_gen.specs.Generated.{generated}
+use Rattle.vg_gen.specs.Summary.{summary}
 use Rattle.vg_script.specs.Script.{first_bad}
 use Rattle.vg_sim.specs.Shown.{ForRun, lines_of}
 use Rattle.vg_sim.specs.declared.simulate.Simulated.{Simulated}
 use Rattle.vg_sim.specs.declared.simulate.Simulated.TheVariants as simulated
-use Rattle.vg_drive.specs.Statuses.{status_of_played, status_of_refusal, status_of_simulated, status_without_file}
+use Rattle.vg_drive.specs.Statuses.{status_of_ending, status_of_played, status_of_refusal, status_of_simulated, status_without_file}
+use Rattle.vg_drive.specs.Trials.{trial_of, try_lines, try_steps}
+use Rattle.vg_drive.specs.declared.trial.Trial.{Trial}
 use Rattle.vg_drive.specs.declared.status.Status.{Status}
-use Rattle.vg_drive.specs.declared.status.Status.TheVariants.{Done, Usage, ReadFault, WriteFault, TooLong}
+use Rattle.vg_drive.specs.declared.status.Status.TheVariants.{Done, Usage, ReadFault, WriteFault, NoMemory, TooLong}
 
 -- what a call made of a sink: what the sink tells, and how often it has failed
 pub record Change : Type 0 where
@@ -167,6 +174,49 @@ abbrev pub WhyBy : Status → (told : Option (List File)) → (file member : Lis
 WhyBy s told file member out =
     FilesMissing s (ForFile told file (λ bytes. text_limit < length bytes)) out ⊎ TellsFile s told file member out
 
+-- TRY
+
+-- what is ready of what was built: its HEX text, what is said of it, and its image in the flash of a machine at reset, in front of an empty script
+pub record IsReady (n : ℕ) (built : Built) (trial : Trial) : Type 0 where
+  pub hex : trial.hex ≡ built.hex
+  pub summary : trial.summary ≡ summary n built.objects built.methods built.layout.static_bytes
+  pub machine : trial.machine ≡ built.image
+  pub reads : trial.script.reads ≡ []
+  pub interrupts : trial.script.interrupts ≡ []
+
+-- the machine of a trial behind its run, and what is put of it
+abbrev pub run_in : Trial → State
+run_in trial = machine.simulated trial.machine trial.script.reads trial.script.interrupts try_steps
+
+abbrev pub lines_in : Trial → List ℕ
+lines_in trial = trial.summary ++ lines_of (run_in trial)
+
+-- a put failed: that of the HEX text, or behind it one of the lines
+abbrev pub TrialFails : Trial → (out note : Change) → Type 0
+TrialFails trial out note =
+    (GainsFront note trial.hex × Fails note × IsSame out) ⊎ (GainsAll note trial.hex × GainsFront out (lines_in trial) × Fails out)
+
+abbrev pub TryFails : (n : ℕ) → Built → (out note : Change) → Type 0
+TryFails n built out note =
+    (GainsFront note built.hex × Fails note × IsSame out) ⊎ (GainsAll note built.hex × GainsFront out (try_lines n built) × Fails out)
+
+-- all was put, with the answer that tells how the machine has ended
+abbrev pub TryShows : (n : ℕ) → Built → Status → (out note : Change) → Type 0
+TryShows n built s out note =
+    (s ≡ status_of_ending (trial_of built.image).ended) × GainsAll out (try_lines n built) × GainsAll note built.hex
+
+-- what was put of what was built, with the answer that tells of it; memory may have been wanting before the first put
+abbrev pub TriesBy : (n : ℕ) → Answer → Status → (out note : Change) → Type 0
+TriesBy n (Ok built) s out note =
+    ((s ≡ NoMemory) × IsSame out × IsSame note) ⊎ (TryShows n built s out note ⊎ ((s ≡ WriteFault) × TryFails n built out note))
+TriesBy n (Err why) s out note = (s ≡ status_of_refusal why) × IsSame out × IsSame note
+
+-- what `try` leaves: the generated text was answered, and the answer put
+pub record TryBy (s : Status) (n : ℕ) (out note : Change) : Type 0 where
+  pub answer : Answer
+  pub says : Answers (generated n) None init_steps answer
+  pub puts : TriesBy n answer s out note
+
 -- ALL WORDS
 
 -- what a command, or words without a meaning, leaves
@@ -176,3 +226,4 @@ AnswerBy (Some (Build file asked clock)) s told out note = BuildBy s told file a
 AnswerBy (Some (Run file script steps)) s told out note = PlayBy s told file script steps out × IsSame note
 AnswerBy (Some (Sim hex script steps)) s told out note = SimBy s told hex script steps out × IsSame note
 AnswerBy (Some (Why file member)) s told out note = WhyBy s told file member out × IsSame note
+AnswerBy (Some (Try objects)) s told out note = TryBy s objects out note

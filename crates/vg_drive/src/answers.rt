@@ -71,8 +71,8 @@ pub fn status_of_simulated(simulated: Simulated) -> Status
     }
 }
 
-// The status of the ending of a machine, or of a run that has not ended.
-fn status_of_ending(end: Option<MachineEnd>) -> Status
+/// The status of the ending of a machine, or of a run that has not ended.
+pub fn status_of_ending(end: Option<MachineEnd>) -> Status
     ensures { result ≡ status_of_ending end }
 {
     match end {

@@ -1,11 +1,11 @@
 // The top call.
-ghost use Rattle.std.specs.Prelude.{◌≡◌, ◌↔◌, ◌≤◌, ◌⊎◌, ℕ, List, length, Some, None};
+ghost use Rattle.std.specs.Prelude.{◌≡◌, ◌↔◌, ◌≤◌, ◌⊎◌, ℕ, List, length, IfSome, Some, None};
 ghost use Rattle.std.specs.Option.{option_map};
 ghost use Rattle.vg_base.specs.Limits.{image_text_limit, text_limit};
 ghost use Rattle.vg_base.specs.declared.place.Place.{Place};
 ghost use Rattle.vg_io.specs.Count.{Rose};
 ghost use Rattle.vg_io.specs.Piece.{AppendsAll, AppendsFront};
-ghost use Rattle.vg_words.specs.Commands.{HasStack, HasSteps, command_of, words_in};
+ghost use Rattle.vg_words.specs.Commands.{HasObjects, HasStack, HasSteps, command_of, words_in};
 ghost use Rattle.vg_words.specs.Views.{command_in};
 ghost use Rattle.vg_fetch.specs.Asking.{AsksAll, AsksFront, HasFailed, HasPassedLimit, gained, last_of};
 ghost use Rattle.vg_fetch.specs.Told.{ForFile, ForFiles};
@@ -21,11 +21,12 @@ ghost use Rattle.vg_faults.specs.Faults.{IsOfInit};
 ghost use Rattle.vg_faults.specs.Judged.{IsLegal, RefusedIn};
 ghost use Rattle.vg_faults.specs.Living.{AllocatesIn};
 ghost use Rattle.vg_faults.specs.Fitting.{StaticFullIn, TableFullIn};
-ghost use Rattle.vg_faults.specs.Room.{StackFullIn};
+ghost use Rattle.vg_faults.specs.Room.{HasRoomFault, StackFullIn};
 ghost use Rattle.vg_faults.specs.Starting.{FailsIn, StartsIn, init_steps};
 ghost use Rattle.vg_faults.specs.declared.fault.Fault as fault;
-ghost use Rattle.vg_build.specs.Answer.{IsNotBuilt, first_place};
-ghost use Rattle.vg_build.specs.Layout.{layout_text};
+ghost use Rattle.vg_build.specs.Answer.{HasFault, IsNotBuilt, IsOverStack, first_place};
+ghost use Rattle.vg_layout.specs.Text.{layout_text};
+ghost use Rattle.vg_gen.specs.Generated.{generated};
 ghost use Rattle.vg_hex.specs.HexText.{hex_text};
 ghost use Rattle.vg_hex.specs.HexImage.{HexImage, fault_in};
 ghost use Rattle.vg_hex.specs.declared.fault.HexFault.{HexFault};
@@ -36,16 +37,18 @@ ghost use Rattle.vg_run.specs.Shown as of_run;
 ghost use Rattle.vg_run.specs.Shown.{ForSession};
 ghost use Rattle.vg_why.specs.Asked.{IsDeclaredIn, NoMemberIn};
 ghost use Rattle.vg_drive.specs.Answers.{AppendsBegun, AppendsFrontAndAll, AppendsFronts, ForImage, ForLines, ForSecond, ForText, ForTexts};
-ghost use Rattle.vg_drive.specs.Commands.{IsAnswerOf, OnBuild, OnLive, OnRun, OnSim, OnSource, OnWhy, PutsNothing, requests_of};
+ghost use Rattle.vg_drive.specs.Commands.{IsAnswerOf, OnBuild, OnLive, OnRun, OnSim, OnSource, OnTry, OnWhy, PutsNothing, requests_of};
 ghost use Rattle.vg_drive.specs.Lines.{fault_line};
 ghost use Rattle.vg_drive.specs.Mirrors.{AnswerBy, FetchedBy, change};
 ghost use Rattle.vg_drive.specs.Statuses.{IsBeforePuts, IsDoneOrNoMemory, IsSettled, IsShown, status_of_end, status_of_ending};
+ghost use Rattle.vg_drive.specs.Trials.{ForTry, trial_of, try_lines};
 
 use crate::build::run_build;
 use crate::lines::fault_line;
 use crate::session::run_session;
 use crate::sim::run_sim;
 use crate::status::Status;
+use crate::trial::run_try;
 use crate::why::run_why;
 use std::alloc::Global;
 use vg_io::{Shelf, Sink};
@@ -58,8 +61,10 @@ use vg_words::{Command, command_of};
 /// `run FILE SCRIPT` fetches such a text and one of at most 1,048,576 bytes, runs the first by the language's meaning on the second for at most `--steps`
 /// ticks, and puts the lines of its trace and of its ending to `out`. `sim HEX SCRIPT` fetches two texts of at most 1,048,576 bytes each, runs the image of
 /// the first on the second for at most `--steps` instructions, and puts the lines of its trace and of its ending to `out`. `why FILE MEMBER` fetches such a
-/// text as `build`, and puts the lines that say why the member is live to `out` in one put. Behind an answer that is no success and no ending it tries one
-/// put of the fault line to `note`.
+/// text as `build`, and puts the lines that say why the member is live to `out` in one put. `try N` builds the generated text of N objects as `build` does
+/// without an option, puts the HEX text of its image to `note` in one put, runs the image for at most 10,000,000 instructions, to which no read and no interrupt
+/// comes, and puts a summary and the lines of its trace and of its ending to `out`. Behind an answer that is no success and no ending it tries one put of the
+/// fault line to `note`.
 pub fn run<S: Shelf, O: Sink, N: Sink>(
     alloc: Global,
     words: &[String],
@@ -95,13 +100,16 @@ pub fn run<S: Shelf, O: Sink, N: Sink>(
     ensures allocates { IsSettled result → OnLive (command_of (words_in words.now)) (λ file clock. ForFile (S.told shelf.old) file (λ bytes.
         (place : Place) (line : List ℕ) → (result ≡ Status.Refused (fault.Fault.Allocates place line)) ↔ AllocatesIn bytes clock place line)) }
 
-    // `build`: what does not fit into RAM, whose tables do not fit into flash, and whose stack has no room in RAM.
+    // `build`: what does not fit into RAM, whose tables do not fit into flash, and whose stack has no room in RAM or is too small.
     ensures static_full { IsSettled result → OnBuild (command_of (words_in words.now)) (λ file asked clock. ForFile (S.told shelf.old) file (λ bytes.
         (need : ℕ) → (result ≡ Status.Refused (fault.Fault.StaticFull need)) ↔ StaticFullIn bytes clock need)) }
     ensures table_full { IsSettled result → OnBuild (command_of (words_in words.now)) (λ file asked clock. ForFile (S.told shelf.old) file (λ bytes.
         (need : ℕ) → (result ≡ Status.Refused (fault.Fault.TableFull need)) ↔ TableFullIn bytes clock need)) }
     ensures stack_full { IsSettled result → OnBuild (command_of (words_in words.now)) (λ file asked clock. ForFile (S.told shelf.old) file (λ bytes.
-        (need left : ℕ) → (result ≡ Status.Refused (fault.Fault.StackFull need left)) ↔ StackFullIn bytes asked clock need left)) }
+        (need left : ℕ) → StackFullIn bytes asked clock need left → result ≡ Status.Refused (fault.Fault.StackFull need left))) }
+    ensures stack_short { OnBuild (command_of (words_in words.now)) (λ file asked clock. ForFile (S.told shelf.old) file (λ bytes.
+        (need left : ℕ) → result ≡ Status.Refused (fault.Fault.StackFull need left)
+        → StackFullIn bytes asked clock need left ⊎ IsOverStack bytes asked clock need left)) }
 
     // `build`: which legal texts alone have too long a code or are not built, and which are built.
     ensures code_full { OnBuild (command_of (words_in words.now)) (λ file asked clock. ForFile (S.told shelf.old) file (λ bytes.
@@ -110,7 +118,7 @@ pub fn run<S: Shelf, O: Sink, N: Sink>(
         (place : Place) → result ≡ Status.Refused (fault.Fault.NotBuilt place) → IsNotBuilt bytes asked clock)) }
     ensures not_built_first { (place : Place) → result ≡ Status.Refused (fault.Fault.NotBuilt place) → place ≡ first_place }
     ensures complete { OnBuild (command_of (words_in words.now)) (λ file asked clock. ForFile (S.told shelf.old) file (λ bytes.
-        (writes : List DeviceWrite) → IsFirst bytes writes → length bytes ≤ text_limit → IsDoneOrNoMemory result
+        IfSome asked (λ stack. 4 ≤ stack) → (writes : List DeviceWrite) → IsFirst bytes writes → length bytes ≤ text_limit → IsDoneOrNoMemory result
         ⊎ (Rose (S.faults shelf.old) (S.faults shelf.new) ⊎ (Rose (O.faults out.old) (O.faults out.new) ⊎ Rose (N.faults note.old) (N.faults note.new))))) }
 
     // `build`: the image, whole on `out` with Done, and its layout on `note`.
@@ -165,6 +173,19 @@ pub fn run<S: Shelf, O: Sink, N: Sink>(
         IsDeclaredIn bytes member → length bytes ≤ text_limit
         → IsDoneOrNoMemory result ⊎ (Rose (S.faults shelf.old) (S.faults shelf.new) ⊎ Rose (O.faults out.old) (O.faults out.new)))) }
 
+    // `try`: which generated texts are refused, as by `build`.
+    ensures try_refused { OnTry (command_of (words_in words.now)) (λ n. (why : fault.Fault) → result ≡ Status.Refused why
+        → HasFault why (generated n) None init_steps) }
+    ensures try_refuses { IsSettled result → OnTry (command_of (words_in words.now)) (λ n. (why : fault.Fault)
+        → HasRoomFault why (generated n) None init_steps → result ≡ Status.Refused why) }
+
+    // `try`: the HEX text of an image of the generated text, whole on `note`, and the summary and the lines of the trace and of the ending of a machine with this
+    // image, whole on `out` with the answer of that ending.
+    ensures tried { IsShown result → OnTry (command_of (words_in words.now)) (λ n. ForTry n (λ built. (result ≡ status_of_ending (trial_of built.image).ended)
+        × AppendsAll (O.told out.old) (O.told out.new) (try_lines n built) × AppendsAll (N.told note.old) (N.told note.new) (hex_text built.image))) }
+    ensures tried_front { result ≡ Status.WriteFault → OnTry (command_of (words_in words.now)) (λ n. ForTry n (λ built.
+        AppendsFront (O.told out.old) (O.told out.new) (try_lines n built))) }
+
     // What may fail, and what nothing was put for.
     ensures write_fault { result ≡ Status.WriteFault → Rose (O.faults out.old) (O.faults out.new) ⊎ Rose (N.faults note.old) (N.faults note.new) }
     ensures out_none { PutsNothing (command_of (words_in words.now)) result → O.told out.new ≡ O.told out.old }
@@ -217,6 +238,7 @@ fn obey<S: Shelf, O: Sink, N: Sink>(
 ) -> Status
     requires steps { HasSteps (command_in command) }
     requires stack { HasStack (command_in command) }
+    requires objects { HasObjects (command_in command) }
     ensures fetched { FetchedBy result (S.asked shelf.old) (S.asked shelf.new) (requests_of (Some (command_in command.entry))) }
     ensures read { result ≡ Status.ReadFault → Rose (S.faults shelf.old) (S.faults shelf.new) }
     ensures holds { AnswerBy (Some (command_in command.entry)) result (S.told shelf.old)
@@ -237,6 +259,7 @@ fn obey<S: Shelf, O: Sink, N: Sink>(
         } => run_session(alloc, file, script, steps, shelf, out),
         Command::Sim { hex, script, steps } => run_sim(alloc, hex, script, steps, shelf, out),
         Command::Why { file, member } => run_why(alloc, file, member, shelf, out),
+        Command::Try { objects } => run_try(alloc, objects, out, note),
     }
 }
 

@@ -8,6 +8,7 @@ mod lines;
 mod session;
 mod sim;
 mod status;
+mod trial;
 mod why;
 
 pub use call::run;

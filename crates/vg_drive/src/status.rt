@@ -7,7 +7,7 @@ use vg_hex::HexFault;
 /// How a call of the program ends.
 #[derive(Drop)]
 pub enum Status {
-    /// All was put. The session of `run` idles and the machine of `sim` sleeps, and no interrupt is left.
+    /// All was put. The session of `run` idles and the machine of `sim` and of `try` sleeps, and no interrupt is left.
     Done,
     /// The source text was refused.
     Refused(Fault),
@@ -25,7 +25,7 @@ pub enum Status {
     Stopped(u8),
     /// It reads the device register at this data address, and no read is left.
     Wants(u8),
-    /// `run`: a tick was due, and as many were spent as were allowed. `sim`: as many instructions ran, and none of them ended the run.
+    /// `run`: a tick was due, and as many were spent as were allowed. `sim` and `try`: as many instructions ran, and none of them ended the run.
     Budget,
     /// The session has opened a 401st active call.
     Depth,

@@ -9,7 +9,7 @@ use Rattle.vg_lin.specs.declared.instr.Operator.{Operator}
 use Rattle.vg_lin.specs.declared.instr.Operator.TheVariants.{Plus, Minus, Times, Divide, Remainder, And, Or, Xor, ShiftLeft, ShiftRight}
 use Rattle.vg_lin.specs.declared.instr.Computation.{Computation}
 use Rattle.vg_lin.specs.declared.instr.Plain.{Plain as PlainInstr}
-use Rattle.vg_lin.specs.declared.instr.Plain.TheVariants.{Copy, Compute, Product, DivideStep, Load, Store, ReadDevice, WriteDevice, Push, Pop, Find, CodeOf, Stop}
+use Rattle.vg_lin.specs.declared.instr.Plain.TheVariants.{Copy, Compute, Product, DivideSteps, Load, Store, ReadDevice, WriteDevice, Push, Pop, Find, CodeOf, Stop}
 use Rattle.vg_lin.specs.declared.instr.Registers.TheVariants.{Two}
 use Rattle.vg_lin.specs.declared.instr.Instr.{Instr}
 use Rattle.vg_lin.specs.declared.instr.Instr.TheVariants.{Plain, When, Unless, Jump, Call, Return, Idle}
@@ -51,7 +51,7 @@ module _ (first : ℕ) (m : Procedure) (sound : IsSound m) where
       subst (λ k. Does first now (place at) k c) (sym (place_next its_base m.code at _ e))
       (computing_does first now (place at) c.width c.to c.left c.right sound.widths hw to c.operator st)
   plain_stands at (Product to a b) e st ok = (st.0, next_is at _ e refl)
-  plain_stands at (DivideStep r d a) e st ok = (st.0, next_is at _ e refl)
+  plain_stands at (DivideSteps r d a) e st ok = (st.0, next_is at _ e refl)
   plain_stands at (Load x w to a) e st ok = (st.0, next_is at _ e refl)
   plain_stands at (Store w a from) e st ok = (st.0, next_is at _ e refl)
   plain_stands at (ReadDevice to a) e st ok = (st.0, next_is at _ e refl)
@@ -181,7 +181,7 @@ at_simple : (base : Base) (place : ℕ → ℕ) (i : Instr) → are_simple (expa
 at_simple base place (Plain (Copy to a)) = refl
 at_simple base place (Plain (Compute c)) = computing_simple base c.width c.to c.left c.right c.operator
 at_simple base place (Plain (Product to a b)) = refl
-at_simple base place (Plain (DivideStep r d a)) = refl
+at_simple base place (Plain (DivideSteps r d a)) = refl
 at_simple base place (Plain (Load m w to a)) = refl
 at_simple base place (Plain (Store w a from)) = refl
 at_simple base place (Plain (ReadDevice to a)) = refl
@@ -236,7 +236,7 @@ pub size_small : (base : Base) (i : Instr) → size base i ≤ 2
 size_small base (Plain (Copy to a)) = omega arith
 size_small base (Plain (Compute c)) = computing_small base c c.operator
 size_small base (Plain (Product to a b)) = omega arith
-size_small base (Plain (DivideStep r d a)) = omega arith
+size_small base (Plain (DivideSteps r d a)) = omega arith
 size_small base (Plain (Load m w to a)) = omega arith
 size_small base (Plain (Store w a from)) = omega arith
 size_small base (Plain (ReadDevice to a)) = omega arith

@@ -9,7 +9,7 @@ use Rattle.vg_lin.specs.declared.instr.Operator.{Operator}
 use Rattle.vg_lin.specs.declared.instr.Operator.TheVariants.{Plus, Minus, Times, Divide, Remainder, And, Or, Xor, ShiftLeft, ShiftRight}
 use Rattle.vg_lin.specs.declared.instr.Computation.{Computation}
 use Rattle.vg_lin.specs.declared.instr.Plain.{Plain as PlainInstr}
-use Rattle.vg_lin.specs.declared.instr.Plain.TheVariants.{Copy, Compute, Product, DivideStep, Load, Store, ReadDevice, WriteDevice, Push, Pop, Find, CodeOf, Stop}
+use Rattle.vg_lin.specs.declared.instr.Plain.TheVariants.{Copy, Compute, Product, DivideSteps, Load, Store, ReadDevice, WriteDevice, Push, Pop, Find, CodeOf, Stop}
 use Rattle.vg_lin.specs.declared.instr.Callee.TheVariants.{Procedure as ByNumber}
 use Rattle.vg_lin.specs.declared.instr.Registers.{Registers}
 use Rattle.vg_lin.specs.declared.instr.Registers.TheVariants.{Two, Three}
@@ -85,7 +85,7 @@ at_calls : (base : Base) (place : ℕ → ℕ) (i : Instr) → calls_of base.fir
 at_calls base place (Plain (Copy to a)) = refl
 at_calls base place (Plain (Compute c)) = computing_calls base c c.operator
 at_calls base place (Plain (Product to a b)) = refl
-at_calls base place (Plain (DivideStep r d a)) = refl
+at_calls base place (Plain (DivideSteps r d a)) = refl
 at_calls base place (Plain (Load m w to a)) = refl
 at_calls base place (Plain (Store w a from)) = refl
 at_calls base place (Plain (ReadDevice to a)) = refl
@@ -181,7 +181,7 @@ module _ (first : ℕ) (m : Procedure) (sound : IsSound m) where
       (one_of (IsOfComputation (expanded first m)) (computing its_base c c.operator) k x
       (computing_is first m c.width c.to c.left c.right hw ht hl hr c.operator) f)
   plain_leads at k (Product to a b) x h f = alone (λ n y. leads_on (place_of its_base m.code at + n) y ≡ true) (Plain (Product to a b)) k x f refl
-  plain_leads at k (DivideStep r d a) x h f = alone (λ n y. leads_on (place_of its_base m.code at + n) y ≡ true) (Plain (DivideStep r d a)) k x f refl
+  plain_leads at k (DivideSteps r d a) x h f = alone (λ n y. leads_on (place_of its_base m.code at + n) y ≡ true) (Plain (DivideSteps r d a)) k x f refl
   plain_leads at k (Load y w to a) x h f = alone (λ n y. leads_on (place_of its_base m.code at + n) y ≡ true) (Plain (Load y w to a)) k x f refl
   plain_leads at k (Store w a from) x h f = alone (λ n y. leads_on (place_of its_base m.code at + n) y ≡ true) (Plain (Store w a from)) k x f refl
   plain_leads at k (ReadDevice to a) x h f = alone (λ n y. leads_on (place_of its_base m.code at + n) y ≡ true) (Plain (ReadDevice to a)) k x f refl

@@ -4,14 +4,15 @@ use Rattle.std.proofs.Common.{refl, subst, arith}
 use Rattle.std.proofs.Math.Nat.{one-le-pow, mod-lt}
 use Rattle.vg_meaning.specs.Outside.{Outside}
 use Rattle.vg_lin.specs.declared.instr.Memory.TheVariants.{Ram}
+use Rattle.vg_lin.specs.declared.instr.Operand.{Operand}
 use Rattle.vg_lin.specs.declared.instr.Operand.TheVariants.{Local}
 use Rattle.vg_lin.specs.declared.instr.Target.{Target}
 use Rattle.vg_lin.specs.declared.instr.Plain.{Plain as PlainInstr}
-use Rattle.vg_lin.specs.declared.instr.Plain.TheVariants.{Copy, Compute, Product, DivideStep, Load, Store, ReadDevice, WriteDevice, Push, Pop, Find, CodeOf, Stop}
-use Rattle.vg_lin.specs.Values.{low, computed}
+use Rattle.vg_lin.specs.declared.instr.Plain.TheVariants.{Copy, Compute, Product, DivideSteps, Load, Store, ReadDevice, WriteDevice, Push, Pop, Find, CodeOf, Stop}
+use Rattle.vg_lin.specs.Values.{low, computed, next_remainder, next_dividend}
 use Rattle.vg_lin.specs.Steps.{Awaits, Result, Interrupt, Went, Goes, Raises, Lacks, Fails}
 use Rattle.vg_lin.specs.Program.{Program}
-use Rattle.vg_lin.specs.State.{LocalState, Waiting, State, using, value, sets, with_local, pops_from, number_at, index_of, loaded, stores, reads_from, plain}
+use Rattle.vg_lin.specs.State.{LocalState, Waiting, State, using, value, sets, with_local, pops_from, number_at, index_of, loaded, stores, reads_from, division_steps, divides, plain}
 use Rattle.vg_codes.specs.Dispatch.{dispatched}
 use Rattle.vg_lin.specs.Meaning.{with_result}
 use Rattle.vg_lin.specs.Meaning.{begun, resume}
@@ -62,6 +63,13 @@ pops_keep ws (x ∷ xs) width to s o h = by_test (x.width == width)
     by_test true = sets_holds ws s.locals to x.value h
     by_test false = tt {0}
 
+divides_keep : (ws : List ℕ) (n r d : ℕ) (a : Operand) (s : State) (o : Outside) → Holds ws s.locals → Keeps ws (divides n r d a s o)
+divides_keep ws zero r d a s o h = h
+divides_keep ws (suc n) r d a s o h =
+    using_keeps ws (value (Local r) s) _ (λ x. using_keeps ws (value (Local d) s) _ (λ y. using_keeps ws (value a s) _ (λ z.
+    divides_keep ws n r d a (sets d (next_dividend x y z) (sets r (next_remainder x y z) s)) o
+    (sets_holds ws (with_local s.locals r _) d _ (sets_holds ws s.locals r _ h)))))
+
 pub plain_keeps : (p : Program) (i : PlainInstr) (ws : List ℕ) (s : State) (o : Outside) → Holds ws s.locals → Keeps ws (plain p i s o)
 plain_keeps p (Copy to a) ws s o h = using_keeps ws (value a s) _ (λ x. sets_holds ws s.locals to x h)
 plain_keeps p (Compute c) ws s o h =
@@ -69,9 +77,7 @@ plain_keeps p (Compute c) ws s o h =
     using_keeps ws (computed c.operator c.width x y) _ (λ z. sets_holds ws s.locals c.to z h)))
 plain_keeps p (Product to a b) ws s o h =
     using_keeps ws (value a s) _ (λ x. using_keeps ws (value b s) _ (λ y. sets_holds ws s.locals to (low 1 x * low 1 y) h))
-plain_keeps p (DivideStep r d a) ws s o h =
-    using_keeps ws (value (Local r) s) _ (λ x. using_keeps ws (value (Local d) s) _ (λ y. using_keeps ws (value a s) _ (λ v.
-    sets_holds ws (with_local s.locals r _) d _ (sets_holds ws s.locals r _ h))))
+plain_keeps p (DivideSteps r d a) ws s o h = divides_keep ws division_steps r d a s o h
 plain_keeps p (Load m w to a) ws s o h =
     using_keeps ws (value a.index s) _ (λ i. using_keeps ws (loaded p m s w (index_of m (a.base + i))) _ (λ x. sets_holds ws s.locals to x h))
 plain_keeps p (Store w a from) ws s o h =

@@ -12,7 +12,7 @@ use Rattle.vg_lin.specs.declared.instr.Operator.TheVariants.{Plus, Minus, Times,
 use Rattle.vg_lin.specs.declared.instr.Computation.{Computation}
 use Rattle.vg_lin.specs.declared.instr.Test.{Test}
 use Rattle.vg_lin.specs.declared.instr.Plain.{Plain as PlainInstr}
-use Rattle.vg_lin.specs.declared.instr.Plain.TheVariants.{Copy, Compute, Product, DivideStep, Load, Store, ReadDevice, WriteDevice, Push, Pop, Find, CodeOf, Stop}
+use Rattle.vg_lin.specs.declared.instr.Plain.TheVariants.{Copy, Compute, Product, DivideSteps, Load, Store, ReadDevice, WriteDevice, Push, Pop, Find, CodeOf, Stop}
 use Rattle.vg_lin.specs.declared.instr.Passed.{Passed}
 use Rattle.vg_lin.specs.declared.instr.Target.{Target}
 use Rattle.vg_lin.specs.declared.instr.Callee.{Callee}
@@ -103,7 +103,7 @@ pub size_some : (base : Base) (i : Instr) → 0 < size base i
 size_some base (Plain (Copy to a)) = omega arith
 size_some base (Plain (Compute c)) = computing_some base c c.operator
 size_some base (Plain (Product to a b)) = omega arith
-size_some base (Plain (DivideStep r d a)) = omega arith
+size_some base (Plain (DivideSteps r d a)) = omega arith
 size_some base (Plain (Load m w to a)) = omega arith
 size_some base (Plain (Store w a from)) = omega arith
 size_some base (Plain (ReadDevice to a)) = omega arith
@@ -153,7 +153,7 @@ plain_now : (first : ℕ) (m : Procedure) (p : PlainInstr) → IsPlain m p → I
 plain_now first m (Copy to a) (h, g) = (h, operand_now first m a g)
 plain_now first m (Compute c) (w, h, a, b) = (w, h, operand_now first m c.left a, operand_now first m c.right b)
 plain_now first m (Product to a b) (h, f, g) = (h, operand_now first m a f, operand_now first m b g)
-plain_now first m (DivideStep r d a) (h, f, n, g) = (h, f, n, operand_now first m a g)
+plain_now first m (DivideSteps r d a) (h, f, n, g) = (h, f, n, operand_now first m a g)
 plain_now first m (Load x w to a) (h, f, g) = (h, f, operand_now first m a.index g)
 plain_now first m (Store w a from) (h, f, g) = (h, operand_now first m a.index f, operand_now first m from g)
 plain_now first m (ReadDevice to a) h = h
@@ -280,7 +280,7 @@ operands_of : (m : Procedure) (x : Instr) → IsOfComputation m x → AreOperand
 operands_of m (Plain (Copy to a)) h = h
 operands_of m (Plain (Compute c)) h = h
 operands_of m (Plain (Product to a b)) h = h
-operands_of m (Plain (DivideStep r d a)) h = absurd h
+operands_of m (Plain (DivideSteps r d a)) h = absurd h
 operands_of m (Plain (Load x w to a)) h = absurd h
 operands_of m (Plain (Store w a from)) h = absurd h
 operands_of m (Plain (ReadDevice to a)) h = absurd h
@@ -301,7 +301,7 @@ waits_of : (m : Procedure) (ws : ℕ → List ℕ) (j : ℕ) (x : Instr) → IsO
 waits_of m ws j (Plain (Copy to a)) h g = g
 waits_of m ws j (Plain (Compute c)) h g = g
 waits_of m ws j (Plain (Product to a b)) h g = g
-waits_of m ws j (Plain (DivideStep r d a)) h g = absurd h
+waits_of m ws j (Plain (DivideSteps r d a)) h g = absurd h
 waits_of m ws j (Plain (Load x w to a)) h g = absurd h
 waits_of m ws j (Plain (Store w a from)) h g = absurd h
 waits_of m ws j (Plain (ReadDevice to a)) h g = absurd h
@@ -338,7 +338,7 @@ leaves : (m : Procedure) (x : Instr) (held : List ℕ) → IsOfComputation m x �
 leaves m (Plain (Copy to a)) held h = refl
 leaves m (Plain (Compute c)) held h = refl
 leaves m (Plain (Product to a b)) held h = refl
-leaves m (Plain (DivideStep r d a)) held h = absurd h
+leaves m (Plain (DivideSteps r d a)) held h = absurd h
 leaves m (Plain (Load x w to a)) held h = absurd h
 leaves m (Plain (Store w a from)) held h = absurd h
 leaves m (Plain (ReadDevice to a)) held h = absurd h
@@ -392,7 +392,7 @@ module _ (first : ℕ) (m : Procedure) (sound : IsSound m) where
   one_plain (Copy to a) held h = refl
   one_plain (Compute c) held h = leave now (computing base c c.operator) held (length (computing base c c.operator)) (plain_computes c h) (omega arith)
   one_plain (Product to a b) held h = refl
-  one_plain (DivideStep r d a) held h = refl
+  one_plain (DivideSteps r d a) held h = refl
   one_plain (Load x w to a) held h = refl
   one_plain (Store w a from) held h = refl
   one_plain (ReadDevice to a) held h = refl
@@ -422,7 +422,7 @@ module _ (first : ℕ) (m : Procedure) (sound : IsSound m) where
   within_plain (Copy to a) held k h g = first_of (Plain (Copy to a)) held k refl g
   within_plain (Compute c) held k h g = leave now (computing base c c.operator) held k (plain_computes c h) (omega (arith, g))
   within_plain (Product to a b) held k h g = first_of (Plain (Product to a b)) held k refl g
-  within_plain (DivideStep r d a) held k h g = first_of (Plain (DivideStep r d a)) held k refl g
+  within_plain (DivideSteps r d a) held k h g = first_of (Plain (DivideSteps r d a)) held k refl g
   within_plain (Load x w to a) held k h g = first_of (Plain (Load x w to a)) held k refl g
   within_plain (Store w a from) held k h g = first_of (Plain (Store w a from)) held k refl g
   within_plain (ReadDevice to a) held k h g = first_of (Plain (ReadDevice to a)) held k refl g
@@ -559,7 +559,7 @@ module _ (first : ℕ) (m : Procedure) (sound : IsSound m) where
   plain_kept at (Copy to a) e g h = goes_next at _ _ e g (subst (GoesOn m ws (suc at)) (sym (here at _ e)) h)
   plain_kept at (Compute c) e g h = goes_next at _ _ e g (subst (GoesOn m ws (suc at)) (sym (here at _ e)) h)
   plain_kept at (Product to a b) e g h = goes_next at _ _ e g (subst (GoesOn m ws (suc at)) (sym (here at _ e)) h)
-  plain_kept at (DivideStep r d a) e g h = goes_next at _ _ e g (subst (GoesOn m ws (suc at)) (sym (here at _ e)) h)
+  plain_kept at (DivideSteps r d a) e g h = goes_next at _ _ e g (subst (GoesOn m ws (suc at)) (sym (here at _ e)) h)
   plain_kept at (Load x w to a) e g h = goes_next at _ _ e g (subst (GoesOn m ws (suc at)) (sym (here at _ e)) h)
   plain_kept at (Store w a from) e g h = goes_next at _ _ e g (subst (GoesOn m ws (suc at)) (sym (here at _ e)) h)
   plain_kept at (ReadDevice to a) e g h = goes_next at _ _ e g (subst (GoesOn m ws (suc at)) (sym (here at _ e)) h)
@@ -592,10 +592,10 @@ module _ (first : ℕ) (m : Procedure) (sound : IsSound m) where
     plain_kept at
         (Product to a b) e refl g,
   )
-  plain_owes at k (DivideStep r d a) x e h g f = alone (λ n. Owes (place at + n)) _ k x f (
-    plain_now first m (DivideStep r d a) h,
+  plain_owes at k (DivideSteps r d a) x e h g f = alone (λ n. Owes (place at + n)) _ k x f (
+    plain_now first m (DivideSteps r d a) h,
     plain_kept at
-        (DivideStep r d a) e refl g,
+        (DivideSteps r d a) e refl g,
   )
   plain_owes at k (Load y w to a) x e h g f = alone (λ n. Owes (place at + n)) _ k x f (
     plain_now first m (Load y w to a) h,

@@ -3,7 +3,7 @@
 use Rattle.std.specs.Prelude.{ℕ, zero, suc, ◌+◌, ◌<◌, List, [], ◌∷◌, ◌++◌, length, Some}
 use Rattle.std.specs.Prelude.{slice_get, get_or}
 use Rattle.std.proofs.Common.{◌≡◌, refl, ap, ◌∙◌, subst, arith}
-use Rattle.vg_lin.specs.declared.instr.Plain.TheVariants.{Copy, Compute, Product, DivideStep, Load, Store, ReadDevice, WriteDevice, Push, Pop, Find, CodeOf, Stop}
+use Rattle.vg_lin.specs.declared.instr.Plain.TheVariants.{Copy, Compute, Product, DivideSteps, Load, Store, ReadDevice, WriteDevice, Push, Pop, Find, CodeOf, Stop}
 use Rattle.vg_lin.specs.declared.instr.Instr.{Instr}
 use Rattle.vg_lin.specs.declared.instr.Instr.TheVariants.{Plain, When, Unless, Jump, Call, Return, Idle}
 use Rattle.vg_arith.proofs.ShiftRoutines.{some_is}
@@ -16,7 +16,7 @@ pub size_is : (base : Base) (place : ℕ → ℕ) (i : Instr) → length (expand
 size_is base place (Plain (Copy to a)) = refl
 size_is base place (Plain (Compute c)) = refl
 size_is base place (Plain (Product to a b)) = refl
-size_is base place (Plain (DivideStep r d a)) = refl
+size_is base place (Plain (DivideSteps r d a)) = refl
 size_is base place (Plain (Load m w to a)) = refl
 size_is base place (Plain (Store w a from)) = refl
 size_is base place (Plain (ReadDevice to a)) = refl

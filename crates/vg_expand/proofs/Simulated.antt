@@ -11,7 +11,7 @@ use Rattle.vg_meaning.specs.Answer.{End, Stops, Wants, Done, Wrong}
 use Rattle.vg_lin.specs.declared.instr.Operand.{Operand}
 use Rattle.vg_lin.specs.declared.instr.Computation.{Computation}
 use Rattle.vg_lin.specs.declared.instr.Plain.{Plain as PlainInstr}
-use Rattle.vg_lin.specs.declared.instr.Plain.TheVariants.{Copy, Compute, Product, DivideStep, Load, Store, ReadDevice, WriteDevice, Push, Pop, Find, CodeOf, Stop}
+use Rattle.vg_lin.specs.declared.instr.Plain.TheVariants.{Copy, Compute, Product, DivideSteps, Load, Store, ReadDevice, WriteDevice, Push, Pop, Find, CodeOf, Stop}
 use Rattle.vg_lin.specs.declared.instr.Callee.{Callee}
 use Rattle.vg_lin.specs.declared.instr.Callee.TheVariants.{Procedure as ByNumber, Code as ByCode}
 use Rattle.vg_lin.specs.declared.instr.Memory.TheVariants.{Ram, Flash}
@@ -98,7 +98,7 @@ module _ (first : ℕ) (p : Program) (ms : List Procedure) (all : AllExpand firs
   plain_same (Copy to a) s o = refl
   plain_same (Compute c) s o = refl
   plain_same (Product to a b) s o = refl
-  plain_same (DivideStep r d a) s o = refl
+  plain_same (DivideSteps r d a) s o = refl
   plain_same (Load Ram w to a) s o = refl
   plain_same (Load Flash w to a) s o = refl
   plain_same (Store w a from) s o = refl
@@ -345,7 +345,7 @@ module _ (first : ℕ) (p : Program) (ms : List Procedure) (all : AllExpand firs
     plain_step (Copy to a) k = kept_plain (Copy to a) k
     plain_step (Compute i) k = computation i k
     plain_step (Product to a b) k = kept_plain (Product to a b) k
-    plain_step (DivideStep r e a) k = kept_plain (DivideStep r e a) k
+    plain_step (DivideSteps r e a) k = kept_plain (DivideSteps r e a) k
     plain_step (Load m w to a) k = kept_plain (Load m w to a) k
     plain_step (Store w a from) k = kept_plain (Store w a from) k
     plain_step (ReadDevice to address) k = kept_plain (ReadDevice to address) k

@@ -10,7 +10,7 @@ use Rattle.vg_lin.specs.declared.instr.Computation.{Computation}
 use Rattle.vg_lin.specs.declared.instr.Registers.{Registers}
 use Rattle.vg_lin.specs.declared.instr.Registers.TheVariants.{Two, Three}
 use Rattle.vg_lin.specs.declared.instr.Plain.{Plain as PlainInstr}
-use Rattle.vg_lin.specs.declared.instr.Plain.TheVariants.{Copy, Compute, Product, DivideStep, Load, Store, ReadDevice, WriteDevice}
+use Rattle.vg_lin.specs.declared.instr.Plain.TheVariants.{Copy, Compute, Product, DivideSteps, Load, Store, ReadDevice, WriteDevice}
 use Rattle.vg_lin.specs.declared.instr.Plain.TheVariants.{Push, Pop, Find, CodeOf, Stop}
 use Rattle.vg_lin.specs.declared.instr.Instr.{Instr}
 use Rattle.vg_lin.specs.declared.instr.Instr.TheVariants.{Plain, When, Unless, Jump, Call, Return, Idle}
@@ -99,7 +99,7 @@ module _ (p : Program) where
   made_plain base (Compute c) h = made_computing base c c.operator
   made_plain base (Copy to a) h = (h, tt)
   made_plain base (Product to a b) h = (h, tt)
-  made_plain base (DivideStep r d a) h = (h, tt)
+  made_plain base (DivideSteps r d a) h = (h, tt)
   made_plain base (Load m w to a) h = (h, tt)
   made_plain base (Store w a from) h = (h, tt)
   made_plain base (ReadDevice to address) h = (h, tt)
@@ -133,7 +133,7 @@ module _ (p : Program) where
 
 -- It names no device and no dispatch, and divides by no known value.
 abbrev is_quiet : Instr → Bool
-is_quiet (Plain (DivideStep r d (Known x))) = false
+is_quiet (Plain (DivideSteps r d (Known x))) = false
 is_quiet (Plain (ReadDevice to address)) = false
 is_quiet (Plain (WriteDevice address a)) = false
 is_quiet (Plain (Find place to a)) = false
@@ -151,8 +151,8 @@ module _ (p : Program) where
   quiet_made (Plain (Copy to a)) e = tt
   quiet_made (Plain (Compute c)) e = tt
   quiet_made (Plain (Product to a b)) e = tt
-  quiet_made (Plain (DivideStep r d (Local k))) e = tt
-  quiet_made (Plain (DivideStep r d (Known x))) e = noisy e
+  quiet_made (Plain (DivideSteps r d (Local k))) e = tt
+  quiet_made (Plain (DivideSteps r d (Known x))) e = noisy e
   quiet_made (Plain (Load m w to a)) e = tt
   quiet_made (Plain (Store w a from)) e = tt
   quiet_made (Plain (ReadDevice to address)) e = noisy e

@@ -13,7 +13,7 @@ use Rattle.vg_lin.specs.declared.instr.Operand.TheVariants.{Local, Known}
 use Rattle.vg_lin.specs.declared.instr.Operator.{Operator}
 use Rattle.vg_lin.specs.declared.instr.Operator.TheVariants.{Plus, Minus, Times, Divide, Remainder, And, Or, Xor, ShiftLeft, ShiftRight}
 use Rattle.vg_lin.specs.declared.instr.Plain.{Plain as PlainInstr}
-use Rattle.vg_lin.specs.declared.instr.Plain.TheVariants.{Copy, Compute, Product, DivideStep, Load as Loads, Store as Stores, ReadDevice as ReadsDevice}
+use Rattle.vg_lin.specs.declared.instr.Plain.TheVariants.{Copy, Compute, Product, DivideSteps, Load as Loads, Store as Stores, ReadDevice as ReadsDevice}
 use Rattle.vg_lin.specs.declared.instr.Plain.TheVariants.{WriteDevice as WritesDevice, Push, Pop, Find, CodeOf, Stop}
 use Rattle.vg_lin.specs.declared.instr.Instr.{Instr}
 use Rattle.vg_lin.specs.declared.instr.Instr.TheVariants.{Plain, When, Unless, Jump, Call as Calls, Return as Returns, Idle as Idles}
@@ -96,7 +96,7 @@ module _ (p : Program) where
   plain_made (Copy to a) h = tt
   plain_made (Compute c) h = tt
   plain_made (Product to a b) h = tt
-  plain_made (DivideStep r d a) h = h
+  plain_made (DivideSteps r d a) h = h
   plain_made (Loads m w to a) h = tt
   plain_made (Stores w a from) h = tt
   plain_made (ReadsDevice to address) h = h
@@ -155,7 +155,7 @@ module _ (p : Program) where
   plain_fit (Copy to a) e h = tt
   plain_fit (Compute c) e h = no_routine c.operator c.right e
   plain_fit (Product to a b) e h = tt
-  plain_fit (DivideStep r d a) e h = h
+  plain_fit (DivideSteps r d a) e h = h
   plain_fit (Loads m w to a) e h = tt
   plain_fit (Stores w a from) e h = tt
   plain_fit (ReadsDevice to address) e h = h

@@ -5,7 +5,7 @@ use Rattle.std.proofs.Common.{◌≡◌, ◌≢◌, refl, sym, ap, ◌∙◌, su
 use Rattle.std.proofs.lemmas.List.{length-append, length-map, append_assoc}
 use Rattle.vg_lin.specs.declared.instr.Operand.{Operand}
 use Rattle.vg_lin.specs.declared.instr.Plain.{Plain as PlainInstr}
-use Rattle.vg_lin.specs.declared.instr.Plain.TheVariants.{Copy, Compute, Product, DivideStep, Load, Store, ReadDevice, WriteDevice, Push, Pop, Find, CodeOf, Stop}
+use Rattle.vg_lin.specs.declared.instr.Plain.TheVariants.{Copy, Compute, Product, DivideSteps, Load, Store, ReadDevice, WriteDevice, Push, Pop, Find, CodeOf, Stop}
 use Rattle.vg_lin.specs.declared.instr.Passed.{Passed}
 use Rattle.vg_lin.specs.declared.instr.Call.{Call as Calling}
 use Rattle.vg_lin.specs.declared.instr.Instr.TheVariants.{Plain, When, Unless, Jump, Call}
@@ -88,7 +88,7 @@ module _ (L : Type 0) (given size : ℕ) (W : ℕ → List ℕ) (high : ℕ) whe
   plain_behind (Copy to a) xs h = refl
   plain_behind (Compute c) xs h = refl
   plain_behind (Product to a b) xs h = refl
-  plain_behind (DivideStep a b c) xs h = refl
+  plain_behind (DivideSteps a b c) xs h = refl
   plain_behind (Load m w to a) xs h = refl
   plain_behind (Store w a from) xs h = refl
   plain_behind (ReadDevice to a) xs h = refl
@@ -103,7 +103,7 @@ module _ (L : Type 0) (given size : ℕ) (W : ℕ → List ℕ) (high : ℕ) whe
   plain_within (Copy to a) at h e = e
   plain_within (Compute c) at h e = e
   plain_within (Product to a b) at h e = e
-  plain_within (DivideStep a b c) at h e = e
+  plain_within (DivideSteps a b c) at h e = e
   plain_within (Load m w to a) at h e = e
   plain_within (Store w a from) at h e = e
   plain_within (ReadDevice to a) at h e = e

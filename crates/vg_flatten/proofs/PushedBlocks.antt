@@ -3,7 +3,7 @@ use Rattle.std.specs.Prelude.{ℕ, zero, suc, ◌+◌, ◌<◌, ◌≤◌, Bool,
 use Rattle.std.proofs.Common.{◌≡◌, refl, sym, ap, ◌∙◌, subst, arith}
 use Rattle.vg_lin.specs.declared.instr.Operand.{Operand}
 use Rattle.vg_lin.specs.declared.instr.Plain.{Plain as PlainInstr}
-use Rattle.vg_lin.specs.declared.instr.Plain.TheVariants.{Copy, Compute, Product, DivideStep, Load, Store, ReadDevice, WriteDevice, Push, Pop, Find, CodeOf, Stop}
+use Rattle.vg_lin.specs.declared.instr.Plain.TheVariants.{Copy, Compute, Product, DivideSteps, Load, Store, ReadDevice, WriteDevice, Push, Pop, Find, CodeOf, Stop}
 use Rattle.vg_lin.specs.Meaning.{operands}
 use Rattle.vg_flatten_shapes.specs.Shapes.{Shape}
 use Rattle.vg_flatten_shapes.specs.Blocks.{Block, Skip, One, CallTo, TakeInterrupt, GiveBack, BreakOut, GoOn, Both, Choice, Repeat}
@@ -40,7 +40,7 @@ plain_on : (size n : ℕ) (p : PlainInstr) → IsPlainIn size p → PlainOn size
 plain_on size n (Copy to a) h = (h, refl)
 plain_on size n (Compute c) h = (h, refl)
 plain_on size n (Product to a b) h = (h, refl)
-plain_on size n (DivideStep a b c) h = (h, refl)
+plain_on size n (DivideSteps a b c) h = (h, refl)
 plain_on size n (Load m w to a) h = (h, refl)
 plain_on size n (Store w a from) h = (h, refl)
 plain_on size n (ReadDevice to a) h = (h, refl)

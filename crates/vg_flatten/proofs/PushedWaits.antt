@@ -5,7 +5,7 @@ use Rattle.std.proofs.Common.{◌≡◌, ◌≢◌, refl, sym, ap, ◌∙◌, su
 use Rattle.std.proofs.lemmas.List.{length-append, length-map, append_assoc}
 use Rattle.vg_lin.specs.declared.instr.Operand.{Operand}
 use Rattle.vg_lin.specs.declared.instr.Plain.{Plain as PlainInstr}
-use Rattle.vg_lin.specs.declared.instr.Plain.TheVariants.{Copy, Compute, Product, DivideStep, Load, Store, ReadDevice, WriteDevice, Push, Pop, Find, CodeOf, Stop}
+use Rattle.vg_lin.specs.declared.instr.Plain.TheVariants.{Copy, Compute, Product, DivideSteps, Load, Store, ReadDevice, WriteDevice, Push, Pop, Find, CodeOf, Stop}
 use Rattle.vg_lin.specs.declared.instr.Passed.{Passed}
 use Rattle.vg_lin.specs.declared.instr.Call.{Call as Calling}
 use Rattle.vg_lin.specs.declared.instr.Instr.TheVariants.{Plain, When, Unless, Jump, Call, Return, Idle}
@@ -89,7 +89,7 @@ module _ (L : Type 0) (given size : ℕ) (W : ℕ → List ℕ) (high : ℕ) whe
   plain_left n m (Copy to a) at h e k = k ∙ e ∙ ap fours h.1
   plain_left n m (Compute c) at h e k = k ∙ e ∙ ap fours h.1
   plain_left n m (Product to a b) at h e k = k ∙ e ∙ ap fours h.1
-  plain_left n m (DivideStep a b c) at h e k = k ∙ e ∙ ap fours h.1
+  plain_left n m (DivideSteps a b c) at h e k = k ∙ e ∙ ap fours h.1
   plain_left n m (Load x w to a) at h e k = k ∙ e ∙ ap fours h.1
   plain_left n m (Store w a from) at h e k = k ∙ e ∙ ap fours h.1
   plain_left n m (ReadDevice to a) at h e k = k ∙ e ∙ ap fours h.1
@@ -104,7 +104,7 @@ module _ (L : Type 0) (given size : ℕ) (W : ℕ → List ℕ) (high : ℕ) whe
   plain_has n m (Copy to a) at h e = tt
   plain_has n m (Compute c) at h e = tt
   plain_has n m (Product to a b) at h e = tt
-  plain_has n m (DivideStep a b c) at h e = tt
+  plain_has n m (DivideSteps a b c) at h e = tt
   plain_has n m (Load x w to a) at h e = tt
   plain_has n m (Store w a from) at h e = tt
   plain_has n m (ReadDevice to a) at h e = tt

@@ -8,7 +8,7 @@ use Rattle.vg_lin.specs.declared.instr.Operand.{Operand}
 use Rattle.vg_lin.specs.declared.instr.Operand.TheVariants.{Local, Known}
 use Rattle.vg_lin.specs.declared.instr.Test.{Test}
 use Rattle.vg_lin.specs.declared.instr.Plain.{Plain as PlainInstr}
-use Rattle.vg_lin.specs.declared.instr.Plain.TheVariants.{Copy, Compute, Product, DivideStep, Load, Store, ReadDevice, WriteDevice, Push, Pop, Find, CodeOf, Stop}
+use Rattle.vg_lin.specs.declared.instr.Plain.TheVariants.{Copy, Compute, Product, DivideSteps, Load, Store, ReadDevice, WriteDevice, Push, Pop, Find, CodeOf, Stop}
 use Rattle.vg_lin.specs.declared.instr.Passed.{Passed}
 use Rattle.vg_lin.specs.declared.instr.Target.{Target}
 use Rattle.vg_lin.specs.declared.instr.Call.{Call as Calling}
@@ -72,7 +72,7 @@ module _ (L : Type 0) (given size : ℕ) where
   in_plain n m (Copy to a) h = h.0
   in_plain n m (Compute c) h = h.0
   in_plain n m (Product to a b) h = h.0
-  in_plain n m (DivideStep a b c) h = h.0
+  in_plain n m (DivideSteps a b c) h = h.0
   in_plain n m (Load x w to a) h = h.0
   in_plain n m (Store w a from) h = h.0
   in_plain n m (ReadDevice to a) h = h.0
@@ -218,7 +218,7 @@ module _ (p : Procedure) where
   plain_in (ReadDevice to address) h = h
   plain_in (WriteDevice address a) h = operand_in a h
   plain_in (Product to a b) h = absurd h
-  plain_in (DivideStep a b c) h = absurd h
+  plain_in (DivideSteps a b c) h = absurd h
   plain_in (Load m w to a) h = ((h.0, h.1), h.2, operand_in a.index h.3)
   plain_in (Store w a from) h = ((h.0, h.1), operand_in a.index h.2, operand_in from h.3)
   plain_in (Push w a) h = ((h.0, h.1), operand_in a h.2)
@@ -252,7 +252,7 @@ module _ (p : Procedure) where
   plain_waits w (ReadDevice to address) at f k n = (next (Plain (ReadDevice to address)) at (λ e. e) n, k)
   plain_waits w (WriteDevice address a) at f k n = (next (Plain (WriteDevice address a)) at (λ e. e) n, k)
   plain_waits w (Product to a b) at f k n = (next (Plain (Product to a b)) at (λ e. e) n, k)
-  plain_waits w (DivideStep a b c) at f k n = (next (Plain (DivideStep a b c)) at (λ e. e) n, k)
+  plain_waits w (DivideSteps a b c) at f k n = (next (Plain (DivideSteps a b c)) at (λ e. e) n, k)
   plain_waits w (Load m v to a) at f k n = (next (Plain (Load m v to a)) at (λ e. e) n, k)
   plain_waits w (Store v a from) at f k n = (next (Plain (Store v a from)) at (λ e. e) n, k)
   plain_waits w (Push v a) at f k n = (next (Plain (Push v a)) at (λ e. e) n, k)

@@ -10,7 +10,7 @@ use Rattle.vg_lin.specs.declared.instr.Operand.{Operand}
 use Rattle.vg_lin.specs.declared.instr.Operand.TheVariants.{Local, Known}
 use Rattle.vg_lin.specs.declared.instr.Test.{Test}
 use Rattle.vg_lin.specs.declared.instr.Plain.{Plain as PlainInstr}
-use Rattle.vg_lin.specs.declared.instr.Plain.TheVariants.{Copy, Compute, Product, DivideStep, Load, Store, ReadDevice, WriteDevice, Push, Pop, Find, CodeOf, Stop}
+use Rattle.vg_lin.specs.declared.instr.Plain.TheVariants.{Copy, Compute, Product, DivideSteps, Load, Store, ReadDevice, WriteDevice, Push, Pop, Find, CodeOf, Stop}
 use Rattle.vg_lin.specs.declared.instr.Passed.{Passed}
 use Rattle.vg_lin.specs.declared.instr.Target.{Target}
 use Rattle.vg_lin.specs.declared.instr.Call.{Call as Calling}
@@ -74,7 +74,7 @@ module _ (L : Type 0) (given size : ℕ) where
   plain_or_push (Copy to a) h = h
   plain_or_push (Compute c) h = h
   plain_or_push (Product to a b) h = h
-  plain_or_push (DivideStep a b c) h = h
+  plain_or_push (DivideSteps a b c) h = h
   plain_or_push (Load m w to a) h = h
   plain_or_push (Store w a from) h = h
   plain_or_push (ReadDevice to a) h = h
@@ -244,7 +244,7 @@ module _ (p : Procedure) where
   plain_in (ReadDevice to address) h = h
   plain_in (WriteDevice address a) h = operand_in a h
   plain_in (Product to a b) h = absurd h
-  plain_in (DivideStep a b c) h = absurd h
+  plain_in (DivideSteps a b c) h = absurd h
   plain_in (Load m w to a) h = ((h.0, h.1), h.2, operand_in a.index h.3)
   plain_in (Store w a from) h = ((h.0, h.1), operand_in a.index h.2, operand_in from h.3)
   plain_in (Push w a) h = ((h.0, h.1), operand_in a h.2)
@@ -278,7 +278,7 @@ module _ (p : Procedure) where
   plain_waits w (ReadDevice to address) at h f k n = (next (Plain (ReadDevice to address)) at (λ e. e) n, k ∙ sym f)
   plain_waits w (WriteDevice address a) at h f k n = (next (Plain (WriteDevice address a)) at (λ e. e) n, k ∙ sym f)
   plain_waits w (Product to a b) at h f k n = absurd h
-  plain_waits w (DivideStep a b c) at h f k n = absurd h
+  plain_waits w (DivideSteps a b c) at h f k n = absurd h
   plain_waits w (Load m v to a) at h f k n = (next (Plain (Load m v to a)) at (λ e. e) n, k ∙ sym f)
   plain_waits w (Store v a from) at h f k n = (next (Plain (Store v a from)) at (λ e. e) n, k ∙ sym f)
   plain_waits w (Push v a) at h f k n = (next (Plain (Push v a)) at (λ e. e) n, k)
@@ -308,7 +308,7 @@ module _ (p : Procedure) where
   plain_leaves w (ReadDevice to address) at h f k = k ∙ sym f
   plain_leaves w (WriteDevice address a) at h f k = k ∙ sym f
   plain_leaves w (Product to a b) at h f k = absurd h
-  plain_leaves w (DivideStep a b c) at h f k = absurd h
+  plain_leaves w (DivideSteps a b c) at h f k = absurd h
   plain_leaves w (Load m v to a) at h f k = k ∙ sym f
   plain_leaves w (Store v a from) at h f k = k ∙ sym f
   plain_leaves w (Push v a) at h f k = k

@@ -1,4 +1,4 @@
--- The template of a step of a division.
+-- One turn of the template of a division: a step of it, in which r27 stays.
 use Rattle.std.proofs.Common.{◌≡◌, ◌≢◌, ℕ, zero, suc, ◌+◌, ◌-◌, ◌*◌, ◌/◌, ◌%◌, ◌^◌, ◌<◌, ◌≤◌, ◌⊎◌, inl, inr, Bool, true, false, nat_lt, nat_le, if◌then◌else◌}
 use Rattle.std.proofs.Common.{List, [], ◌∷◌, ◌++◌, Some, refl, sym, ap, ◌∙◌, subst, arith, append_assoc, slice_get}
 use Rattle.std.specs.Prelude.{bit_and}
@@ -14,7 +14,7 @@ use Rattle.vg_lin.specs.declared.instr.Operand.TheVariants.{Local}
 use Rattle.vg_lin.specs.Steps.{Frame}
 use Rattle.vg_lin.specs.State.{LocalState, State, value_in, value, with_local, sets}
 use Rattle.vg_lin.specs.Values.{shifted_remainder, next_remainder, next_dividend}
-use Rattle.avr_view.specs.Registers.{Regs, put, carried, sums, takes_on, shifts, flagged, does_all}
+use Rattle.avr_view.specs.Registers.{Regs, put, carried, sums, takes_on, shifts, flagged, does_all, ArePlain}
 use Rattle.avr_view.specs.Run.{Run}
 use Rattle.avr_view.specs.View.{View}
 use Rattle.vg_templates.specs.Spots.{number}
@@ -22,7 +22,7 @@ use Rattle.vg_templates.specs.Layouts.{IsLayout}
 use Rattle.vg_templates.specs.Frames.{Places}
 use Rattle.vg_templates.proofs.Numbers.{put_other, put_same}
 use Rattle.vg_templates.specs.Pieces.{Takes}
-use Rattle.vg_templates.specs.Held.{Held, IsReady, IsSet, brings, gives}
+use Rattle.vg_templates.specs.Held.{IsReady, IsSet, brings, gives}
 use Rattle.vg_templates.proofs.Composing.{takes_then, takes_wider}
 use Rattle.vg_templates.proofs.Moving.{number_past}
 use Rattle.vg_templates.specs.Numbers.{number_in, HoldBytes}
@@ -30,7 +30,6 @@ use Rattle.vg_templates.specs.Chains.{adds, ands, subtracts}
 use Rattle.vg_templates.proofs.Registers.{put_bytes}
 use Rattle.vg_templates.proofs.Sums.{difference_below, adds-sums, subtracts-takes}
 use Rattle.vg_templates.proofs.Logic.{ands-compute}
-use Rattle.vg_templates.specs.Outcomes.{Lies}
 use Rattle.vg_templates.proofs.Bytes.{number_small}
 use Rattle.vg_templates.proofs.Computing.{number_kept}
 use Rattle.vg_templates.specs.Shifts.{doubles_on}
@@ -244,9 +243,38 @@ other_local (l ∷ ls) zero x (suc k) ne = refl
 other_local (l ∷ ls) (suc to) x zero ne = refl
 other_local (l ∷ ls) (suc to) x (suc k) ne = other_local ls to x k (λ e. ne (ap suc e))
 
-module _ (i : Places) (ok : (m : ℕ) → IsLayout (i.layouts m)) (m : ℕ) (frames : List (Frame State)) (e : Run) (deep : Type 0) where
+module _ (i : Places) (ok : (m : ℕ) → IsLayout (i.layouts m)) (m : ℕ) (frames : List (Frame State)) (e : Run) (deep : Type 0) (c : ℕ) where
+  -- r27 counts the turns
+  abbrev Counts : (Regs → Type 0) → Regs → Type 0
+  Counts F g = F g × (g.of 27 ≡ c)
+
   abbrev At' : (ℕ → Bool) → State → Outside → (Regs → Type 0) → View → Type 0
-  At' live s o F v = Works i m live s frames o F v
+  At' live s o F v = Works i m live s frames o (Counts F) v
+
+  block : (live : ℕ → Bool) (s : State) (o : Outside) (F G : Regs → Type 0) (is : List Instr) → ArePlain is
+      → ((g : Regs) → (does_all e.flash is g).of 27 ≡ g.of 27)
+      → ((g : Regs) → HoldBytes g → HoldBytes (does_all e.flash is g) → g.of 1 ≡ 0 → F g → G (does_all e.flash is g) × SameBut 18 10 g (does_all e.flash is g))
+      → (v : View) → At' live s o F v → Takes e deep v is (At' live s o G)
+  block live s o F G is plain same made v w =
+      works_block i ok m frames e deep live s o (Counts F) (Counts G) is plain
+      (λ g b after one f. let k = made g b after one f.0 in ((k.0, same g ∙ f.1), k.1)) v w
+
+  brought : (live : ℕ → Bool) (s : State) (o : Outside) (F : Regs → Type 0) (a : Operand) (d n x : ℕ) → IsReady (i.layouts m) live a → value a s ≡ Some x
+      → 18 ≤ d → d + n ≤ 27 → ((g h : Regs) → SameBut d n g h → F g → F h) → (v : View) → At' live s o F v
+      → Takes e deep v (brings (i.layouts m) a d n) (At' live s o (λ g. F g × (number g d n ≡ x % 256 ^ n)))
+  brought live s o F a d n x ready got low high still v w =
+      takes_wider e deep v (brings (i.layouts m) a d n) (Works i m live s frames o (λ g. Counts F g × (number g d n ≡ x % 256 ^ n)))
+      (At' live s o (λ g. F g × (number g d n ≡ x % 256 ^ n)))
+      (λ u k. record { held = k.held; facts = ((k.facts.0.0, k.facts.1), k.facts.0.1); out = k.out })
+      (works_brings i ok m frames e deep live s o (Counts F) a d n x ready got low (omega (arith, high))
+      (λ g h same f. (still g h same f.0, same 27 (omega arith) (inr (omega (arith, high))) ∙ f.1)) v w)
+
+  given : (live behind : ℕ → Bool) (s : State) (o : Outside) (F : Regs → Type 0) (to d n x : ℕ) → IsSet (i.layouts m) live behind to → 18 ≤ d → d + n ≤ 27
+      → ((g : Regs) → F g → number g d n ≡ x) → ((g h : Regs) → ((r : ℕ) → 18 ≤ r → r < 28 → h.of r ≡ g.of r) → F g → F h) → (v : View) → At' live s o F v
+      → Takes e deep v (gives (i.layouts m) to d n) (At' behind (sets to x s) o F)
+  given live behind s o F to d n x can low high value_is still v w =
+      works_gives i ok m frames e deep live behind s o (Counts F) to d n x can low (omega (arith, high)) (λ g f. value_is g f.0)
+      (λ g h same f. (still g h same f.0, same 27 (omega arith) (omega arith) ∙ f.1)) v w
 
   -- the remainder is made
   takes_remainder : (live : ℕ → Bool) (s : State) (o : Outside) (remainder dividend : ℕ) (a : Operand) (r d x : ℕ) (v : View)
@@ -269,25 +297,25 @@ module _ (i : Places) (ok : (m : ℕ) → IsLayout (i.layouts m)) (m : ℕ) (fra
       let again = adds 22 (four_from 18) in
       takes_then e deep v (brings_bit l dividend) rest2 (At' live s o F2) G
       (takes_then e deep v (brings l (Local dividend) 22 4) tops (At' live s o (λ g. Unit {0} × (number g 22 4 ≡ D))) (At' live s o F2)
-      (works_brings i ok m frames e deep live s o (λ g. Unit {0}) (Local dividend) 22 4 d ready_d got_d (omega arith) (omega arith) (λ g h same k. k) v w)
-      (λ u k. works_block i ok m frames e deep live s o (λ g. Unit {0} × (number g 22 4 ≡ D)) F2 tops (tt, (tt, (tt, tt)))
+      (brought live s o (λ g. Unit {0}) (Local dividend) 22 4 d ready_d got_d (omega arith) (omega arith) (λ g h same k. k) v w)
+      (λ u k. block live s o (λ g. Unit {0} × (number g 22 4 ≡ D)) F2 tops (tt, (tt, (tt, tt))) (λ g. refl)
       (λ g b after one f. (top_bit e.flash g b one ∙ ap (λ z. z / 2 ^ 31) f.1, tops-others e.flash g)) u k))
       (λ u k. takes_then e deep u (shifts_remainder l remainder) (takes_divisor l a) (At' live s o F4) G
       (takes_then e deep u (brings l (Local remainder) 22 4) (Lsr 26 ∷ doubles_on 22 4) (At' live s o (λ g. F2 g × (number g 22 4 ≡ R))) (At' live s o F4)
-      (works_brings i ok m frames e deep live s o F2 (Local remainder) 22 4 r ready_r got_r (omega arith) (omega arith)
+      (brought live s o F2 (Local remainder) 22 4 r ready_r got_r (omega arith) (omega arith)
       (λ g h same f. same 26 (omega arith) (inr (omega arith)) ∙ f) u k)
-      (λ t q. works_block i ok m frames e deep live s o (λ g. F2 g × (number g 22 4 ≡ R)) F4 (Lsr 26 ∷ doubles_on 22 4) (tt, (tt, (tt, (tt, (tt, tt)))))
+      (λ t q. block live s o (λ g. F2 g × (number g 22 4 ≡ R)) F4 (Lsr 26 ∷ doubles_on 22 4) (tt, (tt, (tt, (tt, (tt, tt))))) (λ g. refl)
       (λ g b after one f. shifted g b after f.0 f.1) t q))
       (λ t q. takes_then e deep t (brings l a 18 4) (divisor ++ (masks ++ again)) (At' live s o (λ g. F4 g × (number g 18 4 ≡ x % P))) G
-      (works_brings i ok m frames e deep live s o F4 a 18 4 x ready_a got_a (omega arith) (omega arith)
+      (brought live s o F4 a 18 4 x ready_a got_a (omega arith) (omega arith)
       (λ g h same f. number_kept g h 22 4 (λ y lo hi. same y (omega arith) (inr (omega arith))) ∙ f) t q)
       (λ y z. takes_then e deep y divisor (masks ++ again) (At' live s o (Subtracted S x)) G
-      (works_block i ok m frames e deep live s o (λ g. F4 g × (number g 18 4 ≡ x % P)) (Subtracted S x) divisor (tt, (tt, (tt, (tt, tt))))
+      (block live s o (λ g. F4 g × (number g 18 4 ≡ x % P)) (Subtracted S x) divisor (tt, (tt, (tt, (tt, tt)))) (λ g. refl)
       (λ g b after one f. subtracted e.flash g S x b f.0 (f.1 ∙ x_is)) y z)
       (λ c n. takes_then e deep c masks again (At' live s o (Masked S x)) G
-      (works_block i ok m frames e deep live s o (Subtracted S x) (Masked S x) masks (tt, (tt, (tt, (tt, (tt, tt)))))
+      (block live s o (Subtracted S x) (Masked S x) masks (tt, (tt, (tt, (tt, (tt, tt))))) (λ g. refl)
       (λ g b after one f. masked e.flash g S x b S_low small f) c n)
-      (λ p j. works_block i ok m frames e deep live s o (Masked S x) (Remains S x) again (tt, (tt, (tt, (tt, tt))))
+      (λ p j. block live s o (Masked S x) (Remains S x) again (tt, (tt, (tt, (tt, tt)))) (λ g. refl)
       (λ g b after one f. restored e.flash g S x b after S_low small f) p j)))))
     where
       shifted : (g : Regs) → HoldBytes g → HoldBytes (does_all e.flash (Lsr 26 ∷ doubles_on 22 4) g) → g.of 26 ≡ d % P / 2 ^ 31 → number g 22 4 ≡ r % P
@@ -317,10 +345,10 @@ module _ (i : Places) (ok : (m : ℕ) → IsLayout (i.layouts m)) (m : ℕ) (fra
       let F = λ (g : Regs). g.of 26 ≡ 255 * number_of (nat_lt t x) in
       let G = λ (g : Regs). number g 22 4 ≡ (2 * (d % P) + (1 - number_of (nat_lt t x))) % P in
       takes_then e deep v (brings l (Local dividend) 22 4) (Cpi 26 0xFF ∷ doubles_on 22 4) (At' live s o (λ g. F g × (number g 22 4 ≡ d % P))) (At' live s o G)
-      (works_brings i ok m frames e deep live s o F (Local dividend) 22 4 d ready got (omega arith) (omega arith)
-      (λ g h same f. same 26 (omega arith) (inr (omega arith)) ∙ f) v (record { held = w.held; facts = w.facts.flag; out = w.out }))
-      (λ u k. works_block i ok m frames e deep live s o (λ g. F g × (number g 22 4 ≡ d % P)) G (Cpi 26 0xFF ∷ doubles_on 22 4)
-      (tt, (tt, (tt, (tt, (tt, tt))))) (λ g b after one f. shifted g b after f.0 f.1) u k)
+      (brought live s o F (Local dividend) 22 4 d ready got (omega arith) (omega arith)
+      (λ g h same f. same 26 (omega arith) (inr (omega arith)) ∙ f) v (record { held = w.held; facts = (w.facts.0.flag, w.facts.1); out = w.out }))
+      (λ u k. block live s o (λ g. F g × (number g 22 4 ≡ d % P)) G (Cpi 26 0xFF ∷ doubles_on 22 4)
+      (tt, (tt, (tt, (tt, (tt, tt))))) (λ g. refl) (λ g b after one f. shifted g b after f.0 f.1) u k)
     where
       shifted : (g : Regs) → HoldBytes g → HoldBytes (does_all e.flash (Cpi 26 0xFF ∷ doubles_on 22 4) g) → g.of 26 ≡ 255 * number_of (nat_lt t x)
           → number g 22 4 ≡ d % P
@@ -335,37 +363,36 @@ module _ (i : Places) (ok : (m : ℕ) → IsLayout (i.layouts m)) (m : ℕ) (fra
   abbrev Flag : (t x : ℕ) → Regs → Type 0
   Flag t x g = (number g 22 4 ≡ (if nat_lt t x then t else t - x)) × (g.of 26 ≡ 255 * number_of (nat_lt t x))
 
-  pub takes_divides_once : (live middle behind : ℕ → Bool) (s : State) (remainder dividend : ℕ) (a : Operand) (r d x : ℕ) (v : View)
+  pub takes_divides_once : (live : ℕ → Bool) (s : State) (o : Outside) (remainder dividend : ℕ) (a : Operand) (r d x : ℕ) (v : View)
       → remainder ≢ dividend → IsReady (i.layouts m) live (Local remainder) → IsReady (i.layouts m) live (Local dividend) → IsReady (i.layouts m) live a
-      → IsReady (i.layouts m) middle (Local dividend) → IsSet (i.layouts m) live middle remainder → IsSet (i.layouts m) middle behind dividend
-      → value (Local remainder) s ≡ Some r → value (Local dividend) s ≡ Some d → value a s ≡ Some x → x < 256 ^ 4 → Held i m live s frames v
+      → IsSet (i.layouts m) live live remainder → IsSet (i.layouts m) live live dividend → value (Local remainder) s ≡ Some r
+      → value (Local dividend) s ≡ Some d → value a s ≡ Some x → x < 256 ^ 4 → At' live s o (λ g. Unit {0}) v
       → Takes e deep v (divides_once (i.layouts m) remainder dividend a)
-      (Lies i m behind (sets dividend (next_dividend r d x) (sets remainder (next_remainder r d x) s)) frames v.out)
-  takes_divides_once live middle behind s remainder dividend a r d x v ne ready_r ready_d ready_a ready_m set_r set_d got_r got_d got_a small k =
+      (At' live (sets dividend (next_dividend r d x) (sets remainder (next_remainder r d x) s)) o (λ g. Unit {0}))
+  takes_divides_once live s o remainder dividend a r d x v ne ready_r ready_d ready_a set_r set_d got_r got_d got_a small k =
       let l = i.layouts m in
       let t = (2 * (r % P) + d % P / 2 ^ 31) % P in
       let s1 = sets remainder (next_remainder r d x) s in
-      let o = v.out in
       let K = Remains t x in
       let last = shifts_dividend l dividend ++ gives l dividend 22 4 in
-      let goal = Lies i m behind (sets dividend (next_dividend r d x) s1) frames v.out in
+      let goal = At' live (sets dividend (next_dividend r d x) s1) o (λ g. Unit {0}) in
       let front = brings_bit l dividend ++ (shifts_remainder l remainder ++ takes_divisor l a) in
       let one : Takes e deep v (front ++ (gives l remainder 22 4 ++ last)) goal =
       takes_then e deep v front (gives l remainder 22 4 ++ last) (At' live s o K) goal
-      (takes_remainder live s o remainder dividend a r d x v ready_r ready_d ready_a got_r got_d got_a small (record { held = k; facts = tt; out = refl }))
-      (λ u w. takes_then e deep u (gives l remainder 22 4) last (At' middle s1 o (Flag t x)) goal
-      (takes_wider e deep u (gives l remainder 22 4) (At' middle s1 o (Flag t x)) (At' middle s1 o (Flag t x)) (λ c y. y)
-      (works_gives i ok m frames e deep live middle s o (Flag t x) remainder 22 4 (next_remainder r d x) set_r (omega arith) (omega arith)
+      (takes_remainder live s o remainder dividend a r d x v ready_r ready_d ready_a got_r got_d got_a small k)
+      (λ u w. takes_then e deep u (gives l remainder 22 4) last (At' live s1 o (Flag t x)) goal
+      (takes_wider e deep u (gives l remainder 22 4) (At' live s1 o (Flag t x)) (At' live s1 o (Flag t x)) (λ c y. y)
+      (given live live s o (Flag t x) remainder 22 4 (next_remainder r d x) set_r (omega arith) (omega arith)
       (λ g f. f.0 ∙ remainder_is r d x) (λ g h same f. (number_kept g h 22 4 (λ y lo hi. same y (omega arith) (omega arith)) ∙ f.0, same 26 (omega arith) (omega arith) ∙ f.1)) u
-      (record { held = w.held; facts = (w.facts.remainder, w.facts.flag); out = w.out })))
+      (record { held = w.held; facts = ((w.facts.0.remainder, w.facts.0.flag), w.facts.1); out = w.out })))
       (λ c y. takes_then e deep c (shifts_dividend l dividend) (gives l dividend 22 4)
-      (At' middle s1 o (λ g. number g 22 4 ≡ (2 * (d % P) + (1 - number_of (nat_lt t x))) % P)) goal
-      (takes_dividend middle s1 o dividend d t x c ready_m (other_local s.locals remainder (next_remainder r d x) dividend ne ∙ got_d)
-      (record { held = y.held; facts = record { remainder = y.facts.0; flag = y.facts.1 }; out = y.out }))
+      (At' live s1 o (λ g. number g 22 4 ≡ (2 * (d % P) + (1 - number_of (nat_lt t x))) % P)) goal
+      (takes_dividend live s1 o dividend d t x c ready_d (other_local s.locals remainder (next_remainder r d x) dividend ne ∙ got_d)
+      (record { held = y.held; facts = (record { remainder = y.facts.0.0; flag = y.facts.0.1 }, y.facts.1); out = y.out }))
       (λ n z. takes_wider e deep n (gives l dividend 22 4)
-      (At' behind (sets dividend (next_dividend r d x) s1) o (λ g. number g 22 4 ≡ (2 * (d % P) + (1 - number_of (nat_lt t x))) % P)) goal
-      (λ p j. record { held = j.held; out = j.out })
-      (works_gives i ok m frames e deep middle behind s1 o (λ g. number g 22 4 ≡ (2 * (d % P) + (1 - number_of (nat_lt t x))) % P) dividend 22 4
+      (At' live (sets dividend (next_dividend r d x) s1) o (λ g. number g 22 4 ≡ (2 * (d % P) + (1 - number_of (nat_lt t x))) % P)) goal
+      (λ p j. record { held = j.held; facts = (tt, j.facts.1); out = j.out })
+      (given live live s1 o (λ g. number g 22 4 ≡ (2 * (d % P) + (1 - number_of (nat_lt t x))) % P) dividend 22 4
       (next_dividend r d x) set_d (omega arith) (omega arith) (λ g f. f ∙ dividend_is r d x)
       (λ g h same f. number_kept g h 22 4 (λ y' lo hi. same y' (omega arith) (omega arith)) ∙ f) n z)))) in
       subst (λ is. Takes e deep v is goal) (regrouped (brings_bit l dividend) (shifts_remainder l remainder) (takes_divisor l a) (gives l remainder 22 4 ++ last)) one

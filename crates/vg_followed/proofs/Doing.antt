@@ -1,13 +1,13 @@
 -- What a plain instruction of linear code does to what waits, and when it ends a run.
-use Rattle.std.proofs.Common.{◌≡◌, ℕ, ◌+◌, Bool, true, false, ◌==◌, if◌then◌else◌, List, [], ◌∷◌, Option, Some, None, refl, ap, ◌∙◌, arith}
+use Rattle.std.proofs.Common.{◌≡◌, ℕ, zero, suc, ◌+◌, Bool, true, false, ◌==◌, if◌then◌else◌, List, [], ◌∷◌, Option, Some, None, refl, ap, ◌∙◌, arith}
 use Rattle.vg_meaning.specs.Outside.{Outside}
 use Rattle.vg_lin.specs.declared.instr.Memory.TheVariants.{Ram}
 use Rattle.vg_lin.specs.declared.instr.Plain.{Plain}
-use Rattle.vg_lin.specs.declared.instr.Plain.TheVariants.{Copy, Compute, Product, DivideStep, Load, Store, ReadDevice, WriteDevice, Push, Pop, Find, CodeOf, Stop}
+use Rattle.vg_lin.specs.declared.instr.Plain.TheVariants.{Copy, Compute, Product, DivideSteps, Load, Store, ReadDevice, WriteDevice, Push, Pop, Find, CodeOf, Stop}
 use Rattle.vg_lin.specs.Program.{Program}
 use Rattle.vg_lin.specs.Steps.{Went, Goes, Raises, Lacks, Fails}
-use Rattle.vg_lin.specs.State.{State, Waiting, value, using, sets, number_at, index_of, loaded, stores, pops_from, reads_from, plain}
-use Rattle.vg_lin.specs.Values.{computed}
+use Rattle.vg_lin.specs.State.{State, Waiting, value, using, sets, number_at, index_of, loaded, stores, pops_from, reads_from, division_steps, divides, plain}
+use Rattle.vg_lin.specs.Values.{computed, next_remainder, next_dividend}
 use Rattle.vg_codes.specs.Dispatch.{dispatched}
 use Rattle.vg_lin.specs.declared.instr.Operand.TheVariants.{Local}
 use Rattle.vg_followed.specs.Stands.{PlainWaits}
@@ -29,9 +29,15 @@ did p (Compute c) s o =
     did_using (Compute c) s o (value c.left s) _
     (λ x. did_using (Compute c) s o (value c.right s) _ (λ y. did_using (Compute c) s o (computed c.operator c.width x y) _ (λ z. (refl, refl))))
 did p (Product to a b) s o = did_using (Product to a b) s o (value a s) _ (λ x. did_using (Product to a b) s o (value b s) _ (λ y. (refl, refl)))
-did p (DivideStep r d a) s o =
-    did_using (DivideStep r d a) s o (value (Local r) s) _
-    (λ x. did_using (DivideStep r d a) s o (value (Local d) s) _ (λ y. did_using (DivideStep r d a) s o (value a s) _ (λ z. (refl, refl))))
+did p (DivideSteps r d a) s o = divided division_steps s refl
+  where
+    divided : (n : ℕ) (t : State) → wait_widths t.waiting ≡ wait_widths s.waiting → Did (DivideSteps r d a) s o (divides n r d a t o)
+    divided zero t same = (same, refl)
+    divided (suc n) t same =
+        did_using (DivideSteps r d a) s o (value (Local r) t) _
+        (λ x. did_using (DivideSteps r d a) s o (value (Local d) t) _
+        (λ y. did_using (DivideSteps r d a) s o (value a t) _
+        (λ z. divided n (sets d (next_dividend x y z) (sets r (next_remainder x y z) t)) same)))
 did p (Load m w to a) s o =
     did_using (Load m w to a) s o (value a.index s) _ (λ x. did_using (Load m w to a) s o (loaded p m s w (index_of m (a.base + x))) _ (λ z. (refl, refl)))
 did p (Store w a from) s o =

@@ -10,7 +10,7 @@ use Rattle.avr_isa.specs.Standing.{widths, AllStandAt}
 use Rattle.avr_isa.proofs.Standing.{front_stands, back_stands, widths-append}
 use Rattle.vg_lin.specs.declared.instr.Instr.TheVariants.{Plain, When, Unless, Jump}
 use Rattle.vg_lin.specs.declared.instr.Plain.{Plain as PlainInstr}
-use Rattle.vg_lin.specs.declared.instr.Plain.TheVariants.{Copy, Compute, Product, DivideStep, Load, Store, ReadDevice, WriteDevice, Push, Pop, Find, CodeOf, Stop}
+use Rattle.vg_lin.specs.declared.instr.Plain.TheVariants.{Copy, Compute, Product, DivideSteps, Load, Store, ReadDevice, WriteDevice, Push, Pop, Find, CodeOf, Stop}
 use Rattle.vg_lin.specs.declared.instr.Test.{Test}
 use Rattle.vg_lin.specs.Meaning.{codes_in}
 use Rattle.vg_lin.specs.Program.{Program}
@@ -55,7 +55,7 @@ waits_next p (Stop code) s s' o o' old new now next made same h k = absurd (let 
 waits_next p (Copy to a) s s' o o' old new now next made same h k = h ∙ same ∙ sym k
 waits_next p (Compute c) s s' o o' old new now next made same h k = h ∙ same ∙ sym k
 waits_next p (Product to a b) s s' o o' old new now next made same h k = h ∙ same ∙ sym k
-waits_next p (DivideStep r d a) s s' o o' old new now next made same h k = h ∙ same ∙ sym k
+waits_next p (DivideSteps r d a) s s' o o' old new now next made same h k = h ∙ same ∙ sym k
 waits_next p (Load m w to a) s s' o o' old new now next made same h k = h ∙ same ∙ sym k
 waits_next p (Store w a from) s s' o o' old new now next made same h k = h ∙ same ∙ sym k
 waits_next p (ReadDevice to address) s s' o o' old new now next made same h k = h ∙ same ∙ sym k

@@ -1,7 +1,6 @@
 -- The templates of all plain instructions, joined over what linear code says of them.
-use Rattle.std.proofs.Common.{◌≡◌, ℕ, ◌+◌, ◌-◌, ◌*◌, ◌^◌, ◌<◌, ◌≤◌, Bool, true, false, ◌||◌, ◌==◌, nat_lt, if◌then◌else◌, List, [], ◌∷◌, ◌++◌, length}
-use Rattle.std.proofs.Common.{Option, Some, None, refl, sym, ap, ◌∙◌, subst, arith, length-append, slice_get, slice_index}
-use Rattle.std.proofs.Math.Nat.{pow-le-pow_right}
+use Rattle.std.proofs.Common.{◌≡◌, ℕ, ◌+◌, ◌-◌, ◌*◌, ◌<◌, ◌≤◌, Bool, true, false, ◌==◌, nat_lt, if◌then◌else◌, List, [], ◌∷◌, length}
+use Rattle.std.proofs.Common.{Some, None, refl, sym, ap, ◌∙◌, subst, arith, slice_get}
 use Rattle.vg_meaning.specs.Outside.{Outside}
 use Rattle.avr_instr.specs.declared.instr.Instr.{Instr}
 use Rattle.avr_isa.specs.Machine.{State as MachineState}
@@ -14,87 +13,36 @@ use Rattle.vg_lin.specs.declared.instr.Operator.{Operator}
 use Rattle.vg_lin.specs.declared.instr.Operator.TheVariants.{Plus, Minus, Times, Divide, Remainder, And, Or, Xor, ShiftLeft, ShiftRight}
 use Rattle.vg_lin.specs.declared.instr.Computation.{Computation}
 use Rattle.vg_lin.specs.declared.instr.Plain.{Plain}
-use Rattle.vg_lin.specs.declared.instr.Plain.TheVariants.{Copy, Compute, Product, DivideStep, Load, Store, ReadDevice, WriteDevice, Push, Pop, Find, CodeOf, Stop}
+use Rattle.vg_lin.specs.declared.instr.Plain.TheVariants.{Copy, Compute, Product, DivideSteps, Load, Store, ReadDevice, WriteDevice, Push, Pop, Find, CodeOf, Stop}
 use Rattle.vg_lin.specs.Program.{Program}
-use Rattle.vg_lin.specs.Steps.{Frame, Went, Goes as GoesOn, Raises, Fails}
+use Rattle.vg_lin.specs.Steps.{Frame, Goes as GoesOn, Raises, Fails}
 use Rattle.vg_lin.specs.State.{State, Waiting, value, using, sets, index_of, first_address, loaded, number_at, pops_from, plain}
-use Rattle.vg_lin.specs.Values.{computed, low, next_remainder, next_dividend}
+use Rattle.vg_lin.specs.Values.{computed, low}
 use Rattle.avr_view.specs.Run.{Run, Goes, Front}
 use Rattle.avr_view.specs.View.{View, At}
 use Rattle.avr_view.proofs.Going.{goes_fewer}
-use Rattle.vg_templates.specs.Spots.{Spot, InFrame, InRegisters, read, value_at}
-use Rattle.vg_templates.specs.Layouts.{IsLayout, IsSpot, width_of}
+use Rattle.vg_templates.specs.Layouts.{IsLayout}
 use Rattle.vg_templates.specs.Frames.{Places}
 use Rattle.vg_templates.specs.Pieces.{Sees, Takes}
-use Rattle.vg_templates.specs.Held.{Held, IsReady}
-use Rattle.vg_templates.proofs.Accessing.{read_within}
-use Rattle.vg_templates.proofs.Composing.{takes_bytes}
+use Rattle.vg_templates.specs.Held.{Held}
 use Rattle.vg_templates.specs.Outcomes.{Lies}
-use Rattle.vg_templates.proofs.Bytes.{takes_cells, read_small, number_small}
 use Rattle.vg_templates.specs.Straight.{pushed_by}
 use Rattle.vg_templates.proofs.Joining.{takes_plain_code}
 use Rattle.vg_templates.specs.Plains.{computation_code, plain_template}
 use Rattle.vg_followed.proofs.Shifting.{takes_shifts_left, takes_shifts_right}
 use Rattle.vg_followed.proofs.Multiplying.{takes_multiplies}
-use Rattle.vg_followed.proofs.Dividing.{takes_divides_once}
+use Rattle.vg_followed.proofs.Made.{IsMade, same_state, same_outside, used, some_same}
+use Rattle.vg_followed.proofs.Turning.{goes_divides}
 use Rattle.vg_followed.specs.Tables.{HoldsTables}
 use Rattle.vg_followed.proofs.Reading.{takes_loads_table}
 use Rattle.vg_followed.proofs.Finding.{goes_finds_procedure}
 use Rattle.vg_followed.proofs.Popping.{takes_pops_value}
-use Rattle.vg_followed.specs.Covered.{CanCompute, IsFourBytes, and_local, CanBeCoded}
-
--- ---- what linear code did
-
-abbrev IsMade : Went State → State → Outside → Type 0
-IsMade w s o = w ≡ GoesOn s o
-
-same_state : (s t : State) (o p : Outside) → GoesOn s o ≡ GoesOn t p → s ≡ t
-same_state s t o p e = cc
-
-same_outside : (s t : State) (o p : Outside) → GoesOn s o ≡ GoesOn t p → o ≡ p
-same_outside s t o p e = cc
-
-used : (v : Option ℕ) (go : ℕ → Went State) (s : State) (o : Outside) → IsMade (using v go) s o → (x : ℕ) × ((v ≡ Some x) × IsMade (go x) s o)
-used (Some x) go s o e = (x, (refl, e))
-used None go s o e = absurd (let clash : Fails ≡ GoesOn s o = e in cc)
-
-some_same : (a b : ℕ) → Some a ≡ Some b → a ≡ b
-some_same a b e = cc
-
-itself : (b : Bool) (d : ℕ) → (b || (d == d)) ≡ true
-itself true d = refl
-itself false d = grind arith
+use Rattle.vg_followed.specs.Covered.{CanCompute, CanBeCoded}
 
 equal : (a b : ℕ) → (a == b) ≡ true → a ≡ b
 equal a b e = grind (arith, e)
 
 module _ (i : Places) (ok : (m : ℕ) → IsLayout (i.layouts m)) (m : ℕ) (frames : List (Frame State)) (e : Run) (deep : Type 0) where
-  -- the value of an operand has four bytes
-  takes_four_bytes : (live : ℕ → Bool) (s : State) (a : Operand) (x : ℕ) (v : View) (is : List Instr) (K : View → Type 0) → IsReady (i.layouts m) live a
-      → IsFourBytes a → value a s ≡ Some x → Held i m live s frames v → (x < 256 ^ 4 → Takes e deep v is K) → Takes e deep v is K
-  takes_four_bytes live s (Known y) x v is K ready narrow got k h = h (subst (λ z. z < 256 ^ 4) (some_same y x got) narrow)
-  takes_four_bytes live s (Local j) x v is K ready narrow got k h =
-      takes_cells e deep v is K
-      (λ cells. takes_bytes e deep v is K
-      (λ bytes. h (at cells bytes ((i.layouts m).spots j) (width_of (i.layouts m) j) ((ok m).spot j ready.0) ((ok m).narrow j ready.0) (k.stacked.fits.each j x ready.0 ready.1 got))))
-    where
-      wider : (w y : ℕ) → w ≤ 4 → y < 256 ^ w → y < 256 ^ 4
-      wider w y p q = let r = pow-le-pow_right {n = 256} (omega arith) p in omega (arith, q, r)
-
-      at : ((n : ℕ) → n < length v.stack → slice_index v.stack n < 256) → ((r : ℕ) → r < 32 → v.regs.of r < 256) → (p : Spot) (w : ℕ)
-          → IsSpot (i.layouts m) p w → w ≤ 4 → value_at p w k.stacked.own v.regs ≡ x → x < 256 ^ 4
-      at cells bytes (InRegisters r) w spot small value_is =
-          let inside = spot.1 in
-          wider w x small (subst (λ z. z < 256 ^ w) value_is (number_small v.regs r w (λ z lo hi. bytes z (omega arith))))
-      at cells bytes (InFrame p) w spot small value_is =
-          let t = k.stacked in
-          let long = t.fits.long in
-          let inside = spot.1 in
-          let sizes = ap length t.cut ∙ length-append t.wait (t.own ++ t.under) ∙ ap (λ z. length t.wait + z) (length-append t.own t.under) in
-          let whole : read v.stack (length t.wait + p) w ≡ read t.own p w =
-          ap (λ l. read l (length t.wait + p) w) t.cut ∙ read_within t.wait t.own t.under p w (omega arith) in
-          wider w x small (subst (λ z. z < 256 ^ w) (whole ∙ value_is) (read_small v.stack (length t.wait + p) w cells (omega (arith, sizes, long, inside))))
-
   module _ (p : Program) where
     -- what the code of an instruction leads to
     abbrev Leads : (behind : ℕ → Bool) → List Instr → View → State → Outside → Type 0
@@ -206,18 +154,8 @@ module _ (i : Places) (ok : (m : ℕ) → IsLayout (i.layouts m)) (m : ℕ) (fra
           by_takes is v (Lies i m behind s' frames o') pc t
           (ended behind is v (sets to (low 1 x * low 1 y) s) s' v.out o' last
           (takes_multiplies i ok m frames e deep live behind s to a b x y v can.0.0 can.0.1 can.1 got got' k)) stand room some h
-      goes_plain live behind (DivideStep r d a) s s' o' v pc t made can front full k stand room some h =
-          let is = plain_template (i.layouts m) p (DivideStep r d a) in
-          let final = λ (x y z : ℕ). GoesOn (sets d (next_dividend x y z) (sets r (next_remainder x y z) s)) v.out in
-          let (x, (got, more)) = used (value (Local r) s) (λ x. using (value (Local d) s) (λ y. using (value a s) (λ z. final x y z))) s' o' made in
-          let (y, (got', more')) = used (value (Local d) s) (λ y. using (value a s) (λ z. final x y z)) s' o' more in
-          let (z, (got'', last)) = used (value a s) (λ z. final x y z) s' o' more' in
-          let K = Lies i m behind s' frames o' in
-          by_takes is v K pc t
-          (takes_four_bytes live s a z v is K can.ready_divisor can.narrow got'' k
-          (λ small. ended behind is v (sets d (next_dividend x y z) (sets r (next_remainder x y z) s)) s' v.out o' last
-          (takes_divides_once i ok m frames e deep live (and_local behind d) behind s r d a x y z v can.apart can.ready_remainder can.ready_dividend can.ready_divisor
-          (can.ready_dividend.0, itself (behind d) d) can.first can.second got got' got'' small k))) stand room some h
+      goes_plain live behind (DivideSteps r d a) s s' o' v pc t made can front full k stand room some h =
+          goes_divides i ok m frames e deep live behind r d a can s s' o' v pc t made k stand room h
       goes_plain live behind (Load Flash w to a) s s' o' v pc t made can front full k stand room some h =
           let is = plain_template (i.layouts m) p (Load Flash w to a) in
           let (x, (got, more)) = used (value a.index s) (λ x. using (loaded p Flash s w (index_of Flash (a.base + x))) (λ z. GoesOn (sets to z s) v.out)) s' o' made in

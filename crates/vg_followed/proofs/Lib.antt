@@ -7,6 +7,9 @@ pub mod Popping
 pub mod Working
 pub mod Multiplying
 pub mod Dividing
+pub mod Made
+pub mod Words
+pub mod Turning
 pub mod Joining
 pub mod Counting
 pub mod Doing

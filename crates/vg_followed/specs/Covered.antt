@@ -1,5 +1,5 @@
 -- What each instruction of linear code asks of the layout of its procedure, where these locals are live, and those behind it.
-use Rattle.std.specs.Prelude.{ℕ, ◌≡◌, ◌≢◌, ◌<◌, ◌≤◌, ◌^◌, Bool, true, ◌||◌, ◌==◌, suc, Option, Some, None, slice_get}
+use Rattle.std.specs.Prelude.{ℕ, ◌≡◌, ◌≢◌, ◌<◌, ◌≤◌, ◌^◌, Bool, true, suc, Option, Some, None, slice_get}
 use Rattle.std.specs.List.{AllByRecursion}
 use Rattle.vg_codes.specs.Dispatch.{cases_of}
 use Rattle.vg_lin.specs.declared.instr.Memory.TheVariants.{Flash}
@@ -15,7 +15,7 @@ use Rattle.vg_lin.specs.declared.instr.Callee.TheVariants.{Procedure as ByNumber
 use Rattle.vg_lin.specs.declared.instr.Call.{Call as Calling}
 use Rattle.vg_lin.specs.declared.instr.Test.{Test}
 use Rattle.vg_lin.specs.declared.instr.Plain.{Plain as PlainInstr}
-use Rattle.vg_lin.specs.declared.instr.Plain.TheVariants.{Compute, Product, DivideStep, Load, Pop, Find, Stop}
+use Rattle.vg_lin.specs.declared.instr.Plain.TheVariants.{Compute, Product, DivideSteps, Load, Pop, Find, Stop}
 use Rattle.vg_lin.specs.declared.instr.Instr.{Instr}
 use Rattle.vg_lin.specs.declared.instr.Instr.TheVariants.{Plain, When, Unless, Jump, Call, Return, Idle}
 use Rattle.vg_lin.specs.Meaning.{operands}
@@ -43,23 +43,21 @@ abbrev pub IsFourBytes : Operand → Type 0
 IsFourBytes (Local k) = Unit {0}
 IsFourBytes (Known x) = x < 256 ^ 4
 
--- these locals, and one more
-abbrev pub and_local : (live : ℕ → Bool) → (local : ℕ) → ℕ → Bool
-and_local live d k = live k || (k == d)
-
+-- what is live before the steps is live in each of them
 pub record CanDivide (l : Layout) (live behind : ℕ → Bool) (remainder dividend : ℕ) (divisor : Operand) : Type 0 where
   pub apart : remainder ≢ dividend
   pub ready_remainder : IsReady l live (Local remainder)
   pub ready_dividend : IsReady l live (Local dividend)
   pub ready_divisor : IsReady l live divisor
   pub narrow : IsFourBytes divisor
-  pub first : IsSet l live (and_local behind dividend) remainder
-  pub second : IsSet l (and_local behind dividend) behind dividend
+  pub first : IsSet l live live remainder
+  pub second : IsSet l live live dividend
+  pub kept : IsKept live behind
 
 abbrev pub CanBeCoded : Layout → Program → (live behind : ℕ → Bool) → PlainInstr → Type 0
 CanBeCoded l p live behind (Compute c) = CanCompute l live behind c c.operator c.right
 CanBeCoded l p live behind (Product to a b) = (IsReady l live a × IsReady l live b) × IsSet l live behind to
-CanBeCoded l p live behind (DivideStep r d a) = CanDivide l live behind r d a
+CanBeCoded l p live behind (DivideSteps r d a) = CanDivide l live behind r d a
 CanBeCoded l p live behind (Load Flash w to a) = IsWidth w × (IsReady l live a.index × IsSet l live behind to)
 CanBeCoded l p live behind (Pop w to) = IsWidth w × IsSet l live behind to
 CanBeCoded l p live behind (Find place to a) =

@@ -15,8 +15,8 @@ pub fn takes_within(procedure: &LinProc, more: usize, room: usize) -> bool
     fixed <= room && most_waiting(procedure.code()) <= (room - fixed) / 4
 }
 
-// The sum of at most 252 widths.
-fn width_sum(widths: &[u8]) -> usize
+/// The sum of at most 252 widths.
+pub fn width_sum(widths: &[u8]) -> usize
     requires { length widths.now ≤ 252 }
     ensures bytes { result ≡ bytes_in widths.now }
     ensures few { result ≤ 255 * length widths.now }
@@ -27,8 +27,8 @@ fn width_sum(widths: &[u8]) -> usize
     }
 }
 
-// The most values that wait at a place of the code.
-fn most_waiting(code: &[Instr]) -> usize
+/// The most values that wait at a place of the code, or behind it.
+pub fn most_waiting(code: &[Instr]) -> usize
     ensures { result ≡ most_in 0 code.now }
 {
     let mut now = 0;

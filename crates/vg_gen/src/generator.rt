@@ -1,5 +1,6 @@
 // The generated text.
-ghost use Rattle.std.specs.Prelude.{◌≡◌, ◌≤◌, ◌++◌, IfOk, OnOk, decimal};
+ghost use Rattle.std.specs.Prelude.{◌≡◌, ◌≤◌, ◌++◌, IfOk, OnOk, decimal, length};
+ghost use Rattle.vg_base.specs.Limits.{text_limit};
 ghost use Rattle.vg_gen.specs.Generated.{base_class, class_line, generated, lines, new_object, object_line};
 
 use crate::pieces;
@@ -16,6 +17,17 @@ const MOST_CLASSES: u32 = 100;
 ///
 /// It refuses nothing but want of memory.
 pub fn generate(alloc: Global, n: u32) -> Result<Vec<u8>, NoMemory>
+    requires some { 1 ≤ n }
+    requires few { n ≤ 500 }
+    ensures text { IfOk result (λ text. text.items ≡ generated n) }
+    ensures short { IfOk result (λ text. length text.items ≤ text_limit) }
+{
+    let text = whole_text(alloc, n)?;
+    Ok(text)
+}
+
+// The text, line by line.
+fn whole_text(alloc: Global, n: u32) -> Result<Vec<u8>, NoMemory>
     requires some { 1 ≤ n }
     requires few { n ≤ 500 }
     ensures { IfOk result (λ text. text.items ≡ generated n) }

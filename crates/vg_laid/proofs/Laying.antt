@@ -1,8 +1,8 @@
 -- Where programs that are put stand.
-use Rattle.std.specs.Prelude.{ℕ, zero, suc, ◌+◌, ◌%◌, ◌<◌, ◌≤◌, List, [], ◌∷◌, ◌++◌, map, length, get_or, Option, Some, None, option_map, slice_get}
+use Rattle.std.specs.Prelude.{ℕ, zero, suc, ◌+◌, ◌%◌, ◌<◌, ◌≤◌, Bool, true, false, List, [], ◌∷◌, ◌++◌, length, get_or, Option, Some, None, slice_get}
 use Rattle.std.proofs.Common.{◌≡◌, refl, sym, ap, ap₂, ◌∙◌, subst, arith, inl, inr}
 use Rattle.std.proofs.lemmas.List.{append_assoc, append-nil}
-use Rattle.std.proofs.lemmas.Option.{slice_get_within, slice_get-map, none-some}
+use Rattle.std.proofs.lemmas.Option.{slice_get_within, none-some, same_Some}
 use Rattle.avr_instr.specs.declared.instr.Instr.{Instr as Avr}
 use Rattle.avr_isa.specs.Standing.{widths}
 use Rattle.avr_isa.proofs.Standing.{widths-append}
@@ -14,10 +14,11 @@ use Rattle.vg_templates.specs.Layouts.{Layout}
 use Rattle.vg_templates.specs.Linkage.{prologue}
 use Rattle.vg_templates.specs.Framed.{framed}
 use Rattle.vg_put_operations.specs.Coded.{code_from}
+use Rattle.vg_select.specs.Leadings.{leading}
 use Rattle.vg_select.specs.Selected.{Leading, with_codes}
 use Rattle.vg_put_procedures.specs.Emitted.{led, code_upto, body_code, place_of, places_upto}
 use Rattle.vg_put_programs.specs.declared.placed.Placed.{Placed}
-use Rattle.vg_put_programs.specs.Programs.{turn_of, entry_of, places_of, entry_in, places_at, codes_upto, aim_in, called_in, far_held, far_leads}
+use Rattle.vg_put_programs.specs.Programs.{turn_of, entry_of, places_of, entry_in, places_at, codes_upto, aim_in, called_in, skips_at, far_held, held_of, held_at, helds_upto, far_leads}
 use Rattle.vg_put_programs.specs.Programs.{Emission, procedure_code, piece_of, placed_of, procedure_in, piece_at, pieces_upto, placed_at, placed_upto}
 use Rattle.vg_laid.specs.Laid.{unknown, known, aim_of, called_of, far_lead, lead_at, layout_of, instrs_of, layout_at, instrs_at, known_places, leads_at, place_at}
 use Rattle.vg_laid.proofs.Sizes.{both_same, upto_size, upto_same}
@@ -31,9 +32,24 @@ there (i ∷ is) zero h = (i, refl)
 there (i ∷ is) (suc pc) h = there is pc (omega (arith, h))
 
 -- The leads that are kept are those of each instruction.
+held_is : (places codes : List ℕ) (idle : ℕ) (skips : Bool) (i : Instr)
+    → leading (far_held places codes idle skips i) ≡ far_lead skips (aim_in places i) (called_in codes i) idle
+held_is places codes idle true i = refl
+held_is places codes idle false i = refl
+
+led_by : (places codes : List ℕ) (idle pc : ℕ) (next here : Option Instr) (i : Instr) → here ≡ Some i
+    → leading (held_of places codes idle pc next here) ≡ far_lead (skips_at pc here next) (aim_in places i) (called_in codes i) idle
+led_by places codes idle pc next None i e = absurd (none-some _ e)
+led_by places codes idle pc next (Some j) i e =
+    held_is places codes idle (skips_at pc (Some j) next) j
+    ∙ ap (λ k. far_lead (skips_at pc (Some j) next) (aim_in places k) (called_in codes k) idle) (same_Some _ _ e)
+
 pub leads_are : (places codes : List ℕ) (idle : ℕ) (is : List Instr) (pc : ℕ) (i : Instr) → slice_get is pc ≡ Some i
-    → far_leads places codes idle is pc ≡ far_lead (aim_in places i) (called_in codes i) idle
-leads_are places codes idle is pc i q = ap led (slice_get-map (far_held places codes idle) is pc ∙ ap (λ o. option_map (far_held places codes idle) o) q)
+    → far_leads places codes idle is pc
+    ≡ far_lead (skips_at pc (slice_get is pc) (slice_get is (suc pc))) (aim_in places i) (called_in codes i) idle
+leads_are places codes idle is pc i q =
+    ap led (got (held_at places codes idle is) (helds_upto places codes idle is) refl (λ j. refl) (length is) pc (slice_get_within is pc i q))
+    ∙ led_by places codes idle pc (slice_get is (suc pc)) (slice_get is pc) i q
 
 -- The code takes as many words, wherever it leads.
 pub piece_size : (places codes : List ℕ) (idle : ℕ) (places' codes' : List ℕ) (idle' : ℕ) (ds : List (List Case)) (o : Option Procedure)
@@ -46,6 +62,7 @@ piece_size places codes idle places' codes' idle' ds (Some m) =
     both_same (prologue l) (body_code l p f m.code) (prologue l) (body_code l q g m.code) refl
     (upto_size l p q refl f g m.code (length m.code) (λ pc low.
     let t = there m.code pc low in (
+      skips_at pc (slice_get m.code pc) (slice_get m.code (suc pc)),
       aim_in places t.0,
       called_in codes t.0,
       idle,
@@ -73,14 +90,15 @@ placed_place entry places codes idle ds None pc h = absurd (omega (arith, h))
 -- The code of a procedure, as its links have it.
 pub piece_is : (places codes : List ℕ) (idle : ℕ) (p : Program) (o : Option Procedure) (m : Procedure) → p.codes.code ≡ code_from codes → o ≡ Some m
     → piece_of places codes idle p.dispatches o
-    ≡ prologue (layout_of o) ++ body_code (layout_of o) p (λ pc. lead_at places codes idle (slice_get (instrs_of o) pc)) (instrs_of o)
+    ≡ prologue (layout_of o) ++ body_code (layout_of o) p (lead_at places codes idle (instrs_of o)) (instrs_of o)
 piece_is places codes idle p None m ec e = absurd (none-some _ e)
 piece_is places codes idle p (Some k) m ec e =
     let l = framed k.widths k.params in
     ap (λ z. prologue l ++ z)
     (upto_same l (with_codes (code_from codes) p.dispatches) p (sym ec) refl (far_leads places codes idle k.code)
-    (λ pc. lead_at places codes idle (slice_get k.code pc)) k.code (length k.code) (λ pc low.
-    let t = there k.code pc low in leads_are places codes idle k.code pc t.0 t.1 ∙ ap (lead_at places codes idle) (sym t.1)))
+    (lead_at places codes idle k.code) k.code (length k.code) (λ pc low.
+    let t = there k.code pc low in leads_are places codes idle k.code pc t.0 t.1
+    ∙ ap (λ o. far_lead (skips_at pc (slice_get k.code pc) (slice_get k.code (suc pc))) (aim_of places o) (called_of codes o) idle) (sym t.1)))
 
 -- ---- all of them
 
@@ -175,6 +193,7 @@ module _ (ms : List Procedure) (s : ℕ) (ds : List (List Case)) (first : ℕ) w
               upto_size (layout_at e p m) (with_codes (code_from []) ds) p (sym dispatches) (far_leads [] [] 0 (instrs_at e p m)) (leads_at e p m)
               (instrs_at e p m) pc (λ j less.
               let t = there (instrs_at e p m) j (omega (arith, less, h)) in (
+                skips_at j (slice_get (instrs_at e p m) j) (slice_get (instrs_at e p m) (suc j)),
                 aim_in [] t.0,
                 called_in [] t.0,
                 0,

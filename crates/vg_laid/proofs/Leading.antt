@@ -1,8 +1,9 @@
 -- Procedures that are put are linked.
-use Rattle.std.specs.Prelude.{ℕ, zero, suc, ◌+◌, ◌-◌, ◌%◌, ◌<◌, ◌≤◌, ◌≢◌, Bool, true, false, List, [], ◌∷◌, ◌++◌, length, get_or, Option, Some, None, slice_get}
+use Rattle.std.specs.Prelude.{ℕ, zero, suc, ◌+◌, ◌-◌, ◌%◌, ◌<◌, ◌≤◌, ◌≢◌, ◌==◌, ◌&&◌, Bool, true, false, List, [], ◌∷◌, ◌++◌, length, get_or, Option, Some, None, slice_get}
 use Rattle.std.proofs.Common.{◌≡◌, refl, sym, ap, ap₂, ◌∙◌, subst, arith, inl, inr}
 use Rattle.std.proofs.lemmas.List.{append_assoc}
 use Rattle.avr_instr.specs.declared.instr.Instr.{Instr as Avr}
+use Rattle.avr_isa.specs.Flow.{near_from}
 use Rattle.avr_isa.specs.Standing.{widths}
 use Rattle.avr_isa.proofs.Standing.{widths-append}
 use Rattle.avr_view.proofs.Going.{below_or_not}
@@ -12,7 +13,7 @@ use Rattle.vg_lin.specs.declared.instr.Callee.{Callee}
 use Rattle.vg_lin.specs.declared.instr.Callee.TheVariants.{Procedure as ByNumber, Code as ByCode}
 use Rattle.vg_lin.specs.declared.instr.Test.{Test}
 use Rattle.vg_lin.specs.declared.instr.Plain.{Plain as PlainInstr}
-use Rattle.vg_lin.specs.declared.instr.Plain.TheVariants.{Copy, Compute, Product, DivideStep, Load, Store, ReadDevice, WriteDevice, Push, Pop, Find, CodeOf, Stop}
+use Rattle.vg_lin.specs.declared.instr.Plain.TheVariants.{Copy, Compute, Product, DivideSteps, Load, Store, ReadDevice, WriteDevice, Push, Pop, Find, CodeOf, Stop}
 use Rattle.vg_lin.specs.declared.instr.Instr.{Instr}
 use Rattle.vg_lin.specs.declared.instr.Instr.TheVariants.{Plain, When, Unless, Jump, Call, Return, Idle}
 use Rattle.vg_lin.specs.Program.{Procedure, Program}
@@ -21,7 +22,7 @@ use Rattle.vg_templates.specs.Layouts.{Layout}
 use Rattle.vg_templates.specs.Linkage.{prologue}
 use Rattle.vg_templates.specs.Calls as calls
 use Rattle.vg_templates.specs.Branches.{tests, told_by}
-use Rattle.vg_templates.specs.Flow.{branch_code, Past, Far}
+use Rattle.vg_templates.specs.Flow.{branch_code, Direct, Past, Far}
 use Rattle.vg_templates.specs.Whole.{Links, template}
 use Rattle.vg_followed.specs.Tables.{AreCases}
 use Rattle.vg_followed.specs.Stands.{HopLeads, TurnLeads, TestLeads, CalleeLeads, call_place}
@@ -29,12 +30,45 @@ use Rattle.vg_covered.specs.Fitting.{IsPlainFit, IsFit}
 use Rattle.vg_put_operations.specs.Coded.{code_from}
 use Rattle.vg_select.specs.Selected.{Leading, selected}
 use Rattle.vg_put_procedures.specs.Emitted.{code_of, code_at, code_upto, body_code, place_of}
-use Rattle.vg_put_programs.specs.Programs.{turn_of, address_in, aim_in, callee_in, Emission, piece_at, pieces_upto}
+use Rattle.vg_put_programs.specs.Programs.{turn_of, address_in, aim_in, callee_in, branches_to, is_stop, skips_at, Emission, piece_at, pieces_upto}
 use Rattle.vg_laid.specs.Linked.{HasPiece, leading_of, Targets, InstrLinked, ProcedureLinked}
-use Rattle.vg_laid.specs.Laid.{known, aim_of, lead_at, layout_of, instrs_of, behind_of, layout_at, instrs_at, known_places, leads_at, place_at, links_of, AreSound}
+use Rattle.vg_laid.specs.Laid.{known, aim_of, called_of, turn_by, layout_of, instrs_of, behind_of, layout_at, instrs_at, known_places, leads_at, place_at, links_of, AreSound}
 use Rattle.vg_laid.proofs.Some.{selected_some, words_some}
 use Rattle.vg_laid.proofs.Turns.{turn_low}
 use Rattle.vg_laid.proofs.Laying.{pieces_parts, pieces_fit, entry_is, piece_there, place_known, there}
+
+both_true : (a b : Bool) → (a && b) ≡ true → (a ≡ true) × (b ≡ true)
+both_true true b e = (refl, e)
+both_true false b e = absurd (let clash : false ≡ true = e in cc)
+
+same_number : (a b : ℕ) → (a == b) ≡ true → a ≡ b
+same_number a b e = grind arith
+
+-- what stops the run is a stop
+stop_is : (o : Option Instr) → is_stop o ≡ true → (code : ℕ) × (o ≡ Some (Plain (Stop code)))
+stop_is None e = absurd (let clash : false ≡ true = e in cc)
+stop_is (Some (Plain q)) e = plain_stop q e
+  where
+    plain_stop : (q : PlainInstr) → is_stop (Some (Plain q)) ≡ true → (code : ℕ) × (Some (Plain q) ≡ Some (Plain (Stop code)))
+    plain_stop (Stop code) e = (code, refl)
+    plain_stop (Copy to a) e = absurd (let clash : false ≡ true = e in cc)
+    plain_stop (Compute c) e = absurd (let clash : false ≡ true = e in cc)
+    plain_stop (Product to a b) e = absurd (let clash : false ≡ true = e in cc)
+    plain_stop (DivideSteps r d a) e = absurd (let clash : false ≡ true = e in cc)
+    plain_stop (Load k w to a) e = absurd (let clash : false ≡ true = e in cc)
+    plain_stop (Store w a from) e = absurd (let clash : false ≡ true = e in cc)
+    plain_stop (ReadDevice to a) e = absurd (let clash : false ≡ true = e in cc)
+    plain_stop (WriteDevice to a) e = absurd (let clash : false ≡ true = e in cc)
+    plain_stop (Push w a) e = absurd (let clash : false ≡ true = e in cc)
+    plain_stop (Pop w to) e = absurd (let clash : false ≡ true = e in cc)
+    plain_stop (Find d to a) e = absurd (let clash : false ≡ true = e in cc)
+    plain_stop (CodeOf q to) e = absurd (let clash : false ≡ true = e in cc)
+stop_is (Some (When t to)) e = absurd (let clash : false ≡ true = e in cc)
+stop_is (Some (Unless t to)) e = absurd (let clash : false ≡ true = e in cc)
+stop_is (Some (Jump to)) e = absurd (let clash : false ≡ true = e in cc)
+stop_is (Some (Call c)) e = absurd (let clash : false ≡ true = e in cc)
+stop_is (Some (Return w a)) e = absurd (let clash : false ≡ true = e in cc)
+stop_is (Some Idle) e = absurd (let clash : false ≡ true = e in cc)
 
 module _ (ms : List Procedure) (s : ℕ) (ds : List (List Case)) (first : ℕ) (stubs : List ℕ) (low : s < length ms)
     (room : first + widths (pieces_upto (known ms s ds first) (length ms)) < 65536) (p : Program)
@@ -158,33 +192,66 @@ module _ (ms : List Procedure) (s : ℕ) (ds : List (List Case)) (first : ℕ) (
   held : (pc to : ℕ) → to < length procedure.code → to < length is
   held pc to h = subst (λ z. to < length z) (sym is_is) h
 
+  near : (t : Test) (truth : Bool) → widths (tests l t ++ branch_code (told_by t.comparison) truth (Direct 2)) ≡ widths (tests l t) + 1
+  near t true = let w = widths-append (tests l t) (branch_code (told_by t.comparison) true (Direct 2)) in omega (arith, w)
+  near t false = let w = widths-append (tests l t) (branch_code (told_by t.comparison) false (Direct 2)) in omega (arith, w)
+
   branches : (pc to : ℕ) (i : Instr) (t : Test) (truth : Bool) → slice_get is pc ≡ Some i
       → widths (code_at l p (leads_at e p m) is pc) ≡ widths (tests l t ++ branch_code (told_by t.comparison) truth (x.branch m pc))
-      → aim_in (known_places e p m) i ≡ address_in (known_places e p m) to → to ≢ pc → to < length is → TestLeads x m pc to (at pc + widths (tests l t))
-  branches pc to i t truth q w aim other h =
-      subst (λ b. TurnLeads b (at pc + widths (tests l t)) (at to)) (sym (ap (λ o. (lead_at (known_places e p m) e.codes e.idle o).branch) q))
-      (aim ∙ address to h, λ same. away pc to i q h other (widths (tests l t) + 1) inner (same ∙ (let z = regroup (at pc) (widths (tests l t)) in z)))
+      → aim_in (known_places e p m) i ≡ address_in (known_places e p m) to → branches_to (pc + 2) i ≡ (to == pc + 2) → to ≢ pc → to < length is
+      → TestLeads x m pc to (at pc + widths (tests l t))
+  branches pc to i t truth q w aim over other h = by_test (skips_at pc (Some i) (slice_get is (suc pc))) refl
     where
+      aimed : ℕ
+      aimed = address_in (known_places e p m) to
+
+      turn_is : (b : Bool) → skips_at pc (Some i) (slice_get is (suc pc)) ≡ b → x.branch m pc ≡ turn_by b aimed
+      turn_is b s = ap (λ o. turn_by (skips_at pc o (slice_get is (suc pc))) (aim_of (known_places e p m) o)) q ∙ ap₂ turn_by s aim
+
+      size : (b : Bool) → skips_at pc (Some i) (slice_get is (suc pc)) ≡ b
+          → widths (code_at l p (leads_at e p m) is pc) ≡ widths (tests l t ++ branch_code (told_by t.comparison) truth (turn_by b aimed))
+      size b s = w ∙ ap (λ z. widths (tests l t ++ branch_code (told_by t.comparison) truth z)) (turn_is b s)
+
       regroup : (a b : ℕ) → a + b + 1 ≡ a + (b + 1)
       regroup a b = omega arith
 
-      size : widths (code_at l p (leads_at e p m) is pc) ≡ widths (tests l t) + 3
-      size = w ∙ turns t truth (aim_of (known_places e p m) (slice_get is pc))
+      -- over the two words of a stop
+      over_stop : skips_at pc (Some i) (slice_get is (suc pc)) ≡ true → near_from (at pc + widths (tests l t)) 2 ≡ at to
+      over_stop s =
+          let both = both_true (branches_to (pc + 2) i) (is_stop (slice_get is (suc pc))) s in
+          let to_is = same_number to (pc + 2) (sym over ∙ both.0) in
+          let stop = stop_is (slice_get is (suc pc)) both.1 in
+          let here = next pc in
+          let test_size = size true s ∙ near t truth in
+          let behind = next (suc pc) in
+          let stop_size : widths (code_at l p (leads_at e p m) is (suc pc)) ≡ 2 = ap widths (code_is (suc pc) (Plain (Stop stop.0)) stop.1) in
+          let two : pc + 2 ≡ suc (suc pc) = omega arith in
+          let goal : at to ≡ at (suc (suc pc)) = ap at (to_is ∙ two) in
+          let sum : at pc + widths (tests l t) + 1 + 2 + 0 ≡ at to = omega (arith, here, test_size, behind, stop_size, goal) in
+          ap (λ z. z % 65536) sum ∙ reduced (at to) (small to (omega (arith, h)))
+        where
+          reduced : (z : ℕ) → z < 65536 → z % 65536 ≡ z
+          reduced z g = omega (arith, g)
 
-      inner : at pc + (widths (tests l t) + 1) < at (suc pc)
-      inner = let n = next pc in let u = size in omega (arith, n, u)
+      by_test : (b : Bool) → skips_at pc (Some i) (slice_get is (suc pc)) ≡ b → TestLeads x m pc to (at pc + widths (tests l t))
+      by_test true s = subst (λ b. TurnLeads b (at pc + widths (tests l t)) (at to)) (sym (turn_is true s)) (over_stop s)
+      by_test false s =
+          let n = next pc in let u = size false s ∙ turns t truth aimed in
+          let inner : at pc + (widths (tests l t) + 1) < at (suc pc) = omega (arith, n, u) in
+          subst (λ b. TurnLeads b (at pc + widths (tests l t)) (at to)) (sym (turn_is false s))
+          (address to h, λ same. away pc to i q h other (widths (tests l t) + 1) inner (same ∙ regroup (at pc) (widths (tests l t))))
 
   target : (pc : ℕ) (i : Instr) → slice_get is pc ≡ Some i → Waits procedure (waits_of procedure) pc i → Targets x m pc i
   target pc (Plain i) q w = tt
-  target pc (When t to) q w = branches pc to (When t to) t true q (ap widths (code_is pc (When t to) q)) refl w.0.0 (held pc to w.0.1.0)
-  target pc (Unless t to) q w = branches pc to (Unless t to) t false q (ap widths (code_is pc (Unless t to) q)) refl w.0.0 (held pc to w.0.1.0)
+  target pc (When t to) q w = branches pc to (When t to) t true q (ap widths (code_is pc (When t to) q)) refl refl w.0.0 (held pc to w.0.1.0)
+  target pc (Unless t to) q w = branches pc to (Unless t to) t false q (ap widths (code_is pc (Unless t to) q)) refl refl w.0.0 (held pc to w.0.1.0)
   target pc (Jump to) q w =
       let h = held pc to w.1.0 in let up = strict pc (Jump to) q in
-      subst (λ b. HopLeads b (at pc) (at to)) (sym (ap (λ o. (lead_at (known_places e p m) e.codes e.idle o).jump) q))
+      subst (λ b. HopLeads b (at pc) (at to)) (sym (ap (λ o. Far (aim_of (known_places e p m) o)) q))
       (address to h, λ same. away pc to (Jump to) q h w.0 0 (omega (arith, up)) (same ∙ (let z : at pc ≡ at pc + 0 = omega arith in z)))
   target pc (Call c) q w = (
     ap (behind_of l (at pc) (leads_at e p m pc)) q,
-    subst (λ b. CalleeLeads x c.callee b (call_place x m pc c)) (sym (ap (λ o. (lead_at (known_places e p m) e.codes e.idle o).call) q))
+    subst (λ b. CalleeLeads x c.callee b (call_place x m pc c)) (sym (ap (λ o. calls.Far (called_of e.codes o)) q))
         (callee c.callee (call_place x m pc c)),
   )
   target pc (Return r a) q w = tt
@@ -221,7 +288,7 @@ fits_plain : (p q : Program) → p.codes.code ≡ q.codes.code → p.dispatches 
 fits_plain p q codes same (Copy to a) h = h
 fits_plain p q codes same (Compute c) h = h
 fits_plain p q codes same (Product to a b) h = h
-fits_plain p q codes same (DivideStep r d a) h = h
+fits_plain p q codes same (DivideSteps r d a) h = h
 fits_plain p q codes same (Load k w to a) h = h
 fits_plain p q codes same (Store w a from) h = h
 fits_plain p q codes same (ReadDevice to address) h = h

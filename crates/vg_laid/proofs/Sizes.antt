@@ -1,5 +1,5 @@
 -- How many words the code of an instruction takes does not depend on code numbers, nor on where far jumps and far calls lead.
-use Rattle.std.specs.Prelude.{ℕ, zero, suc, ◌+◌, ◌/◌, ◌<◌, true, false, List, [], ◌∷◌, ◌++◌, Option, Some, None, slice_get}
+use Rattle.std.specs.Prelude.{ℕ, zero, suc, ◌+◌, ◌/◌, ◌<◌, Bool, true, false, List, [], ◌∷◌, ◌++◌, Option, Some, None, slice_get}
 use Rattle.std.proofs.Common.{◌≡◌, refl, sym, ap, ap₂, ◌∙◌, subst, arith}
 use Rattle.avr_instr.specs.declared.instr.Instr.{Instr as Avr}
 use Rattle.avr_isa.specs.Standing.{width, widths}
@@ -15,7 +15,7 @@ use Rattle.vg_lin.specs.declared.instr.Operator.{Operator}
 use Rattle.vg_lin.specs.declared.instr.Operator.TheVariants.{Plus, Minus, Times, Divide, Remainder, And, Or, Xor, ShiftLeft, ShiftRight}
 use Rattle.vg_lin.specs.declared.instr.Computation.{Computation}
 use Rattle.vg_lin.specs.declared.instr.Plain.{Plain as PlainInstr}
-use Rattle.vg_lin.specs.declared.instr.Plain.TheVariants.{Copy, Compute, Product, DivideStep, Load, Store, ReadDevice, WriteDevice, Push, Pop, Find, CodeOf, Stop}
+use Rattle.vg_lin.specs.declared.instr.Plain.TheVariants.{Copy, Compute, Product, DivideSteps, Load, Store, ReadDevice, WriteDevice, Push, Pop, Find, CodeOf, Stop}
 use Rattle.vg_lin.specs.declared.instr.Instr.{Instr}
 use Rattle.vg_lin.specs.declared.instr.Instr.TheVariants.{Plain, When, Unless, Jump, Call, Return, Idle}
 use Rattle.vg_lin.specs.Program.{Program}
@@ -28,12 +28,12 @@ use Rattle.vg_templates.specs.Calls.{call_code}
 use Rattle.vg_templates.specs.Calls as calls
 use Rattle.vg_templates.specs.Plain.{copies}
 use Rattle.vg_templates.specs.Lookups.{tries_case, tries_cases, finds_procedure}
-use Rattle.vg_templates.specs.Flow.{branch_code, Past, Far, way_of}
+use Rattle.vg_templates.specs.Flow.{branch_code, way_of}
 use Rattle.vg_templates.specs.Plains.{plain_template}
 use Rattle.vg_templates.specs.Whole.{call_front, call_back}
 use Rattle.vg_select.specs.Selected.{Leading, selected}
 use Rattle.vg_put_procedures.specs.Emitted.{code_of, code_at, code_upto}
-use Rattle.vg_laid.specs.Laid.{far_lead}
+use Rattle.vg_laid.specs.Laid.{turn_by, far_lead}
 
 -- Two pieces of code take as many words as two others, of which each takes as many.
 pub both_same : (a b c d : List Avr) → widths a ≡ widths c → widths b ≡ widths d → widths (a ++ b) ≡ widths (c ++ d)
@@ -59,6 +59,11 @@ finds_size l f g cs es to a e =
     (both_same (tries_cases f cs) (gives l to 22 2) (tries_cases g es) (gives l to 22 2)
     (tries_size f g cs ∙ ap (λ z. widths (tries_cases g z)) e) refl)
 
+turn_size : (bit : ℕ) (wanted skips : Bool) (x y : ℕ) → widths (branch_code bit wanted (turn_by skips x)) ≡ widths (branch_code bit wanted (turn_by skips y))
+turn_size bit wanted true x y = refl
+turn_size bit true false x y = refl
+turn_size bit false false x y = refl
+
 call_size : (c : Callee) (x y : ℕ) → width (call_code (way_of c (calls.Far x))) ≡ width (call_code (way_of c (calls.Far y)))
 call_size (ByNumber q) x y = refl
 call_size (ByCode a) x y = refl
@@ -68,7 +73,7 @@ module _ (l : Layout) (p q : Program) (same : p.dispatches ≡ q.dispatches) whe
   plain_size (Copy to a) = refl
   plain_size (Compute c) = refl
   plain_size (Product to a b) = refl
-  plain_size (DivideStep r d a) = refl
+  plain_size (DivideSteps r d a) = refl
   plain_size (Load Ram w to a) = refl
   plain_size (Load Flash w to a) = refl
   plain_size (Store w a from) = refl
@@ -82,36 +87,39 @@ module _ (l : Layout) (p q : Program) (same : p.dispatches ≡ q.dispatches) whe
   plain_size (CodeOf m to) = copies_size l to (p.codes.code m) (q.codes.code m)
   plain_size (Stop code) = refl
 
-  pub selected_size : (ws : List ℕ) (a b c x y z : ℕ) (i : Instr) → widths (selected l p ws (far_lead a b c) i) ≡ widths (selected l q ws (far_lead x y z) i)
-  selected_size ws a b c x y z (Plain i) = plain_size i
-  selected_size ws a b c x y z (When t at) =
-      both_same (tests l t) (branch_code (told_by t.comparison) true (Past (Far a))) (tests l t) (branch_code (told_by t.comparison) true (Past (Far x)))
-      refl refl
-  selected_size ws a b c x y z (Unless t at) =
-      both_same (tests l t) (branch_code (told_by t.comparison) false (Past (Far a))) (tests l t) (branch_code (told_by t.comparison) false (Past (Far x)))
-      refl refl
-  selected_size ws a b c x y z (Jump at) = refl
-  selected_size ws a b c x y z (Call k) =
+  pub selected_size : (ws : List ℕ) (t : Bool) (a b c x y z : ℕ) (i : Instr)
+      → widths (selected l p ws (far_lead t a b c) i) ≡ widths (selected l q ws (far_lead t x y z) i)
+  selected_size ws t a b c x y z (Plain i) = plain_size i
+  selected_size ws t a b c x y z (When k at) =
+      both_same (tests l k) (branch_code (told_by k.comparison) true (turn_by t a)) (tests l k) (branch_code (told_by k.comparison) true (turn_by t x))
+      refl (turn_size (told_by k.comparison) true t a x)
+  selected_size ws t a b c x y z (Unless k at) =
+      both_same (tests l k) (branch_code (told_by k.comparison) false (turn_by t a)) (tests l k) (branch_code (told_by k.comparison) false (turn_by t x))
+      refl (turn_size (told_by k.comparison) false t a x)
+  selected_size ws t a b c x y z (Jump at) = refl
+  selected_size ws t a b c x y z (Call k) =
       let back = call_back l ws k in let w = call_size k.callee b y in
       both_same (call_front l k) (call_code (way_of k.callee (calls.Far b)) ∷ back) (call_front l k) (call_code (way_of k.callee (calls.Far y)) ∷ back) refl
       (ap (λ n. n + widths back) w)
-  selected_size ws a b c x y z (Return w v) = refl
-  selected_size ws a b c x y z Idle = refl
+  selected_size ws t a b c x y z (Return w v) = refl
+  selected_size ws t a b c x y z Idle = refl
 
   -- the code of the first instructions, so many, where each is led by far jumps and calls
   pub upto_size : (f g : ℕ → Leading) (is : List Instr) (n : ℕ)
-      → ((pc : ℕ) → pc < n → (a : ℕ) × (b : ℕ) × (c : ℕ) × (x : ℕ) × (y : ℕ) × (z : ℕ) × (f pc ≡ far_lead a b c) × (g pc ≡ far_lead x y z))
+      → ((pc : ℕ) → pc < n → (t : Bool) × (a : ℕ) × (b : ℕ) × (c : ℕ) × (x : ℕ) × (y : ℕ) × (z : ℕ) × (f pc ≡ far_lead t a b c)
+      × (g pc ≡ far_lead t x y z))
       → widths (code_upto l p f is n) ≡ widths (code_upto l q g is n)
   upto_size f g is zero h = refl
   upto_size f g is (suc n) h =
       both_same (code_upto l p f is n) (code_at l p f is n) (code_upto l q g is n) (code_at l q g is n)
       (upto_size f g is n (λ pc low. h pc (omega (arith, low)))) (each (slice_get is n) (h n (omega arith)))
     where
-      each : (o : Option Instr) → (a : ℕ) × (b : ℕ) × (c : ℕ) × (x : ℕ) × (y : ℕ) × (z : ℕ) × (f n ≡ far_lead a b c) × (g n ≡ far_lead x y z)
+      each : (o : Option Instr) → (t : Bool) × (a : ℕ) × (b : ℕ) × (c : ℕ) × (x : ℕ) × (y : ℕ) × (z : ℕ) × (f n ≡ far_lead t a b c)
+          × (g n ≡ far_lead t x y z)
           → widths (code_of l p (waits_in [] is n) (f n) o) ≡ widths (code_of l q (waits_in [] is n) (g n) o)
       each None k = refl
-      each (Some i) (a, b, c, x, y, z, ef, eg) =
-          ap (λ to. widths (selected l p (waits_in [] is n) to i)) ef ∙ selected_size (waits_in [] is n) a b c x y z i
+      each (Some i) (t, a, b, c, x, y, z, ef, eg) =
+          ap (λ to. widths (selected l p (waits_in [] is n) to i)) ef ∙ selected_size (waits_in [] is n) t a b c x y z i
           ∙ ap (λ to. widths (selected l q (waits_in [] is n) to i)) (sym eg)
 
 -- ---- the same code, where the code numbers are the same as well
@@ -121,7 +129,7 @@ module _ (l : Layout) (p q : Program) (codes : p.codes.code ≡ q.codes.code) (s
   plain_same (Copy to a) = refl
   plain_same (Compute c) = refl
   plain_same (Product to a b) = refl
-  plain_same (DivideStep r d a) = refl
+  plain_same (DivideSteps r d a) = refl
   plain_same (Load Ram w to a) = refl
   plain_same (Load Flash w to a) = refl
   plain_same (Store w a from) = refl

@@ -1,11 +1,11 @@
--- Each instruction of a sound procedure has code of at least one instruction, where all locals are in the frame.
-use Rattle.std.specs.Prelude.{ℕ, zero, suc, ◌+◌, ◌-◌, ◌/◌, ◌%◌, ◌<◌, ◌≤◌, nat_lt, nat_le, Bool, true, false, ◌&&◌, not, if◌then◌else◌, List, [], ◌∷◌, ◌++◌, length, slice_index}
+-- Each instruction of a sound procedure has code of at least one instruction.
+use Rattle.std.specs.Prelude.{ℕ, zero, suc, ◌+◌, ◌-◌, ◌/◌, ◌%◌, ◌<◌, ◌≤◌, ◌==◌, nat_lt, nat_le, Bool, true, false, ◌&&◌, not, if◌then◌else◌, List, [], ◌∷◌, ◌++◌, length, slice_index}
 use Rattle.std.specs.Prelude.{Option, Some, None, slice_get}
 use Rattle.std.specs.List.{AllByRecursion}
 use Rattle.std.proofs.Common.{◌≡◌, refl, sym, ap, ◌∙◌, subst, arith}
 use Rattle.std.proofs.lemmas.List.{length-append}
 use Rattle.avr_instr.specs.declared.instr.Instr.{Instr as Avr}
-use Rattle.avr_instr.specs.declared.instr.Instr.TheVariants.{Ret, Push as PushOf}
+use Rattle.avr_instr.specs.declared.instr.Instr.TheVariants.{Mov, Movw, Ret, Push as PushOf}
 use Rattle.avr_instr.specs.declared.operand.Base.{Base}
 use Rattle.avr_isa.specs.Standing.{words_with, widths}
 use Rattle.avr_instr.specs.Spelled.{second_word}
@@ -17,15 +17,15 @@ use Rattle.vg_lin.specs.declared.instr.Operator.{Operator}
 use Rattle.vg_lin.specs.declared.instr.Operator.TheVariants.{Plus, Minus, Times, Divide, Remainder, And, Or, Xor, ShiftLeft, ShiftRight}
 use Rattle.vg_lin.specs.declared.instr.Computation.{Computation}
 use Rattle.vg_lin.specs.declared.instr.Plain.{Plain as PlainInstr}
-use Rattle.vg_lin.specs.declared.instr.Plain.TheVariants.{Copy, Compute, Product, DivideStep, Load, Store, ReadDevice, WriteDevice, Push, Pop, Find, CodeOf, Stop}
+use Rattle.vg_lin.specs.declared.instr.Plain.TheVariants.{Copy, Compute, Product, DivideSteps, Load, Store, ReadDevice, WriteDevice, Push, Pop, Find, CodeOf, Stop}
 use Rattle.vg_lin.specs.declared.instr.Instr.{Instr}
 use Rattle.vg_lin.specs.declared.instr.Instr.TheVariants.{Plain, When, Unless, Jump, Call, Return, Idle}
 use Rattle.vg_lin.specs.Program.{Procedure, Program}
 use Rattle.vg_lin.specs.Sound.{IsWidth, IsPlain, AreOperands, IsSound}
-use Rattle.vg_templates.specs.Spots.{Spot, InFrame}
+use Rattle.vg_templates.specs.Spots.{Spot, InFrame, InRegisters}
 use Rattle.vg_templates.specs.Layouts.{Layout, width_of}
 use Rattle.vg_templates.specs.Linkage.{pushes, pops, drops_slots, epilogue}
-use Rattle.vg_templates.specs.Transfers.{clears, reach, stores, keep}
+use Rattle.vg_templates.specs.Transfers.{clears, moves_two, moves, reach, stores, keep}
 use Rattle.vg_templates.specs.Held.{brings, gives}
 use Rattle.vg_templates.specs.Branches.{tests, told_by, near_branch}
 use Rattle.vg_templates.specs.Calls.{call_code}
@@ -34,7 +34,6 @@ use Rattle.vg_templates.specs.Plain.{copies, computes, works, writes_register, r
 use Rattle.vg_templates.specs.Accesses.{points_x, loads_x, stores_x}
 use Rattle.vg_templates.specs.Shifts.{doubles, halves, repeats, shifts_left, shifts_right}
 use Rattle.vg_templates.specs.Lookups.{points_z, loads_z, tries_cases}
-use Rattle.vg_templates.specs.Products.{brings_bit}
 use Rattle.vg_templates.specs.Flow.{jump_code, branch_code, way_of, Turn, Direct, Past, Hop, Near, Far}
 use Rattle.vg_templates.specs.Plains.{computation_code, pops_from, plain_template}
 use Rattle.vg_templates.specs.Whole.{call_front, call_back}
@@ -63,6 +62,24 @@ stores_some : (b : Base) (q r w n : ℕ) → 1 ≤ w → 1 ≤ length (stores b 
 stores_some b q r zero n h = absurd (omega (arith, h))
 stores_some b q r (suc w) zero h = omega arith
 stores_some b q r (suc w) (suc n) h = omega arith
+
+clears_some : (d n : ℕ) → 1 ≤ n → 1 ≤ length (clears d n)
+clears_some d zero h = absurd (omega (arith, h))
+clears_some d (suc n) h = omega arith
+
+two_some : (r d : ℕ) → 1 ≤ length (moves_two r d)
+two_some r d = by_test ((r % 2 == 0) && (d % 2 == 0))
+  where
+    by_test : (b : Bool) → 1 ≤ length (if b then Movw d r ∷ [] else Mov d r ∷ Mov (suc d) (suc r) ∷ [])
+    by_test true = omega arith
+    by_test false = omega arith
+
+moves_some : (r d w n : ℕ) → 1 ≤ n → 1 ≤ length (moves r d w n)
+moves_some r d zero n h = clears_some d n h
+moves_some r d (suc w) zero h = absurd (omega (arith, h))
+moves_some r d (suc zero) (suc n) h = omega arith
+moves_some r d (suc (suc w)) (suc zero) h = omega arith
+moves_some r d (suc (suc w)) (suc (suc n)) h = front (moves_two r d) (moves (suc (suc r)) (suc (suc d)) w n) (two_some r d)
 
 padded_some : (r w n : ℕ) → 1 ≤ n → 1 ≤ length (padded r w n)
 padded_some r w zero h = absurd (omega (arith, h))
@@ -101,33 +118,31 @@ jump_some : (h : Hop) → 1 ≤ length (jump_code h)
 jump_some (Near k) = omega arith
 jump_some (Far to) = omega arith
 
--- ---- the frame
+-- ---- locals
 
 wide_at : (ws : List ℕ) (k : ℕ) → AllByRecursion IsWidth ws → k < length ws → 1 ≤ slice_index ws k
 wide_at [] k h lt = absurd (omega (arith, lt))
 wide_at (w ∷ ws) zero (h, g) lt = h.0
 wide_at (w ∷ ws) (suc k) (h, g) lt = wide_at ws k g (omega (arith, lt))
 
-in_frame : (b : Bool) (x y : ℕ) → (if b then InFrame x else InFrame y) ≡ InFrame (if b then x else y)
-in_frame true x y = refl
-in_frame false x y = refl
+keep_some : (z : Spot) (w r n : ℕ) → 1 ≤ w → 1 ≤ length (keep z w r n)
+keep_some (InFrame at) w r n h =
+    let k = reach at w in back k.code (stores k.base k.displacement r w n) (stores_some k.base k.displacement r w n h)
+keep_some (InRegisters d) w r n h = moves_some r d n w h
+
+spot_some : (z : Spot) (w d n : ℕ) → 1 ≤ n → 1 ≤ length (spot_found z w d n)
+spot_some (InFrame at) w d n h = padded_some d w n h
+spot_some (InRegisters r) w d n h = padded_some r w n h
 
 module _ (m : Procedure) (s : IsSound m) where
   abbrev l : Layout
   l = framed m.widths m.params
 
-  spot : (k : ℕ) → (at : ℕ) × (l.spots k ≡ InFrame at)
-  spot k = (_, in_frame (nat_lt k m.params) _ _)
-
   gives_some : (to r n : ℕ) → to < length m.widths → 1 ≤ length (gives l to r n)
-  gives_some to r n h =
-      let w = width_of l to in let at = (spot to).0 in
-      subst (λ z. 1 ≤ length (keep z w r n)) (sym (spot to).1)
-      (back (reach at w).code (stores (reach at w).base (reach at w).displacement r w n)
-      (stores_some (reach at w).base (reach at w).displacement r w n (wide_at m.widths to s.widths h)))
+  gives_some to r n h = keep_some (l.spots to) (width_of l to) r n (wide_at m.widths to s.widths h)
 
   found_some : (a : Operand) (d n : ℕ) → 1 ≤ n → 1 ≤ length (found_in l a d n)
-  found_some (Local k) d n h = subst (λ z. 1 ≤ length (spot_found z (width_of l k) d n)) (sym (spot k).1) (padded_some d (width_of l k) n h)
+  found_some (Local k) d n h = spot_some (l.spots k) (width_of l k) d n h
   found_some (Known x) d n h = known_some d n x h
 
   computes_some : (c : Computation) → c.to < length m.widths → 1 ≤ length (computes l c)
@@ -171,7 +186,7 @@ module _ (m : Procedure) (s : IsSound m) where
   plain_some p (Compute c) h = computation_some c c.operator c.right h.1
   plain_some p (Product to a b) h =
       back (finds l a 18 1) (finds l b 22 1 ++ _) (back (finds l b 22 1) (_ ∷ _) (omega arith))
-  plain_some p (DivideStep r d a) h = front (brings_bit l d) _ (back (brings l (Local d) 22 4) (_ ∷ _) (omega arith))
+  plain_some p (DivideSteps r d a) h = omega arith
   plain_some p (Load Ram w to a) h =
       back (points_x l a.base a.index) (loads_x 22 w ++ gives l to 22 w) (back (loads_x 22 w) (gives l to 22 w) (gives_some to 22 w h.1))
   plain_some p (Load Flash w to a) h =

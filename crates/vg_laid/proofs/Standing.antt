@@ -9,7 +9,7 @@ use Rattle.avr_isa.proofs.Standing.{front_stands, back_stands, widths-append}
 use Rattle.avr_view.specs.Run.{Run}
 use Rattle.avr_view.proofs.Going.{below_or_not}
 use Rattle.vg_lin.specs.declared.instr.Plain.{Plain as PlainInstr}
-use Rattle.vg_lin.specs.declared.instr.Plain.TheVariants.{Copy, Compute, Product, DivideStep, Load, Store, ReadDevice, WriteDevice, Push, Pop, Find, CodeOf, Stop}
+use Rattle.vg_lin.specs.declared.instr.Plain.TheVariants.{Copy, Compute, Product, DivideSteps, Load, Store, ReadDevice, WriteDevice, Push, Pop, Find, CodeOf, Stop}
 use Rattle.vg_lin.specs.declared.instr.Instr.{Instr}
 use Rattle.vg_lin.specs.declared.instr.Instr.TheVariants.{Plain, When, Unless, Jump, Call, Return, Idle}
 use Rattle.vg_lin.specs.Program.{Procedure, Program}
@@ -45,7 +45,7 @@ template_is x p m pc (Return w a) = refl
 template_is x p m pc Idle = refl
 
 -- The code of the first instructions has that of each of them.
-upto_parts : (l : Layout) (p : Program) (leads : ℕ → Leading) (is : List Instr) (n k : ℕ) → k < n
+pub upto_parts : (l : Layout) (p : Program) (leads : ℕ → Leading) (is : List Instr) (n k : ℕ) → k < n
     → (rest : List Avr) × (code_upto l p leads is n ≡ code_upto l p leads is k ++ (code_at l p leads is k ++ rest))
 upto_parts l p leads is zero k h = absurd (omega (arith, h))
 upto_parts l p leads is (suc n) k h = elim (below_or_not k n) [
@@ -123,7 +123,7 @@ module _ (e : Run) (x : Links) (p : Program) (start : ℕ) (code : List Avr) (m 
   plain_waits pc (Copy to a) g = same pc (suc pc) g
   plain_waits pc (Compute c) g = same pc (suc pc) g
   plain_waits pc (Product to a b) g = same pc (suc pc) g
-  plain_waits pc (DivideStep r d a) g = same pc (suc pc) g
+  plain_waits pc (DivideSteps r d a) g = same pc (suc pc) g
   plain_waits pc (Load k w to a) g = same pc (suc pc) g
   plain_waits pc (Store w a from) g = same pc (suc pc) g
   plain_waits pc (ReadDevice to a) g = same pc (suc pc) g

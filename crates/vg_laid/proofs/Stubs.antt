@@ -10,20 +10,22 @@ use Rattle.avr_view.proofs.Going.{below_or_not}
 use Rattle.vg_codes.specs.declared.case.Case.{Case}
 use Rattle.vg_codes.specs.Codes.{AreCodes}
 use Rattle.vg_lin.specs.Program.{Procedure, Program}
-use Rattle.vg_lin.specs.Sound.{IsSound}
+use Rattle.vg_lin.specs.Sound.{waits_in, IsSound}
 use Rattle.vg_templates.specs.Layouts.{Layout, IsLayout}
-use Rattle.vg_templates.specs.Linkage.{pushes, prologue, frame_pointer}
+use Rattle.vg_templates.specs.Linkage.{prologue}
 use Rattle.vg_templates.specs.Idle.{stub}
 use Rattle.vg_templates.specs.Framed.{framed}
 use Rattle.vg_templates.proofs.Framing.{framed-layout}
 use Rattle.vg_alloc.proofs.Spotting.{can_be_framed}
 use Rattle.vg_put_operations.specs.Coded.{code_from}
-use Rattle.vg_put_procedures.specs.Emitted.{body_code}
+use Rattle.vg_select.specs.Selected.{Leading, selected}
+use Rattle.vg_put_procedures.specs.Emitted.{code_of, code_at, code_upto, body_code}
 use Rattle.vg_put_programs.specs.Programs.{in_turn, turn_of, entry_in, codes_upto, placed_upto, Emission, piece_at, pieces_upto}
-use Rattle.vg_laid.specs.Laid.{unknown, known, codes_from, layout_of, index_in, stub_at, stubs_code, found_from, codes_by, layout_at, instrs_at, leads_at, AreSound}
-use Rattle.vg_laid.proofs.Some.{words_some, front, back}
+use Rattle.vg_laid.specs.Laid.{unknown, known, codes_from, layout_of, instrs_of, index_in, stub_at, stubs_code, found_from, codes_by, layout_at, instrs_at, leads_at, AreSound}
+use Rattle.vg_laid.proofs.Some.{selected_some, words_some, front, back}
+use Rattle.vg_laid.proofs.Standing.{upto_parts}
 use Rattle.vg_laid.proofs.Turns.{counted, turned, turn_low}
-use Rattle.vg_laid.proofs.Laying.{pieces_fit, entry_is, piece_there}
+use Rattle.vg_laid.proofs.Laying.{pieces_fit, entry_is, piece_there, there}
 
 -- ---- numbers
 
@@ -113,10 +115,18 @@ layout_stands None h =
 pub layouts_stand : (e : Emission) (p : Program) (ds : List (List Case)) → AreSound e.procedures ds → (m : ℕ) → IsLayout (layout_at e p m)
 layouts_stand e p ds h m = layout_stands (slice_get e.procedures m) (λ procedure is. h.sound m procedure is)
 
-prologue_some : (o : Option Procedure) → 1 ≤ length (prologue (layout_of o))
-prologue_some (Some m) =
-    let l = framed m.widths m.params in front (pushes l.saved) (frame_pointer l.pointed l.slots) (omega arith)
-prologue_some None = omega arith
+-- A sound procedure has code: that of its first instruction.
+body_some : (m : Procedure) → IsSound m → (p : Program) (leads : ℕ → Leading) → 1 ≤ length (body_code (framed m.widths m.params) p leads m.code)
+body_some m s p leads =
+    let l = framed m.widths m.params in
+    let t = there m.code 0 s.begins.0 in
+    let r = upto_parts l p leads m.code (length m.code) 0 s.begins.0 in
+    let ws = waits_in [] m.code 0 in
+    let one = selected_some m s p ws (leads 0) t.0 (s.operands 0 t.0 t.1) in
+    let is_one : code_at l p leads m.code 0 ≡ selected l p ws (leads 0) t.0 = ap (code_of l p ws (leads 0)) t.1 in
+    subst (λ z. 1 ≤ length z) (sym r.1)
+    (back (code_upto l p leads m.code 0) (code_at l p leads m.code 0 ++ r.0)
+    (front (code_at l p leads m.code 0) r.0 (subst (λ z. 1 ≤ length z) (sym is_one) one)))
 
 -- ---- the code numbers of programs that are put
 
@@ -132,15 +142,21 @@ codes_counted ms s ds first =
 
 module _ (ms : List Procedure) (s : ℕ) (ds : List (List Case)) (first : ℕ) (low : s < length ms)
     (room : first + widths (pieces_upto (known ms s ds first) (length ms)) < 65536) (p : Program)
-    (codes : p.codes.code ≡ code_from (known ms s ds first).codes) (dispatches : p.dispatches ≡ ds) where
+    (codes : p.codes.code ≡ code_from (known ms s ds first).codes) (dispatches : p.dispatches ≡ ds)
+    (sound : (m : ℕ) (procedure : Procedure) → slice_get ms m ≡ Some procedure → IsSound procedure) where
   abbrev e : Emission
   e = known ms s ds first
+
+  some_body : (m : ℕ) (procedure : Procedure) → slice_get ms m ≡ Some procedure
+      → 1 ≤ length (body_code (layout_at e p m) p (leads_at e p m) (instrs_at e p m))
+  some_body m procedure is =
+      subst (λ o. 1 ≤ length (body_code (layout_of o) p (leads_at e p m) (instrs_of o))) (sym is) (body_some procedure (sound m procedure is) p (leads_at e p m))
 
   some_piece : (m : ℕ) → m < length ms → 1 ≤ widths (piece_at e (turn_of s (length ms) m))
   some_piece m h =
       let t = get_there ms m h in let l = layout_at e p m in let body = body_code l p (leads_at e p m) (instrs_at e p m) in
       subst (λ z. 1 ≤ widths z) (sym (piece_there ms s ds first low room p codes dispatches m t.0 t.1))
-      (words_some (prologue l ++ body) (front (prologue l) body (prologue_some (slice_get ms m))))
+      (words_some (prologue l ++ body) (back (prologue l) body (some_body m t.0 t.1)))
 
   -- of two procedures the one that stands before the other has the lower entry
   order : (j q : ℕ) → j < length ms → q < length ms → turn_of s (length ms) j < turn_of s (length ms) q → code_from e.codes j < code_from e.codes q

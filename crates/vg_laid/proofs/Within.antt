@@ -11,7 +11,7 @@ use Rattle.vg_lin.specs.declared.instr.Passed.{Passed}
 use Rattle.vg_lin.specs.declared.instr.Target.{Target}
 use Rattle.vg_lin.specs.declared.instr.Test.{Test}
 use Rattle.vg_lin.specs.declared.instr.Plain.{Plain as PlainInstr}
-use Rattle.vg_lin.specs.declared.instr.Plain.TheVariants.{Copy, Compute, Product, DivideStep, Load, Store, ReadDevice, WriteDevice, Push, Pop, Find, CodeOf, Stop}
+use Rattle.vg_lin.specs.declared.instr.Plain.TheVariants.{Copy, Compute, Product, DivideSteps, Load, Store, ReadDevice, WriteDevice, Push, Pop, Find, CodeOf, Stop}
 use Rattle.vg_lin.specs.declared.instr.Instr.{Instr}
 use Rattle.vg_lin.specs.declared.instr.Instr.TheVariants.{Plain, When, Unless, Jump, Call, Return, Idle}
 use Rattle.vg_lin.specs.Meaning.{operands}
@@ -54,7 +54,7 @@ module _ (m : Procedure) where
   plain p (Copy to a) h f = (h.0, there a h.1)
   plain p (Compute c) (w, to, left, right) f = (w.1, to, there c.left left, there c.right right)
   plain p (Product to a b) (h, x, y) f = (h, there a x, there b y)
-  plain p (DivideStep r d a) (h, k, apart, x) f = (h, k, there a x)
+  plain p (DivideSteps r d a) (h, k, apart, x) f = (h, k, there a x)
   plain p (Load k w to a) (h, to_there, x) f = (h.1, to_there, there a.index x)
   plain p (Store w a from) (h, x, y) f = (h.1, there a.index x, there from y)
   plain p (ReadDevice to address) h f = h

@@ -1,5 +1,5 @@
 -- Programs that are put twice: first to learn where all code stands, and then so that it leads there.
-use Rattle.std.specs.Prelude.{ℕ, zero, suc, ◌≡◌, ◌+◌, ◌*◌, ◌<◌, nat_lt, ◌==◌, if◌then◌else◌, List, [], ◌∷◌, ◌++◌, length, Option, Some, None, slice_get}
+use Rattle.std.specs.Prelude.{ℕ, zero, suc, ◌≡◌, ◌+◌, ◌*◌, ◌<◌, nat_lt, ◌==◌, Bool, true, false, if◌then◌else◌, List, [], ◌∷◌, ◌++◌, length, Option, Some, None, slice_get}
 use Rattle.avr_instr.specs.declared.instr.Instr.{Instr as Avr}
 use Rattle.avr_isa.specs.Standing.{widths}
 use Rattle.vg_codes.specs.declared.case.Case.{Case}
@@ -14,13 +14,13 @@ use Rattle.vg_templates.specs.Framed.{framed}
 use Rattle.vg_templates.specs.Calls.{call_words}
 use Rattle.vg_templates.specs.Calls as calls
 use Rattle.vg_templates.specs.Idle.{stub}
-use Rattle.vg_templates.specs.Flow.{Far, Past, way_of}
+use Rattle.vg_templates.specs.Flow.{Far, Turn, Direct, Past, way_of}
 use Rattle.vg_templates.specs.Whole.{Links, call_front}
 use Rattle.vg_covered.specs.Fitting.{IsFit}
 use Rattle.vg_put_operations.specs.Coded.{code_from}
 use Rattle.vg_select.specs.Selected.{Leading, with_codes}
 use Rattle.vg_put_procedures.specs.Emitted.{place_of}
-use Rattle.vg_put_programs.specs.Programs.{turn_of, places_at, codes_upto, aim_in, called_in, Emission, emission, pieces_upto, placed_upto}
+use Rattle.vg_put_programs.specs.Programs.{turn_of, places_at, codes_upto, aim_in, called_in, skips_at, Emission, emission, pieces_upto, placed_upto}
 
 -- ---- both times
 
@@ -49,11 +49,19 @@ abbrev pub called_of : (codes : List ℕ) → Option Instr → ℕ
 called_of codes (Some i) = called_in codes i
 called_of codes None = 0
 
-abbrev pub far_lead : (aim called idle : ℕ) → Leading
-far_lead aim called idle = record { jump = Far aim; branch = Past (Far aim); call = calls.Far called; idle = idle }
+-- over a stop or past a far jump
+abbrev pub turn_by : (skips : Bool) (aim : ℕ) → Turn
+turn_by true aim = Direct 2
+turn_by false aim = Past (Far aim)
 
-abbrev pub lead_at : (places codes : List ℕ) (idle : ℕ) → Option Instr → Leading
-lead_at places codes idle o = far_lead (aim_of places o) (called_of codes o) idle
+abbrev pub far_lead : (skips : Bool) (aim called idle : ℕ) → Leading
+far_lead skips aim called idle = record { jump = Far aim; branch = turn_by skips aim; call = calls.Far called; idle = idle }
+
+abbrev pub lead_of : (places codes : List ℕ) (idle place : ℕ) (next here : Option Instr) → Leading
+lead_of places codes idle pc next o = far_lead (skips_at pc o next) (aim_of places o) (called_of codes o) idle
+
+abbrev pub lead_at : (places codes : List ℕ) (idle : ℕ) → List Instr → (place : ℕ) → Leading
+lead_at places codes idle is pc = lead_of places codes idle pc (slice_get is (suc pc)) (slice_get is pc)
 
 -- ---- where it stands
 
@@ -95,7 +103,7 @@ module _ (e : Emission) (p : Program) where
   known_places m = places_at e.known (turn_of e.start (length e.procedures) m)
 
   abbrev pub leads_at : (m pc : ℕ) → Leading
-  leads_at m pc = lead_at (known_places m) e.codes e.idle (slice_get (instrs_at m) pc)
+  leads_at m pc = lead_at (known_places m) e.codes e.idle (instrs_at m) pc
 
   abbrev pub place_at : (m pc : ℕ) → ℕ
   place_at m pc =

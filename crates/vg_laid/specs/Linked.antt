@@ -45,7 +45,7 @@ pub record InstrLinked (x : Links) (p : Program) (m pc : ℕ) (i : Instr) : Type
   pub targets : Targets x m pc i
   pub fit : IsFit p i
 
--- All its locals are in the frame; its code stands from its entry on, and each instruction's where the code before it ends.
+-- Its locals lie where its layout says; its code stands from its entry on, and each instruction's where the code before it ends.
 pub record ProcedureLinked (x : Links) (p : Program) (start : ℕ) (code : List Avr) (m : ℕ) (procedure : Procedure) : Type 0 where
   pub layout : x.places.layouts m ≡ framed procedure.widths procedure.params
   pub stands : HasPiece start code (x.entry m) (prologue (x.places.layouts m) ++ body_code (x.places.layouts m) p (leading_of x m) procedure.code)

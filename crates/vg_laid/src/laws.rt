@@ -26,5 +26,5 @@ pub fn put_programs_are_linked()
         → ProcedureLinked (links_of (known ms s ds first) p stubs) p start code m procedure }
     ensures codes { (ms : List Procedure) (s : ℕ) (ds : List (List Case)) (first : ℕ) → s < length ms
         → first + widths (pieces_upto (known ms s ds first) (length ms)) < 65536 → (p : Program) → p.codes.code ≡ code_from (known ms s ds first).codes
-        → p.dispatches ≡ ds → 0 < first → AreCodes (length ms) (codes_by (known ms s ds first).codes) }
+        → p.dispatches ≡ ds → ((m : ℕ) (procedure : Procedure) → slice_get ms m ≡ Some procedure → IsSound procedure) → 0 < first → AreCodes (length ms) (codes_by (known ms s ds first).codes) }
 {}

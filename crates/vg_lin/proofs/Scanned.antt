@@ -5,7 +5,7 @@ use Rattle.std.specs.List.{AllByRecursion}
 use Rattle.std.proofs.Common.{◌≡◌, refl, sym, ap, ◌∙◌, subst, arith}
 use Rattle.std.proofs.lemmas.Option.{slice_get_within}
 use Rattle.vg_lin.specs.declared.instr.Plain.{Plain as PlainInstr}
-use Rattle.vg_lin.specs.declared.instr.Plain.TheVariants.{Copy, Compute, Product, DivideStep, Load, Store, ReadDevice, WriteDevice, Push, Pop, Find, CodeOf, Stop}
+use Rattle.vg_lin.specs.declared.instr.Plain.TheVariants.{Copy, Compute, Product, DivideSteps, Load, Store, ReadDevice, WriteDevice, Push, Pop, Find, CodeOf, Stop}
 use Rattle.vg_lin.specs.declared.instr.Instr.{Instr}
 use Rattle.vg_lin.specs.declared.instr.Instr.TheVariants.{Plain, When, Unless, Jump, Call, Return, Idle}
 use Rattle.vg_lin.specs.Program.{Procedure}
@@ -44,7 +44,7 @@ module _ (p : Procedure) (v w : ℕ → List ℕ) (same : (k : ℕ) → k < leng
   plain_as at (Copy to a) h g = on_as at (λ l. l) h g
   plain_as at (Compute c) h g = on_as at (λ l. l) h g
   plain_as at (Product to a b) h g = on_as at (λ l. l) h g
-  plain_as at (DivideStep r d a) h g = on_as at (λ l. l) h g
+  plain_as at (DivideSteps r d a) h g = on_as at (λ l. l) h g
   plain_as at (Load m x to a) h g = on_as at (λ l. l) h g
   plain_as at (Store x a from) h g = on_as at (λ l. l) h g
   plain_as at (ReadDevice to a) h g = on_as at (λ l. l) h g

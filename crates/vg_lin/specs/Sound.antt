@@ -6,7 +6,7 @@ use Rattle.vg_lin.specs.declared.instr.Operand.{Operand}
 use Rattle.vg_lin.specs.declared.instr.Operand.TheVariants.{Local, Known}
 use Rattle.vg_lin.specs.declared.instr.Test.{Test}
 use Rattle.vg_lin.specs.declared.instr.Plain.{Plain as PlainInstr}
-use Rattle.vg_lin.specs.declared.instr.Plain.TheVariants.{Copy, Compute, Product, DivideStep, Load, Store, ReadDevice, WriteDevice, Push, Pop, Find, CodeOf, Stop}
+use Rattle.vg_lin.specs.declared.instr.Plain.TheVariants.{Copy, Compute, Product, DivideSteps, Load, Store, ReadDevice, WriteDevice, Push, Pop, Find, CodeOf, Stop}
 use Rattle.vg_lin.specs.declared.instr.Passed.{Passed}
 use Rattle.vg_lin.specs.declared.instr.Target.{Target}
 use Rattle.vg_lin.specs.declared.instr.Callee.{Callee}
@@ -47,7 +47,7 @@ abbrev pub IsPlain : Procedure → PlainInstr → Type 0
 IsPlain p (Copy to a) = IsLocal p to × IsOperand p a
 IsPlain p (Compute c) = IsWidth c.width × IsLocal p c.to × IsOperand p c.left × IsOperand p c.right
 IsPlain p (Product to a b) = IsLocal p to × IsOperand p a × IsOperand p b
-IsPlain p (DivideStep r d a) = IsLocal p r × IsLocal p d × (r ≢ d) × IsOperand p a
+IsPlain p (DivideSteps r d a) = IsLocal p r × IsLocal p d × (r ≢ d) × IsOperand p a
 IsPlain p (Load m w to a) = IsWidth w × IsLocal p to × IsOperand p a.index
 IsPlain p (Store w a from) = IsWidth w × IsOperand p a.index × IsOperand p from
 IsPlain p (ReadDevice to address) = IsLocal p to

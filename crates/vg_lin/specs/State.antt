@@ -11,7 +11,7 @@ use Rattle.vg_lin.specs.declared.instr.Memory.{Memory}
 use Rattle.vg_lin.specs.declared.instr.Memory.TheVariants.{Ram, Flash}
 use Rattle.vg_lin.specs.declared.instr.Computation.{Computation}
 use Rattle.vg_lin.specs.declared.instr.Plain.{Plain}
-use Rattle.vg_lin.specs.declared.instr.Plain.TheVariants.{Copy, Compute, Product, DivideStep, Load, Store, ReadDevice, WriteDevice, Push, Pop, Find, CodeOf, Stop}
+use Rattle.vg_lin.specs.declared.instr.Plain.TheVariants.{Copy, Compute, Product, DivideSteps, Load, Store, ReadDevice, WriteDevice, Push, Pop, Find, CodeOf, Stop}
 use Rattle.vg_lin.specs.Steps.{Went, Goes, Raises, Lacks, Fails}
 use Rattle.vg_lin.specs.Values.{low, computed, compared, next_remainder, next_dividend}
 use Rattle.vg_lin.specs.Program.{Program}
@@ -102,6 +102,19 @@ abbrev pub pops_from : List Waiting → (width to : ℕ) → State → Outside �
 pops_from [] w to s o = Fails
 pops_from (x ∷ xs) w to s o = if x.width == w then Goes (sets to x.value (record s { waiting = xs })) o else Fails
 
+-- ---- divisions
+
+-- So many steps of a division: each finds in the locals what the one before has left there.
+abbrev pub divides : (steps remainder dividend : ℕ) → (divisor : Operand) → State → Outside → Went State
+divides zero remainder dividend divisor s o = Goes s o
+divides (suc n) remainder dividend divisor s o =
+    using (value (Local remainder) s) (λ r. using (value (Local dividend) s) (λ d. using (value divisor s) (λ v.
+    divides n remainder dividend divisor (sets dividend (next_dividend r d v) (sets remainder (next_remainder r d v) s)) o)))
+
+-- A division has as many steps as its dividend has bits.
+unfoldable pub division_steps : ℕ
+division_steps = 32
+
 -- ---- plain instructions
 
 abbrev pub computes : Computation → State → Outside → (x y : ℕ) → Went State
@@ -116,9 +129,7 @@ plain p (Copy to a) s o = using (value a s) (λ x. Goes (sets to x s) o)
 plain p (Compute c) s o = using (value c.left s) (λ x. using (value c.right s) (computes c s o x))
 plain p (Product to a b) s o =
     using (value a s) (λ x. using (value b s) (λ y. Goes (sets to (low 1 x * low 1 y) s) o))
-plain p (DivideStep remainder dividend divisor) s o =
-    using (value (Local remainder) s) (λ r. using (value (Local dividend) s) (λ d. using (value divisor s) (λ v.
-    Goes (sets dividend (next_dividend r d v) (sets remainder (next_remainder r d v) s)) o)))
+plain p (DivideSteps remainder dividend divisor) s o = divides division_steps remainder dividend divisor s o
 plain p (Load m w to a) s o =
     using (value a.index s) (λ i. using (loaded p m s w (index_of m (a.base + i))) (λ x. Goes (sets to x s) o))
 plain p (Store w a from) s o =

@@ -81,12 +81,12 @@ pub enum Plain {
     /// The product of the low bytes of two values, in two bytes, goes to a local. Only routines use it, and what stands in place of
     /// the product of two bytes.
     Product(u8, Operand, Operand),
-    /// One step of a division of four bytes. Only routines use it.
+    /// The 32 steps of a division of four bytes, of the local of the remainder, that of the dividend and the divisor. Only routines use it.
     ///
-    /// The locals of the remainder and of the dividend are shifted left by one bit, as one number of eight bytes whose
-    /// upper half is the remainder. Where the remainder is then at least the divisor, the divisor is taken from it and
-    /// the lowest bit of the dividend is set.
-    DivideStep(u8, u8, Operand),
+    /// Each step shifts remainder and dividend left by one bit, as one number of eight bytes whose upper half is the
+    /// remainder. Where the remainder is then at least the divisor, the divisor is taken from it and the lowest bit of
+    /// the dividend is set.
+    DivideSteps(u8, u8, Operand),
     /// So many bytes, low bytes first, go to a local.
     Load(Memory, u8, u8, Address),
     /// So many low bytes of a value go to RAM, low bytes first.

@@ -17,7 +17,7 @@ use Rattle.vg_lin.specs.declared.instr.Test.{Test}
 use Rattle.vg_lin.specs.declared.instr.Memory.{Memory}
 use Rattle.vg_lin.specs.declared.instr.Memory.TheVariants.{Ram, Flash}
 use Rattle.vg_lin.specs.declared.instr.Plain.{Plain}
-use Rattle.vg_lin.specs.declared.instr.Plain.TheVariants.{Copy, Compute, Product, DivideStep, Load, Store, ReadDevice, WriteDevice, Push, Pop, Find, CodeOf, Stop}
+use Rattle.vg_lin.specs.declared.instr.Plain.TheVariants.{Copy, Compute, Product, DivideSteps, Load, Store, ReadDevice, WriteDevice, Push, Pop, Find, CodeOf, Stop}
 use Rattle.vg_lin.specs.declared.instr.Callee.{Callee}
 use Rattle.vg_lin.specs.declared.instr.Callee.TheVariants.{Procedure as ByNumber, Code as ByCode}
 use Rattle.vg_lin.specs.declared.instr.Passed.{Passed}
@@ -26,7 +26,7 @@ use Rattle.vg_lin.specs.declared.instr.Call.{Call}
 use Rattle.vg_lin.specs.Values.{low, computed, compared, next_remainder, next_dividend}
 use Rattle.vg_lin.specs.Program.{Procedure, Program}
 use Rattle.vg_lin.specs.Steps.{Result, Interrupt, Went, Goes, Raises, Lacks, Fails, Entry}
-use Rattle.vg_lin.specs.State.{State, Waiting, value_in, value, using, sets, index_of, loaded, number_at, with_number, stores, pops_from, reads_from, plain, both, holds}
+use Rattle.vg_lin.specs.State.{State, Waiting, value_in, value, using, sets, index_of, loaded, number_at, with_number, stores, pops_from, reads_from, division_steps, divides, plain, both, holds}
 use Rattle.vg_lin.specs.Meaning.{operands, with_value, values, begun, same_widths, values_of, with_code, called, gives_to, entry_by, entry_with, entry_of, entry_at}
 use Rattle.vg_lin.specs.Meaning.{enter, with_result, resume, language}
 use Rattle.vg_lin.specs.Structured.{Step, Here, Pick, Decide, Flip, Give, To, Rest, Deciding, fresh, Caller, with_found, lifted, with_truth, resumed, entered}
@@ -104,13 +104,18 @@ module _ (under : List Waiting) where
       by_width true = goes
       by_width false = fails
 
+  divides_above : (n r d : ℕ) (a : Operand) (s : State) (o : Outside) → AboveWent under (divides n r d a s o) (divides n r d a (above under s) o)
+  divides_above zero r d a s o = goes
+  divides_above (suc n) r d a s o =
+      using_above (value_in (slice_get s.locals r)) _ _ (λ x. using_above (value_in (slice_get s.locals d)) _ _ (λ y. with_operand a s _ _ (λ z.
+      divides_above n r d a (sets d (next_dividend x y z) (sets r (next_remainder x y z) s)) o)))
+
   plain_above : (p : Program) (i : Plain) (s : State) (o : Outside) → AboveWent under (plain p i s o) (plain p i (above under s) o)
   plain_above p (Copy to a) s o = with_operand a s _ _ (λ x. goes)
   plain_above p (Compute c) s o =
       with_operand c.left s _ _ (λ x. with_operand c.right s _ _ (λ y. using_above (computed c.operator c.width x y) _ _ (λ z. goes)))
   plain_above p (Product to a b) s o = with_operand a s _ _ (λ x. with_operand b s _ _ (λ y. goes))
-  plain_above p (DivideStep r d a) s o =
-      using_above (value_in (slice_get s.locals r)) _ _ (λ x. using_above (value_in (slice_get s.locals d)) _ _ (λ y. with_operand a s _ _ (λ z. goes)))
+  plain_above p (DivideSteps r d a) s o = divides_above division_steps r d a s o
   plain_above p (Load m w to a) s o =
       with_operand a.index s _ _ (λ i. with_loaded p m w (index_of m (a.base + i)) s _ _ (λ x. goes))
   plain_above p (Store w a from) s o = with_operand a.index s _ _ (λ i. with_operand from s _ _ (λ x. stores_above s o w x (index_of Ram (a.base + i))))

@@ -16,6 +16,7 @@ use Rattle.vg_lin.specs.declared.instr.Registers.TheVariants.{Empty, Two, Three}
 use Rattle.vg_lin.specs.declared.instr.Instr.{Instr}
 use Rattle.vg_lin.specs.declared.instr.Instr.TheVariants.{Plain, When, Jump, Call, Return, Idle}
 use Rattle.vg_lin.specs.Program.{Procedure, Program}
+use Rattle.vg_lin.specs.State.{division_steps}
 use Rattle.vg_lin.specs.Meaning.{run}
 use Rattle.vg_arith.specs.Product.{mul}
 use Rattle.vg_arith.specs.Division.{divide}
@@ -106,6 +107,7 @@ before_run = refl
 
 -- With the calls of routines it takes more steps, and shows the same.
 expanded_run : seen (run (program (expanded 2 main ∷ expanded 2 start ∷ mul ∷ divide ∷ shl ∷ shr ∷ [])) 300 [] []) ≡ shows
+unfolding division_steps
 expanded_run = refl
 
 -- ---- products

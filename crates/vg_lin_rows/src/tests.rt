@@ -14,7 +14,7 @@ fn procedures_are_made(rt: HostRuntime) {
     let division = routine(alloc, 1).map(|p| p.code().len() + p.widths().len());
     let left = routine(alloc, 2).map(|p| p.code().len() + p.widths().len());
     let right = routine(alloc, 3).map(|p| p.code().len() + p.widths().len());
-    assert!(rt; smallest == Ok(1) && product == Ok(52) && division == Ok(51));
+    assert!(rt; smallest == Ok(1) && product == Ok(52) && division == Ok(20));
     assert!(rt; left == Ok(22) && right == Ok(22) && ROUTINES == 4);
 }
 

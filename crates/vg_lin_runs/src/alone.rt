@@ -44,17 +44,19 @@ pub fn values(rt: &HostRuntime) -> io::Result<()> {
     let cut = [copy(0, known(0x1FF)), write(local(0)), Instr::Idle];
     shows(rt, "a value is cut to the width of its local", &[1], &cut)?;
     let divided = [
-        copy(0, known(1)),
-        copy(1, known(0x8000_0001)),
-        Instr::Plain(Plain::DivideStep(0, 1, Operand::Known(3))),
+        copy(0, known(0)),
+        copy(1, known(0xFFFF_FFFF)),
+        Instr::Plain(Plain::DivideSteps(0, 1, Operand::Known(7))),
         write(local(0)),
         write(local(1)),
-        Instr::Plain(Plain::DivideStep(0, 1, Operand::Known(4))),
+        copy(0, known(1)),
+        copy(1, known(3)),
+        Instr::Plain(Plain::DivideSteps(0, 1, Operand::Known(5))),
         write(local(0)),
         write(local(1)),
         Instr::Idle,
     ];
-    shows(rt, "two steps of a division", &[4, 4], &divided)?;
+    shows(rt, "2^32 - 1 by 7, and 2^32 + 3 by 5", &[4, 4], &divided)?;
     let multiplied = [
         Instr::Plain(Plain::Product(0, known(0x1FF), known(0x102))),
         write(local(0)),

@@ -3,3 +3,4 @@ pub mod Fetching
 pub mod Locals
 pub mod Narrows
 pub mod Newest
+pub mod Dividing

@@ -1,14 +1,14 @@
 // Plain instructions.
-ghost use Rattle.std.specs.Prelude.{◌≡◌, ◌≤◌, true, IfOk};
+ghost use Rattle.std.specs.Prelude.{◌≡◌, ◌≤◌, ℕ, suc, true, IfOk};
 ghost use Rattle.vg_meaning.specs.Outside.{Outside};
-ghost use Rattle.vg_lin.specs.declared.instr.Plain.TheVariants.{Compute as SpecCompute, Product as SpecProduct, DivideStep as SpecDivideStep, Load as SpecLoad};
+ghost use Rattle.vg_lin.specs.declared.instr.Plain.TheVariants.{Compute as SpecCompute, Product as SpecProduct, DivideSteps as SpecDivideSteps, Load as SpecLoad};
 ghost use Rattle.vg_lin.specs.declared.instr.Plain.TheVariants.{Copy as SpecCopy, Store as SpecStore, ReadDevice as SpecReadDevice};
 ghost use Rattle.vg_lin.specs.declared.instr.Plain.TheVariants.{WriteDevice as SpecWriteDevice, Push as SpecPush, Pop as SpecPop, Find as SpecFind};
 ghost use Rattle.vg_lin.specs.Program.{Program};
-ghost use Rattle.vg_lin.specs.State.{plain};
+ghost use Rattle.vg_lin.specs.State.{divides, plain};
 ghost use Rattle.vg_lin_states.specs.Narrow.{is_narrow_plain};
 ghost use Rattle.vg_lin_states.specs.Programs.{program_of};
-ghost use Rattle.vg_lin_states.specs.Doing.{Shows};
+ghost use Rattle.vg_lin_states.specs.Doing.{Shows, can_divide};
 
 use crate::environment::Environment;
 use crate::memory::{index_of, number_at};
@@ -47,8 +47,8 @@ pub fn perform(
         Plain::Copy(to, operand) => Ok(copy(state, to, operand)),
         Plain::Compute(computation) => Ok(compute(state, computation)),
         Plain::Product(to, left, right) => Ok(multiply(state, to, left, right)),
-        Plain::DivideStep(remainder, dividend, divisor) => {
-            Ok(divide_step(state, remainder, dividend, divisor))
+        Plain::DivideSteps(remainder, dividend, divisor) => {
+            Ok(divide(state, remainder, dividend, divisor))
         }
         Plain::Load(memory, width, to, address) => {
             Ok(load(program, state, memory, width, to, address))
@@ -111,21 +111,45 @@ fn multiply(state: &mut LinState, to: u8, left: Operand, right: Operand) -> Outc
     Outcome::Next
 }
 
-fn divide_step(state: &mut LinState, remainder: u8, dividend: u8, divisor: Operand) -> Outcome
-    ensures { (p : Program) (o : Outside) → Shows result (plain p (SpecDivideStep remainder dividend divisor) state.old o) state.old state.new o o }
+// All steps of a division. Where its operands have values before the first, they have some before each.
+fn divide(state: &mut LinState, remainder: u8, dividend: u8, divisor: Operand) -> Outcome
+    ensures { (p : Program) (o : Outside) → Shows result (plain p (SpecDivideSteps remainder dividend divisor) state.old o) state.old state.new o o }
+{
+    if !can_divide(state, remainder, dividend, divisor) {
+        return Outcome::Wrong;
+    }
+    for _step in 0..32u8 {
+        divide_once(state, remainder, dividend, divisor);
+    }
+    Outcome::Next
+}
+
+// Whether the operands of a division have values.
+fn can_divide(state: &LinState, remainder: u8, dividend: u8, divisor: Operand) -> bool
+    ensures { result ≡ can_divide state.now remainder dividend divisor }
+{
+    state.value(Operand::Local(remainder)).is_some()
+        && state.value(Operand::Local(dividend)).is_some()
+        && state.value(divisor).is_some()
+}
+
+// One step of a division.
+fn divide_once(state: &mut LinState, remainder: u8, dividend: u8, divisor: Operand)
+    requires { can_divide state.old remainder dividend divisor ≡ true }
+    ensures still { can_divide state.new remainder dividend divisor ≡ true }
+    ensures step { (n : ℕ) (o : Outside) → divides (suc n) remainder dividend divisor state.old o ≡ divides n remainder dividend divisor state.new o }
 {
     let Some(r) = state.value(Operand::Local(remainder)) else {
-        return Outcome::Wrong;
+        return;
     };
     let Some(d) = state.value(Operand::Local(dividend)) else {
-        return Outcome::Wrong;
+        return;
     };
     let Some(v) = state.value(divisor) else {
-        return Outcome::Wrong;
+        return;
     };
     state.set(remainder, values::next_remainder(r, d, v));
     state.set(dividend, values::next_dividend(r, d, v));
-    Outcome::Next
 }
 
 fn load(

@@ -8,16 +8,17 @@ use Rattle.vg_meaning.specs.Answer.{End}
 use Rattle.vg_meaning.specs.Outside.{Outside, with_event}
 use Rattle.vg_codes.specs.Dispatch.{dispatched}
 use Rattle.vg_lin.specs.declared.instr.Plain.{Plain as PlainInstr}
-use Rattle.vg_lin.specs.declared.instr.Plain.TheVariants.{Copy, Compute, Product, DivideStep, Load, Store, ReadDevice, WriteDevice, Push, Pop, Find, CodeOf, Stop}
+use Rattle.vg_lin.specs.declared.instr.Plain.TheVariants.{Copy, Compute, Product, DivideSteps, Load, Store, ReadDevice, WriteDevice, Push, Pop, Find, CodeOf, Stop}
 use Rattle.vg_lin.specs.declared.instr.Memory.TheVariants.{Ram}
 use Rattle.vg_lin.specs.declared.instr.Call.{Call as Calling}
 use Rattle.vg_lin.specs.declared.instr.Instr.{Instr}
 use Rattle.vg_lin.specs.declared.instr.Instr.TheVariants.{Plain, When, Unless, Jump, Call, Return, Idle}
+use Rattle.vg_lin.specs.declared.instr.Operand.{Operand}
 use Rattle.vg_lin.specs.declared.instr.Operand.TheVariants.{Local}
 use Rattle.vg_lin.specs.Meaning.{language, codes_in, enter, result}
 use Rattle.vg_lin.specs.Program.{Program}
-use Rattle.vg_lin.specs.State.{State, Waiting, value, using, sets, stores, loaded, number_at, index_of, pops_from, reads_from, plain, holds}
-use Rattle.vg_lin.specs.Values.{low, computed}
+use Rattle.vg_lin.specs.State.{State, Waiting, value, using, sets, stores, loaded, number_at, index_of, pops_from, reads_from, division_steps, divides, plain, holds}
+use Rattle.vg_lin.specs.Values.{low, computed, next_remainder, next_dividend}
 use Rattle.vg_lin.specs.Steps.{Frame, Went, Goes, Raises, Lacks, Fails, Entry, Config, went, branched, calls, goes_back, returns, takes, handles, performed, fetch, stepped, step}
 use Rattle.vg_lin_traces.specs.Traces.{after, Extends}
 
@@ -56,13 +57,18 @@ stored : (s : State) (o : Outside) (w x : ℕ) (i : Option ℕ) → GoesFrom o (
 stored s o w x None = tt
 stored s o w x (Some i) = with_value o (number_at s.ram w i) _ (λ old. same o)
 
+divides_on : (n r d : ℕ) (a : Operand) (s : State) (o : Outside) → GoesFrom o (divides n r d a s o)
+divides_on zero r d a s o = same o
+divides_on (suc n) r d a s o =
+    with_value o (value (Local r) s) _ (λ x. with_value o (value (Local d) s) _ (λ y. with_value o (value a s) _ (λ z.
+    divides_on n r d a (sets d (next_dividend x y z) (sets r (next_remainder x y z) s)) o)))
+
 plain_goes : (p : Program) (q : PlainInstr) (s : State) (o : Outside) → GoesFrom o (plain p q s o)
 plain_goes p (Copy to a) s o = with_value o (value a s) _ (λ x. same o)
 plain_goes p (Compute c) s o =
     with_value o (value c.left s) _ (λ x. with_value o (value c.right s) _ (λ y. with_value o (computed c.operator c.width x y) _ (λ z. same o)))
 plain_goes p (Product to a b) s o = with_value o (value a s) _ (λ x. with_value o (value b s) _ (λ y. same o))
-plain_goes p (DivideStep r d a) s o =
-    with_value o (value (Local r) s) _ (λ x. with_value o (value (Local d) s) _ (λ y. with_value o (value a s) _ (λ z. same o)))
+plain_goes p (DivideSteps r d a) s o = divides_on division_steps r d a s o
 plain_goes p (Load m w to a) s o = with_value o (value a.index s) _ (λ i. with_value o (loaded p m s w (index_of m (a.base + i))) _ (λ x. same o))
 plain_goes p (Store w a from) s o =
     with_value o (value a.index s) _ (λ i. with_value o (value from s) _ (λ x. stored s o w x (index_of Ram (a.base + i))))

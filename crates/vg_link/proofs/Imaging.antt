@@ -186,7 +186,7 @@ module _ (u : Unlinked) (can : CanBeLinked u) (room : words_laid u < 65536) wher
 
   codes_are : AreCodes n (codes_by codes)
   codes_are =
-      are_codes u.procedures u.start u.dispatches first low pieces_room p refl refl (let s = code_start_some in omega (arith, s))
+      are_codes u.procedures u.start u.dispatches first low pieces_room p refl refl can.sound.sound (let s = code_start_some in omega (arith, s))
     where
       code_start_some : 70 ≤ code_start (bytes_by [] u.tables)
       code_start_some = omega arith

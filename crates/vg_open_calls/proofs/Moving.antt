@@ -7,18 +7,19 @@ use Rattle.vg_meaning.specs.Answer.{End, Stops, Wants, Done, Wrong}
 use Rattle.vg_meaning.specs.Outside.{Outside}
 use Rattle.vg_codes.specs.Dispatch.{dispatched}
 use Rattle.vg_lin.specs.declared.instr.Plain.{Plain as PlainInstr}
-use Rattle.vg_lin.specs.declared.instr.Plain.TheVariants.{Copy, Compute, Product, DivideStep, Load, Store, ReadDevice, WriteDevice, Push, Pop, Find, CodeOf, Stop}
+use Rattle.vg_lin.specs.declared.instr.Plain.TheVariants.{Copy, Compute, Product, DivideSteps, Load, Store, ReadDevice, WriteDevice, Push, Pop, Find, CodeOf, Stop}
 use Rattle.vg_lin.specs.declared.instr.Memory.TheVariants.{Ram}
 use Rattle.vg_lin.specs.declared.instr.Call.{Call as Calling}
 use Rattle.vg_lin.specs.declared.instr.Target.{Target}
 use Rattle.vg_lin.specs.declared.instr.Instr.{Instr}
 use Rattle.vg_lin.specs.declared.instr.Instr.TheVariants.{Plain, When, Unless, Jump, Call, Return, Idle}
+use Rattle.vg_lin.specs.declared.instr.Operand.{Operand}
 use Rattle.vg_lin.specs.declared.instr.Operand.TheVariants.{Local}
 use Rattle.vg_lin.specs.Meaning.{language, codes_in, enter, result, resume, with_result, wake}
 use Rattle.vg_lin.specs.Program.{Procedure, Program}
 use Rattle.vg_lin.specs.Sound.{behind, behind_plain, waits_of, GoesOn, PlainWaits, Waits}
-use Rattle.vg_lin.specs.State.{State, Waiting, value, using, sets, stores, loaded, number_at, index_of, pops_from, reads_from, plain, holds}
-use Rattle.vg_lin.specs.Values.{computed}
+use Rattle.vg_lin.specs.State.{State, Waiting, value, using, sets, stores, loaded, number_at, index_of, pops_from, reads_from, division_steps, divides, plain, holds}
+use Rattle.vg_lin.specs.Values.{computed, next_remainder, next_dividend}
 use Rattle.vg_lin.specs.Steps.{Awaits, Result, Interrupt, Frame, Went, Goes, Raises, Lacks, Fails, Entry, Config, begins, ends, went, branched, calls, goes_back, returns}
 use Rattle.vg_lin.specs.Steps.{takes, handles, performed, fetch, stepped, step}
 use Rattle.vg_lin.proofs.Scanned.{waits_marked}
@@ -63,6 +64,14 @@ stored : (m : Procedure) (at : ℕ) → at < length m.code → (s : State) (o : 
 stored m at h s o w x None = tt
 stored m at h s o w x (Some i) = with_value m at (waiting_widths s.waiting) (number_at s.ram w i) _ (λ old. (h, refl))
 
+divided : (m : Procedure) (at : ℕ) → at < length m.code → (n r d : ℕ) (a : Operand) (s : State) (o : Outside)
+    → GoesTo m at (waiting_widths s.waiting) (divides n r d a s o)
+divided m at h zero r d a s o = (h, refl)
+divided m at h (suc n) r d a s o =
+    with_value m at (waiting_widths s.waiting) (value (Local r) s) _ (λ x. with_value m at (waiting_widths s.waiting) (value (Local d) s) _ (λ y.
+    with_value m at (waiting_widths s.waiting) (value a s) _ (λ z.
+    divided m at h n r d a (sets d (next_dividend x y z) (sets r (next_remainder x y z) s)) o)))
+
 module _ (p : Program) (m : Procedure) (at : ℕ) (s : State) (o : Outside) where
   abbrev held : List ℕ
   held = waiting_widths s.waiting
@@ -73,9 +82,7 @@ module _ (p : Program) (m : Procedure) (at : ℕ) (s : State) (o : Outside) wher
       with_value m (suc at) held (value c.left s) _ (λ x. with_value m (suc at) held (value c.right s) _ (λ y.
       with_value m (suc at) held (computed c.operator c.width x y) _ (λ z. (h.0, refl))))
   plain_goes (Product to a b) h = with_value m (suc at) held (value a s) _ (λ x. with_value m (suc at) held (value b s) _ (λ y. (h.0, refl)))
-  plain_goes (DivideStep r d a) h =
-      with_value m (suc at) held (value (Local r) s) _ (λ x. with_value m (suc at) held (value (Local d) s) _ (λ y.
-      with_value m (suc at) held (value a s) _ (λ z. (h.0, refl))))
+  plain_goes (DivideSteps r d a) h = divided m (suc at) h.0 division_steps r d a s o
   plain_goes (Load memory w to a) h =
       with_value m (suc at) held (value a.index s) _ (λ i.
       with_value m (suc at) held (loaded p memory s w (index_of memory (a.base + i))) _ (λ x. (h.0, refl)))

@@ -5,7 +5,7 @@ use Rattle.std.proofs.Common.{◌≡◌, refl, subst, arith}
 use Rattle.std.proofs.lemmas.List.{length-drop}
 use Rattle.std.proofs.lemmas.Option.{none-some, same_Some}
 use Rattle.vg_lin.specs.declared.instr.Plain.{Plain as PlainInstr}
-use Rattle.vg_lin.specs.declared.instr.Plain.TheVariants.{Copy, Compute, Product, DivideStep, Load, Store, ReadDevice, WriteDevice, Push, Pop, Find, CodeOf, Stop}
+use Rattle.vg_lin.specs.declared.instr.Plain.TheVariants.{Copy, Compute, Product, DivideSteps, Load, Store, ReadDevice, WriteDevice, Push, Pop, Find, CodeOf, Stop}
 use Rattle.vg_lin.specs.declared.instr.Instr.{Instr}
 use Rattle.vg_lin.specs.declared.instr.Instr.TheVariants.{Plain, When, Unless, Jump, Call, Return, Idle}
 use Rattle.vg_lin.specs.Program.{Procedure}
@@ -53,7 +53,7 @@ plain_counts m (Pop w to) h ws n c = dropped_counts 1 ws n c
 plain_counts m (Copy to a) h ws n c = c
 plain_counts m (Compute x) h ws n c = c
 plain_counts m (Product to a b) h ws n c = c
-plain_counts m (DivideStep r d a) h ws n c = c
+plain_counts m (DivideSteps r d a) h ws n c = c
 plain_counts m (Load memory w to a) h ws n c = c
 plain_counts m (Store w a from) h ws n c = c
 plain_counts m (ReadDevice to address) h ws n c = c

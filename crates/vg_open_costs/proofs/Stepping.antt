@@ -5,7 +5,7 @@ use Rattle.std.proofs.lemmas.List.{map-append, drop-map, take-map, reverse-appen
 use Rattle.std.proofs.lemmas.Option.{none-some, same_Some}
 use Rattle.vg_meaning.specs.Answer.{End, Stops, Wants, Done, Wrong}
 use Rattle.vg_lin.specs.declared.instr.Plain.{Plain as PlainInstr}
-use Rattle.vg_lin.specs.declared.instr.Plain.TheVariants.{Copy, Compute, Product, DivideStep, Load, Store, ReadDevice, WriteDevice, Push, Pop, Find, CodeOf, Stop}
+use Rattle.vg_lin.specs.declared.instr.Plain.TheVariants.{Copy, Compute, Product, DivideSteps, Load, Store, ReadDevice, WriteDevice, Push, Pop, Find, CodeOf, Stop}
 use Rattle.vg_lin.specs.declared.instr.Operand.{Operand}
 use Rattle.vg_lin.specs.declared.instr.Passed.{Passed}
 use Rattle.vg_lin.specs.declared.instr.Call.{Call as CallTo}
@@ -160,7 +160,7 @@ module _ (p : Program) (ready : IsReady p) where
       both_plain (Copy to a) e = both_went (plain p (Copy to a) c.state c.outside) (nothing _ e refl)
       both_plain (Compute x) e = both_went (plain p (Compute x) c.state c.outside) (nothing _ e refl)
       both_plain (Product to a b) e = both_went (plain p (Product to a b) c.state c.outside) (nothing _ e refl)
-      both_plain (DivideStep r d a) e = both_went (plain p (DivideStep r d a) c.state c.outside) (nothing _ e refl)
+      both_plain (DivideSteps r d a) e = both_went (plain p (DivideSteps r d a) c.state c.outside) (nothing _ e refl)
       both_plain (Load memory w to a) e = both_went (plain p (Load memory w to a) c.state c.outside) (nothing _ e refl)
       both_plain (Store w a from) e = both_went (plain p (Store w a from) c.state c.outside) (nothing _ e refl)
       both_plain (ReadDevice to address) e = both_went (plain p (ReadDevice to address) c.state c.outside) (nothing _ e refl)

@@ -1,4 +1,4 @@
--- How many bytes of the stack the open procedures of a run of linear code take, each with all its locals in its frame.
+-- How many bytes of the stack the open procedures of a run of linear code take at most: as many as if each had all its locals in its frame.
 use Rattle.std.specs.Prelude.{ℕ, ◌≡◌, ◌+◌, ◌<◌, List, [], ◌∷◌, drop, Option, Some, None, slice_get}
 use Rattle.vg_lin.specs.declared.instr.Plain.{Plain as PlainInstr}
 use Rattle.vg_lin.specs.declared.instr.Plain.TheVariants.{Push}

@@ -1,12 +1,13 @@
 // Products of bytes, and steps of division.
 ghost use Rattle.std.specs.Prelude.{◌≡◌, ◌≤◌, ◌<◌, ◌+◌, ◌++◌, OnOk, length};
 ghost use Rattle.vg_templates.specs.Products.{four_from, four_times, multiplies, brings_bit, shifts_remainder, takes_divisor, shifts_dividend, divides_once};
+ghost use Rattle.vg_templates.specs.Products.{turns_back, divides_steps};
 ghost use Rattle.vg_alloc.specs.Locations.{layout};
 ghost use Rattle.vg_put_operations.specs.Mirrors.{product, takes_four, gives_four};
 ghost use Rattle.vg_put_values.specs.Within.{IsThere};
 
 use crate::shifts::put_doubles_on;
-use avr_instr::{Instr, Register, RegisterPair, UpperRegister};
+use avr_instr::{FarOffset, FlagBit, Instr, NearOffset, Register, RegisterPair, UpperRegister};
 use std::alloc::Global;
 use vg_alloc::Locations;
 use vg_base::{NoMemory, Row};
@@ -136,8 +137,8 @@ fn put_shifts_dividend(
     put_doubles_on(code, 22, 4)
 }
 
-/// One step of a division.
-pub fn put_divides_once(
+// One step of a division.
+fn put_divides_once(
     code: &mut Row<Instr>,
     locations: &Locations,
     remainder: u8,
@@ -155,4 +156,34 @@ pub fn put_divides_once(
     put_gives(code, locations, remainder, 22, 4)?;
     put_shifts_dividend(code, locations, dividend)?;
     put_gives(code, locations, dividend, 22, 4)
+}
+
+// Counts r27 down, and leads back over so many words until it is 0: BREQ steps over the RJMP, which reaches further than BRNE does (AVR Instruction
+// Set Manual, BREQ and RJMP).
+fn put_turns_back(code: &mut Row<Instr>, words: usize) -> Result<(), NoMemory>
+    ensures { OnOk result (code.new ≡ code.old ++ turns_back words) }
+{
+    code.push(Instr::Dec(Register::new(27)))?;
+    code.push(Instr::Brbs(FlagBit::new(1), NearOffset::new(1)))?;
+    code.push(Instr::Rjmp(FarOffset::new(4093usize.saturating_sub(words) as u16)))
+}
+
+/// The steps of a division, one turn of a loop each.
+pub fn put_divides_steps(
+    code: &mut Row<Instr>,
+    locations: &Locations,
+    remainder: u8,
+    dividend: u8,
+    divisor: Operand,
+) -> Result<(), NoMemory>
+    requires remainder { remainder < length locations.now.widths }
+    requires dividend { dividend < length locations.now.widths }
+    requires divisor { IsThere (layout locations.now) divisor }
+    ensures { OnOk result (code.new ≡ code.old ++ divides_steps (layout locations.now) remainder dividend divisor) }
+{
+    code.push(Instr::Ldi(UpperRegister::new(27), 32))?;
+    let first = code.len();
+    put_divides_once(code, locations, remainder, dividend, divisor)?;
+    let words = code.len() - first;
+    put_turns_back(code, words)
 }

@@ -1,18 +1,56 @@
 -- What is put of so many procedures, and one procedure more.
-use Rattle.std.specs.Prelude.{ℕ, suc, ◌+◌, List, [], ◌∷◌, ◌++◌, Some}
+use Rattle.std.specs.Prelude.{ℕ, suc, ◌+◌, List, [], ◌∷◌, ◌++◌, length, Some}
 use Rattle.std.proofs.Common.{◌≡◌, sym, ap, ap₂, ◌∙◌, subst, arith}
 use Rattle.std.proofs.lemmas.List.{append_assoc}
 use Rattle.avr_instr.specs.declared.instr.Instr.{Instr as Avr}
 use Rattle.avr_isa.specs.Standing.{widths}
 use Rattle.avr_isa.proofs.Standing.{widths-append}
-use Rattle.vg_lin.specs.Program.{Procedure}
+use Rattle.vg_codes.specs.declared.case.Case.{Case}
+use Rattle.vg_lin.specs.declared.instr.Instr.{Instr}
+use Rattle.vg_lin.specs.Program.{Procedure, Program}
+use Rattle.vg_templates.specs.Layouts.{Layout}
+use Rattle.vg_templates.specs.Linkage.{prologue}
+use Rattle.vg_templates.specs.Framed.{framed}
+use Rattle.vg_put_operations.specs.Coded.{code_from}
+use Rattle.vg_select.specs.declared.leading.Leading.{Leading as Held}
+use Rattle.vg_select.specs.Selected.{Leading, with_codes}
+use Rattle.vg_put_procedures.specs.Emitted.{leading_in, body_code, place_of, places_upto}
 use Rattle.vg_put_programs.specs.declared.placed.Placed.{Placed}
-use Rattle.vg_put_programs.specs.Programs.{places_at, Emission, piece_of, placed_of, procedure_in, piece_at, pieces_upto, placed_at, placed_upto}
+use Rattle.vg_put_programs.specs.Programs.{places_at, far_leads, Emission, piece_of, placed_of, procedure_in, piece_at, pieces_upto, placed_at, placed_upto}
 
 pub record Done (e : Emission) (first : ℕ) (before : List Avr) (k : ℕ) (code : List Avr) (placed : List Placed) (end : ℕ) : Type 0 where
   pub code_is : code ≡ before ++ pieces_upto e k
   pub placed_are : placed ≡ placed_upto e first k
   pub end_is : end ≡ first + widths (pieces_upto e k)
+
+module _ (entry : ℕ) (places codes : List ℕ) (idle : ℕ) (ds : List (List Case)) where
+  abbrev p : Program
+  p = with_codes (code_from codes) ds
+
+  abbrev placed_by : Layout → (leads : ℕ → Leading) → List Instr → Placed
+  placed_by l leads is =
+      record {
+        entry = entry;
+        places = places_upto l p leads is (entry + widths (prologue l)) (length is);
+        end = entry + widths (prologue l ++ body_code l p leads is);
+      }
+
+  -- what stands of one procedure, by its layout and by where its instructions lead
+  pub one_placed : (m : Procedure) (l : Layout) (is : List Instr) (given leadings : List Held) (none begins : List ℕ) (end : ℕ)
+      → is ≡ m.code → l ≡ framed m.widths m.params → leading_in given ≡ far_leads places codes idle is → leadings ≡ given → none ≡ []
+      → begins ≡ none ++ places_upto l p (leading_in leadings) is (entry + widths (prologue l)) (length is)
+      → end ≡ place_of l p (leading_in leadings) is (entry + widths (prologue l)) (length is)
+      → record { entry = entry; places = begins; end = end } ≡ placed_of entry places codes idle ds (Some m)
+  one_placed m l is given leadings none begins end ei el eg es en eb ee =
+      ap₂ (λ a b. record { entry = entry; places = a; end = b })
+      (eb ∙ ap (λ z. z ++ places_upto l p (leading_in leadings) is (entry + widths (prologue l)) (length is)) en) (ee ∙ all_words)
+      ∙ ap (λ f. placed_by l f is) (ap leading_in es ∙ eg)
+      ∙ ap (λ k. placed_by k (far_leads places codes idle is) is) el
+      ∙ ap (λ z. placed_by (framed m.widths m.params) (far_leads places codes idle z) z) ei
+    where
+      all_words : place_of l p (leading_in leadings) is (entry + widths (prologue l)) (length is)
+          ≡ entry + widths (prologue l ++ body_code l p (leading_in leadings) is)
+      all_words = let w = widths-append (prologue l) (body_code l p (leading_in leadings) is) in omega (arith, w)
 
 pub done_next : (e : Emission) (first : ℕ) (before : List Avr) (k : ℕ) (code code' : List Avr) (placed placed' : List Placed) (end : ℕ) (m : Procedure)
     (ps : List ℕ) (one : Placed) → Done e first before k code placed end → procedure_in e k ≡ Some m → ps ≡ places_at e.known k

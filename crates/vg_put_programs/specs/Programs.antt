@@ -1,18 +1,21 @@
 -- The code of all procedures of a program, one behind the other from the start procedure on, and where it stands.
-use Rattle.std.specs.Prelude.{ℕ, zero, suc, ◌≡◌, ◌+◌, ◌-◌, ◌%◌, nat_lt, if◌then◌else◌, List, [], ◌∷◌, ◌++◌, map, length, get_or, Option, Some, None, slice_get}
+use Rattle.std.specs.Prelude.{ℕ, zero, suc, ◌≡◌, ◌+◌, ◌-◌, ◌%◌, ◌==◌, nat_lt, Bool, true, false, ◌&&◌, if◌then◌else◌}
+use Rattle.std.specs.Prelude.{List, [], ◌∷◌, ◌++◌, length, get_or, Option, Some, None, slice_get}
 use Rattle.avr_instr.specs.declared.instr.Instr.{Instr as Avr}
 use Rattle.avr_isa.specs.Standing.{widths}
 use Rattle.vg_codes.specs.declared.case.Case.{Case}
 use Rattle.vg_lin.specs.declared.instr.Callee.{Callee}
 use Rattle.vg_lin.specs.declared.instr.Callee.TheVariants.{Procedure as ByNumber, Code as ByCode}
+use Rattle.vg_lin.specs.declared.instr.Plain.TheVariants.{Stop}
 use Rattle.vg_lin.specs.declared.instr.Instr.{Instr}
-use Rattle.vg_lin.specs.declared.instr.Instr.TheVariants.{When, Unless, Jump, Call}
+use Rattle.vg_lin.specs.declared.instr.Instr.TheVariants.{Plain, When, Unless, Jump, Call}
 use Rattle.vg_lin.specs.Program.{Procedure}
 use Rattle.vg_templates.specs.Linkage.{prologue}
 use Rattle.vg_templates.specs.Framed.{framed}
 use Rattle.vg_put_operations.specs.Coded.{code_from}
 use Rattle.vg_put_flow.specs.declared.ways.Hop.TheVariants.{Far}
-use Rattle.vg_put_flow.specs.declared.ways.Turn.TheVariants.{Past}
+use Rattle.vg_put_flow.specs.declared.ways.Turn.{Turn}
+use Rattle.vg_put_flow.specs.declared.ways.Turn.TheVariants.{Direct, Past}
 use Rattle.vg_put_flow.specs.declared.ways.Way.TheVariants.{Far as FarOff}
 use Rattle.vg_select.specs.declared.leading.Leading.{Leading as Held}
 use Rattle.vg_select.specs.Selected.{Leading, with_codes}
@@ -70,13 +73,45 @@ abbrev pub called_in : (codes : List ℕ) → Instr → ℕ
 called_in codes (Call c) = callee_in codes c.callee
 called_in codes i = 0
 
+-- whether an instruction branches to a place, and whether one stops the run
+abbrev pub branches_to : (place : ℕ) → Instr → Bool
+branches_to n (When t to) = to == n
+branches_to n (Unless t to) = to == n
+branches_to n i = false
+
+abbrev pub is_stop : Option Instr → Bool
+is_stop (Some (Plain (Stop code))) = true
+is_stop i = false
+
+-- whether the instruction at a place branches over the next one, and that one stops the run
+abbrev pub skips_at : (place : ℕ) (here next : Option Instr) → Bool
+skips_at pc (Some i) next = branches_to (pc + 2) i && is_stop next
+skips_at pc None next = false
+
+-- A branch over a stop is near by, over its two words. Any other one goes past a far jump.
+abbrev pub turn_for : (skips : Bool) (aim : ℕ) → Turn
+turn_for true aim = Direct 2
+turn_for false aim = Past (Far aim)
+
 -- by far jumps and far calls
-abbrev pub far_held : (places codes : List ℕ) (idle : ℕ) → Instr → Held
-far_held places codes idle i =
-    record { jump = Far (aim_in places i); branch = Past (Far (aim_in places i)); call = FarOff (called_in codes i); idle = idle }
+abbrev pub far_held : (places codes : List ℕ) (idle : ℕ) (skips : Bool) → Instr → Held
+far_held places codes idle skips i =
+    record { jump = Far (aim_in places i); branch = turn_for skips (aim_in places i); call = FarOff (called_in codes i); idle = idle }
+
+abbrev pub held_of : (places codes : List ℕ) (idle place : ℕ) (next here : Option Instr) → Held
+held_of places codes idle pc next (Some i) = far_held places codes idle (skips_at pc (Some i) next) i
+held_of places codes idle pc next None = record { jump = Far 0; branch = Past (Far 0); call = FarOff 0; idle = idle }
+
+abbrev pub held_at : (places codes : List ℕ) (idle : ℕ) → List Instr → (place : ℕ) → Held
+held_at places codes idle is pc = held_of places codes idle pc (slice_get is (suc pc)) (slice_get is pc)
+
+-- of the first instructions, so many
+abbrev pub helds_upto : (places codes : List ℕ) (idle : ℕ) → List Instr → (count : ℕ) → List Held
+helds_upto places codes idle is zero = []
+helds_upto places codes idle is (suc n) = helds_upto places codes idle is n ++ held_at places codes idle is n ∷ []
 
 abbrev pub far_leads : (places codes : List ℕ) (idle : ℕ) → List Instr → ℕ → Leading
-far_leads places codes idle is = leading_in (map (far_held places codes idle) is)
+far_leads places codes idle is = leading_in (helds_upto places codes idle is (length is))
 
 -- ---- the code
 
@@ -133,7 +168,7 @@ placed_upto e first (suc k) = placed_upto e first k ++ placed_at e first k ∷ [
 
 -- ---- what they need
 
--- There is code for each instruction of each procedure, where all locals are in the frame.
+-- There is code for each instruction of each procedure, by its layout.
 abbrev pub AreWithin : List Procedure → Type 0
 AreWithin ms =
     (m : ℕ) (procedure : Procedure) → slice_get ms m ≡ Some procedure → (pc : ℕ) (i : Instr) → slice_get procedure.code pc ≡ Some i

@@ -1,10 +1,11 @@
-// Where instructions lead, by far jumps and far calls.
-ghost use Rattle.std.specs.Prelude.{◌≡◌, map, IfOk};
-ghost use Rattle.vg_put_programs.specs.Programs.{address_in, aim_in, callee_in, called_in, far_held};
+// Where instructions lead, by far jumps and far calls, and near by over stops.
+ghost use Rattle.std.specs.Prelude.{suc, ◌≡◌, ◌<◌, length, slice_get, IfOk};
+ghost use Rattle.vg_put_programs.specs.Programs.{address_in, aim_in, callee_in, called_in, branches_to, is_stop, skips_at, turn_for, helds_upto};
 
+use avr_instr::NearOffset;
 use std::alloc::Global;
 use vg_base::{NoMemory, Row};
-use vg_lin::{Callee, Instr};
+use vg_lin::{Callee, Instr, Plain};
 use vg_put_flow::{Hop, Turn, Way};
 use vg_put_operations::code_of;
 use vg_select::Leading;
@@ -50,8 +51,48 @@ fn called_in(codes: &[u16], instr: &Instr) -> u16
     }
 }
 
-/// Where each of these instructions leads, by far jumps and far calls, where they begin at these word addresses, of which the low two bytes count, and the
-/// procedures have these code numbers.
+// Whether an instruction branches to a place.
+fn branches_to(instr: &Instr, place: usize) -> bool
+    ensures { result ≡ branches_to place instr.now }
+{
+    match instr {
+        Instr::When(_, to) => usize::from(*to) == place,
+        Instr::Unless(_, to) => usize::from(*to) == place,
+        _ => false,
+    }
+}
+
+// Whether the instruction at a place stops the run.
+fn stops_at(instrs: &[Instr], place: usize) -> bool
+    ensures { result ≡ is_stop (slice_get instrs.now place) }
+{
+    match instrs.get(place) {
+        Some(Instr::Plain(Plain::Stop(_))) => true,
+        _ => false,
+    }
+}
+
+// How a branch leads: near by over the two words of a stop, or past a far jump.
+fn turn_for(skips: bool, aim: u16) -> Turn
+    ensures { result ≡ turn_for skips aim }
+{
+    if skips {
+        Turn::Direct(NearOffset::new(2))
+    } else {
+        Turn::Past(Hop::Far(aim))
+    }
+}
+
+// Whether the instruction at a place branches over the next one, and that one stops the run.
+fn skips_at(instrs: &[Instr], place: usize) -> bool
+    requires { place < length instrs.now }
+    ensures { result ≡ skips_at place (slice_get instrs.now place) (slice_get instrs.now (suc place)) }
+{
+    branches_to(&instrs[place], place + 2) && stops_at(instrs, place + 1)
+}
+
+/// Where each of these instructions leads, by far jumps and far calls, and near by over stops, where they begin at these word addresses, of which the low two
+/// bytes count, and the procedures have these code numbers.
 pub fn far_leadings(
     alloc: Global,
     places: &[u32],
@@ -59,15 +100,17 @@ pub fn far_leadings(
     idle: u16,
     instrs: &[Instr],
 ) -> Result<Row<Leading>, NoMemory>
-    ensures { IfOk result (λ row. row ≡ map (far_held places.now codes.now idle) instrs.now) }
+    ensures { IfOk result (λ row. row ≡ helds_upto places.now codes.now idle instrs.now (length instrs.now)) }
 {
     let mut row = Row::new(alloc);
-    for instr in instrs {
+    for place in 0..instrs.len() {
+        let instr = &instrs[place];
         let aim = aim_in(places, instr);
         let called = called_in(codes, instr);
+        let branch = turn_for(skips_at(instrs, place), aim);
         row.push(Leading {
             jump: Hop::Far(aim),
-            branch: Turn::Past(Hop::Far(aim)),
+            branch,
             call: Way::Far(called),
             idle,
         })?;

@@ -55,7 +55,7 @@ fn put_one(
 }
 
 /// The code of all procedures goes behind the code so far, that of the start procedure at `first`, a word address. They lead to one another by far jumps, far
-/// branches and far calls, as if they stood where `known` says, had these code numbers, and the program waited for interrupts in a piece at `idle`.
+/// branches and far calls, and near by over stops, as if they stood where `known` says, had these code numbers, and the program waited for interrupts in a piece at `idle`.
 pub fn put_programs(
     alloc: Global,
     code: &mut Row<Instr>,

@@ -1,5 +1,5 @@
 // A small procedure and its locations.
-ghost use Rattle.std.specs.Prelude.{◌≡◌, IfOk};
+ghost use Rattle.std.specs.Prelude.{◌≡◌, ◌≤◌, IfOk};
 ghost use Rattle.vg_put_rows.specs.Sample.{sample};
 
 use std::alloc::Global;
@@ -7,17 +7,18 @@ use vg_alloc::{Locations, frames};
 use vg_base::{NoMemory, Row};
 use vg_lin::{Instr, LinProc};
 
-/// The small procedure.
-pub fn sample_procedure(alloc: Global) -> Result<LinProc, NoMemory>
-    ensures { IfOk result (λ p. p ≡ sample) }
+/// The small procedure, of whose locals so many are parameters.
+pub fn sample_procedure(alloc: Global, params: u8) -> Result<LinProc, NoMemory>
+    requires { params ≤ 2 }
+    ensures { IfOk result (λ p. p ≡ sample params) }
 {
     let widths = sample_widths(alloc)?;
     let code = sample_code(alloc)?;
-    Ok(LinProc::new(None, 1, 0, widths, code))
+    Ok(LinProc::new(None, params, 0, widths, code))
 }
 
 fn sample_widths(alloc: Global) -> Result<Row<u8>, NoMemory>
-    ensures { IfOk result (λ widths. widths ≡ sample.widths) }
+    ensures { IfOk result (λ widths. widths ≡ (sample 0).widths) }
 {
     let mut widths = Row::new(alloc);
     widths.push(2)?;
@@ -26,7 +27,7 @@ fn sample_widths(alloc: Global) -> Result<Row<u8>, NoMemory>
 }
 
 fn sample_code(alloc: Global) -> Result<Row<Instr>, NoMemory>
-    ensures { IfOk result (λ code. code ≡ sample.code) }
+    ensures { IfOk result (λ code. code ≡ (sample 0).code) }
 {
     let mut code = Row::new(alloc);
     code.push(Instr::Idle)?;
@@ -34,11 +35,12 @@ fn sample_code(alloc: Global) -> Result<Row<Instr>, NoMemory>
     Ok(code)
 }
 
-/// Its locations. The byte of the other local is the newest one of the frame; behind it lie the saved Y and the return address, and then the
-/// parameter.
-pub fn sample_locations(alloc: Global) -> Result<Locations, NoMemory>
-    ensures { IfOk result (λ l. l.widths ≡ sample.widths) }
+/// Its locations. Where the first local is a parameter, the byte of the other one is the newest one of the frame; behind it lie the saved Y and the return
+/// address, and then the parameter. Where there are no parameters, the first local is in r2 and r3, and the other one in r4.
+pub fn sample_locations(alloc: Global, params: u8) -> Result<Locations, NoMemory>
+    requires { params ≤ 2 }
+    ensures { IfOk result (λ l. l.widths ≡ (sample params).widths) }
 {
-    let procedure = sample_procedure(alloc)?;
+    let procedure = sample_procedure(alloc, params)?;
     frames(alloc, &procedure)
 }

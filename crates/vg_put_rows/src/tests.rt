@@ -7,7 +7,9 @@ use vg_base::{NoMemory, Row};
 use vg_codes::Case;
 use vg_lin::{Address, Comparison, Computation, Operand, Operator, Test};
 use vg_put_flow::{Hop, Turn, put_branch, put_prologue, put_returns_value, put_tests};
-use vg_put_operations::{put_finds_procedure, put_loads_table, put_multiplies, put_shifts_left};
+use vg_put_operations::{
+    put_divides_steps, put_finds_procedure, put_loads_table, put_multiplies, put_shifts_left,
+};
 use vg_put_plain::{
     put_computes, put_copies, put_loads_column, put_pushes_value, put_stops, put_writes_device,
 };
@@ -38,7 +40,7 @@ fn is_spelled(alloc: Global, code: &Result<Row<Instr>, NoMemory>, expected: &[u1
 }
 
 fn entered(alloc: Global) -> Result<Row<Instr>, NoMemory> {
-    let locations = sample_locations(alloc)?;
+    let locations = sample_locations(alloc, 1)?;
     let mut code = Row::new(alloc);
     put_prologue(&mut code, &locations)?;
     put_copies(&mut code, &locations, 1, Operand::Local(0))?;
@@ -61,7 +63,7 @@ fn a_procedure_enters_and_returns(rt: HostRuntime) {
 }
 
 fn computed(alloc: Global) -> Result<Row<Instr>, NoMemory> {
-    let locations = sample_locations(alloc)?;
+    let locations = sample_locations(alloc, 1)?;
     let mut code = Row::new(alloc);
     let sum = Computation {
         operator: Operator::Plus,
@@ -93,7 +95,7 @@ fn plain_instructions_are_put(rt: HostRuntime) {
 }
 
 fn reached(alloc: Global) -> Result<Row<Instr>, NoMemory> {
-    let locations = sample_locations(alloc)?;
+    let locations = sample_locations(alloc, 1)?;
     let mut code = Row::new(alloc);
     let column = Address {
         base: 0x100,
@@ -124,7 +126,7 @@ fn columns_and_tables_are_reached(rt: HostRuntime) {
 }
 
 fn at_addresses(alloc: Global) -> Result<Row<Instr>, NoMemory> {
-    let locations = sample_locations(alloc)?;
+    let locations = sample_locations(alloc, 1)?;
     let mut code = Row::new(alloc);
     let element = Address {
         base: 0,
@@ -150,7 +152,7 @@ fn addresses_in_locals_are_reached(rt: HostRuntime) {
 }
 
 fn branched(alloc: Global) -> Result<Row<Instr>, NoMemory> {
-    let locations = sample_locations(alloc)?;
+    let locations = sample_locations(alloc, 1)?;
     let mut code = Row::new(alloc);
     let test = Test {
         comparison: Comparison::Same,
@@ -189,7 +191,7 @@ fn branches_are_put(rt: HostRuntime) {
 }
 
 fn operated(alloc: Global) -> Result<Row<Instr>, NoMemory> {
-    let locations = sample_locations(alloc)?;
+    let locations = sample_locations(alloc, 1)?;
     let mut code = Row::new(alloc);
     put_shifts_left(&mut code, &locations, 1, 1, Operand::Local(1), 3)?;
     put_multiplies(
@@ -217,8 +219,39 @@ fn shifts_and_products_are_put(rt: HostRuntime) {
     assert!(rt; holds);
 }
 
+fn divided(alloc: Global) -> Result<Row<Instr>, NoMemory> {
+    let locations = sample_locations(alloc, 1)?;
+    let mut code = Row::new(alloc);
+    put_divides_steps(&mut code, &locations, 1, 0, Operand::Known(5))?;
+    Ok(code)
+}
+
+// The steps of a division: the way back leads from the word 48 to the word 1.
+#[test]
+fn divisions_are_put(rt: HostRuntime) {
+    let alloc = rt.alloc();
+    let code = divided(alloc);
+    let expected = [
+        0xE2B0, // LDI r27, 32
+        0x816E, 0x817F, 0x2D81, 0x2D91, // LDD r22, Y+6; LDD r23, Y+7; MOV r24, r1; MOV r25, r1
+        0x0F99, 0x2DA1, 0x1FAA, // ADD r25, r25; MOV r26, r1; ADC r26, r26
+        0x8169, 0x2D71, 0x2D81, 0x2D91, // LDD r22, Y+1; MOV r23, r1; MOV r24, r1; MOV r25, r1
+        0x95A6, 0x1F66, 0x1F77, 0x1F88, 0x1F99, // LSR r26; ADC r22, r22; and so to r25
+        0xE025, 0xE030, 0xE040, 0xE050, // LDI r18, 5; LDI r19, 0; LDI r20, 0; LDI r21, 0
+        0x1B62, 0x0B73, 0x0B84, 0x0B95, 0x0BAA, // SUB r22, r18; SBC r23, r19; and so to r25; SBC r26, r26
+        0x232A, 0x233A, 0x234A, 0x235A, // AND r18, r26; and so to r21
+        0x0F62, 0x1F73, 0x1F84, 0x1F95, 0x8369, // ADD r22, r18; ADC r23, r19; and so to r25; STD Y+1, r22
+        0x816E, 0x817F, 0x2D81, 0x2D91, // LDD r22, Y+6; LDD r23, Y+7; MOV r24, r1; MOV r25, r1
+        0x3FAF, 0x1F66, 0x1F77, 0x1F88, 0x1F99, // CPI r26, 0xFF; ADC r22, r22; and so to r25
+        0x836E, 0x837F, // STD Y+6, r22; STD Y+7, r23
+        0x95BA, 0xF009, 0xCFD0, // DEC r27; BREQ by 1 word; RJMP by -48 words
+    ];
+    let holds = is_spelled(alloc, &code, &expected);
+    assert!(rt; holds);
+}
+
 fn dispatched(alloc: Global) -> Result<Row<Instr>, NoMemory> {
-    let locations = sample_locations(alloc)?;
+    let locations = sample_locations(alloc, 1)?;
     let mut code = Row::new(alloc);
     let cases = [
         Case {
@@ -253,6 +286,69 @@ fn dispatches_are_put(rt: HostRuntime) {
         0x01DC, 0x50A1, 0x40B0, 0x50A2, 0x40B0, // MOVW r26, r24; SUBI r26, 1; SBCI r27, 0; SUBI r26, 2; SBCI r27, 0
         0xF410, 0xE263, 0xE071, // BRCC by 2 words; LDI r22, 0x23; LDI r23, 0x01
         0x836E, 0x837F, // STD Y+6, r22; STD Y+7, r23
+    ];
+    let holds = is_spelled(alloc, &code, &expected);
+    assert!(rt; holds);
+}
+
+fn entered_in_registers(alloc: Global) -> Result<Row<Instr>, NoMemory> {
+    let locations = sample_locations(alloc, 0)?;
+    let mut code = Row::new(alloc);
+    put_prologue(&mut code, &locations)?;
+    put_copies(&mut code, &locations, 1, Operand::Local(0))?;
+    put_copies(&mut code, &locations, 0, Operand::Known(0x0123))?;
+    put_returns_value(&mut code, &locations, Operand::Local(1), 1)?;
+    Ok(code)
+}
+
+// Without parameters locals are in registers, which are saved; there is no frame pointer.
+#[test]
+fn locals_are_in_registers(rt: HostRuntime) {
+    let alloc = rt.alloc();
+    let code = entered_in_registers(alloc);
+    let expected = [
+        0x924F, 0x923F, 0x922F, // PUSH r4; PUSH r3; PUSH r2
+        0x2D62, 0x2E46, // MOV r22, r2; MOV r4, r22
+        0xE263, 0xE071, 0x011B, // LDI r22, 0x23; LDI r23, 0x01; MOVW r2, r22
+        0x2D64, 0x902F, 0x903F, 0x904F, 0x9508, // MOV r22, r4; POP r2; POP r3; POP r4; RET
+    ];
+    let holds = is_spelled(alloc, &code, &expected);
+    assert!(rt; holds);
+}
+
+fn computed_in_registers(alloc: Global) -> Result<Row<Instr>, NoMemory> {
+    let locations = sample_locations(alloc, 0)?;
+    let mut code = Row::new(alloc);
+    let sum = Computation {
+        operator: Operator::Plus,
+        width: 1,
+        to: 1,
+        left: Operand::Local(1),
+        right: Operand::Known(3),
+    };
+    put_computes(alloc, &mut code, &locations, sum)?;
+    put_pushes_value(alloc, &mut code, &locations, 2, Operand::Local(0))?;
+    put_writes_device(alloc, &mut code, &locations, 0x38, Operand::Local(1))?;
+    let test = Test {
+        comparison: Comparison::Same,
+        width: 2,
+        left: Operand::Local(0),
+        right: Operand::Known(0),
+    };
+    put_tests(alloc, &mut code, &locations, test)?;
+    Ok(code)
+}
+
+// Locals in registers wait, are written and are compared from where they are.
+#[test]
+fn registers_are_found(rt: HostRuntime) {
+    let alloc = rt.alloc();
+    let code = computed_in_registers(alloc);
+    let expected = [
+        0x2D64, 0x5F6D, 0x2E46, // MOV r22, r4; SUBI r22, 0xFD; MOV r4, r22
+        0x923F, 0x922F, // PUSH r3; PUSH r2
+        0xBA48, // OUT 0x18, r4
+        0x1421, 0x0431, // CP r2, r1; CPC r3, r1
     ];
     let holds = is_spelled(alloc, &code, &expected);
     assert!(rt; holds);

@@ -1,6 +1,6 @@
 // What a row answers.
 use crate::files::{fetched, given_file, given_files, given_steadily};
-use crate::sinks::{noted, nothing_kept, puts, ran, ran_unseen};
+use crate::sinks::{noted, nothing_kept, puts, ran, ran_unseen, shown};
 use crate::statuses::status_told;
 use crate::table::Table;
 use itoa::Buffer;
@@ -20,6 +20,7 @@ pub fn answer_to(table: &mut Table, kind: &str, words: &str) -> Result<Option<Ro
         "pair" => given_files(table, words),
         "run" => ran(table, words),
         "noted" => noted(table, words),
+        "shown" => shown(table, words),
         "unseen" => ran_unseen(table, words),
         "status" => status_told(table.alloc, words),
         _ => Ok(None),
@@ -54,7 +55,8 @@ pub fn words_of(table: &Table, words: &str) -> Result<Option<Vec<String>>, NoMem
     Ok(Some(list))
 }
 
-// `words WORD ..`: `build FILE STEPS` and behind it the stack that is asked for, `run FILE SCRIPT STEPS`, `sim HEX SCRIPT STEPS`, `why FILE MEMBER` or `none`.
+// `words WORD ..`: `build FILE STEPS` and behind it the stack that is asked for, `run FILE SCRIPT STEPS`, `sim HEX SCRIPT STEPS`, `why FILE MEMBER`,
+// `try OBJECTS` or `none`.
 fn meaning(table: &Table, words: &str) -> Result<Option<Row<u8>>, NoMemory> {
     let Some(list) = words_of(table, words)? else {
         return Ok(None);
@@ -83,6 +85,10 @@ fn meaning(table: &Table, words: &str) -> Result<Option<Row<u8>>, NoMemory> {
             push_part(&mut answer, b"why")?;
             push_part(&mut answer, file.as_bytes())?;
             push_part(&mut answer, member.as_bytes())?;
+        }
+        Some(Command::Try { objects }) => {
+            push_part(&mut answer, b"try")?;
+            push_part(&mut answer, Buffer::new().format(objects).as_bytes())?;
         }
     }
     Ok(Some(answer))

@@ -87,6 +87,27 @@ pub fn noted(table: &mut Table, words: &str) -> Result<Option<Row<u8>>, NoMemory
     Ok(Some(answer))
 }
 
+/// `shown WORD ..`: the number of the status, and what `out` holds, with the shelf that never fails and a `note` that keeps nothing. How `out` fails is for this
+/// row alone.
+pub fn shown(table: &mut Table, words: &str) -> Result<Option<Row<u8>>, NoMemory> {
+    let Some(list) = words_of(table, words)? else {
+        return Ok(None);
+    };
+    let mut out = sink_with(table.alloc, ROOM, table.out)?;
+    table.out = None;
+    let status = run(
+        table.alloc,
+        &list,
+        &mut table.steady,
+        &mut out,
+        &mut NullSink::new(),
+    );
+    let mut answer = Row::new(table.alloc);
+    push_part(&mut answer, Buffer::new().format(status.code()).as_bytes())?;
+    push_part(&mut answer, out.bytes())?;
+    Ok(Some(answer))
+}
+
 /// `unseen WORD ..`: the number of the status and its fault line, with the shelf that never fails and sinks that keep nothing.
 pub fn ran_unseen(table: &mut Table, words: &str) -> Result<Option<Row<u8>>, NoMemory> {
     let Some(list) = words_of(table, words)? else {

@@ -1,4 +1,6 @@
-// What the machine shows in the image of a text.
+// What the machine shows in the image of a text, and what its layout says.
+ghost use Rattle.std.specs.Prelude.{◌≤◌, IfSome};
+
 use avr_isa::{Image, MachineEnd};
 use avr_sim::Machine;
 use std::alloc::Global;
@@ -15,8 +17,17 @@ const ROOM: usize = 1_000_000;
 // The most instructions of a run.
 const STEPS: u32 = 20_000_000;
 
-/// What the machine shows in the image of the text of a line, with a comma behind each event, and how it ends; or why there is no image.
+/// What a line asks of the image of its text. `run` with a script: what the machine shows in it, with a comma behind each event, and how it ends. `layout` with a
+/// stack in bytes, or none: the lines of its layout, with a comma behind each, but for those of `idle` and of `code`, which depend on each instruction. Or else why
+/// there is no image.
 pub fn answer_of(alloc: Global, line: TextLine<'_>) -> Result<String, NoMemory> {
+    match line.question {
+        "layout" => laid_answer(alloc, line),
+        _ => run_answer(alloc, line),
+    }
+}
+
+fn run_answer(alloc: Global, line: TextLine<'_>) -> Result<String, NoMemory> {
     let text = spelled(alloc, line.text)?;
     let script = spelled(alloc, line.word)?;
     if text.len() > TEXT_LIMIT || script.len() > IMAGE_TEXT_LIMIT {
@@ -30,6 +41,61 @@ pub fn answer_of(alloc: Global, line: TextLine<'_>) -> Result<String, NoMemory> 
         Err(Refusal::Fault(fault)) => refused(alloc, &fault),
         Err(Refusal::NoMemory) => Err(NoMemory),
     }
+}
+
+fn laid_answer(alloc: Global, line: TextLine<'_>) -> Result<String, NoMemory> {
+    let text = spelled(alloc, line.text)?;
+    if text.len() > TEXT_LIMIT {
+        return said(alloc, "too long");
+    }
+    match build(alloc, text.as_slice(), stack_in(line.word), INIT_STEPS) {
+        Ok(built) => laid(alloc, built.note.as_slice()),
+        Err(Refusal::Fault(fault)) => refused(alloc, &fault),
+        Err(Refusal::NoMemory) => Err(NoMemory),
+    }
+}
+
+// The stack that a word asks for, from 1 to 4,096 bytes.
+fn stack_in(word: &str) -> Option<u16>
+    ensures { IfSome result (λ bytes. (1 ≤ bytes) × (bytes ≤ 4096)) }
+{
+    match word.parse::<u16>() {
+        Ok(bytes) => {
+            if bytes >= 1 && bytes <= 4096 {
+                Some(bytes)
+            } else {
+                None
+            }
+        }
+        Err(_) => None,
+    }
+}
+
+// The lines of a layout, with a comma behind each but for the last, and without those of `idle` and of `code`.
+fn laid(alloc: Global, note: &[u8]) -> Result<String, NoMemory> {
+    let mut text = String::new(alloc);
+    let mut line = String::new(alloc);
+    for byte in note {
+        match *byte {
+            b'\n' => {
+                put_line(&mut text, line.as_str())?;
+                line.clear();
+            }
+            other => line.push(char::from(other))?,
+        }
+    }
+    Ok(text)
+}
+
+fn put_line(text: &mut String, line: &str) -> Result<(), NoMemory> {
+    if line.starts_with("idle ") || line.starts_with("code ") {
+        return Ok(());
+    }
+    if !text.is_empty() {
+        text.push_str(", ")?;
+    }
+    text.push_str(line)?;
+    Ok(())
 }
 
 // What the machine shows in an image.

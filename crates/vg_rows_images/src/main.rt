@@ -1,5 +1,5 @@
-//! A table of images: a text and a script a line come in, with what the machine shows in the image of the text; each line that differs goes out, and how many
-//! there are.
+//! A table of images: a text and a script a line come in, with what the machine shows in the image of the text, or a text with its layout; each line that
+//! differs goes out, and how many there are.
 #![tactic(auto)]
 
 mod images;

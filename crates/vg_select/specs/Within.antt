@@ -6,7 +6,7 @@ use Rattle.vg_lin.specs.declared.instr.Target.{Target}
 use Rattle.vg_lin.specs.declared.instr.Call.{Call as Calling}
 use Rattle.vg_lin.specs.declared.instr.Test.{Test}
 use Rattle.vg_lin.specs.declared.instr.Plain.{Plain as PlainInstr}
-use Rattle.vg_lin.specs.declared.instr.Plain.TheVariants.{Copy, Compute, Product, DivideStep, Load, Store, ReadDevice, WriteDevice, Push, Pop, Find, CodeOf, Stop}
+use Rattle.vg_lin.specs.declared.instr.Plain.TheVariants.{Copy, Compute, Product, DivideSteps, Load, Store, ReadDevice, WriteDevice, Push, Pop, Find, CodeOf, Stop}
 use Rattle.vg_lin.specs.declared.instr.Instr.{Instr}
 use Rattle.vg_lin.specs.declared.instr.Instr.TheVariants.{Plain, When, Unless, Jump, Call, Return, Idle}
 use Rattle.vg_lin.specs.Meaning.{operands}
@@ -21,7 +21,7 @@ abbrev pub IsPlainWithin : Layout → PlainInstr → Type 0
 IsPlainWithin l (Copy to a) = IsIn l to × IsThere l a
 IsPlainWithin l (Compute c) = (c.width ≤ 4) × IsIn l c.to × IsThere l c.left × IsThere l c.right
 IsPlainWithin l (Product to a b) = IsIn l to × IsThere l a × IsThere l b
-IsPlainWithin l (DivideStep r d a) = IsIn l r × IsIn l d × IsThere l a
+IsPlainWithin l (DivideSteps r d a) = IsIn l r × IsIn l d × IsThere l a
 IsPlainWithin l (Load m w to a) = (w ≤ 4) × IsIn l to × IsThere l a.index
 IsPlainWithin l (Store w a from) = (w ≤ 4) × IsThere l a.index × IsThere l from
 IsPlainWithin l (ReadDevice to address) = IsIn l to

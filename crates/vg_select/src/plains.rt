@@ -15,7 +15,7 @@ use vg_base::{NoMemory, Row};
 use vg_codes::Case;
 use vg_lin::{Memory, Operand, Plain};
 use vg_put_operations::{
-    code_of, put_divides_once, put_finds_procedure, put_loads_table, put_multiplies,
+    code_of, put_divides_steps, put_finds_procedure, put_loads_table, put_multiplies,
 };
 use vg_put_plain::{
     put_copies, put_loads_column, put_pushes_value, put_reads_device, put_stops, put_stores_column,
@@ -50,8 +50,8 @@ pub fn put_plain(
         Plain::Product(to, left, right) => {
             put_multiplies(alloc, code, locations, to, left, right)
         }
-        Plain::DivideStep(remainder, dividend, divisor) => {
-            put_divides_once(code, locations, remainder, dividend, divisor)
+        Plain::DivideSteps(remainder, dividend, divisor) => {
+            put_divides_steps(code, locations, remainder, dividend, divisor)
         }
         Plain::Load(Memory::Ram, width, to, address) => {
             put_loads_column(code, locations, width, to, address)

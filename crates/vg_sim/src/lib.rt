@@ -3,4 +3,4 @@
 
 pub mod simulate;
 
-pub use simulate::{Simulated, simulate_text};
+pub use simulate::{Simulated, put_run, simulate_text};

@@ -73,8 +73,10 @@ pub fn simulate_text<O: Sink>(
     }
 }
 
-// The run of a machine at reset, with the line of its ending.
-fn put_run<O: Sink>(
+/// Runs a machine at reset on a script for at most so many instructions, and puts the lines of its trace and of its ending. It takes no memory.
+///
+/// The answer is how the machine has ended, and `None` where its budget is spent. `Failed` is a put that failed: a front of the lines was put.
+pub fn put_run<O: Sink>(
     started: Machine,
     script: &Script,
     budget: u32,

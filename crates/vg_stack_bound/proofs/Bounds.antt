@@ -15,7 +15,8 @@ use Rattle.vg_packed.specs.declared.program.Entrance.{Entrance}
 use Rattle.vg_packed.specs.declared.program.FirmProgram.{FirmProgram}
 use Rattle.vg_walks.specs.Walks.{IsCallOf, IsEntry, LiesOn}
 use Rattle.vg_stack_bound.specs.Covered.{AreCovered, Covers, IsBoundBy}
-use Rattle.vg_stack_bound.specs.Enough.{IsEnough}
+use Rattle.vg_stack_bound.specs.Enough.{IsEnough, IsNeed}
+use Rattle.vg_stack_bound.specs.declared.need.Need.TheVariants.{Bytes}
 
 pub bounded : (f : FirmProgram) (costs noted : List ℕ) (bytes : ℕ) → AreCovered f.procedures costs noted f.procedures noted
     → Covers f.procedures costs noted 0 f.main → AllByRecursion (λ (e : Entrance). Covers f.procedures costs noted 0 e.procedure) f.handlers
@@ -111,3 +112,11 @@ module _ (k : Codes) (f : FirmProgram) (costs noted : List ℕ) (bytes : ℕ) (i
 
 pub enough : (f : FirmProgram) (costs noted : List ℕ) (bytes : ℕ) → IsBoundBy f costs noted bytes → (k : Codes) → IsEnough (program_of k f) costs bytes
 enough f costs noted bytes is k = enough_of k f costs noted bytes is
+
+-- and four more are a need
+pub need_of : (f : FirmProgram) (costs : List ℕ) (bytes need : ℕ) → need ≡ bytes + 4 → ((k : Codes) → IsEnough (program_of k f) costs bytes)
+    → IsNeed f costs (Bytes need)
+need_of f costs bytes need e enough = (bytes, four_more bytes need e, enough)
+  where
+    four_more : (a b : ℕ) → b ≡ a + 4 → 4 + a ≤ b
+    four_more a b h = omega (arith, h)

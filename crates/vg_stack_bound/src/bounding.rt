@@ -4,33 +4,51 @@ ghost use Rattle.std.specs.List.{AllByRecursion};
 ghost use Rattle.vg_codes.specs.Codes.{Codes};
 ghost use Rattle.vg_packed.specs.Programs.{program_of};
 ghost use Rattle.vg_packed.specs.declared.program.Entrance.{Entrance as TheEntrance};
-ghost use Rattle.vg_stack_bound.specs.Enough.{IsEnough};
+ghost use Rattle.vg_stack_bound.specs.Enough.{IsEnough, IsNeed};
 ghost use Rattle.vg_stack_bound.specs.Covered.{AreCovered, Covers, IsBoundBy};
 
-use crate::spreading::noted;
+use crate::need::Need;
+use crate::spreading::note_all;
+use crate::turning::{cycle_of, is_cycle};
 use std::alloc::Global;
 use vg_base::NoMemory;
 use vg_firm::Procedure;
 use vg_frame_costs::counting::cost_of;
 use vg_packed::{Entrance, FirmProgram};
 
-/// So many bytes that no active calls of a packed program cost more, by costs of methods, where its procedures do not idle. There are none where procedures
-/// that name one another among those that they may call go round, and where the bytes do not fit into 32 bits.
-#[tactic(auto, using(crate::proofs::Bounds::enough))]
-pub fn stack_bound(
+/// How much stack the active calls of a packed program need at most, by costs of methods in bytes, where its procedures do not idle: a number of bytes, or
+/// procedures that call one another in turn. There is no answer where neither was found, and where the bytes do not fit into 32 bits.
+pub fn stack_need(
     alloc: Global,
     firm: &FirmProgram,
     costs: &[u32],
-) -> Result<Option<u32>, NoMemory>
-    ensures { IfOk result (λ bound. IfSome bound (λ bytes. (k : Codes) → IsEnough (program_of k firm.now) costs.now bytes)) }
+) -> Result<Option<Need>, NoMemory>
+    ensures { IfOk result (λ need. IfSome need (IsNeed firm.now costs.now)) }
 {
-    let noted = noted(alloc, firm, costs)?;
-    let bytes = largest(noted.as_slice());
-    if is_bound(firm, costs, noted.as_slice(), bytes) {
-        Ok(Some(bytes))
+    let noted = note_all(alloc, firm, costs)?;
+    let bytes = largest(noted.bytes.as_slice());
+    match bytes.checked_add(4) {
+        Some(need) => {
+            if is_enough(firm, costs, noted.bytes.as_slice(), bytes) {
+                return Ok(Some(Need::Bytes(need)));
+            }
+        }
+        None => {}
+    }
+    let cycle = cycle_of(alloc, &noted)?;
+    if is_cycle(firm.procedures.as_slice(), cycle.as_slice()) {
+        Ok(Some(Need::Cycle(cycle)))
     } else {
         Ok(None)
     }
+}
+
+// Whether so many bytes are enough, for what is noted.
+#[tactic(auto, using(crate::proofs::Bounds::enough))]
+fn is_enough(firm: &FirmProgram, costs: &[u32], noted: &[u32], bytes: u32) -> bool
+    ensures { IsTrue result → (k : Codes) → IsEnough (program_of k firm.now) costs.now bytes }
+{
+    is_bound(firm, costs, noted, bytes)
 }
 
 fn largest(noted: &[u32]) -> u32 {

@@ -3,6 +3,9 @@
 
 pub mod bounding;
 pub mod laws;
+pub mod need;
 pub mod spreading;
+pub mod turning;
 
-pub use bounding::stack_bound;
+pub use bounding::stack_need;
+pub use need::Need;

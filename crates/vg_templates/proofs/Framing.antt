@@ -1,12 +1,12 @@
--- The layout with all locals in the frame is sound.
-use Rattle.std.proofs.Common.{◌≡◌, ◌≢◌, ℕ, zero, suc, ◌+◌, ◌-◌, ◌<◌, ◌≤◌, inl, inr, Bool, true, false, nat_lt, if◌then◌else◌}
+-- The layout of a procedure is sound, and takes few bytes of the stack.
+use Rattle.std.proofs.Common.{◌≡◌, ◌≢◌, ℕ, zero, suc, ◌+◌, ◌-◌, ◌<◌, ◌≤◌, inl, inr, Bool, true, false, ◌&&◌, ◌==◌, nat_lt, if◌then◌else◌}
 use Rattle.std.proofs.Common.{List, [], ◌∷◌, length, refl, sym, ap, ◌∙◌, arith, slice_index, take, drop, length-take, length-drop}
 use Rattle.avr_view.proofs.Going.{below_or_not}
 use Rattle.vg_templates.specs.Spots.{Spot, InFrame, Apart}
-use Rattle.vg_templates.specs.Layouts.{IsLayout, IsSpot, IsReliable, IsIn}
+use Rattle.vg_templates.specs.Layouts.{IsLayout, IsSpot, IsReliable, IsIn, frame_size}
 use Rattle.vg_templates.specs.Held.{IsSet}
 use Rattle.vg_templates.specs.Calls.{sum_of, behind_width, HasPushed}
-use Rattle.vg_templates.specs.Framed.{framed, CanBeFramed}
+use Rattle.vg_templates.specs.Framed.{has_registers, registers_from, spot_for, slots_for, saved_for, lying, framed, CanBeFramed}
 
 -- ---- sums of widths
 
@@ -48,8 +48,38 @@ width_behind (w ∷ ws) (suc p) zero h low = absurd (omega arith)
 width_behind (w ∷ ws) (suc p) (suc k) h low =
     let e : suc k - suc p ≡ k - p = omega arith in ap (slice_index (drop p ws)) e ∙ width_behind ws p k (omega arith) (omega arith)
 
+-- ---- registers
+
+register_there : (r n d : ℕ) → r ≤ d → d < r + n → IsIn d (registers_from r n)
+register_there r zero d low high = absurd (omega (arith, low, high))
+register_there r (suc n) d low high = elim (below_or_not r d) [
+  | inl more ↦ inr (register_there (suc r) n d (omega (arith, more)) (omega (arith, high)))
+  | inr less ↦ inl (omega (arith, low, less))
+]
+
+register_within : (r n d : ℕ) → IsIn d (registers_from r n) → (r ≤ d) × (d < r + n)
+register_within r zero d h = absurd h
+register_within r (suc n) d (inl e) = (omega (arith, e), omega (arith, e))
+register_within r (suc n) d (inr h) = let rest = register_within (suc r) n d h in (omega (arith, rest.0), omega (arith, rest.1))
+
+pub registers-counted : (r n : ℕ) → length (registers_from r n) ≡ n
+registers-counted r zero = refl
+registers-counted r (suc n) = ap suc (registers-counted (suc r) n)
+
+-- such a procedure has no parameters, and few bytes
+pub registers-few : (ws : List ℕ) (p : ℕ) → has_registers ws p ≡ true → (p ≡ 0) × (sum_of ws ≤ 12)
+registers-few ws p h = by_test (p == 0) refl h
+  where
+    by_test : (b : Bool) → (p == 0) ≡ b → (b && nat_lt (sum_of ws) 13) ≡ true → (p ≡ 0) × (sum_of ws ≤ 12)
+    by_test true e h = (grind (arith, e), grind (arith, h))
+    by_test false e h = absurd (let clash : false ≡ true = h in cc)
+
 -- ---- the layout
 
+below : (k n : ℕ) → nat_lt k n ≡ true → k < n
+below k n h = grind (arith, h)
+
+-- all locals in the frame
 module _ (ws : List ℕ) (p : ℕ) (can : CanBeFramed ws p) where
   abbrev slots : ℕ
   slots = sum_of (drop p ws)
@@ -63,7 +93,7 @@ module _ (ws : List ℕ) (p : ℕ) (can : CanBeFramed ws p) where
   back_long : length (drop p ws) ≡ length ws - p
   back_long = length-drop p ws
 
-  spot_is : (b : Bool) (k : ℕ) → nat_lt k p ≡ b → k < length ws → IsSpot (framed ws p) (at_spot b k) (slice_index ws k)
+  spot_is : (b : Bool) (k : ℕ) → nat_lt k p ≡ b → k < length ws → IsSpot (lying false ws p) (at_spot b k) (slice_index ws k)
   spot_is true k e low =
       let inside : k < p = grind arith in
       let fits = behind_inside (take p ws) k (let long = front_long in omega (arith, long, inside)) in
@@ -111,11 +141,8 @@ module _ (ws : List ℕ) (p : ℕ) (can : CanBeFramed ws p) where
       let width = width_behind ws p j beyond can.params in
       inr (omega (arith, fits, width))
 
-  below : (k n : ℕ) → nat_lt k n ≡ true → k < n
-  below k n h = grind (arith, h)
-
-  pub framed-layout : IsLayout (framed ws p)
-  framed-layout =
+  frame-layout : IsLayout (lying false ws p)
+  frame-layout =
       record {
         narrow = can.narrow;
         spot = λ k low. spot_is (nat_lt k p) k refl low;
@@ -131,16 +158,96 @@ module _ (ws : List ℕ) (p : ℕ) (can : CanBeFramed ws p) where
       saved_is d (inr (inl e)) = inr (omega arith, omega arith)
       saved_is d (inr (inr none)) = absurd none
 
-  pub framed-set : (place to : ℕ) → to < length ws → IsSet (framed ws p) ((framed ws p).live place) ((framed ws p).live (suc place)) to
-  framed-set place to low =
-      record {
-        there = low;
-        others = λ k alive ne. (alive, apart_is (nat_lt to p) (nat_lt k p) to k refl refl low (below k (length ws) alive) (λ e. ne (sym e)));
-      }
+  frame-apart : (j k : ℕ) → j < length ws → k < length ws → j ≢ k
+      → Apart (spot_for false ws p j) (slice_index ws j) (spot_for false ws p k) (slice_index ws k)
+  frame-apart j k low low' ne = apart_is (nat_lt j p) (nat_lt k p) j k refl refl low low' ne
 
-  pub framed-pushed : HasPushed (framed ws p) p
-  framed-pushed = record { spots = λ k low. at (nat_lt k p) k refl low; bytes = refl }
+  frame-pushed : HasPushed (lying false ws p) p
+  frame-pushed = record { spots = λ k low. at (nat_lt k p) k refl low; bytes = refl }
     where
       at : (b : Bool) (k : ℕ) → nat_lt k p ≡ b → k < p → at_spot b k ≡ InFrame (slots + 4 + behind_width (take p ws) k)
       at true k e low = refl
       at false k e low = absurd (let none : p ≤ k = grind (arith, e) in omega arith)
+
+-- all locals in registers
+module _ (ws : List ℕ) (p : ℕ) (can : CanBeFramed ws p) (none : p ≡ 0) (few : sum_of ws ≤ 12) where
+  registers-apart : (j k : ℕ) → j < length ws → k < length ws → j ≢ k
+      → Apart (spot_for true ws p j) (slice_index ws j) (spot_for true ws p k) (slice_index ws k)
+  registers-apart j k low low' ne = elim (below_or_not j k) [
+    | inl less ↦ (let order = before_order ws j k less low' in inr (omega (arith, order)))
+    | inr more ↦ (let less : k < j = omega (arith, more, ne) in let order = before_order ws k j less low in inl (omega (arith, order)))
+  ]
+
+  registers-layout : IsLayout (lying true ws p)
+  registers-layout =
+      record {
+        narrow = can.narrow;
+        spot = λ k low. spot_is k low;
+        apart = λ place j k one two ne. registers-apart j k (below j (length ws) one) (below k (length ws) two) ne;
+        pointer = λ h. absurd (let clash : false ≡ true = h in cc);
+        no_pointer = λ h. refl;
+        reliable = λ d h. (let r = register_within 2 (sum_of ws) d h in inl (r.0, omega (arith, r.1, few)));
+        small = omega arith;
+      }
+    where
+      spot_is : (k : ℕ) → k < length ws → IsSpot (lying true ws p) (spot_for true ws p k) (slice_index ws k)
+      spot_is k low =
+          let fits = before_inside ws k low in
+          (omega arith, omega (arith, fits, few), λ d h g. register_there 2 (sum_of ws) d (omega (arith, h)) (omega (arith, g, fits)))
+
+  registers-pushed : HasPushed (lying true ws p) p
+  registers-pushed = record { spots = λ k low. absurd (omega (arith, low, none)); bytes = refl }
+
+-- both
+module _ (ws : List ℕ) (p : ℕ) (can : CanBeFramed ws p) where
+  layout_by : (b : Bool) → has_registers ws p ≡ b → IsLayout (lying b ws p)
+  layout_by true e = let f = registers-few ws p e in registers-layout ws p can f.0 f.1
+  layout_by false e = frame-layout ws p can
+
+  pub framed-layout : IsLayout (framed ws p)
+  framed-layout = layout_by (has_registers ws p) refl
+
+  apart_by : (b : Bool) → has_registers ws p ≡ b → (j k : ℕ) → j < length ws → k < length ws → j ≢ k
+      → Apart (spot_for b ws p j) (slice_index ws j) (spot_for b ws p k) (slice_index ws k)
+  apart_by true e = let f = registers-few ws p e in registers-apart ws p can f.0 f.1
+  apart_by false e = frame-apart ws p can
+
+  pub framed-set : (place to : ℕ) → to < length ws → IsSet (framed ws p) ((framed ws p).live place) ((framed ws p).live (suc place)) to
+  framed-set place to low =
+      record {
+        there = low;
+        others = λ k alive ne. (alive, apart_by (has_registers ws p) refl to k low (below k (length ws) alive) (λ e. ne (sym e)));
+      }
+
+  pushed_by : (b : Bool) → has_registers ws p ≡ b → HasPushed (lying b ws p) p
+  pushed_by true e = let f = registers-few ws p e in registers-pushed ws p can f.0 f.1
+  pushed_by false e = frame-pushed ws p can
+
+  pub framed-pushed : HasPushed (framed ws p) p
+  framed-pushed = pushed_by (has_registers ws p) refl
+
+-- ---- its bytes
+
+both_parts : (ws : List ℕ) (p : ℕ) → sum_of (take p ws) + sum_of (drop p ws) ≡ sum_of ws
+both_parts ws zero = omega arith
+both_parts [] (suc p) = omega arith
+both_parts (w ∷ ws) (suc p) = let rest = both_parts ws p in omega (arith, rest)
+
+-- The frame has at most four bytes beside those of the locals, and so has what is pushed at an entry beside those of the locals that are no parameters.
+pub framed-bytes : (ws : List ℕ) (p : ℕ) → frame_size (framed ws p) ≤ sum_of ws + 4
+framed-bytes ws p = by_test (has_registers ws p) refl
+  where
+    by_test : (b : Bool) → has_registers ws p ≡ b → frame_size (lying b ws p) ≤ sum_of ws + 4
+    by_test true e =
+        let f = registers-few ws p e in let parts = both_parts ws p in let dropped : sum_of (drop p ws) ≡ sum_of ws = ap (λ n. sum_of (drop n ws)) f.0 in
+        omega (arith, parts, dropped, registers-counted 2 (sum_of ws))
+    by_test false e = let parts = both_parts ws p in omega (arith, parts)
+
+pub framed-taken : (ws : List ℕ) (p : ℕ) → length (framed ws p).saved + (framed ws p).slots ≤ sum_of (drop p ws) + 2
+framed-taken ws p = by_test (has_registers ws p) refl
+  where
+    by_test : (b : Bool) → has_registers ws p ≡ b → length (saved_for b ws) + slots_for b ws p ≤ sum_of (drop p ws) + 2
+    by_test true e =
+        let f = registers-few ws p e in let dropped : sum_of (drop p ws) ≡ sum_of ws = ap (λ n. sum_of (drop n ws)) f.0 in
+        omega (arith, dropped, registers-counted 2 (sum_of ws))
+    by_test false e = omega arith

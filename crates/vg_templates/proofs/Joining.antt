@@ -5,7 +5,7 @@ use Rattle.vg_meaning.specs.Outside.{Outside, with_event}
 use Rattle.vg_lin.specs.declared.instr.Memory.TheVariants.{Ram, Flash}
 use Rattle.vg_lin.specs.declared.instr.Operand.TheVariants.{Known}
 use Rattle.vg_lin.specs.declared.instr.Plain.{Plain}
-use Rattle.vg_lin.specs.declared.instr.Plain.TheVariants.{Copy, Compute, Product, DivideStep, Load, Store, ReadDevice, WriteDevice, Push, Pop, Find, CodeOf, Stop}
+use Rattle.vg_lin.specs.declared.instr.Plain.TheVariants.{Copy, Compute, Product, DivideSteps, Load, Store, ReadDevice, WriteDevice, Push, Pop, Find, CodeOf, Stop}
 use Rattle.vg_lin.specs.Program.{Program}
 use Rattle.vg_lin.specs.Steps.{Frame, Went, Goes as GoesOn, Lacks, Fails}
 use Rattle.vg_lin.specs.State.{State, value, using, sets, index_of, loaded, stores, number_at, with_number, reads_from, plain}
@@ -119,7 +119,7 @@ module _ (i : Places) (ok : (m : ℕ) → IsLayout (i.layouts m)) (m : ℕ) (fra
           )
       store_there address y is None at = absurd (let clash : Fails ≡ GoesOn s' o' = sym (ap (stores s v.out w y) at) ∙ is in cc)
   takes_plain_code live behind (Product to a b) s s' o' v made can front full k = absurd can
-  takes_plain_code live behind (DivideStep r d a) s s' o' v made can front full k = absurd can
+  takes_plain_code live behind (DivideSteps r d a) s s' o' v made can front full k = absurd can
   takes_plain_code live behind (ReadDevice to address) s s' o' v made can front full k = by_reads v.out.reads refl made
     where
       by_reads : (rs : List ℕ) → v.out.reads ≡ rs → reads_from rs to address s v.out ≡ GoesOn s' o'

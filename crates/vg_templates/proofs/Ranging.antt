@@ -13,7 +13,7 @@ use Rattle.vg_lin.specs.declared.instr.Operand.TheVariants.{Local, Known}
 use Rattle.vg_lin.specs.declared.instr.Operator.{Operator}
 use Rattle.vg_lin.specs.declared.instr.Operator.TheVariants.{Plus, Minus, Times, Divide, Remainder, And, Or, Xor, ShiftLeft, ShiftRight}
 use Rattle.vg_lin.specs.declared.instr.Plain.{Plain}
-use Rattle.vg_lin.specs.declared.instr.Plain.TheVariants.{Copy, Compute, Product, DivideStep, Load, Store, ReadDevice, WriteDevice, Push as PushValue, Pop, Find, CodeOf, Stop}
+use Rattle.vg_lin.specs.declared.instr.Plain.TheVariants.{Copy, Compute, Product, DivideSteps, Load, Store, ReadDevice, WriteDevice, Push as PushValue, Pop, Find, CodeOf, Stop}
 use Rattle.vg_templates.specs.Spots.{Spot, InFrame, InRegisters}
 use Rattle.vg_templates.specs.Layouts.{Layout, IsLayout, IsSpot, width_of}
 use Rattle.vg_templates.specs.Linkage.{pushes}
@@ -288,7 +288,7 @@ module _ (l : Layout) (ok : IsLayout l) (live behind : ℕ → Bool) where
       (pushes-fine (found_in l a 22 w) (found_low a 22 w can.1.0 (omega arith) (omega (arith, small))))
   plain_code-fine codes (Load Flash w to a) can = tt
   plain_code-fine codes (Product to a b) can = tt
-  plain_code-fine codes (DivideStep r d a) can = tt
+  plain_code-fine codes (DivideSteps r d a) can = tt
   plain_code-fine codes (Find dispatch to a) can = tt
   plain_code-fine codes (Pop w to) can = tt
   plain_code-fine codes (Stop code) can = tt

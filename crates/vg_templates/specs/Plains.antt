@@ -10,14 +10,14 @@ use Rattle.vg_lin.specs.declared.instr.Operator.{Operator}
 use Rattle.vg_lin.specs.declared.instr.Operator.TheVariants.{ShiftLeft, ShiftRight}
 use Rattle.vg_lin.specs.declared.instr.Computation.{Computation}
 use Rattle.vg_lin.specs.declared.instr.Plain.{Plain}
-use Rattle.vg_lin.specs.declared.instr.Plain.TheVariants.{Compute, Product, DivideStep, Load, Pop, Find, Stop}
+use Rattle.vg_lin.specs.declared.instr.Plain.TheVariants.{Compute, Product, DivideSteps, Load, Pop, Find, Stop}
 use Rattle.vg_lin.specs.Program.{Program}
 use Rattle.vg_templates.specs.Layouts.{Layout}
 use Rattle.vg_templates.specs.Held.{gives}
 use Rattle.vg_templates.specs.Plain.{computes}
 use Rattle.vg_templates.specs.Straight.{plain_code, stops}
 use Rattle.vg_templates.specs.Shifts.{shifts_left, shifts_right}
-use Rattle.vg_templates.specs.Products.{multiplies, divides_once}
+use Rattle.vg_templates.specs.Products.{multiplies, divides_steps}
 use Rattle.vg_templates.specs.Lookups.{loads_table, finds_procedure}
 
 -- a computation: shifts are by known amounts, and products, quotients and remainders are the routines' work
@@ -37,7 +37,7 @@ pops_value l w to = pops_from 22 w ++ gives l to 22 w
 abbrev pub plain_template : Layout → Program → Plain → List Instr
 plain_template l p (Compute c) = computation_code l c c.operator c.right
 plain_template l p (Product to a b) = multiplies l to a b
-plain_template l p (DivideStep r d a) = divides_once l r d a
+plain_template l p (DivideSteps r d a) = divides_steps l r d a
 plain_template l p (Load Flash w to a) = loads_table l w to a.base a.index
 plain_template l p (Find place to a) = finds_procedure l p.codes.code (cases_of (slice_get p.dispatches place)) to a
 plain_template l p (Pop w to) = pops_value l w to

@@ -1,7 +1,7 @@
--- The code for the product of two bytes, and for one step of a division.
-use Rattle.std.specs.Prelude.{ℕ, ◌+◌, List, [], ◌∷◌, ◌++◌}
+-- The code for the product of two bytes, and for the steps of a division.
+use Rattle.std.specs.Prelude.{ℕ, ◌+◌, ◌-◌, List, [], ◌∷◌, ◌++◌, length}
 use Rattle.avr_instr.specs.declared.instr.Instr.{Instr}
-use Rattle.avr_instr.specs.declared.instr.Instr.TheVariants.{Adc, Add, Cpi, Eor, Lsr, Mov, Movw, Mul, Sbc}
+use Rattle.avr_instr.specs.declared.instr.Instr.TheVariants.{Adc, Add, Brbs, Cpi, Dec, Eor, Ldi, Lsr, Mov, Movw, Mul, Rjmp, Sbc}
 use Rattle.vg_lin.specs.declared.instr.Operand.{Operand}
 use Rattle.vg_lin.specs.declared.instr.Operand.TheVariants.{Local}
 use Rattle.vg_templates.specs.Layouts.{Layout}
@@ -48,3 +48,12 @@ divides_once l remainder dividend divisor =
     brings_bit l dividend
     ++ (shifts_remainder l remainder
     ++ (takes_divisor l divisor ++ (gives l remainder 22 4 ++ (shifts_dividend l dividend ++ gives l dividend 22 4))))
+
+-- The way back over so many words to the first of a turn, while r27 has not come to 0; the last turn steps over it.
+abbrev pub turns_back : (words : ℕ) → List Instr
+turns_back n = Dec 27 ∷ Brbs 1 1 ∷ Rjmp (4093 - n) ∷ []
+
+-- r27 counts the steps, each of which is one turn; each instruction of a turn is one word
+abbrev pub divides_steps : Layout → (remainder dividend : ℕ) → (divisor : Operand) → List Instr
+divides_steps l remainder dividend divisor =
+    Ldi 27 32 ∷ (divides_once l remainder dividend divisor ++ turns_back (length (divides_once l remainder dividend divisor)))

@@ -12,7 +12,7 @@ use Rattle.vg_source.specs.Peak.{costs, sessions}
 use Rattle.vg_source.specs.Program.{source_of}
 use Rattle.vg_static_source.specs.Sums.{IsStatic}
 use Rattle.vg_static_named.proofs.Sums.{static_named}
-use Rattle.avr_isa.specs.Agrees.{Agrees}
+use Rattle.avr_isa.specs.Agrees.{Agrees, NeverReaches}
 use Rattle.avr_bytes.specs.Bytes.{IsFlash}
 use Rattle.avr_view.specs.Run.{Run}
 use Rattle.vg_faults.specs.Fitting.{IsFitting}
@@ -37,11 +37,17 @@ use Rattle.vg_agrees.specs.Does.{DoesAsProgram}
 use Rattle.vg_agrees.specs.Whole.{with_whole}
 use Rattle.vg_memory.specs.Memory.{KeepsMemory}
 use Rattle.vg_memory.proofs.Keeping.{keeps}
+use Rattle.vg_memory.proofs.Never.{never}
+use Rattle.vg_memory.specs.Holds.{HoldsPeaks}
 use Rattle.vg_text_image.specs.declared.making.TextImage.{TextImage}
 use Rattle.vg_text_image.specs.declared.unmade.Unmade.{Unmade}
-use Rattle.vg_text_image.specs.declared.unmade.Unmade.TheVariants.{CodeFull, NotBuilt}
-use Rattle.vg_compile.specs.Compile.{DoesInImage}
-use Rattle.vg_text_image.specs.Made.{CanCompile, DoesText, IsCompiledOf, IsFullFor}
+use Rattle.vg_text_image.specs.declared.unmade.Unmade.TheVariants.{CodeFull, StackFull, NotBuilt}
+use Rattle.vg_compile.specs.Bounds.{HoldsBound}
+use Rattle.vg_layout.specs.Few.{IsFew}
+use Rattle.vg_compile.specs.Runs.{DoesInImage}
+use Rattle.vg_layout.specs.declared.stack_bound.StackBound.{StackBound}
+use Rattle.vg_layout.specs.declared.stack_bound.StackBound.TheVariants.{Bytes}
+use Rattle.vg_text_image.specs.Made.{CanCompile, DoesText, IsCompiledOf, IsRefusedFor}
 
 -- ---- bytes of flash
 
@@ -84,6 +90,9 @@ room n stack h = omega (arith, h)
 
 floor_is : (n stack : ℕ) → n + stack ≤ 4096 → 0x1100 - stack + stack ≡ 0x1100
 floor_is n stack h = omega (arith, h)
+
+floor_at : (n stack : ℕ) → n + stack ≤ 4096 → 0x1100 - stack + stack ≤ 0x1100
+floor_at n stack h = omega (arith, h)
 
 floor_low : (stack : ℕ) → 0x1100 - stack ≤ 0x1100
 floor_low stack = omega arith
@@ -143,8 +152,11 @@ module _ (bytes : List ℕ) (clock : ℕ) (f : Fitted) (is : IsFittedOf bytes cl
     woken : ((linked.idle + 2 == linked.idle + 1) || (linked.idle + 2 == linked.idle + 2)) ≡ true
     woken = either_true (linked.idle + 2 == linked.idle + 1) (linked.idle + 2 == linked.idle + 2) (is_itself (linked.idle + 2))
 
+    does_by : (by : List ℕ) → DoesInImage linked f.placed.columns by p s.heap → (whole : List Event) → DoesAsProgram (with_whole run whole) by p s.heap
+    does_by by image whole = image (with_whole run whole) m.flash refl (floor_low stack) slept woken
+
     does : (whole : List Event) → DoesAsProgram (with_whole run whole) (costs text) p s.heap
-    does whole = m.does s.names (ready bytes clock f is short) (with_whole run whole) m.flash refl (floor_low stack) slept woken
+    does = does_by (costs text) (m.does s.names (ready bytes clock f is short))
 
     agreed : Agrees (sessions text (named_start_heap s)) i.flash (0x1100 - stack) stack
     agreed = agrees names p text named is.alive.start.program.typed s.heap is.alive.start.typed run stack (floor_is n stack fits) does
@@ -153,6 +165,17 @@ module _ (bytes : List ℕ) (clock : ℕ) (f : Fitted) (is : IsFittedOf bytes cl
     kept =
         keeps names p text named is.alive.start.program.typed s.heap is.alive.start.typed run (costs text) (linked.idle + 1)
         (sleeps linked.idle) does
+
+    -- by costs of methods for which a stack of so many bytes holds what active calls cost
+    never_by : (by : List ℕ) → DoesInImage linked f.placed.columns by p s.heap → HoldsPeaks (0x1100 - stack) by p s.heap
+        → NeverReaches i.flash (0x1100 - stack)
+    never_by by image holds =
+        never names p text named is.alive.start.program.typed s.heap is.alive.start.typed run by (does_by by image) holds
+
+  never_below : (i : TextImage) (m : IsCompiledOf f i) (need : ℕ) → i.bound ≡ Bytes need → n + need ≤ 4096 → NeverReaches i.flash (0x1100 - need)
+  never_below i m need same fits =
+      let (by, image, holds) = subst (λ z. HoldsBound m.linked f.placed.columns p s.heap z) same (m.bound (ready bytes clock f is short)) in
+      never_by i m need fits by image (holds (0x1100 - need) (floor_at n need fits))
 
   pub does_text : (i : TextImage) → IsCompiledOf f i → DoesText bytes clock i
   does_text i m = record {
@@ -163,25 +186,48 @@ module _ (bytes : List ℕ) (clock : ℕ) (f : Fitted) (is : IsFittedOf bytes cl
     fits = subst (λ z. z ≤ 4096) (sym m.static_is) low;
     are_bytes = m.are_bytes;
     agrees = λ stack h. agreed i m stack (subst (λ z. z + stack ≤ 4096) m.static_is h);
-    idle = m.linked.idle + 1;
     memory = λ stack h.
-        subst (λ z. KeepsMemory i.flash z (0x1100 - stack) (m.linked.idle + 1)) (sym m.static_is)
-        (kept i m stack (subst (λ z. z + stack ≤ 4096) m.static_is h));
+        subst (λ z. KeepsMemory i.flash i.static_bytes (0x1100 - stack) (z + 1)) (sym m.idle)
+        (subst (λ z. KeepsMemory i.flash z (0x1100 - stack) (m.linked.idle + 1)) (sym m.static_is)
+        (kept i m stack (subst (λ z. z + stack ≤ 4096) m.static_is h)));
+    never = λ need same h. never_below i m need same (subst (λ z. z + need ≤ 4096) m.static_is h);
   }
 
 -- what is linked of what fits is its image
 pub compiled_of : (f : Fitted) (i : TextImage) (linked : Linked) (cs : List ℕ) → ((texts : List (List ℕ)) → cs ≡ costs (tree_at texts f.alive.start.tree))
     → (IsReady (program_at f.alive.start.program) f.alive.start.heap
     → DoesInImage linked f.placed.columns cs (program_at f.alive.start.program) f.alive.start.heap)
-    → i.flash ≡ linked.flash → AllByRecursion (λ b. b < 256) i.flash → i.static_bytes ≡ f.placed.columns.static_bytes → IsCompiledOf f i
-compiled_of f i linked cs are does flash bytes static = record {
+    → (IsReady (program_at f.alive.start.program) f.alive.start.heap
+    → HoldsBound linked f.placed.columns (program_at f.alive.start.program) f.alive.start.heap i.bound)
+    → i.flash ≡ linked.flash → AllByRecursion (λ b. b < 256) i.flash → i.static_bytes ≡ f.placed.columns.static_bytes → i.idle ≡ linked.idle
+    → IsCompiledOf f i
+compiled_of f i linked cs are does bound flash bytes static idle = record {
   linked = linked;
   does = λ texts r. subst (λ z. DoesInImage linked f.placed.columns z (program_at f.alive.start.program) f.alive.start.heap) (are texts) (does r);
+  bound = bound;
   flash = flash;
   are_bytes = bytes;
   static_is = static;
+  idle = idle;
 }
 
--- where the flash is full, more words are needed than it has
-pub full_of : (r : Result TextImage (Refusal Unmade)) → IsFullFor r → (words : ℕ) → r ≡ Err (refusal.Fault (CodeFull words)) → 65536 ≤ words
-full_of r h words e = subst IsFullFor e h
+-- the bound of the image is that of what is compiled
+pub bound_of : (f : Fitted) (linked : Linked) (made said : StackBound) → said ≡ made
+    → (IsReady (program_at f.alive.start.program) f.alive.start.heap
+    → HoldsBound linked f.placed.columns (program_at f.alive.start.program) f.alive.start.heap made)
+    → IsReady (program_at f.alive.start.program) f.alive.start.heap
+    → HoldsBound linked f.placed.columns (program_at f.alive.start.program) f.alive.start.heap said
+bound_of f linked made said same holds r =
+    subst (λ z. HoldsBound linked f.placed.columns (program_at f.alive.start.program) f.alive.start.heap z) (sym same) (holds r)
+
+pub few_of : (stack : ℕ) (made said : StackBound) → said ≡ made → IsFew stack made → IsFew stack said
+few_of stack made said same few = subst (λ z. IsFew stack z) (sym same) few
+
+-- where the flash is full, more words are needed than it has; and where the stack is, more bytes
+pub full_of : (stack : ℕ) (r : Result TextImage (Refusal Unmade)) → IsRefusedFor stack r → (words : ℕ) → r ≡ Err (refusal.Fault (CodeFull words))
+    → 65536 ≤ words
+full_of stack r h words e = subst (λ z. IsRefusedFor stack z) e h
+
+pub deep_of : (stack : ℕ) (r : Result TextImage (Refusal Unmade)) → IsRefusedFor stack r → (need : ℕ) → r ≡ Err (refusal.Fault (StackFull need))
+    → stack < need
+deep_of stack r h need e = subst (λ z. IsRefusedFor stack z) e h

@@ -7,7 +7,7 @@ use Rattle.vg_syntax.specs.Tree.{Node}
 use Rattle.vg_source.specs.Values.{Heap}
 use Rattle.vg_source.specs.Peak.{costs, sessions}
 use Rattle.vg_static_source.specs.Sums.{IsStatic}
-use Rattle.avr_isa.specs.Agrees.{Agrees}
+use Rattle.avr_isa.specs.Agrees.{Agrees, NeverReaches}
 use Rattle.vg_faults.specs.Fitting.{IsFitting}
 use Rattle.vg_tree_walks.specs.Whole.{tree_at}
 use Rattle.vg_core.specs.HeldProgram.{program_at}
@@ -16,11 +16,13 @@ use Rattle.vg_packed.specs.Ready.{IsReady}
 use Rattle.vg_fits.specs.declared.fitting.Fitted.{Fitted}
 use Rattle.vg_link.specs.declared.linked.Linked.{Linked}
 use Rattle.vg_costs.specs.Small.{AreSmall}
-use Rattle.vg_compile.specs.Compile.{DoesInImage}
+use Rattle.vg_compile.specs.Bounds.{HoldsBound}
+use Rattle.vg_compile.specs.Runs.{DoesInImage}
+use Rattle.vg_layout.specs.declared.stack_bound.StackBound.TheVariants.{Bytes}
 use Rattle.vg_memory.specs.Memory.{KeepsMemory}
 use Rattle.vg_text_image.specs.declared.making.TextImage.{TextImage}
 use Rattle.vg_text_image.specs.declared.unmade.Unmade.{Unmade}
-use Rattle.vg_text_image.specs.declared.unmade.Unmade.TheVariants.{CodeFull, NotBuilt}
+use Rattle.vg_text_image.specs.declared.unmade.Unmade.TheVariants.{CodeFull, StackFull, NotBuilt}
 
 -- The image does what the bytes say, where initialisation has this clock, with every stack for which there is room above the static area.
 pub record DoesText (bytes : List ℕ) (clock : ℕ) (i : TextImage) : Type 0 where
@@ -36,8 +38,9 @@ pub record DoesText (bytes : List ℕ) (clock : ℕ) (i : TextImage) : Type 0 wh
   -- it reaches below the floor first
   pub agrees : (stack : ℕ) → i.static_bytes + stack ≤ 4096 → Agrees (sessions tree heap) i.flash (0x1100 - stack) stack
   -- with each such stack it writes to SRAM in the static area and on the stack alone, and lets interrupts in only at its idle SLEEP and at the CLI behind it
-  pub idle : ℕ
-  pub memory : (stack : ℕ) → i.static_bytes + stack ≤ 4096 → KeepsMemory i.flash i.static_bytes (0x1100 - stack) idle
+  pub memory : (stack : ℕ) → i.static_bytes + stack ≤ 4096 → KeepsMemory i.flash i.static_bytes (0x1100 - stack) (i.idle + 1)
+  -- where its stack is bounded, no run brings a stack of so many bytes below the floor
+  pub never : (bytes : ℕ) → i.bound ≡ Bytes bytes → i.static_bytes + bytes ≤ 4096 → NeverReaches i.flash (0x1100 - bytes)
 
 -- What fits can be compiled.
 pub record CanCompile (f : Fitted) : Type 0 where
@@ -49,16 +52,20 @@ pub record IsCompiledOf (f : Fitted) (i : TextImage) : Type 0 where
   pub linked : Linked
   pub does : (texts : List (List ℕ)) → IsReady (program_at f.alive.start.program) f.alive.start.heap
       → DoesInImage linked f.placed.columns (costs (tree_at texts f.alive.start.tree)) (program_at f.alive.start.program) f.alive.start.heap
+  pub bound : IsReady (program_at f.alive.start.program) f.alive.start.heap
+      → HoldsBound linked f.placed.columns (program_at f.alive.start.program) f.alive.start.heap i.bound
   pub flash : i.flash ≡ linked.flash
   pub are_bytes : AllByRecursion (λ b. b < 256) i.flash
   pub static_is : i.static_bytes ≡ f.placed.columns.static_bytes
+  pub idle : i.idle ≡ linked.idle
 
--- Where the cause is that the flash is full, more words are needed than it has.
-abbrev pub IsFullCause : Unmade → Type 0
-IsFullCause (CodeFull words) = 65536 ≤ words
-IsFullCause NotBuilt = Unit {0}
+-- Where the cause is that the flash is full, more words are needed than it has; and where it is the stack, more bytes than this stack has.
+abbrev pub IsCauseFor : (stack : ℕ) → Unmade → Type 0
+IsCauseFor stack (CodeFull words) = 65536 ≤ words
+IsCauseFor stack (StackFull need) = stack < need
+IsCauseFor stack NotBuilt = Unit {0}
 
-abbrev pub IsFullFor : Result TextImage (Refusal Unmade) → Type 0
-IsFullFor (Ok i) = Unit {0}
-IsFullFor (Err (refusal.Fault why)) = IsFullCause why
-IsFullFor (Err refusal.NoMemory) = Unit {0}
+abbrev pub IsRefusedFor : (stack : ℕ) → Result TextImage (Refusal Unmade) → Type 0
+IsRefusedFor stack (Ok i) = Unit {0}
+IsRefusedFor stack (Err (refusal.Fault why)) = IsCauseFor stack why
+IsRefusedFor stack (Err refusal.NoMemory) = Unit {0}

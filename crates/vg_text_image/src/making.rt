@@ -2,42 +2,54 @@
 ghost use Rattle.std.specs.Prelude.{◌≡◌, ◌<◌, ◌≤◌, ℕ, List, length, Err, IfOk};
 ghost use Rattle.std.specs.List.{AllByRecursion};
 ghost use Rattle.vg_base.specs.Limits.{flash_bytes};
-ghost use Rattle.vg_compile.specs.Compile.{IsFullCause as IsFullWhy};
-ghost use Rattle.vg_text_image.specs.Made.{CanCompile, IsCompiledOf, IsFullCause, IsFullFor};
+ghost use Rattle.vg_layout.specs.Few.{IsFew};
+ghost use Rattle.vg_compile.specs.Compile.{IsCauseFor as IsCauseIn};
+ghost use Rattle.vg_text_image.specs.Made.{CanCompile, IsCauseFor, IsCompiledOf, IsRefusedFor};
 
 use crate::unmade::Unmade;
 use avr_isa::Image;
 use std::alloc::Global;
 use vg_base::{NoMemory, Refusal, Row};
-use vg_compile::{NoImage, compile};
+use vg_compile::{Compiled, NoImage, compile};
 use vg_costs::method_costs;
 use vg_fits::Fitted;
+use vg_layout::{CodePiece, StackBound};
 use vg_link::Linked;
 
-/// The flash of the image of a text, and the bytes of its static area, which begins at the data address 0x0100.
+/// The flash of the image of a text, and what its layout tells.
 #[derive(Drop)]
 pub struct TextImage {
     pub flash: Image,
+    /// The bytes of the static area, which begins at the data address 0x0100.
     pub static_bytes: u16,
+    /// How much stack is enough for each run.
+    pub bound: StackBound,
+    /// The word address of the piece of code in which the program waits for interrupts. Its SLEEP is the second word.
+    pub idle: u16,
+    /// The pieces of its code, by ascending addresses.
+    pub pieces: Row<CodePiece>,
 }
 
-/// The image of a text that starts, whose live methods make nothing and which fits.
+/// The image of a text that starts, whose live methods make nothing and which fits, with a stack of so many bytes.
 ///
 /// The machine does in it what the text does from its initialised components, for all device reads and interrupts and with every stack for which there is room
 /// above the static area; only where the calls that are active cost more than the stack may it reach below the floor first. It refuses what `compile` refuses.
-pub fn image_of(alloc: Global, fitted: &Fitted) -> Result<TextImage, Refusal<Unmade>>
+pub fn image_of(alloc: Global, fitted: &Fitted, stack: u16) -> Result<TextImage, Refusal<Unmade>>
     requires { CanCompile fitted.now }
     ensures image { IfOk result (IsCompiledOf fitted.now) }
+    ensures few { IfOk result (λ image. IsFew stack image.bound) }
     ensures full { (words : ℕ) → result ≡ Err (Refusal.Fault (Unmade.CodeFull words)) → 65536 ≤ words }
+    ensures deep { (need : ℕ) → result ≡ Err (Refusal.Fault (Unmade.StackFull need)) → stack < need }
 {
-    compiled(alloc, fitted)
+    compiled(alloc, fitted, stack)
 }
 
 // The same, said case by case.
-fn compiled(alloc: Global, fitted: &Fitted) -> Result<TextImage, Refusal<Unmade>>
+fn compiled(alloc: Global, fitted: &Fitted, stack: u16) -> Result<TextImage, Refusal<Unmade>>
     requires { CanCompile fitted.now }
     ensures image { IfOk result (IsCompiledOf fitted.now) }
-    ensures full { IsFullFor result }
+    ensures few { IfOk result (λ image. IsFew stack image.bound) }
+    ensures refused { IsRefusedFor stack result }
 {
     let start = &fitted.alive.start;
     let costs = method_costs(alloc, &start.tree)?;
@@ -49,35 +61,52 @@ fn compiled(alloc: Global, fitted: &Fitted) -> Result<TextImage, Refusal<Unmade>
         &fitted.placed.numbers,
         &fitted.placed.columns,
         costs.as_slice(),
+        stack,
     ) {
-        Ok(linked) => Ok(laid(linked, fitted.placed.columns.static_bytes)),
-        Err(Refusal::Fault(why)) => Err(Refusal::Fault(unmade(why))),
+        Ok(made) => Ok(laid(made, fitted.placed.columns.static_bytes)),
+        Err(Refusal::Fault(why)) => Err(Refusal::Fault(unmade(why, stack))),
         Err(Refusal::NoMemory) => Err(Refusal::NoMemory),
     }
 }
 
 // What a cause is called here.
-fn unmade(why: NoImage) -> Unmade
-    requires { IsFullWhy why }
-    ensures { IsFullCause result }
+fn unmade(why: NoImage, stack: u16) -> Unmade
+    requires { IsCauseIn stack why }
+    ensures { IsCauseFor stack result }
 {
     match why {
         NoImage::Full(full) => Unmade::CodeFull { words: full.words },
+        NoImage::Deep { need } => Unmade::StackFull { need },
         NoImage::NotLinear(_) | NoImage::Costly | NoImage::Unfit => Unmade::NotBuilt,
     }
 }
 
-// The image of what is linked, above a static area of so many bytes.
-fn laid(linked: Linked, static_bytes: u16) -> TextImage
-    requires { length linked.flash ≤ flash_bytes }
-    ensures flash { result.flash ≡ linked.flash }
+// The image of what is compiled, above a static area of so many bytes.
+fn laid(made: Compiled, static_bytes: u16) -> TextImage
+    requires { length made.linked.flash ≤ flash_bytes }
+    ensures flash { result.flash ≡ made.linked.flash }
     ensures bytes { AllByRecursion (λ b. b < 256) result.flash }
     ensures static_is { result.static_bytes ≡ static_bytes }
+    ensures bound { result.bound ≡ made.bound }
+    ensures idle { result.idle ≡ made.linked.idle }
 {
-    are_bytes(linked.flash.as_slice());
+    let Compiled {
+        linked,
+        bound,
+        pieces,
+    } = made;
+    let Linked {
+        flash,
+        codes: _,
+        idle,
+    } = linked;
+    are_bytes(flash.as_slice());
     TextImage {
-        flash: Image::from_vec(linked.flash.into_vec()),
+        flash: Image::from_vec(flash.into_vec()),
         static_bytes,
+        bound,
+        idle,
+        pieces,
     }
 }
 

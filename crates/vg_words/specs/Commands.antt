@@ -20,6 +20,7 @@ pub data Command : Type 0 where
   Run : (file script : List ℕ) (steps : ℕ) → Command
   Sim : (hex script : List ℕ) (steps : ℕ) → Command
   Why : (file member : List ℕ) → Command
+  Try : (objects : ℕ) → Command
 
 -- whether each option is one of these and has a value
 abbrev pub knows : List (List ℕ) → List Item → Bool
@@ -80,6 +81,15 @@ sim_of given = option_map (λ w. Sim w.0 w.1 w.2) (on_script given)
 abbrev pub why_of : List Item → Option Command
 why_of given = if knows [] given then option_map (λ w. Why w.0 w.1) (two (plain_words given)) else None
 
+-- the objects of `try N`, where N stands: from 1 to 500 in at most nine digits
+abbrev pub objects_in : Option (List ℕ) → Option ℕ
+objects_in None = None
+objects_in (Some text) = number 9 500 text
+
+-- `try N`, without an option
+abbrev pub try_of : List Item → Option Command
+try_of given = if knows [] given then option_map Try (objects_in (one (plain_words given))) else None
+
 -- the command of all words
 abbrev pub command_of : List (List ℕ) → Option Command
 command_of [] = None
@@ -88,6 +98,7 @@ command_of (name ∷ words) =
     else if bytes_eq name (codes "run") then run_of (items words)
     else if bytes_eq name (codes "sim") then sim_of (items words)
     else if bytes_eq name (codes "why") then why_of (items words)
+    else if bytes_eq name (codes "try") then try_of (items words)
     else None
 
 -- the steps of a command are within their range
@@ -96,8 +107,14 @@ HasSteps (Build file stack init_steps) = (1 ≤ init_steps) × (init_steps ≤ 1
 HasSteps (Run file script steps) = (1 ≤ steps) × (steps ≤ 1000000000)
 HasSteps (Sim hex script steps) = (1 ≤ steps) × (steps ≤ 1000000000)
 HasSteps (Why file member) = Unit {0}
+HasSteps (Try objects) = Unit {0}
 
 -- the stack that a command asks for, if it does, is within its range
 abbrev pub HasStack : Command → Type 0
 HasStack (Build file stack init_steps) = IfSome stack (λ bytes. (1 ≤ bytes) × (bytes ≤ 4096))
 HasStack _ = Unit {0}
+
+-- the objects that a command asks for, if it does, are within their range
+abbrev pub HasObjects : Command → Type 0
+HasObjects (Try objects) = (1 ≤ objects) × (objects ≤ 500)
+HasObjects _ = Unit {0}

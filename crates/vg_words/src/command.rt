@@ -1,7 +1,8 @@
 // The command that words mean.
 ghost use Rattle.std.specs.Prelude.{◌≡◌, ◌≤◌, IfSome, option_map};
-ghost use Rattle.vg_words.specs.Commands.{HasStack, HasSteps, command_of, words_in};
-ghost use Rattle.vg_words.specs.Commands.{build_of, init_steps_in, on_script, run_of, sim_of, stack_in, stack_value, steps_in, why_of};
+ghost use Rattle.std.specs.Option.{option_copied};
+ghost use Rattle.vg_words.specs.Commands.{HasObjects, HasStack, HasSteps, command_of, words_in};
+ghost use Rattle.vg_words.specs.Commands.{build_of, init_steps_in, objects_in, on_script, run_of, sim_of, stack_in, stack_value, steps_in, try_of, why_of};
 ghost use Rattle.vg_words.specs.Views.{command_in};
 ghost use Rattle.vg_words.specs.Items.{items};
 
@@ -38,6 +39,10 @@ pub enum Command<'a> {
         file: &'a str,
         member: &'a str,
     },
+    /// `try N`: the generated program of so many objects, from 1 to 500, is to be built and its image to run.
+    Try {
+        objects: u32,
+    },
 }
 
 /// The command that the words behind the program's name mean, or `None` where they mean none. It takes no memory.
@@ -47,11 +52,12 @@ pub enum Command<'a> {
 /// word and two options: `--stack N`, with N from 1 to 4096 in at most four digits, which asks for no stack where it is absent,
 /// and `--init-steps N`, with N from 1 to 100,000,000 in at most nine digits, and 1,000,000 where it is absent. `run FILE SCRIPT`
 /// and `sim HEX SCRIPT` have two and the option `--steps N`, with N from 1 to 1,000,000,000 in at most ten digits, and 10,000,000
-/// where it is absent. `why FILE MEMBER` has two and no option.
+/// where it is absent. `why FILE MEMBER` has two and no option, and `try N` has one, which is a number from 1 to 500 in at most nine digits, and no option.
 pub fn command_of(words: &[String]) -> Option<Command<'_>>
     ensures meaning { option_map command_in result ≡ command_of (words_in words.entry.now) }
     ensures steps { IfSome result (λ command. HasSteps (command_in command)) }
     ensures stack { IfSome result (λ command. HasStack (command_in command)) }
+    ensures objects { IfSome result (λ command. HasObjects (command_in command)) }
 {
     match words {
         [] => None,
@@ -64,6 +70,8 @@ pub fn command_of(words: &[String]) -> Option<Command<'_>>
                 sim_of(behind)
             } else if name.as_str() == "why" {
                 why_of(behind)
+            } else if name.as_str() == "try" {
+                try_of(behind)
             } else {
                 None
             }
@@ -76,6 +84,7 @@ fn build_of(words: &[String]) -> Option<Command<'_>>
     ensures meaning { option_map command_in result ≡ build_of (items (words_in words.entry.now)) }
     ensures steps { IfSome result (λ command. HasSteps (command_in command)) }
     ensures stack { IfSome result (λ command. HasStack (command_in command)) }
+    ensures objects { IfSome result (λ command. HasObjects (command_in command)) }
 {
     if !knows(&[b"--stack", b"--init-steps"], words) {
         return None;
@@ -95,6 +104,7 @@ fn run_of(words: &[String]) -> Option<Command<'_>>
     ensures meaning { option_map command_in result ≡ run_of (items (words_in words.entry.now)) }
     ensures steps { IfSome result (λ command. HasSteps (command_in command)) }
     ensures stack { IfSome result (λ command. HasStack (command_in command)) }
+    ensures objects { IfSome result (λ command. HasObjects (command_in command)) }
 {
     match on_script(words) {
         Some((file, script, steps)) => Some(Command::Run {
@@ -111,6 +121,7 @@ fn sim_of(words: &[String]) -> Option<Command<'_>>
     ensures meaning { option_map command_in result ≡ sim_of (items (words_in words.entry.now)) }
     ensures steps { IfSome result (λ command. HasSteps (command_in command)) }
     ensures stack { IfSome result (λ command. HasStack (command_in command)) }
+    ensures objects { IfSome result (λ command. HasObjects (command_in command)) }
 {
     match on_script(words) {
         Some((hex, script, steps)) => Some(Command::Sim { hex, script, steps }),
@@ -123,12 +134,40 @@ fn why_of(words: &[String]) -> Option<Command<'_>>
     ensures meaning { option_map command_in result ≡ why_of (items (words_in words.entry.now)) }
     ensures steps { IfSome result (λ command. HasSteps (command_in command)) }
     ensures stack { IfSome result (λ command. HasStack (command_in command)) }
+    ensures objects { IfSome result (λ command. HasObjects (command_in command)) }
 {
     if !knows(&[], words) {
         return None;
     }
     match two_words(words) {
         Some((file, member)) => Some(Command::Why { file, member }),
+        None => None,
+    }
+}
+
+// `try N`
+fn try_of(words: &[String]) -> Option<Command<'_>>
+    ensures meaning { option_map command_in result ≡ try_of (items (words_in words.entry.now)) }
+    ensures steps { IfSome result (λ command. HasSteps (command_in command)) }
+    ensures stack { IfSome result (λ command. HasStack (command_in command)) }
+    ensures objects { IfSome result (λ command. HasObjects (command_in command)) }
+{
+    if !knows(&[], words) {
+        return None;
+    }
+    match objects_in(one_word(words)) {
+        Some(objects) => Some(Command::Try { objects }),
+        None => None,
+    }
+}
+
+// The objects of a plain word, where there is one.
+fn objects_in(word: Option<&str>) -> Option<u32>
+    ensures meaning { result ≡ objects_in (option_copied word.entry) }
+    ensures within { IfSome result (λ objects. (1 ≤ objects) × (objects ≤ 500)) }
+{
+    match word {
+        Some(text) => number(9, 500, text.as_bytes()),
         None => None,
     }
 }

@@ -1,11 +1,13 @@
-use Rattle.std.proofs.Common.{ap, ◌∙◌}
+use Rattle.std.proofs.Common.{◌∙◌}
 use Rattle.std.proofs.lemmas.Result.{IfOk-weaker}
-use Rattle.vg_alloc.specs.Locations.{Located}
-use Rattle.vg_alloc.proofs.Spotting.{slots_fit, pushed_fit, layout_fits, params_fit, locations_are}
+use Rattle.vg_alloc.proofs.Spotting.{all_fit, slots_fit, pushed_fit, layout_fits, params_fit, locations_are, widths_are}
 use Rattle.vg_alloc.proofs.framing.frames.Goals as goal
 
 pub located-requires-clause-params : goal.located-requires-clause-params
 located-requires-clause-params c = params_fit c.args.procedure.now c.keeps.ensures _ _ c.widths.ensures (c.from.ensures ∙ c.params.ensures)
+
+pub located-requires-clause-all : goal.located-requires-clause-all
+located-requires-clause-all c = all_fit c.args.procedure.now c.keeps.ensures _ _ c.widths.ensures (c.from.ensures ∙ c.params.ensures)
 
 pub located-requires-clause-slots : goal.located-requires-clause-slots
 located-requires-clause-slots c = slots_fit c.args.procedure.now c.keeps.ensures _ _ c.widths.ensures (c.from.ensures ∙ c.params.ensures)
@@ -22,4 +24,6 @@ returns-clause-layout c =
     (locations_are c.args.procedure.now c.keeps.ensures _ _ c.widths.ensures (c.from.ensures ∙ c.params.ensures)) c.located.ensures
 
 pub returns-clause-widths : goal.returns-clause-widths
-returns-clause-widths c = IfOk-weaker c.located.result _ _ (λ l same. ap (λ (x : Located). x.widths) same ∙ c.widths.ensures) c.located.ensures
+returns-clause-widths c =
+    IfOk-weaker c.located.result _ _
+    (widths_are c.args.procedure.now c.keeps.ensures _ _ c.widths.ensures (c.from.ensures ∙ c.params.ensures)) c.located.ensures

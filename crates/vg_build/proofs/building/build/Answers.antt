@@ -1,5 +1,5 @@
 use Rattle.vg_faults.specs.declared.fault.Fault.TheVariants.{NoTree, TooDeep, TooMany, Broken, Allocates, StaticFull, TableFull, StackFull, CodeFull}
-use Rattle.vg_build.proofs.Faults.{answered_of, complete_of, exactly, first_of, init_of, not_built_of}
+use Rattle.vg_build.proofs.Faults.{answered_of, complete_of, exactly, first_of, init_of, not_built_of, stack_full_of, stack_short_of}
 use Rattle.vg_build.proofs.building.build.Goals as goal
 
 pub returns-clause-no_tree : goal.returns-clause-no_tree
@@ -27,7 +27,10 @@ pub returns-clause-table_full : goal.returns-clause-table_full
 returns-clause-table_full c = λ settled need. exactly _ _ _ _ c.answer_to.ensures settled (TableFull need) tt
 
 pub returns-clause-stack_full : goal.returns-clause-stack_full
-returns-clause-stack_full c = λ settled need left. exactly _ _ _ _ c.answer_to.ensures settled (StackFull need left) tt
+returns-clause-stack_full c = stack_full_of _ _ _ _ c.answer_to.ensures
+
+pub returns-clause-stack_short : goal.returns-clause-stack_short
+returns-clause-stack_short c = stack_short_of _ _ _ _ c.answer_to.ensures
 
 pub returns-clause-code_full : goal.returns-clause-code_full
 returns-clause-code_full c = λ words. answered_of _ _ _ _ c.answer_to.ensures (CodeFull words)

@@ -2,10 +2,9 @@ use Rattle.std.proofs.Common.{Err, ap}
 use Rattle.vg_build.proofs.Faults.{by_compiled, by_writes}
 use Rattle.vg_build.proofs.flash.flash_of.Goals as goal
 
-pub returns-in-Ok-image_of_writes : goal.returns-in-Ok-image_of_writes
-returns-in-Ok-image_of_writes c =
-    by_writes _ _ _ _ _ c.as_slice.ensures c.in-Ok.ensures.ok c.in-Ok-image_of_writes.ensures.agrees c.in-Ok-image_of_writes.ensures.never
+pub returns-in-Ok : goal.returns-in-Ok
+returns-in-Ok c = by_writes _ _ _ _ _ c.as_slice.ensures c.in-Ok.ensures.ok _ c.written.ensures
 
 pub returns-in-Err-Fault : goal.returns-in-Err-Fault
 returns-in-Err-Fault c =
-    by_compiled _ _ (c.in-Err-Fault.ensures.not c.in-Err-Fault.field-0-0 (ap Err c.in-Err-Fault.field-0-is)) _ c.compiled.ensures
+    by_compiled _ _ _ (c.in-Err-Fault.ensures.not c.in-Err-Fault.field-0-0 (ap Err c.in-Err-Fault.field-0-is)) _ c.compiled.ensures

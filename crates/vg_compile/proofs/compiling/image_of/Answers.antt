@@ -9,4 +9,7 @@ returns-in-Ok-linked_of-clause-image c = record {
   is_unlinked = c.in_ok-unlinked.ensures;
   can_be_linked = c.in-Ok-linked_of.ensures.linked.0;
   is_linked = c.in-Ok-linked_of.ensures.linked.1;
+  need = c.in-Ok-need_of.need;
+  has_need = c.in-Ok-need_of.ensures.need;
+  is_bound = c.in_ok-bound.ensures.bound;
 }

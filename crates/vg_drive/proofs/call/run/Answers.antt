@@ -5,10 +5,11 @@ use Rattle.vg_faults.specs.declared.fault.Fault.TheVariants.{NoTree, TooDeep, To
 use Rattle.vg_drive.proofs.Builds as builds
 use Rattle.vg_drive.proofs.Plays as plays
 use Rattle.vg_drive.proofs.Sims as sims
+use Rattle.vg_drive.proofs.Tries as tries
 use Rattle.vg_drive.proofs.Whys as whys
-use Rattle.vg_drive.proofs.Commands.{answers_of, either_later, first_of, on_build, on_run, on_sim, on_why, out_before_of, rose_later, usage_of, write_fault_of}
+use Rattle.vg_drive.proofs.Commands.{answers_of, either_later, first_of, on_build, on_run, on_sim, on_try, on_why, out_before_of, rose_later, usage_of, write_fault_of}
 use Rattle.vg_drive.proofs.Fetches.{asks_all_by, asks_front_by, failed_by, too_long_by}
-use Rattle.vg_drive.proofs.Notes.{fronts_of, headline_of, line_front_of, line_last_of, line_of, second_of}
+use Rattle.vg_drive.proofs.Notes.{fronts_of, headline_of, line_front_of, line_last_of, line_of, second_of, tried_of}
 use Rattle.vg_drive.proofs.Sources.{allocates_of, exactly_of, init_is, source_is}
 use Rattle.vg_drive.proofs.call.run.Goals as goal
 
@@ -65,6 +66,10 @@ returns-clause-table_full g c =
 pub returns-clause-stack_full : goal.returns-clause-stack_full
 returns-clause-stack_full g c =
     λ settled. on_build _ _ _ _ _ _ c.answer-status.ensures.holds (λ file asked clock h. builds.stack_full_by _ _ file asked clock _ _ h settled)
+
+pub returns-clause-stack_short : goal.returns-clause-stack_short
+returns-clause-stack_short g c =
+    on_build _ _ _ _ _ _ c.answer-status.ensures.holds (λ file asked clock h. builds.stack_short_by _ _ file asked clock _ _ h)
 
 pub returns-clause-code_full : goal.returns-clause-code_full
 returns-clause-code_full g c =
@@ -146,6 +151,18 @@ returns-clause-why_front g c =
 pub returns-clause-why_complete : goal.returns-clause-why_complete
 returns-clause-why_complete g c =
     on_why _ _ _ _ _ _ c.answer-status.ensures.holds (λ file member h. whys.complete_by _ _ file member _ _ h c.answer-status.ensures.read)
+
+pub returns-clause-try_refused : goal.returns-clause-try_refused
+returns-clause-try_refused g c = on_try _ _ _ _ _ _ c.answer-status.ensures.holds (λ n h. tries.refused_by _ n _ _ h)
+
+pub returns-clause-try_refuses : goal.returns-clause-try_refuses
+returns-clause-try_refuses g c = λ settled. on_try _ _ _ _ _ _ c.answer-status.ensures.holds (λ n h. tries.refuses_by _ n _ _ h settled)
+
+pub returns-clause-tried : goal.returns-clause-tried
+returns-clause-tried g c = tried_of _ _ _ _ _ _ c.answer-status.ensures.holds c.put_fault_line.ensures.none
+
+pub returns-clause-tried_front : goal.returns-clause-tried_front
+returns-clause-tried_front g c = λ e. on_try _ _ _ _ _ _ c.answer-status.ensures.holds (λ n h. tries.front_by _ n _ _ h e)
 
 pub returns-clause-write_fault : goal.returns-clause-write_fault
 returns-clause-write_fault g c =

@@ -1,5 +1,5 @@
-use Rattle.vg_followed.proofs.Dividing.{takes_divides_once}
+use Rattle.vg_followed.proofs.Turning.{goes_divides}
 use Rattle.vg_followed.proofs.divisions.division_steps_are_made.Goals as goal
 
 pub returns : goal.returns
-returns c = λ e i ok m frames. takes_divides_once i ok m frames e ⊥
+returns c = λ e i ok m frames. goes_divides i ok m frames e ⊥

@@ -10,8 +10,8 @@ returns-in-Compute c = rw c.in-Compute.is (c.compute.ensures (program_of c.args.
 pub returns-in-Product : goal.returns-in-Product
 returns-in-Product c = rw c.in-Product.is (c.multiply.ensures (program_of c.args.program.now) c.args.environment.now)
 
-pub returns-in-DivideStep : goal.returns-in-DivideStep
-returns-in-DivideStep c = rw c.in-DivideStep.is (c.divide_step.ensures (program_of c.args.program.now) c.args.environment.now)
+pub returns-in-DivideSteps : goal.returns-in-DivideSteps
+returns-in-DivideSteps c = rw c.in-DivideSteps.is (c.divide.ensures (program_of c.args.program.now) c.args.environment.now)
 
 pub returns-in-Store : goal.returns-in-Store
 returns-in-Store c = rw c.in-Store.is (c.store.ensures (program_of c.args.program.now) c.args.environment.now)

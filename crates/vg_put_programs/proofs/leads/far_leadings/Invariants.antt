@@ -1,7 +1,6 @@
-use Rattle.std.proofs.Common.{◌≡◌, ◌++◌, drop, map}
-use Rattle.vg_put_programs.specs.Programs.{far_held}
+use Rattle.std.proofs.Common.{◌≡◌}
+use Rattle.vg_put_programs.specs.Programs.{helds_upto}
 use Rattle.vg_put_programs.proofs.leads.far_leadings.Given as goal
 
-abbrev pub invariant-loop-instr : goal.invariant-loop-instr
-invariant-loop-instr l =
-    l.row ++ map (far_held l.places l.codes l.idle) (drop l.instr-index l.instrs) ≡ map (far_held l.places l.codes l.idle) l.instrs
+abbrev pub invariant-loop-place : goal.invariant-loop-place
+invariant-loop-place l = l.row ≡ helds_upto l.places l.codes l.idle l.instrs l.place

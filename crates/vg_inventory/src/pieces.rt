@@ -1,0 +1,47 @@
+// The pieces of code by their names.
+use crate::known::Known;
+use crate::names::member_name;
+use std::alloc::Global;
+use vg_base::{NoMemory, Row};
+use vg_core::Member;
+use vg_layout::{CodePiece, Piece, Whose};
+
+/// The pieces of code with their names and their lengths, where code ends at a word address: each piece goes up to the next one.
+pub fn pieces_of(
+    alloc: Global,
+    known: Known<'_>,
+    pieces: &[CodePiece],
+    end: u32,
+) -> Result<Row<Piece>, NoMemory> {
+    let mut named = Row::new(alloc);
+    for (place, piece) in pieces.iter().enumerate() {
+        let next = match pieces.get(place + 1) {
+            Some(next) => u32::from(next.word),
+            None => end,
+        };
+        named.push(Piece {
+            word: piece.word,
+            words: next.saturating_sub(u32::from(piece.word)),
+            name: piece_name(alloc, known, piece.whose)?,
+        })?;
+    }
+    Ok(named)
+}
+
+fn piece_name(alloc: Global, known: Known<'_>, whose: Whose) -> Result<Row<u8>, NoMemory> {
+    match whose {
+        Whose::Start => Row::from_slice(alloc, b"start"),
+        Whose::Routine(which) => Row::from_slice(alloc, routine_name(which)),
+        Whose::Method(method) => member_name(alloc, known, Member::Method(method)),
+        Whose::Idle => Row::from_slice(alloc, b"idle"),
+    }
+}
+
+fn routine_name(which: u8) -> &'static [u8] {
+    match which {
+        0 => b"mul",
+        1 => b"divide",
+        2 => b"shl",
+        _ => b"shr",
+    }
+}
