@@ -5,6 +5,7 @@ use vg_tree::Node;
 
 /// Writes a node and all below it, in preorder: a word for each node, with its column.
 pub fn outline(alloc: Global, node: &Node, out: &mut String) -> Result<(), NoMemory> {
+    put_word(alloc, node, out)?;
     match node {
         Node::Row(nodes) => {
             for node in nodes.as_slice() {
@@ -18,50 +19,54 @@ pub fn outline(alloc: Global, node: &Node, out: &mut String) -> Result<(), NoMem
             }
             Ok(())
         }
-        Node::Pair(condition, block) => {
-            out.push_str("Pair ")?;
-            outline(alloc, condition, out)?;
-            outline(alloc, block, out)
-        }
-        Node::Nothing => Ok(()),
         Node::Text(_, declarations) => outline(alloc, declarations, out),
         Node::ClassDecl(_, _, _, members) => outline(alloc, members, out),
         Node::ConstructorDecl(_, _, _, _, body) => outline(alloc, body, out),
-        Node::Block(place, statements) => {
-            word(alloc, out, "Block", place)?;
-            outline(alloc, statements, out)
+        Node::Block(_, statements) => outline(alloc, statements, out),
+        Node::Eval(_, expression) => outline(alloc, expression, out),
+        Node::Index(_, index) => outline(alloc, index, out),
+        Node::Call(_, arguments) => outline(alloc, arguments, out),
+        Node::Unary(_, _, operand) => outline(alloc, operand, out),
+        Node::Pair(condition, block) => {
+            outline(alloc, condition, out)?;
+            outline(alloc, block, out)
         }
-        Node::If(place, pairs, otherwise) => {
-            word(alloc, out, "If", place)?;
+        Node::If(_, pairs, otherwise) => {
             outline(alloc, pairs, out)?;
             outline(alloc, otherwise, out)
         }
-        Node::Assign(place, target, value) => {
-            word(alloc, out, "Assign", place)?;
+        Node::Assign(_, target, value) => {
             outline(alloc, target, out)?;
             outline(alloc, value, out)
         }
-        Node::Eval(place, expression) => {
-            word(alloc, out, "Eval", place)?;
-            outline(alloc, expression, out)
-        }
-        Node::Postfix(place, operand, suffixes) => {
-            word(alloc, out, "Postfix", place)?;
+        Node::Postfix(_, operand, suffixes) => {
             outline(alloc, operand, out)?;
             outline(alloc, suffixes, out)
         }
-        Node::Index(place, index) => {
-            word(alloc, out, "Index", place)?;
-            outline(alloc, index, out)
+        _ => Ok(()),
+    }
+}
+
+// Writes the word of a node, without what lies below it.
+fn put_word(alloc: Global, node: &Node, out: &mut String) -> Result<(), NoMemory> {
+    match node {
+        Node::Nothing | Node::Row(_) | Node::Arms(_) => Ok(()),
+        Node::Text(_, _) | Node::ClassDecl(_, _, _, _) => Ok(()),
+        Node::ConstructorDecl(_, _, _, _, _) => Ok(()),
+        Node::Pair(_, _) => {
+            out.push_str("Pair ")?;
+            Ok(())
         }
-        Node::Call(place, arguments) => {
-            word(alloc, out, "Call", place)?;
-            outline(alloc, arguments, out)
-        }
-        Node::Unary(place, operators, operand) => {
+        Node::Block(place, _) => word(alloc, out, "Block", place),
+        Node::If(place, _, _) => word(alloc, out, "If", place),
+        Node::Assign(place, _, _) => word(alloc, out, "Assign", place),
+        Node::Eval(place, _) => word(alloc, out, "Eval", place),
+        Node::Postfix(place, _, _) => word(alloc, out, "Postfix", place),
+        Node::Index(place, _) => word(alloc, out, "Index", place),
+        Node::Call(place, _) => word(alloc, out, "Call", place),
+        Node::Unary(place, operators, _) => {
             let name = if operators.len() == 1 { "One" } else { "More" };
-            word(alloc, out, name, place)?;
-            outline(alloc, operand, out)
+            word(alloc, out, name, place)
         }
         Node::Name(place, _) => word(alloc, out, "Name", place),
         Node::Member(place, _) => word(alloc, out, "Member", place),
