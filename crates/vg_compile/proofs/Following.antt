@@ -34,6 +34,7 @@ use Rattle.vg_tables.specs.declared.datum.Datum.{Datum}
 use Rattle.vg_tables.specs.Bytes.{byte_of}
 use Rattle.vg_packed.specs.declared.program.FirmProgram.{FirmProgram}
 use Rattle.vg_packed.specs.Given.{IsGiven}
+use Rattle.vg_packed.specs.Packed.{count_of, ram_columns}
 use Rattle.vg_packed.specs.Plans.{planned}
 use Rattle.vg_packed.specs.Programs.{handler_in, program_of}
 use Rattle.vg_packed.specs.Ready.{IsReady}
@@ -47,7 +48,7 @@ use Rattle.vg_started_stands.proofs.Stands as started_stands
 use Rattle.vg_flatten_shapes.specs.declared.layout.Layout.{Layout as LinLayout}
 use Rattle.vg_flatten.specs.Columns.{RamStands, TableStands}
 use Rattle.vg_flatten.specs.Flattened.{AreFlat}
-use Rattle.vg_expand.specs.Runs.{RunsAs}
+use Rattle.vg_trimming.specs.Runs.{RunsAsRead}
 use Rattle.vg_pack.specs.Rows.{IsPackedWhole}
 use Rattle.vg_followed.specs.Stands.{Stands}
 use Rattle.vg_followed.specs.Runs.{Begins}
@@ -63,12 +64,14 @@ use Rattle.vg_link.specs.declared.linked.Linked.{Linked}
 use Rattle.vg_link.specs.declared.unlinked.Unlinked.{Unlinked}
 use Rattle.vg_laid.specs.Laid.{codes_by}
 use Rattle.vg_link.specs.Linking as linking
-use Rattle.vg_link.specs.Linking.{CanBeLinked, IsLinked}
+use Rattle.vg_link.specs.Linking.{kept_before, codes_before, CanBeLinked, IsLinked}
+use Rattle.vg_link.proofs.Before.{kept_low, kept_there, same_bytes}
 use Rattle.vg_link.proofs.Beginning.{stands, begins}
 use Rattle.vg_memory.specs.Holds.{HoldsPeaks}
 use Rattle.vg_stack_bound.specs.Enough.{IsEnough}
 use Rattle.vg_stack_bound.proofs.Holding as stack_bound
 use Rattle.vg_compile.specs.Compiled.{IsUnlinked}
+use Rattle.vg_compile.proofs.Bytes.{columns_are, tables_are}
 
 -- the first of what is made of two lists
 take_front : {A B : Type 0} (g : A → B) (n : ℕ) (xs ys : List A) → n ≡ length xs → take n (map g (xs ++ ys)) ≡ map g xs
@@ -91,7 +94,7 @@ module _ (p : Program) (h : Heap) (s : LiveSet) (n : Numbers) (c : Columns) (f :
     (given : IsGiven p h s n c) (ready : IsReady p h) (packed : IsPackedWhole p h s n c f) (linear : IsLinear c.list f l) (made : IsUnlinked c f l u)
     (can : CanBeLinked u) (is : IsLinked u linked) where
   abbrev k : Codes
-  k = codes_by linked.codes
+  k = codes_before u.start (codes_by linked.codes)
 
   abbrev tables : List ℕ
   tables = bytes_in k (table_bytes_of (ram_widths c.list) f.columns f.tables)
@@ -108,7 +111,9 @@ module _ (p : Program) (h : Heap) (s : LiveSet) (n : Numbers) (c : Columns) (f :
 
   codes : AreCodes (length f.procedures) k
   codes = record {
-    back = λ q lt. is.codes.back q (let m = more_procedures in omega (arith, lt, m));
+    back = λ q lt.
+        ap (kept_before u.start) (is.codes.back q (let m = more_procedures in omega (arith, lt, m)))
+        ∙ kept_there u.start q (subst (λ z. q < z) (sym (made.start ∙ linear.start)) lt);
     positive = λ q lt. is.codes.positive q (let m = more_procedures in omega (arith, lt, m));
     two_bytes = λ q lt. is.codes.two_bytes q (let m = more_procedures in omega (arith, lt, m));
   }
@@ -120,6 +125,12 @@ module _ (p : Program) (h : Heap) (s : LiveSet) (n : Numbers) (c : Columns) (f :
   laid =
       is_laid p given.typed ready.plain h given.heap.0 given.heap.1 planned_layout k (program_of k f) (is_of p h s n c f given ready packed.from k)
       (is_placed p h s n c f given ready packed.from k codes)
+
+  rows_few : length f.columns ≤ length (ram_columns c.list)
+  rows_few =
+      let n = ap length rows.lengths in
+      let a = length-map f.columns length in
+      let b = length-map (ram_columns c.list) count_of in omega (arith, n, a, b)
 
   closed : (v q : ℕ) → linking.handler_in u.handlers v ≡ Some q → q < length f.procedures
   closed v q e = by (handler_of p.handlers v) (handler_in f.handlers v) (sym (made.handlers v) ∙ e) (packed.from.handlers v)
@@ -136,7 +147,8 @@ module _ (p : Program) (h : Heap) (s : LiveSet) (n : Numbers) (c : Columns) (f :
   stand = record {
     columns = subst (λ z. RamStands z (program_of k f).ram ram) (sym (ap (λ (z : LinLayout). z.ram) linear.layout))
         (started_stands.columns_stand ram (ram_places c.list) (program_of k f).ram
-        (columns_stand k p.tables (needs p (kinds_of h) s) (kinds_of h) c f given.columns rows));
+        (columns_stand k p.tables (needs p (kinds_of h) s) (kinds_of h) c f given.columns rows)
+        (started_stands.columns_known k c.list f rows.lengths));
     arrays = λ t address places e1 e2. started_stands.table_stands tables address places
         (tables_stand k p.tables (needs p (kinds_of h) s) (kinds_of h) c f given.columns rows t address places
         (ap (λ (z : LinLayout). slice_get z.tables t) (sym linear.layout) ∙ e1) e2);
@@ -144,6 +156,8 @@ module _ (p : Program) (h : Heap) (s : LiveSet) (n : Numbers) (c : Columns) (f :
         (ap (λ (z : LinLayout). slice_get z.tables t) (sym linear.layout) ∙ e);
     handlers = made.handlers;
     closed = closed;
+    ram_bytes = columns_are (ram_widths c.list) k 0 (ram_columns c.list) f.columns rows.entries rows_few;
+    table_bytes = tables_are k (ram_widths c.list) (ram_columns c.list) f.columns rows.entries rows_few f.tables;
   }
 
   abbrev image : LinProgram
@@ -156,22 +170,31 @@ module _ (p : Program) (h : Heap) (s : LiveSet) (n : Numbers) (c : Columns) (f :
       ∙ take_front (byte_of k) c.static_bytes (columns_bytes (ram_widths c.list) 0 f.columns) (rows_bytes f.tables)
       (sym (copy_length k p.tables (needs p (kinds_of h) s) (kinds_of h) c f given.columns rows)))
 
+  abbrev with_tables : LinProgram
+  with_tables =
+      record (linking.program_of u linked.codes) { tables = map (byte_of k) u.tables; ram = take u.static_bytes (map (byte_of k) u.tables) }
+
   program_is : linking.program_of u linked.codes ≡ image
   program_is =
-      ap (λ z. record (linking.program_of u linked.codes) { procedures = z }) made.procedures
-      ∙ (ap (λ z. record (linking.program_of u linked.codes) { procedures = l.procedures; dispatches = z }) made.dispatches
-      ∙ (ap (λ z. record (linking.program_of u linked.codes) { procedures = l.procedures; dispatches = f.dispatches; tables = map (byte_of k) z }) made.tables
-      ∙ (ap (λ z. record (linking.program_of u linked.codes) { procedures = l.procedures; dispatches = f.dispatches; tables = tables; ram = z }) ram_is
-      ∙ ap (λ z. record (linking.program_of u linked.codes) { procedures = l.procedures; dispatches = f.dispatches; tables = tables; ram = ram; start = z })
-      made.start)))
+      ap (λ z. record (linking.program_of u linked.codes) { tables = z; ram = take u.static_bytes z }) (same_bytes (codes_by linked.codes) k refl u.tables)
+      ∙ (ap (λ z. record with_tables { procedures = z }) made.procedures
+      ∙ (ap (λ z. record with_tables { procedures = l.procedures; dispatches = z }) made.dispatches
+      ∙ (ap (λ z. record with_tables { procedures = l.procedures; dispatches = f.dispatches; tables = map (byte_of k) z }) made.tables
+      ∙ (ap (λ z. record with_tables { procedures = l.procedures; dispatches = f.dispatches; tables = tables; ram = z }) ram_is
+      ∙ ap (λ z. record with_tables { procedures = l.procedures; dispatches = f.dispatches; tables = tables; ram = ram; start = z })
+      made.start))))
 
-  -- its procedures are sound, each with its locals where its layout says, and its handlers are packed procedures, which stand before the start
+  -- its procedures are sound, each with its locals where its layout says; and handlers and what code numbers lead to are packed procedures, which stand before
+  -- the start
   fit_frames : (costs : List ℕ) → FramesFit l.procedures l.start costs → HasFitFrames is.links image costs
   fit_frames costs fit = record {
     sound = λ m procedure e. is.program.sound m procedure (here m procedure e);
     layouts = λ m procedure e. (is.program.procedures m procedure (here m procedure e)).layout;
     fit = fit;
-    handlers = λ v q e. subst (λ z. q < z) (sym linear.start) (closed v q e);
+    before = record {
+      handlers = λ v q e. subst (λ z. q < z) (sym linear.start) (closed v q e);
+      codes = λ code q e. subst (λ z. q < z) made.start (kept_low u.start ((codes_by linked.codes).at_code code) q e);
+    };
   }
     where
       here : (m : ℕ) (procedure : LinProcedure) → slice_get l.procedures m ≡ Some procedure → slice_get u.procedures m ≡ Some procedure
@@ -192,7 +215,7 @@ module _ (p : Program) (h : Heap) (s : LiveSet) (n : Numbers) (c : Columns) (f :
     its_begins =
         subst (λ z. Begins e is.links z) program_is (begins u linked can is e flash (static ∙ sym made.static_bytes) floor slept woken)
 
-    by : ((old : LinProgram) × AreFlat k l.layout (program_of k f) old × RunsAs old image) → DoesAsProgram e costs p h
+    by : ((old : LinProgram) × AreFlat k l.layout (program_of k f) old × RunsAsRead old image) → DoesAsProgram e costs p h
     by (old, flat, runs) memory powered clock deepest reads interrupts bytes vectors t v why legal ends whole =
         let other = alike_ends why t v (running full no_history p h deepest reads interrupts clock)
         (firm.running full k (program_of k f) (length interrupts) (firm.first_state (program_of k f)) (running_world no_history deepest reads interrupts clock))

@@ -1,3 +1,4 @@
+pub mod Bytes
 pub mod Following
 pub mod Linking
 pub mod Unlinked

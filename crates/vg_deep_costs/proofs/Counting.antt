@@ -144,8 +144,8 @@ pub deep_costs : (e : Run) (x : Links) (p : Program) (cs : List ℕ) → Stands 
 deep_costs e x p cs st b has n reads interrupts legal (inl first) =
     let ready = is_ready e x p cs st b has in
     let opening = few_opening x p cs ready has p.start b.first b.there in
-    let few = first_takes p cs ready has.fit has.handlers in omega (arith, first, opening, few)
+    let few = first_takes p cs ready has.fit has.before in omega (arith, first, opening, few)
 deep_costs e x p cs st b has n reads interrupts legal (inr (j, (less, deep))) =
     let ready = is_ready e x p cs st b has in
     let most_taken = few_depth x p cs ready has (run p j reads interrupts) (runs_open p ready j reads interrupts) in
-    let cost = costs p cs ready has.fit has.handlers reads interrupts j n less legal in omega (arith, deep, most_taken, cost)
+    let cost = costs p cs ready has.fit has.before reads interrupts j n less legal in omega (arith, deep, most_taken, cost)

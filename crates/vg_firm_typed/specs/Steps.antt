@@ -78,6 +78,10 @@ HasElements lay places e =
 abbrev pub LacksTable : Layout → (table : ℕ) → Type 0
 LacksTable lay t = slice_get lay.tables t ≡ None
 
+-- There is a table with this number, and no column of elements: each array of its type that is kept has none.
+abbrev pub LacksColumn : Layout → List Place → Elements → Type 0
+LacksColumn lay places e = (slice_get places e.column ≡ None) × HasTable lay e.table
+
 -- What a step names is there: locals, of which there are so many, columns, and tables where there are arrays. Numbers have at most 32 bits.
 abbrev pub Names : Layout → (locals : ℕ) → Step → Type 0
 Names lay locals (Number v) = v < 2 ^ 32
@@ -87,8 +91,8 @@ Names lay locals (Load home c) = HasColumn (columns_of lay home) c
 Names lay locals (Store c width) = HasWidth lay.ram c width
 Names lay locals (LoadAt home c first) = HasColumn (columns_of lay home) c
 Names lay locals (StoreAt c first width) = HasWidth lay.ram c width
-Names lay locals (LoadItem e) = HasElements lay (columns_of lay e.home) e ⊎ LacksTable lay e.table
-Names lay locals (StoreItem e) = HasElements lay lay.ram e ⊎ LacksTable lay e.table
+Names lay locals (LoadItem e) = HasElements lay (columns_of lay e.home) e ⊎ (LacksTable lay e.table ⊎ LacksColumn lay (columns_of lay e.home) e)
+Names lay locals (StoreItem e) = HasElements lay lay.ram e ⊎ (LacksTable lay e.table ⊎ LacksColumn lay lay.ram e)
 Names lay locals (Length table) = HasTable lay table ⊎ LacksTable lay table
 Names lay locals (IsWithin first count) = first + count < 2 ^ 32
 Names lay locals (StopUnlessWithin first count) = first + count < 2 ^ 32

@@ -36,7 +36,7 @@ use Rattle.vg_flatten_values.specs.Values.{computing, comparing, computed, opera
 use Rattle.vg_flatten_values.specs.Values.{divided, masked, shifted_left, shifted_right, combined, divisor_checked, may_be_zero}
 use Rattle.vg_flatten_places.specs.declared.elements.Reach.{Reach}
 use Rattle.vg_flatten_places.specs.Places.{is_width, fetched, fetched_from, load_one, load_of, length_of, places_in, memory_of, multiplied}
-use Rattle.vg_flatten_places.specs.Places.{store_one, store_of, is_place, load_item, store_item, element_of}
+use Rattle.vg_flatten_places.specs.Places.{store_one, store_of, is_place, load_item, store_item, inside, element_of, no_element}
 use Rattle.vg_flatten_steps.specs.Locals.{at_local, set_local, forgotten, written}
 use Rattle.vg_flatten_steps.specs.Calls.{in_widths, with_taken, passing_of, with_receiver, resulting, called, called_on, called_by, bound_for}
 use Rattle.vg_flatten_steps.specs.Objects.{is_one_of, cast_to}
@@ -267,16 +267,24 @@ module _ (Has : Instr → Type 0) (k : Carries Has) (lay : Layout) (r : Room) wh
       (each_temp Has (temp r (v ∷ a ∷ hs)) _ (λ to. ((k.stops 1, tt), (k.computes _, (each_multiplied to width (Local to), k.stores width _ v)))))) tt
 
   -- an element is reached by loads and computations, and then loaded or stored
-  each_element : (x : Reach) (last : PlainInstr) → Has (Plain last) → EachIn Has (element_of x last)
-  each_element x last h = (
-    (k.stops 1, tt),
-    (k.computes _, (k.loads _ 2 x.second _, ((k.stops 2, tt), (k.loads _ 2 x.first _, (k.computes _, (k.computes _, h)))))),
-  )
+  each_inside : (x : Reach) (last : Option PlainInstr) → EachIn Has (inside x last) → EachIn Has (element_of x last)
+  each_inside x last h = ((k.stops 1, tt), (k.computes _, (k.loads _ 2 x.second _, ((k.stops 2, tt), h))))
+
+  each_element : (x : Reach) (last : PlainInstr) → Has (Plain last) → EachIn Has (element_of x (Some last))
+  each_element x last h = each_inside x (Some last) (k.loads _ 2 x.first _, (k.computes _, (k.computes _, h)))
+
+  each_no_element : (width table : ℕ) (a i : Operand) (hs left : List Operand) → HasEach Has (no_element r width table a i hs left)
+  each_no_element width table a i hs left =
+      each_temp Has (temp r (i ∷ a ∷ hs)) _ (λ first. each_temp Has (temp r (Local first ∷ i ∷ a ∷ hs)) _ (λ second.
+      each_inside (record { first = first; second = second; table = table; width = width; home = a; index = i }) None (k.stops 2)))
 
   each_load_item : (e : Elements) (o : Option Place) (u : Option ℕ) (hs : List Operand) → HasEach Has (load_item r e o u hs)
   each_load_item e o None [] = tt
   each_load_item e o None (i ∷ hs) = each_nothing hs
-  each_load_item e None (Some table) hs = tt
+  each_load_item e None (Some table) [] = tt
+  each_load_item e None (Some table) (i ∷ []) = tt
+  each_load_item e None (Some table) (i ∷ a ∷ hs) =
+      each_if Has (nat_le 4 table) _ _ (each_no_element e.width table a i hs (Known 0 ∷ hs)) tt
   each_load_item e (Some place) (Some table) [] = tt
   each_load_item e (Some place) (Some table) (i ∷ []) = tt
   each_load_item e (Some place) (Some table) (i ∷ a ∷ hs) =
@@ -288,7 +296,10 @@ module _ (Has : Instr → Type 0) (k : Carries Has) (lay : Layout) (r : Room) wh
   each_store_item e o None [] = tt
   each_store_item e o None (v ∷ []) = tt
   each_store_item e o None (v ∷ i ∷ hs) = each_no_store (v ∷ hs)
-  each_store_item e None (Some table) hs = tt
+  each_store_item e None (Some table) [] = tt
+  each_store_item e None (Some table) (v ∷ []) = tt
+  each_store_item e None (Some table) (v ∷ i ∷ []) = tt
+  each_store_item e None (Some table) (v ∷ i ∷ a ∷ hs) = each_if Has (nat_le 4 table) _ _ (each_no_element e.width table a i hs hs) tt
   each_store_item e (Some place) (Some table) [] = tt
   each_store_item e (Some place) (Some table) (v ∷ []) = tt
   each_store_item e (Some place) (Some table) (v ∷ i ∷ []) = tt

@@ -52,7 +52,7 @@ use Rattle.vg_flatten_shapes.specs.Made.{Made, Gives, Refused, behind, after, by
 use Rattle.vg_flatten_values.specs.Values.{computing, comparing, computed, operated, operated_as, bytes_of, bytes_around, cut_bits, cut, applied}
 use Rattle.vg_flatten_values.specs.Values.{divided, masked, shifted_left, shifted_right, combined, divisor_checked, may_be_zero}
 use Rattle.vg_flatten_places.specs.Places.{is_width, fetched, fetched_from, load_one, load_of, length_of, places_in, memory_of, multiplied}
-use Rattle.vg_flatten_places.specs.Places.{store_one, store_of, is_place, load_item, store_item}
+use Rattle.vg_flatten_places.specs.Places.{store_one, store_of, is_place, load_item, store_item, no_element}
 use Rattle.vg_flatten_steps.specs.Locals.{at_local, set_local, forgotten, written}
 use Rattle.vg_flatten_steps.specs.Calls.{in_widths, with_taken, passing_of, with_receiver, resulting, called, called_on, called_for, called_by as called_by', called_value, bound_for}
 use Rattle.vg_flatten_steps.specs.Objects.{is_one_of, cast_to}
@@ -373,10 +373,17 @@ module _ (lay : Layout) (r : Room) where
       (quiet_temp (temp r (v ∷ a ∷ hs)) _ (λ to. ap (λ z. z ++ []) (multiplied_quiet to width a)))
       (quiet_temp (temp r (v ∷ a ∷ hs)) _ (λ to. ap (λ z. z ++ []) (multiplied_quiet to width (Local to))))) tt
 
+  quiet_no_element : (width table : ℕ) (a i : Operand) (hs left : List Operand) → Quiet (no_element r width table a i hs left)
+  quiet_no_element width table a i hs left =
+      quiet_temp (temp r (i ∷ a ∷ hs)) _ (λ first. quiet_temp (temp r (Local first ∷ i ∷ a ∷ hs)) _ (λ second. refl))
+
   quiet_load_item : (e : Elements) (o : Option Place) (u : Option ℕ) (hs : List Operand) → Quiet (load_item r e o u hs)
   quiet_load_item e o None [] = tt
   quiet_load_item e o None (i ∷ hs) = quiet_nothing hs
-  quiet_load_item e None (Some table) hs = tt
+  quiet_load_item e None (Some table) [] = tt
+  quiet_load_item e None (Some table) (i ∷ []) = tt
+  quiet_load_item e None (Some table) (i ∷ a ∷ hs) =
+      quiet_if (nat_le 4 table) _ _ (quiet_no_element e.width table a i hs (Known 0 ∷ hs)) tt
   quiet_load_item e (Some place) (Some table) [] = tt
   quiet_load_item e (Some place) (Some table) (i ∷ []) = tt
   quiet_load_item e (Some place) (Some table) (i ∷ a ∷ hs) =
@@ -388,7 +395,10 @@ module _ (lay : Layout) (r : Room) where
   quiet_store_item e o None [] = tt
   quiet_store_item e o None (v ∷ []) = tt
   quiet_store_item e o None (v ∷ i ∷ hs) = quiet_no_store (v ∷ hs)
-  quiet_store_item e None (Some table) hs = tt
+  quiet_store_item e None (Some table) [] = tt
+  quiet_store_item e None (Some table) (v ∷ []) = tt
+  quiet_store_item e None (Some table) (v ∷ i ∷ []) = tt
+  quiet_store_item e None (Some table) (v ∷ i ∷ a ∷ hs) = quiet_if (nat_le 4 table) _ _ (quiet_no_element e.width table a i hs hs) tt
   quiet_store_item e (Some place) (Some table) [] = tt
   quiet_store_item e (Some place) (Some table) (v ∷ []) = tt
   quiet_store_item e (Some place) (Some table) (v ∷ i ∷ []) = tt

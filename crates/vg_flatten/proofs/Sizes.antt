@@ -50,7 +50,7 @@ use Rattle.vg_flatten_shapes.specs.Made.{Made, Gives, Refused, behind, after, by
 use Rattle.vg_flatten_values.specs.Values.{computing, comparing, computed, operated, operated_as, bytes_of, bytes_around, cut_bits, cut, applied}
 use Rattle.vg_flatten_values.specs.Values.{divided, masked, shifted_left, shifted_right, combined, divisor_checked, may_be_zero}
 use Rattle.vg_flatten_places.specs.Places.{is_width, fetched, fetched_from, load_one, load_of, length_of, places_in, memory_of, multiplied}
-use Rattle.vg_flatten_places.specs.Places.{store_one, store_of, is_place, load_item, store_item}
+use Rattle.vg_flatten_places.specs.Places.{store_one, store_of, is_place, load_item, store_item, no_element}
 use Rattle.vg_flatten_steps.specs.Locals.{at_local, set_local, forgotten, written}
 use Rattle.vg_flatten_steps.specs.Calls.{in_widths, passing, passing_of, with_receiver, with_taken, resulting, called, passing_four, called_on, called_for, called_by, called_value, bound_for}
 use Rattle.vg_flatten_steps.specs.Objects.{is_one_of, cast_to}
@@ -303,10 +303,17 @@ module _ (lay : Layout) (r : Room) where
       (small_temp 12 (temp r (v ∷ a ∷ hs)) _ (λ to. let m = multiplied_few to width a in omega (arith, m)))
       (small_temp 12 (temp r (v ∷ a ∷ hs)) _ (λ to. let m = multiplied_few to width (Local to) in omega (arith, m)))) tt
 
+  small_no_element : (width table : ℕ) (a i : Operand) (hs left : List Operand) → Small 12 (no_element r width table a i hs left)
+  small_no_element width table a i hs left =
+      small_temp 12 (temp r (i ∷ a ∷ hs)) _ (λ first. small_temp 12 (temp r (Local first ∷ i ∷ a ∷ hs)) _ (λ second. omega arith))
+
   small_load_item : (e : Elements) (o : Option Place) (u : Option ℕ) (hs : List Operand) → Small 12 (load_item r e o u hs)
   small_load_item e o None [] = tt
   small_load_item e o None (i ∷ hs) = small_nothing hs
-  small_load_item e None (Some table) hs = tt
+  small_load_item e None (Some table) [] = tt
+  small_load_item e None (Some table) (i ∷ []) = tt
+  small_load_item e None (Some table) (i ∷ a ∷ hs) =
+      small_if 12 (nat_le 4 table) _ _ (small_no_element e.width table a i hs (Known 0 ∷ hs)) tt
   small_load_item e (Some place) (Some table) [] = tt
   small_load_item e (Some place) (Some table) (i ∷ []) = tt
   small_load_item e (Some place) (Some table) (i ∷ a ∷ hs) =
@@ -318,7 +325,10 @@ module _ (lay : Layout) (r : Room) where
   small_store_item e o None [] = tt
   small_store_item e o None (v ∷ []) = tt
   small_store_item e o None (v ∷ i ∷ hs) = small_no_store (v ∷ hs)
-  small_store_item e None (Some table) hs = tt
+  small_store_item e None (Some table) [] = tt
+  small_store_item e None (Some table) (v ∷ []) = tt
+  small_store_item e None (Some table) (v ∷ i ∷ []) = tt
+  small_store_item e None (Some table) (v ∷ i ∷ a ∷ hs) = small_if 12 (nat_le 4 table) _ _ (small_no_element e.width table a i hs hs) tt
   small_store_item e (Some place) (Some table) [] = tt
   small_store_item e (Some place) (Some table) (v ∷ []) = tt
   small_store_item e (Some place) (Some table) (v ∷ i ∷ []) = tt

@@ -48,7 +48,8 @@ use Rattle.vg_flatten_values.specs.Values.{bytes_around, may_be_zero, divisor_ch
 use Rattle.vg_flatten_steps.specs.Objects.{is_near, is_one_of, cast_to}
 use Rattle.vg_flatten_places.specs.Places.{load_nothing, store_nothing}
 use Rattle.vg_flatten_places.specs.Places.{is_width, load_from, multiplied, multiple, fetched, load_one, load_of, length_of, places_in, memory_of}
-use Rattle.vg_flatten_places.specs.Places.{distance, fetched_from, load_placed, put_from, store_placed, store_at, store_one, put_of, store_of, is_place, timed, element_of, load_element, load_item, store_element, store_item}
+use Rattle.vg_flatten_places.specs.Places.{distance, fetched_from, load_placed, put_from, store_placed, store_at, store_one, put_of, store_of, is_place, timed, inside, element_of, load_element, load_item}
+use Rattle.vg_flatten_places.specs.Places.{no_element, store_element, store_item}
 use Rattle.vg_flatten_places.specs.declared.elements.Reach.{Reach}
 use Rattle.vg_firm.specs.declared.step.Elements.{Elements}
 use Rattle.vg_flatten_shapes.specs.declared.layout.Place.{Place}
@@ -630,9 +631,9 @@ module _ (L : Type 0) (lay : Layout) (r : Room) where
   in_timed : (to by : ℕ) (h : Operand) → to < size → IsIn size h → IsPlainIn size (timed to by h)
   in_timed to by h lt hh = (omega arith, omega arith, lt, hh, tt)
 
-  in_element : (x : Reach) (last : PlainInstr) → x.first < size → x.second < size → IsIn size x.home → IsIn size x.index → IsPlainIn size last
-      → BlockIn L r.result size (element_of x last)
-  in_element x last l1 l2 hh hi hl = (
+  in_inside : (x : Reach) (last : Option PlainInstr) → x.first < size → x.second < size → IsIn size x.home → IsIn size x.index
+      → BlockIn L r.result size (inside x last) → BlockIn L r.result size (element_of x last)
+  in_inside x last l1 l2 hh hi hl = (
     in_stop 1 (Holds (is_zero x.home)) (in_test x.home (Known 0) hh tt Same),
     (
       in_timed x.first 4 x.home l1 hh,
@@ -640,16 +641,33 @@ module _ (L : Type 0) (lay : Layout) (r : Room) where
         (omega arith, omega arith, l2, l1),
         (
           in_stop 2 (Fails (test_of Below x.index (Local x.second))) (in_test x.index (Local x.second) hi l2 Below),
-          ((omega arith, omega arith, l1, l1), (in_timed x.second x.width x.index l2 hi, ((omega arith, omega arith, l1, l1, l2), hl))),
+          hl,
         ),
       ),
     ),
   )
 
+  in_element : (x : Reach) (last : PlainInstr) → x.first < size → x.second < size → IsIn size x.home → IsIn size x.index → IsPlainIn size last
+      → BlockIn L r.result size (element_of x (Some last))
+  in_element x last l1 l2 hh hi hl =
+      in_inside x (Some last) l1 l2 hh hi
+      ((omega arith, omega arith, l1, l1), (in_timed x.second x.width x.index l2 hi, ((omega arith, omega arith, l1, l1, l2), hl)))
+
+  in_no_element : (width table : ℕ) (a i : Operand) (hs left : List Operand) → IsIn size a → IsIn size i → AreIn size left
+      → MadeIn L r.result size (no_element r width table a i hs left)
+  in_no_element width table a i hs left ha hi h =
+      in_by_temp (i ∷ a ∷ hs) _ (λ first l1. in_by_temp (Local first ∷ i ∷ a ∷ hs) _ (λ second l2. (
+        in_inside (record { first = first; second = second; table = table; width = width; home = a; index = i }) None l1 l2 ha hi tt,
+        (h, tt),
+      )))
+
   in_load_item : (e : Elements) (o : Option Place) (u : Option ℕ) (hs : List Operand) → AreIn size hs → MadeIn L r.result size (load_item r e o u hs)
   in_load_item e o None [] h = tt
   in_load_item e o None (i ∷ hs) h = in_load_nothing hs h.1
-  in_load_item e None (Some table) hs h = tt
+  in_load_item e None (Some table) [] h = tt
+  in_load_item e None (Some table) (i ∷ []) h = tt
+  in_load_item e None (Some table) (i ∷ a ∷ hs) h =
+      in_if (nat_le 4 table) _ _ (in_no_element e.width table a i hs (Known 0 ∷ hs) h.1.0 h.0 (tt, h.1.1)) tt
   in_load_item e (Some place) (Some table) [] h = tt
   in_load_item e (Some place) (Some table) (i ∷ []) h = tt
   in_load_item e (Some place) (Some table) (i ∷ a ∷ hs) h = by_width (is_width e.width) (is_place e place) (nat_le 4 table) refl
@@ -672,7 +690,11 @@ module _ (L : Type 0) (lay : Layout) (r : Room) where
   in_store_item e o None [] h = tt
   in_store_item e o None (v ∷ []) h = tt
   in_store_item e o None (v ∷ i ∷ hs) h = in_store_nothing (v ∷ hs) (h.0, h.1.1)
-  in_store_item e None (Some table) hs h = tt
+  in_store_item e None (Some table) [] h = tt
+  in_store_item e None (Some table) (v ∷ []) h = tt
+  in_store_item e None (Some table) (v ∷ i ∷ []) h = tt
+  in_store_item e None (Some table) (v ∷ i ∷ a ∷ hs) h =
+      in_if (nat_le 4 table) _ _ (in_no_element e.width table a i hs hs h.1.1.0 h.1.0 h.1.1.1) tt
   in_store_item e (Some place) (Some table) [] h = tt
   in_store_item e (Some place) (Some table) (v ∷ []) h = tt
   in_store_item e (Some place) (Some table) (v ∷ i ∷ []) h = tt

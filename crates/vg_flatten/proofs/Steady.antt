@@ -34,7 +34,7 @@ use Rattle.vg_flatten_shapes.specs.Made.{Made, Gives, Refused, by_temp, settled,
 use Rattle.vg_flatten_values.specs.Values.{computing, comparing, computed, operated, operated_as, bytes_of, bytes_around, cut_bits, cut, applied}
 use Rattle.vg_flatten_values.specs.Values.{divided, masked, shifted_left, shifted_right, combined, divisor_checked, may_be_zero}
 use Rattle.vg_flatten_places.specs.Places.{is_width, fetched, fetched_from, load_one, load_of, length_of, places_in, memory_of, multiplied}
-use Rattle.vg_flatten_places.specs.Places.{store_one, store_of, is_place, load_item, store_item}
+use Rattle.vg_flatten_places.specs.Places.{store_one, store_of, is_place, load_item, store_item, no_element}
 use Rattle.vg_flatten_steps.specs.Locals.{at_local, set_local, forgotten, written}
 use Rattle.vg_flatten_steps.specs.Calls.{in_widths, with_taken, passing_of, with_receiver, resulting, called, called_on, called_by as called_by', bound_for}
 use Rattle.vg_flatten_steps.specs.Objects.{is_one_of, cast_to}
@@ -246,10 +246,17 @@ module _ (lay : Layout) (r : Room) where
       (steady_temp (temp r (v ∷ a ∷ hs)) _ (λ to. ap (λ z. z && true) (multiplied_steady to width a)))
       (steady_temp (temp r (v ∷ a ∷ hs)) _ (λ to. ap (λ z. z && true) (multiplied_steady to width (Local to))))) tt
 
+  steady_no_element : (width table : ℕ) (a i : Operand) (hs left : List Operand) → IsSteady (no_element r width table a i hs left)
+  steady_no_element width table a i hs left =
+      steady_temp (temp r (i ∷ a ∷ hs)) _ (λ first. steady_temp (temp r (Local first ∷ i ∷ a ∷ hs)) _ (λ second. refl))
+
   steady_load_item : (e : Elements) (o : Option Place) (u : Option ℕ) (hs : List Operand) → IsSteady (load_item r e o u hs)
   steady_load_item e o None [] = tt
   steady_load_item e o None (i ∷ hs) = steady_nothing hs
-  steady_load_item e None (Some table) hs = tt
+  steady_load_item e None (Some table) [] = tt
+  steady_load_item e None (Some table) (i ∷ []) = tt
+  steady_load_item e None (Some table) (i ∷ a ∷ hs) =
+      steady_if (nat_le 4 table) _ _ (steady_no_element e.width table a i hs (Known 0 ∷ hs)) tt
   steady_load_item e (Some place) (Some table) [] = tt
   steady_load_item e (Some place) (Some table) (i ∷ []) = tt
   steady_load_item e (Some place) (Some table) (i ∷ a ∷ hs) =
@@ -261,7 +268,10 @@ module _ (lay : Layout) (r : Room) where
   steady_store_item e o None [] = tt
   steady_store_item e o None (v ∷ []) = tt
   steady_store_item e o None (v ∷ i ∷ hs) = steady_no_store (v ∷ hs)
-  steady_store_item e None (Some table) hs = tt
+  steady_store_item e None (Some table) [] = tt
+  steady_store_item e None (Some table) (v ∷ []) = tt
+  steady_store_item e None (Some table) (v ∷ i ∷ []) = tt
+  steady_store_item e None (Some table) (v ∷ i ∷ a ∷ hs) = steady_if (nat_le 4 table) _ _ (steady_no_element e.width table a i hs hs) tt
   steady_store_item e (Some place) (Some table) [] = tt
   steady_store_item e (Some place) (Some table) (v ∷ []) = tt
   steady_store_item e (Some place) (Some table) (v ∷ i ∷ []) = tt

@@ -52,7 +52,7 @@ use Rattle.vg_flatten_shapes.specs.Made.{Made, Gives, Refused, behind, after, by
 use Rattle.vg_flatten_values.specs.Values.{computing, comparing, computed, operated, operated_as, bytes_of, bytes_around, cut_bits, cut, applied}
 use Rattle.vg_flatten_values.specs.Values.{divided, masked, shifted_left, shifted_right, concatenated, combined, divisor_checked, may_be_zero}
 use Rattle.vg_flatten_places.specs.Places.{is_width, fetched, fetched_from, load_one, load_of, length_of, places_in, memory_of, multiplied}
-use Rattle.vg_flatten_places.specs.Places.{store_one, store_of, is_place, load_item, store_item}
+use Rattle.vg_flatten_places.specs.Places.{store_one, store_of, is_place, load_item, store_item, no_element}
 use Rattle.vg_flatten_steps.specs.Locals.{at_local, get_receiver, put_in_local, set_local, forgotten, written}
 use Rattle.vg_flatten_steps.specs.Calls.{in_widths, with_taken, passing_of, with_receiver, resulting, called, called_on, called_for, called_by, called_value, bound_for}
 use Rattle.vg_flatten_steps.specs.Objects.{is_one_of, cast_to}
@@ -478,6 +478,32 @@ module _ (lay : Layout) (r : Room) (looped : Bool) (under : List Operand) where
       with_temp r (Fine looped under y) (Local first ∷ v ∷ i ∷ a ∷ own ++ under) _ (omega (arith, l)) (λ second.
       (((tt, tt), (tt, (tt, ((tt, tt), (tt, (tt, (tt, tt))))))), drops under own n y le g))))))
 
+  -- where the elements have no column
+  fine_no_element : (width table : ℕ) (i a : Operand) (own : List Operand) (left : List Operand) (y : ℕ)
+      → 2 + length (own ++ under) + 2 ≤ r.temps → Waits under y (only left) → Fine looped under y (no_element r width table a i (own ++ under) left)
+  fine_no_element width table i a own left y l w =
+      with_temp r (Fine looped under y) (i ∷ a ∷ own ++ under) _ (omega (arith, l)) (λ first.
+      with_temp r (Fine looped under y) (Local first ∷ i ∷ a ∷ own ++ under) _ (omega (arith, l)) (λ second.
+      (((tt, tt), (tt, (tt, ((tt, tt), tt)))), w)))
+
+  fine_load_dropped : (e : Elements) (o : Option Place) (u : Option ℕ) (table : ℕ) (i a : Operand) (own : List Operand) (n y : ℕ)
+      → length own ≡ n → y ≡ 1 + n → 2 + length (own ++ under) + 2 ≤ r.temps → o ≡ None → u ≡ Some table → 4 ≤ table
+      → Fine looped under y (load_item r e o u (i ∷ a ∷ own ++ under))
+  fine_load_dropped e o u table i a own n y le g l lacks tabled above =
+      subst (λ z. Fine looped under y (load_item r e z u (i ∷ a ∷ own ++ under))) (sym lacks)
+      (subst (λ z. Fine looped under y (load_item r e None z (i ∷ a ∷ own ++ under))) (sym tabled)
+      (by_if (Fine looped under y) (nat_le 4 table) _ _ (le_true 4 table above)
+      (fine_no_element e.width table i a own (Known 0 ∷ own ++ under) y l (puts under own (Known 0) n y le g))))
+
+  fine_store_dropped : (e : Elements) (o : Option Place) (u : Option ℕ) (table : ℕ) (v i a : Operand) (own : List Operand) (n y : ℕ)
+      → length own ≡ n → y ≡ 0 + n → 3 + length (own ++ under) + 2 ≤ r.temps → o ≡ None → u ≡ Some table → 4 ≤ table
+      → Fine looped under y (store_item r e o u (v ∷ i ∷ a ∷ own ++ under))
+  fine_store_dropped e o u table v i a own n y le g l lacks tabled above =
+      subst (λ z. Fine looped under y (store_item r e z u (v ∷ i ∷ a ∷ own ++ under))) (sym lacks)
+      (subst (λ z. Fine looped under y (store_item r e None z (v ∷ i ∷ a ∷ own ++ under))) (sym tabled)
+      (by_if (Fine looped under y) (nat_le 4 table) _ _ (le_true 4 table above)
+      (fine_no_element e.width table i a own (own ++ under) y (omega (arith, l)) (drops under own n y le g))))
+
   -- ---- each step
 
   columns_are : (home : Home) → columns_of lay home ≡ places_in lay home
@@ -524,22 +550,32 @@ module _ (lay : Layout) (r : Room) (looped : Bool) (under : List Operand) where
         one_of (λ z. Fine looped under y (load_nothing (z ++ under))) own n e (λ a rest e1. ((tt, tt), puts under rest (Known 0) n y e1 g))
     fine_step StoreNothing own n y e g room alone there =
         two_of (λ z. Fine looped under y (store_nothing (z ++ under))) own n e (λ v a rest e1. ((tt, tt), drops under rest n y e1 g))
-    fine_step (LoadItem x) own n y e g room alone (inr none) =
+    fine_step (LoadItem x) own n y e g room alone (inr (inl none)) =
         two_of (λ z. Fine looped under y (load_item r x (slice_get (places_in lay x.home) x.column) (slice_get lay.tables x.table) (z ++ under))) own n e
         (λ i a rest e1.
         subst (λ u. Fine looped under y (load_item r x (slice_get (places_in lay x.home) x.column) u (i ∷ a ∷ rest ++ under))) (sym none)
         ((tt, tt), puts under rest (Known 0) n y e1 g))
+    fine_step (LoadItem x) own n y e g room alone (inr (inr there)) =
+        two_of (λ z. Fine looped under y (load_item r x (slice_get (places_in lay x.home) x.column) (slice_get lay.tables x.table) (z ++ under))) own n e
+        (λ i a rest e1.
+        fine_load_dropped x (slice_get (places_in lay x.home) x.column) (slice_get lay.tables x.table) there.1.0 i a rest n y e1 g
+        (lower rest n 2 e1 room) (sym (ap (λ z. slice_get z x.column) (columns_are x.home)) ∙ there.0) there.1.1 there.1.2)
     fine_step (LoadItem x) own n y e g room alone (inl there) =
         two_of (λ z. Fine looped under y (load_item r x (slice_get (places_in lay x.home) x.column) (slice_get lay.tables x.table) (z ++ under))) own n e
         (λ i a rest e1.
         fine_load_item x (slice_get (places_in lay x.home) x.column) (slice_get lay.tables x.table) there.0 there.5.0 i a rest n y e1 g
         (lower rest n 2 e1 room) (sym (ap (λ z. slice_get z x.column) (columns_are x.home)) ∙ there.1) there.5.1
         (is_there x there.0 there.5.0 there.2 there.3 there.4 there.5.2))
-    fine_step (StoreItem x) own n y e g room alone (inr none) =
+    fine_step (StoreItem x) own n y e g room alone (inr (inl none)) =
         three_of (λ z. Fine looped under y (store_item r x (slice_get lay.ram x.column) (slice_get lay.tables x.table) (z ++ under))) own n e
         (λ v i a rest e1.
         subst (λ u. Fine looped under y (store_item r x (slice_get lay.ram x.column) u (v ∷ i ∷ a ∷ rest ++ under))) (sym none)
         ((tt, tt), drops under rest n y e1 g))
+    fine_step (StoreItem x) own n y e g room alone (inr (inr there)) =
+        three_of (λ z. Fine looped under y (store_item r x (slice_get lay.ram x.column) (slice_get lay.tables x.table) (z ++ under))) own n e
+        (λ v i a rest e1.
+        fine_store_dropped x (slice_get lay.ram x.column) (slice_get lay.tables x.table) there.1.0 v i a rest n y e1 g
+        (lower rest n 3 e1 room) there.0 there.1.1 there.1.2)
     fine_step (StoreItem x) own n y e g room alone (inl there) =
         three_of (λ z. Fine looped under y (store_item r x (slice_get lay.ram x.column) (slice_get lay.tables x.table) (z ++ under))) own n e
         (λ v i a rest e1.

@@ -22,6 +22,8 @@ pub record RamStands (places : List Place) (columns : List (List ℕ)) (bytes : 
   pub apart : (c d : ℕ) (first second : Place) (vs us : List ℕ) → c ≢ d → slice_get places c ≡ Some first → slice_get columns c ≡ Some vs
       → slice_get places d ≡ Some second → slice_get columns d ≡ Some us
       → (first.address + first.width * length vs ≤ second.address) ⊎ (second.address + second.width * length us ≤ first.address)
+  -- where there is no place, there is no column
+  pub known : (c : ℕ) → slice_get places c ≡ None → slice_get columns c ≡ None
 
 -- A table has four bytes for each array: its address and, in the upper two, its length.
 pub record TableStands (bytes : List ℕ) (address : ℕ) (arrays : List ArrayPlace) : Type 0 where
@@ -38,5 +40,6 @@ pub record FlashStands (lay : Layout) (f : FirmProgram) (p : Program) : Type 0 w
       → ColumnStands Flash p.tables place vs
   pub tables : (t address : ℕ) (arrays : List ArrayPlace) → slice_get lay.tables t ≡ Some address → slice_get f.tables t ≡ Some arrays
       → TableStands p.tables address arrays
-  -- where the layout has no table, the program has none
+  -- where the layout has no table, the program has none, and where it has no column, the program has none
   pub known : (t : ℕ) → slice_get lay.tables t ≡ None → slice_get f.tables t ≡ None
+  pub known_columns : (c : ℕ) → slice_get lay.flash c ≡ None → slice_get f.flash c ≡ None

@@ -1,5 +1,5 @@
 -- What loads and stores become, from where values wait.
-use Rattle.std.specs.Prelude.{ℕ, ◌-◌, ◌*◌, Bool, ◌==◌, ◌&&◌, nat_lt, nat_le, List, [], ◌∷◌, length, Option, Some, None, if◌then◌else◌}
+use Rattle.std.specs.Prelude.{ℕ, ◌-◌, ◌*◌, Bool, ◌==◌, ◌&&◌, nat_lt, nat_le, List, [], ◌∷◌, Option, Some, None, if◌then◌else◌}
 use Rattle.vg_firm.specs.declared.step.Home.{Home}
 use Rattle.vg_firm.specs.declared.step.Home.TheVariants.{Ram as InRam, Flash as InFlash}
 use Rattle.vg_firm.specs.declared.step.Elements.{Elements}
@@ -8,7 +8,7 @@ use Rattle.vg_lin.specs.declared.instr.Operand.TheVariants.{Local as InLocal, Kn
 use Rattle.vg_lin.specs.declared.instr.Operator.TheVariants.{Plus as Sum, Minus as Difference, Times as Product}
 use Rattle.vg_lin.specs.declared.instr.Comparison.TheVariants.{Below}
 use Rattle.vg_lin.specs.declared.instr.Plain.{Plain}
-use Rattle.vg_lin.specs.declared.instr.Plain.TheVariants.{Compute, Load, Store as StoreBytes}
+use Rattle.vg_lin.specs.declared.instr.Plain.TheVariants.{Compute, Load, Store as StoreBytes, Stop}
 use Rattle.vg_lin.specs.declared.instr.Memory.{Memory}
 use Rattle.vg_lin.specs.declared.instr.Memory.TheVariants.{Ram, Flash}
 use Rattle.vg_flatten_shapes.specs.declared.fault.Fault.TheVariants.{NotTaken}
@@ -153,16 +153,21 @@ place_of x last =
     (Both (One (timed x.second x.width x.index))
     (Both (One (Compute (record { operator = Sum; width = 2; to = x.first; left = InLocal x.first; right = InLocal x.second }))) (One last)))
 
+-- The same, or a stop where the elements have no column: then no array has an element, and no index is within bounds.
+abbrev pub inside : Reach → (last : Option Plain) → Block
+inside x (Some last) = place_of x last
+inside x None = One (Stop 2)
+
 -- The same behind the bounds check.
-abbrev pub bounded : Reach → (last : Plain) → Block
-bounded x last = Both (stop_where 2 (Fails (test_of Below x.index (InLocal x.second)))) (place_of x last)
+abbrev pub bounded : Reach → (last : Option Plain) → Block
+bounded x last = Both (stop_where 2 (Fails (test_of Below x.index (InLocal x.second)))) (inside x last)
 
 -- The same behind a load of the length of the array.
-abbrev pub reached : Reach → (last : Plain) → Block
+abbrev pub reached : Reach → (last : Option Plain) → Block
 reached x last = Both (One (timed x.first 4 x.home)) (Both (One (load_from Flash 2 x.second (x.table - 2) (InLocal x.first))) (bounded x last))
 
 -- The same behind the null check.
-abbrev pub element_of : Reach → (last : Plain) → Block
+abbrev pub element_of : Reach → (last : Option Plain) → Block
 element_of x last = Both (stop_where 1 (Holds (is_zero x.home))) (reached x last)
 
 -- What is done with two temporaries above these.
@@ -173,22 +178,31 @@ abbrev pub load_element : Room → Elements → (table : ℕ) → (h i : Operand
 load_element r e table h i hs =
     by_temp (temp r hs) (λ to. by_two r (i ∷ h ∷ hs) (λ first second.
     Gives (element_of (record { first = first; second = second; table = table; width = e.width; home = h; index = i })
-    (load_from (memory_of e.home) e.width to 0 (InLocal first))) (only (InLocal to ∷ hs))))
+    (Some (load_from (memory_of e.home) e.width to 0 (InLocal first)))) (only (InLocal to ∷ hs))))
+
+-- The checks of an array and an index, where the elements have no column; the homes behind them.
+abbrev pub no_element : Room → (width table : ℕ) → (h i : Operand) → (hs left : List Operand) → Made
+no_element r width table h i hs left =
+    by_two r (i ∷ h ∷ hs) (λ first second.
+    Gives (element_of (record { first = first; second = second; table = table; width = width; home = h; index = i }) None) (only left))
 
 abbrev pub load_item : Room → Elements → Option Place → Option ℕ → List Operand → Made
 load_item r e place None hs = load_no_item hs
 load_item r e (Some place) (Some table) (i ∷ h ∷ hs) =
     if is_width e.width && is_place e place && nat_le 4 table then load_element r e table h i hs else Refused NotTaken
+load_item r e None (Some table) (i ∷ h ∷ hs) =
+    if nat_le 4 table then no_element r e.width table h i hs (Known 0 ∷ hs) else Refused NotTaken
 load_item r e _ _ _ = Refused NotTaken
 
 abbrev pub store_element : Room → (width table : ℕ) → (v h i : Operand) → List Operand → Made
 store_element r width table v h i hs =
     by_two r (v ∷ i ∷ h ∷ hs) (λ first second.
     Gives (element_of (record { first = first; second = second; table = table; width = width; home = h; index = i })
-    (store_at width 0 (InLocal first) v)) (only hs))
+    (Some (store_at width 0 (InLocal first) v))) (only hs))
 
 abbrev pub store_item : Room → Elements → Option Place → Option ℕ → List Operand → Made
 store_item r e place None hs = store_no_item hs
 store_item r e (Some place) (Some table) (v ∷ i ∷ h ∷ hs) =
     if is_width e.width && is_place e place && nat_le 4 table then store_element r e.width table v h i hs else Refused NotTaken
+store_item r e None (Some table) (v ∷ i ∷ h ∷ hs) = if nat_le 4 table then no_element r e.width table h i hs hs else Refused NotTaken
 store_item r e _ _ _ = Refused NotTaken

@@ -1,9 +1,10 @@
 // What loads of elements, and stores to them, become.
-ghost use Rattle.std.specs.Prelude.{◌≡◌, ◌+◌, ◌≤◌, Some, None, slice_get};
+ghost use Rattle.std.specs.Prelude.{◌≡◌, ◌+◌, ◌≤◌, ◌∷◌, Some, None, slice_get};
+ghost use Rattle.vg_lin.specs.declared.instr.Operand.TheVariants.{Known};
 ghost use Rattle.vg_flatten_shapes.specs.Blocks.{open_code};
 ghost use Rattle.vg_flatten_shapes.specs.Laying.{Lays, LaysCode};
-ghost use Rattle.vg_flatten_places.specs.Places.{is_place, timed, place_of, bounded, reached, element_of, load_element, load_item, places_in};
-ghost use Rattle.vg_flatten_places.specs.Places.{store_element, store_item};
+ghost use Rattle.vg_flatten_places.specs.Places.{is_place, timed, place_of, inside, bounded, reached, element_of, load_element, load_item, places_in};
+ghost use Rattle.vg_flatten_places.specs.Places.{no_element, store_element, store_item};
 
 use crate::columns::{is_width, load_from, memory_of, places_in, store_at};
 use crate::nothing::{load_no_item, store_no_item};
@@ -68,20 +69,50 @@ fn place_of(alloc: Global, at: u16, reach: Reach, last: Plain) -> Result<Row<Ope
     Ok(code)
 }
 
+/// The same, or a stop where the elements have no column: then no array has an element, and no index is within bounds.
+fn inside(
+    alloc: Global,
+    at: u16,
+    reach: Reach,
+    last: Option<Plain>,
+) -> Result<Row<Open>, Refusal<Fault>>
+    requires { 4 ≤ reach.table }
+    ensures { LaysCode result at (open_code (inside reach last) at) }
+{
+    match last {
+        Some(last) => place_of(alloc, at, reach, last),
+        None => {
+            let mut code = Row::new(alloc);
+            code.push(Open::Set(Instr::Plain(Plain::Stop(2))))?;
+            Ok(code)
+        }
+    }
+}
+
 /// The same behind the bounds check.
-fn bounded(alloc: Global, at: u16, reach: Reach, last: Plain) -> Result<Row<Open>, Refusal<Fault>>
+fn bounded(
+    alloc: Global,
+    at: u16,
+    reach: Reach,
+    last: Option<Plain>,
+) -> Result<Row<Open>, Refusal<Fault>>
     requires { 4 ≤ reach.table }
     ensures { LaysCode result (at + 3) (open_code (bounded reach last) at) }
 {
     let within = test_of(Comparison::Below, reach.index, Operand::Local(reach.second));
     let check = stop_where(alloc, at, 2, Truth::Fails(within))?;
-    let inside = place_behind(at, 2)?;
-    let rest = place_of(alloc, inside, reach, last)?;
+    let inside_at = place_behind(at, 2)?;
+    let rest = inside(alloc, inside_at, reach, last)?;
     Ok(append(check, rest.as_slice())?)
 }
 
 /// The same behind a load of the length of the array.
-fn reached(alloc: Global, at: u16, reach: Reach, last: Plain) -> Result<Row<Open>, Refusal<Fault>>
+fn reached(
+    alloc: Global,
+    at: u16,
+    reach: Reach,
+    last: Option<Plain>,
+) -> Result<Row<Open>, Refusal<Fault>>
     requires { 4 ≤ reach.table }
     ensures { LaysCode result (at + 5) (open_code (reached reach last) at) }
 {
@@ -101,7 +132,7 @@ fn element_of(
     alloc: Global,
     at: u16,
     reach: Reach,
-    last: Plain,
+    last: Option<Plain>,
 ) -> Result<Row<Open>, Refusal<Fault>>
     requires { 4 ≤ reach.table }
     ensures { LaysCode result (at + 7) (open_code (element_of reach last) at) }
@@ -148,7 +179,7 @@ fn load_element(
     };
     let memory = memory_of(elements.home);
     let load = load_from(memory, elements.width, to, 0, Operand::Local(first));
-    let code = element_of(alloc, at, reach, load)?;
+    let code = element_of(alloc, at, reach, Some(load))?;
     homes.push(Operand::Local(to))?;
     Ok(Piece { code, homes })
 }
@@ -178,7 +209,71 @@ fn load_item_at(
     }
 }
 
-/// An element, by the array's number and the index. Where the type of the array has no table, it has no arrays.
+#[tactic(auto, using(vg_flatten_shapes::proofs::Sizes::late))]
+fn load_no_element(
+    alloc: Global,
+    room: Room,
+    at: u16,
+    width: u8,
+    table: u16,
+    home: Operand,
+    index: Operand,
+    homes: Homes,
+) -> Result<Piece, Refusal<Fault>>
+    requires room { room.locals + room.temps ≤ 252 }
+    requires settled { homes.truth ≡ None }
+    requires table { 4 ≤ table }
+    ensures { Lays result at (no_element room width table home index homes.homes (Known 0 ∷ homes.homes)) }
+{
+    let mut homes = homes;
+    homes.push(home)?;
+    homes.push(index)?;
+    let first = temp(room, &homes)?;
+    homes.push(Operand::Local(first))?;
+    let second = temp(room, &homes)?;
+    homes.pop();
+    homes.pop();
+    homes.pop();
+    let reach = Reach {
+        first,
+        second,
+        table,
+        width,
+        home,
+        index,
+    };
+    let code = element_of(alloc, at, reach, None)?;
+    homes.push(Operand::Known(0))?;
+    Ok(Piece { code, homes })
+}
+
+fn load_dropped(
+    alloc: Global,
+    room: Room,
+    at: u16,
+    elements: Elements,
+    table: u16,
+    homes: Homes,
+) -> Result<Piece, Refusal<Fault>>
+    requires room { room.locals + room.temps ≤ 252 }
+    requires settled { homes.truth ≡ None }
+    ensures { Lays result at (load_item room elements None (Some table) homes.homes) }
+{
+    let mut homes = homes;
+    match (homes.pop(), homes.pop()) {
+        (Some(index), Some(home)) => {
+            if table >= 4 {
+                let width = elements.width;
+                return load_no_element(alloc, room, at, width, table, home, index, homes);
+            }
+            Err(Refusal::Fault(Fault::NotTaken))
+        }
+        _ => Err(Refusal::Fault(Fault::NotTaken)),
+    }
+}
+
+/// An element, by the array's number and the index. Where the type of the array has no table, it has no arrays; where the elements have no
+/// column, no array has an element.
 pub fn load_item(
     alloc: Global,
     layout: &Layout,
@@ -195,7 +290,7 @@ pub fn load_item(
     match layout.tables.as_slice().get(elements.table as usize) {
         Some(table) => match places_in(layout, elements.home).get(elements.column as usize) {
             Some(place) => load_item_at(alloc, room, at, elements, *place, *table, homes),
-            None => Err(Refusal::Fault(Fault::NotTaken)),
+            None => load_dropped(alloc, room, at, elements, *table, homes),
         },
         None => load_no_item(alloc, at, homes),
     }
@@ -238,7 +333,7 @@ fn store_element(
         index,
     };
     let store = store_at(width, 0, Operand::Local(first), value);
-    let code = element_of(alloc, at, reach, store)?;
+    let code = element_of(alloc, at, reach, Some(store))?;
     Ok(Piece { code, homes })
 }
 
@@ -268,7 +363,70 @@ fn store_item_at(
     }
 }
 
-/// An element gets a value, by the array's number and the index. Where the type of the array has no table, it has no arrays.
+#[tactic(auto, using(vg_flatten_shapes::proofs::Sizes::late))]
+fn store_no_element(
+    alloc: Global,
+    room: Room,
+    at: u16,
+    width: u8,
+    table: u16,
+    home: Operand,
+    index: Operand,
+    homes: Homes,
+) -> Result<Piece, Refusal<Fault>>
+    requires room { room.locals + room.temps ≤ 252 }
+    requires settled { homes.truth ≡ None }
+    requires table { 4 ≤ table }
+    ensures { Lays result at (no_element room width table home index homes.homes homes.homes) }
+{
+    let mut homes = homes;
+    homes.push(home)?;
+    homes.push(index)?;
+    let first = temp(room, &homes)?;
+    homes.push(Operand::Local(first))?;
+    let second = temp(room, &homes)?;
+    homes.pop();
+    homes.pop();
+    homes.pop();
+    let reach = Reach {
+        first,
+        second,
+        table,
+        width,
+        home,
+        index,
+    };
+    let code = element_of(alloc, at, reach, None)?;
+    Ok(Piece { code, homes })
+}
+
+fn store_dropped(
+    alloc: Global,
+    room: Room,
+    at: u16,
+    elements: Elements,
+    table: u16,
+    homes: Homes,
+) -> Result<Piece, Refusal<Fault>>
+    requires room { room.locals + room.temps ≤ 252 }
+    requires settled { homes.truth ≡ None }
+    ensures { Lays result at (store_item room elements None (Some table) homes.homes) }
+{
+    let mut homes = homes;
+    match (homes.pop(), homes.pop(), homes.pop()) {
+        (Some(_), Some(index), Some(home)) => {
+            if table >= 4 {
+                let width = elements.width;
+                return store_no_element(alloc, room, at, width, table, home, index, homes);
+            }
+            Err(Refusal::Fault(Fault::NotTaken))
+        }
+        _ => Err(Refusal::Fault(Fault::NotTaken)),
+    }
+}
+
+/// An element gets a value, by the array's number and the index. Where the type of the array has no table, it has no arrays; where the
+/// elements have no column, no array has an element.
 pub fn store_item(
     alloc: Global,
     layout: &Layout,
@@ -284,7 +442,7 @@ pub fn store_item(
     match layout.tables.as_slice().get(elements.table as usize) {
         Some(table) => match layout.ram.as_slice().get(elements.column as usize) {
             Some(place) => store_item_at(alloc, room, at, elements, *place, *table, homes),
-            None => Err(Refusal::Fault(Fault::NotTaken)),
+            None => store_dropped(alloc, room, at, elements, *table, homes),
         },
         None => store_no_item(alloc, at, homes),
     }

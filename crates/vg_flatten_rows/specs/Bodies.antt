@@ -369,6 +369,19 @@ no_element : flattened_in layout 4 (procedure 2 (2 ∷ 4 ∷ [])
     Unless (is_zero (Local 0)) 2 ∷ Plain (Stop 1) ∷ Plain (Copy 1 (Known 0)) ∷ Unless (is_zero (Local 0)) 5 ∷ Plain (Stop 1) ∷ Return 4 (Known 0) ∷ [])
 no_element = refl
 
+abbrev pub emptied : Elements
+emptied = record { home = Ram; column = 7; address = 0; table = 0; width = 4 }
+
+-- the same of a type with a table and without a column, as its arrays have no elements: the checks stay, and behind them is a stop.
+empty_element : flattened_in layout 4 (procedure 2 (2 ∷ 4 ∷ [])
+    (steps (Get 0 ∷ Get 1 ∷ LoadItem emptied ∷ SetLocal 1 ∷ Get 0 ∷ Get 1 ∷ Number 7 ∷ StoreItem emptied ∷ []) Nothing))
+    ≡ Some (
+    Unless (is_zero (Local 0)) 2 ∷ Plain (Stop 1) ∷ computes Product 2 4 (Local 0) (Known 4) ∷ loads 2 5 178 (Local 4)
+    ∷ When (below (Local 1) (Local 5)) 6 ∷ Plain (Stop 2) ∷ Plain (Stop 2) ∷ Plain (Copy 1 (Known 0))
+    ∷ Unless (is_zero (Local 0)) 10 ∷ Plain (Stop 1) ∷ computes Product 2 4 (Local 0) (Known 4) ∷ loads 2 5 178 (Local 4)
+    ∷ When (below (Local 1) (Local 5)) 14 ∷ Plain (Stop 2) ∷ Plain (Stop 2) ∷ Return 4 (Known 0) ∷ [])
+empty_element = refl
+
 -- for (i = 0; i < a.length; i = i + 1) M.PORTB = a[i];
 array_loop : flattened_in layout 8 (procedure 1 (2 ∷ 4 ∷ [])
     (steps (Number 0 ∷ SetLocal 1 ∷ []) (Loop (steps (Get 1 ∷ Get 0 ∷ Length 0 ∷ Operate (Less Signed) ∷ []) Nothing)

@@ -1,14 +1,13 @@
 -- That loads of elements become blocks that do the same.
-use Rattle.std.specs.Prelude.{ℕ, zero, suc, ◌+◌, ◌-◌, ◌*◌, ◌/◌, ◌%◌, ◌<◌, ◌≤◌, ◌^◌, Bool, true, false, not, ◌==◌, ◌&&◌, nat_lt, nat_le, List, [], ◌∷◌, length}
+use Rattle.std.specs.Prelude.{ℕ, ◌+◌, ◌-◌, ◌*◌, ◌/◌, ◌%◌, ◌<◌, ◌≤◌, ◌^◌, Bool, true, false, not, ◌==◌, ◌&&◌, nat_lt, nat_le, List, [], ◌∷◌, length}
 use Rattle.std.specs.Prelude.{Option, Some, None, slice_get, if◌then◌else◌}
 use Rattle.std.specs.Option.{option_map}
 use Rattle.std.proofs.Common.{◌≡◌, refl, sym, ap, ◌∙◌, subst, arith}
-use Rattle.std.proofs.Math.Nat.{mul_comm, mul-add, mul-le-mul_left, mod-add-div}
+use Rattle.std.proofs.Math.Nat.{mul_comm, mul-add, mod-add-div}
 use Rattle.std.proofs.lemmas.Option.{slice_get_within}
-use Rattle.vg_meaning.specs.History.{History, full}
+use Rattle.vg_meaning.specs.History.{History}
 use Rattle.vg_meaning.specs.World.{World}
-use Rattle.vg_meaning.specs.Outside.{Outside}
-use Rattle.vg_meaning.specs.Answer.{Signal, Answer, Gives, Piece, and_then, stops}
+use Rattle.vg_meaning.specs.Answer.{Signal, Answer, Piece, and_then, stops}
 use Rattle.vg_codes.specs.Codes.{Codes}
 use Rattle.vg_firm.specs.declared.step.ArrayPlace.{ArrayPlace}
 use Rattle.vg_firm.specs.declared.step.Elements.{Elements}
@@ -20,15 +19,14 @@ use Rattle.vg_firm.specs.Program.{Procedure as FirmProcedure, Program as FirmPro
 use Rattle.vg_firm.specs.Meaning.{State as Firm, Caller as FirmCaller, step as firm_step, put, taking, take_from, with_found, stop_unless, checked, columns_in, column_of}
 use Rattle.vg_firm.specs.Meaning.{load, arrays_of, stands_in as is_in, item_index, array_at, at_item}
 use Rattle.vg_lin.specs.declared.instr.Operand.{Operand}
-use Rattle.vg_lin.specs.declared.instr.Operand.TheVariants.{Local, Known}
-use Rattle.vg_lin.specs.declared.instr.Operator.TheVariants.{Plus as Sum, Times as Product}
+use Rattle.vg_lin.specs.declared.instr.Operand.TheVariants.{Local}
+use Rattle.vg_lin.specs.declared.instr.Operator.TheVariants.{Plus as Sum}
 use Rattle.vg_lin.specs.declared.instr.Comparison.TheVariants.{Below}
 use Rattle.vg_lin.specs.declared.instr.Memory.TheVariants.{Flash}
 use Rattle.vg_lin.specs.declared.instr.Plain.{Plain}
 use Rattle.vg_lin.specs.declared.instr.Plain.TheVariants.{Compute}
 use Rattle.vg_lin.specs.Program.{Program as LinProgram}
-use Rattle.vg_lin.specs.Steps.{Goes}
-use Rattle.vg_lin.specs.State.{State, value, holds, sets, plain, first_address, bytes_of, number_at}
+use Rattle.vg_lin.specs.State.{State, sets, plain, first_address, bytes_of, number_at}
 use Rattle.vg_lin.specs.Structured.{Deciding, Caller as LinCaller}
 use Rattle.vg_flatten_shapes.specs.declared.fault.Fault.TheVariants.{NotTaken}
 use Rattle.vg_flatten_shapes.specs.declared.layout.Place.{Place}
@@ -36,20 +34,21 @@ use Rattle.vg_flatten_shapes.specs.declared.layout.Layout.{Layout}
 use Rattle.vg_flatten_shapes.specs.declared.open.Truth.TheVariants.{Fails}
 use Rattle.vg_flatten_shapes.specs.declared.room.Room.{Room}
 use Rattle.vg_flatten_shapes.specs.Shapes.{Shape, only, temp}
-use Rattle.vg_flatten_shapes.specs.Blocks.{Block, One, Both, stop_where}
+use Rattle.vg_flatten_shapes.specs.Blocks.{Block, One, Both}
 use Rattle.vg_flatten_shapes.specs.Made.{Made, Gives as Makes, Refused, by_temp}
 use Rattle.vg_flatten_places.specs.declared.elements.Reach.{Reach}
-use Rattle.vg_flatten_places.specs.Places.{is_width, load_from, places_in, memory_of, is_place, timed, place_of, bounded, reached, element_of, load_element, load_item}
+use Rattle.vg_flatten_places.specs.Places.{is_width, load_from, places_in, memory_of, timed, place_of, bounded, reached, element_of, load_element, load_item}
 use Rattle.vg_flatten_values.specs.Values.{test_of}
 use Rattle.vg_flatten.specs.Columns.{ColumnStands, TableStands, FlashStands}
 use Rattle.vg_flattened.proofs.MissingRight.{right_no_item}
-use Rattle.vg_flattened.proofs.Alike.{IsFair, Alike, gives, wrong}
-use Rattle.vg_flattened.proofs.Related.{ArePlaced, AreAt, AreWidths, AreSame, Held, Leaves, said}
+use Rattle.vg_flattened.proofs.DroppedRight.{right_dropped, step_then, times_is, less}
+use Rattle.vg_flattened.proofs.Alike.{IsFair, Alike, wrong}
+use Rattle.vg_flattened.proofs.Related.{ArePlaced, AreAt, AreWidths, AreSame, Held, Leaves}
 use Rattle.vg_flattened.proofs.Numbers.{low_two, below_same}
 use Rattle.vg_flattened.proofs.Operating.{holds_of}
 use Rattle.vg_flattened.proofs.Locals.{value_of_home, put_temp, placed_temp}
 use Rattle.vg_flattened.proofs.Right.{Right, linear}
-use Rattle.vg_flattened.proofs.StepRight.{into_temp, computes_to, plain_goes}
+use Rattle.vg_flattened.proofs.StepRight.{into_temp, computes_to}
 use Rattle.vg_flattened.proofs.CombinedRight.{stops_both, stopped, passed}
 use Rattle.vg_flattened.proofs.ColumnRight.{width_low, entry_within, width_high, four_bytes, null_then, loads, stands_in}
 
@@ -94,23 +93,6 @@ module _ (k : Codes) (f : FirmProgram) (m : FirmProcedure) (call : FirmCaller Hi
   columns_same InRam s xs ys = refl
   columns_same InFlash s xs ys = refl
 
-  -- one instruction before more
-  pub step_then : {G : Firm → Deciding State → Type 0} {L : Signal → Firm → Deciding State → Type 0} (i : Plain) (b : Block) (a : Answer Firm History)
-      (d : Deciding State) (w : World History) (t : State) → plain p i d.state w.outside ≡ Goes t w.outside
-      → Alike G L a (linear' b (record d { state = t }) w) → Alike G L a (linear' (Both (One i) b) d w)
-  step_then {G} {L} i b a d w t e h =
-      subst (λ z. Alike G L a (and_then z (linear' b))) (sym (plain_goes k f m call handle p go lay r ws wide i d w t e)) h
-
-  pub times_is : (to by : ℕ) (h : Operand) (n : ℕ) (t : State) (o : Outside) → value h t ≡ Some n → n * by < 65536
-      → plain p (timed to by h) t o ≡ Goes (sets to (n * by) t) o
-  times_is to by h n t o hv few =
-      computes_to k f m call handle p go lay r ws wide Product 2 to h (Known by) n by (n * by) t o hv refl (ap Some (low_two (n * by) few))
-
-  -- the newest value is left out
-  pub less : (h : Operand) (hs : List Operand) (v : ℕ) (vs : List ℕ) (s : Firm) (t : State) → AreSame lay r ws (h ∷ hs) (record s { values = v ∷ vs }) t
-      → AreSame lay r ws hs (record s { values = vs }) t
-  less h hs v vs s t q = record { waits = q.waits.1; kept = q.kept; none = q.none; ram = q.ram }
-
   module _ (e : Elements) (place : Place) (table : ℕ) (column_at : slice_get (places_in lay e.home) e.column ≡ Some place)
       (table_at : slice_get lay.tables e.table ≡ Some table) (same_address : e.address ≡ place.address) (same_width : e.width ≡ place.width)
       (is : is_width e.width ≡ true) (h i : Operand) (hs : List Operand) (placed : ArePlaced r.locals (i ∷ h ∷ hs)) (to first second : ℕ)
@@ -149,18 +131,20 @@ module _ (k : Codes) (f : FirmProgram) (m : FirmProcedure) (call : FirmCaller Hi
         → slice_get us ((a.address - e.address) / e.width + x) ≡ Some v
         → Alike G L (put v (record s { values = vs }) w) (linear' (place_of reach last) d w)
     does_last arrays tabled n x above a found low' whole s vs d w fair q us hc v he =
-        step_then (load_from Flash 2 first (table - 4) (Local first)) (Both (One (timed second e.width i)) (Both (One sum) (One last))) answer d w t1
+        step_then k f m call handle p go lay r ws wide flash (load_from Flash 2 first (table - 4) (Local first))
+        (Both (One (timed second e.width i)) (Both (One sum) (One last))) answer d w t1
         (loads k f m call handle p go lay r ws wide flash Flash 2 first (table - 4) (n * 4) (table - first_address Flash + 4 * (n - 1)) a.address
         (Local first) d.state w.outside q.waits.0.0
         (omega (arith, t_behind, above, four)) (omega (arith, t_behind, above, four)) (stood.addresses (n - 1) a found).0)
-        (step_then (timed second e.width i) (Both (One sum) (One last)) answer (record d { state = t1 }) w t2
-        (times_is second e.width i x t1 w.outside (value_of_home i x t1 q1.waits.1.0.0) few)
-        (step_then sum (One last) answer (record d { state = t2 }) w t3
+        (step_then k f m call handle p go lay r ws wide flash (timed second e.width i) (Both (One sum) (One last)) answer (record d { state = t1 }) w t2
+        (times_is k f m call handle p go lay r ws wide flash second e.width i x t1 w.outside (value_of_home i x t1 q1.waits.1.0.0) few)
+        (step_then k f m call handle p go lay r ws wide flash sum (One last) answer (record d { state = t2 }) w t3
         (computes_to k f m call handle p go lay r ws wide Sum 2 first (Local first) (Local second) a.address (x * e.width) (a.address + x * e.width) t2
         w.outside q2.waits.1.0.0 q2.waits.0.0 (ap Some (low_two (a.address + x * e.width) sum_few)))
         (into_temp k f m call handle p go lay r ws wide hs to v last (record s { values = vs }) (record d { state = t3 }) w fair placed.1.1 has0
         (four_bytes e.width v (width_high e.width is) (subst (λ z. v < 256 ^ z) (sym same_width) (stands.held index v he).1))
-        (less h hs n vs s t3 (less i (h ∷ hs) x (n ∷ vs) s t3 (less (Local first) (i ∷ h ∷ hs) (a.address + x * e.width) (x ∷ n ∷ vs) s t3 q3)))
+        (less k f m call handle p go lay r ws wide flash h hs n vs s t3 (less k f m call handle p go lay r ws wide flash i (h ∷ hs) x (n ∷ vs) s t3
+        (less k f m call handle p go lay r ws wide flash (Local first) (i ∷ h ∷ hs) (a.address + x * e.width) (x ∷ n ∷ vs) s t3 q3)))
         (loads k f m call handle p go lay r ws wide flash (memory_of e.home) e.width to 0 (a.address + x * e.width)
         (place.address - first_address (memory_of e.home) + place.width * index) v
         (Local first) t3 w.outside q3.waits.0.0 (sum_behind (first_address (memory_of e.home)) a.address e.address (x * e.width) c_behind low')
@@ -189,7 +173,7 @@ module _ (k : Codes) (f : FirmProgram) (m : FirmProcedure) (call : FirmCaller Hi
         q1 =
             let small = (stood.addresses (n - 1) a found).1 in
             put_temp lay r m.widths ws (i ∷ h ∷ hs) (record s { values = x ∷ n ∷ vs }) d.state first a.address wide placed has1 (omega (arith, small))
-            (less (Local first) (i ∷ h ∷ hs) (n * 4) (x ∷ n ∷ vs) s d.state q)
+            (less k f m call handle p go lay r ws wide flash (Local first) (i ∷ h ∷ hs) (n * 4) (x ∷ n ∷ vs) s d.state q)
 
         before : ColumnStands (memory_of e.home) (bytes_of p (memory_of e.home) d.state) place us
         before =
@@ -237,8 +221,8 @@ module _ (k : Codes) (f : FirmProgram) (m : FirmProcedure) (call : FirmCaller Hi
         q3 : AreSame lay r ws (Local first ∷ i ∷ h ∷ hs) (record s { values = (a.address + x * e.width) ∷ x ∷ n ∷ vs }) t3
         q3 =
             put_temp lay r m.widths ws (i ∷ h ∷ hs) (record s { values = x ∷ n ∷ vs }) t2 first (a.address + x * e.width) wide placed has1 (omega (arith, sum_few))
-            (less (Local first) (i ∷ h ∷ hs) a.address (x ∷ n ∷ vs) s t2
-            (less (Local second) (Local first ∷ i ∷ h ∷ hs) (x * e.width) (a.address ∷ x ∷ n ∷ vs) s t2 q2))
+            (less k f m call handle p go lay r ws wide flash (Local first) (i ∷ h ∷ hs) a.address (x ∷ n ∷ vs) s t2
+            (less k f m call handle p go lay r ws wide flash (Local second) (Local first ∷ i ∷ h ∷ hs) (x * e.width) (a.address ∷ x ∷ n ∷ vs) s t2 q2))
 
         stands : ColumnStands (memory_of e.home) (bytes_of p (memory_of e.home) t3) place us
         stands =
@@ -296,7 +280,7 @@ module _ (k : Codes) (f : FirmProgram) (m : FirmProcedure) (call : FirmCaller Hi
         → (b : Bool) → nat_lt x a.length ≡ b
         → Alike G L
         (stop_unless b 2 (checked (is_in e a.address) (load f e.home e.column (item_index e a.address x))) (record s { values = vs }) w)
-        (linear' (bounded reach last) d w)
+        (linear' (bounded reach (Some last)) d w)
     by_bound arrays tabled n x above a found short s vs d w fair q true c =
         subst (λ z. Alike G L (checked (is_in e a.address) (load f e.home e.column (item_index e a.address x)) (record s { values = vs }) w)
         (and_then z (linear' (place_of reach last))))
@@ -304,7 +288,8 @@ module _ (k : Codes) (f : FirmProgram) (m : FirmProcedure) (call : FirmCaller Hi
         (ap (option_map not) (holds_of Below i (Local second) x a.length d.state (value_of_home i x d.state q.waits.1.1.0.0) q.waits.0.0
         ∙ ap Some (below_same x a.length q.waits.1.1.0.1 (omega (arith, short)) ∙ c)))))
         (by_place arrays tabled n x above a found s vs (record d { truth = None }) w fair
-        (less (Local second) (Local first ∷ i ∷ h ∷ hs) a.length (n * 4 ∷ x ∷ n ∷ vs) s d.state q) (nat_le e.address a.address)
+        (less k f m call handle p go lay r ws wide flash (Local second) (Local first ∷ i ∷ h ∷ hs) a.length (n * 4 ∷ x ∷ n ∷ vs) s d.state q)
+        (nat_le e.address a.address)
         ((a.address - e.address) % e.width == 0) refl refl)
     by_bound arrays tabled n x above a found short s vs d w fair q false c =
         subst (λ z. Alike G L (stops 2 0 (record s { values = vs }) w) (and_then z (linear' (place_of reach last))))
@@ -320,12 +305,14 @@ module _ (k : Codes) (f : FirmProgram) (m : FirmProcedure) (call : FirmCaller Hi
         → (o : Option ArrayPlace) → slice_get arrays (n - 1) ≡ o
         → Alike G L
         (with_found o (λ a. stop_unless (nat_lt x a.length) 2 (checked (is_in e a.address) (load f e.home e.column (item_index e a.address x))))
-        (record s { values = vs }) w) (linear' (reached reach last) d w)
+        (record s { values = vs }) w) (linear' (reached reach (Some last)) d w)
     by_array arrays tabled n x above s vs d w fair q None found = wrong
     by_array arrays tabled n x above s vs d w fair q (Some a) found =
-        step_then (timed first 4 h) (Both (One (load_from Flash 2 second (table - 2) (Local first))) (bounded reach last)) answer d w t1
-        (times_is first 4 h n d.state w.outside (value_of_home h n d.state q.waits.1.0.0) few)
-        (step_then (load_from Flash 2 second (table - 2) (Local first)) (bounded reach last) answer (record d { state = t1 }) w t2
+        step_then k f m call handle p go lay r ws wide flash (timed first 4 h)
+        (Both (One (load_from Flash 2 second (table - 2) (Local first))) (bounded reach (Some last))) answer d w t1
+        (times_is k f m call handle p go lay r ws wide flash first 4 h n d.state w.outside (value_of_home h n d.state q.waits.1.0.0) few)
+        (step_then k f m call handle p go lay r ws wide flash (load_from Flash 2 second (table - 2) (Local first)) (bounded reach (Some last)) answer
+        (record d { state = t1 }) w t2
         (loads k f m call handle p go lay r ws wide flash Flash 2 second (table - 2) (n * 4) (table - first_address Flash + 4 * (n - 1) + 2) a.length
         (Local first) t1 w.outside q1.waits.0.0
         (omega (arith, t_behind, above)) (omega (arith, t_behind, above)) (stood.lengths (n - 1) a found).0)
@@ -369,17 +356,18 @@ module _ (k : Codes) (f : FirmProgram) (m : FirmProcedure) (call : FirmCaller Hi
         → AreSame lay r ws (i ∷ h ∷ hs) (record s { values = x ∷ n ∷ vs }) d.state → (o : Option (List ArrayPlace)) → slice_get f.tables e.table ≡ o
         → Alike G L
         (with_found (slice_get (arrays_of o) (n - 1)) (λ a. stop_unless (nat_lt x a.length) 2
-        (checked (is_in e a.address) (load f e.home e.column (item_index e a.address x)))) (record s { values = vs }) w) (linear' (reached reach last) d w)
+        (checked (is_in e a.address) (load f e.home e.column (item_index e a.address x)))) (record s { values = vs }) w)
+        (linear' (reached reach (Some last)) d w)
     by_table n x above s vs d w fair q (Some arrays) tabled = by_array arrays tabled n x above s vs d w fair q (slice_get arrays (n - 1)) refl
     by_table n x above s vs d w fair q None tabled = wrong
 
     by_values : (s : Firm) (d : Deciding State) (w : World History) → IsFair w → AreSame lay r ws (i ∷ h ∷ hs) s d.state → (vs : List ℕ)
         → AreAt (i ∷ h ∷ hs) vs d.state.locals
-        → Alike G L (take_from vs (λ x. taking (at_item f e (load f e.home e.column) x)) s w) (linear' (element_of reach last) d w)
+        → Alike G L (take_from vs (λ x. taking (at_item f e (load f e.home e.column) x)) s w) (linear' (element_of reach (Some last)) d w)
     by_values s d w fair q [] at = absurd at
     by_values s d w fair q (x ∷ []) at = absurd at.1
     by_values s d w fair q (x ∷ n ∷ vs) at =
-        null_then k f m call handle p go lay r ws wide flash h n (sought x) (linear' (reached reach last)) (record s { values = vs }) d w fair
+        null_then k f m call handle p go lay r ws wide flash h n (sought x) (linear' (reached reach (Some last))) (record s { values = vs }) d w fair
         (value_of_home h n d.state at.1.0.0) at.1.0.1
         (λ above. by_table n x above s vs (record d { truth = None }) w fair (record { waits = at; kept = q.kept; none = q.none; ram = q.ram })
         (slice_get f.tables e.table) refl)
@@ -392,7 +380,7 @@ module _ (k : Codes) (f : FirmProgram) (m : FirmProcedure) (call : FirmCaller Hi
       made : (to first second : ℕ) → Made
       made to first second =
           Makes (element_of (record { first = first; second = second; table = table; width = e.width; home = h; index = i })
-          (load_from (memory_of e.home) e.width to 0 (Local first))) (only (Local to ∷ hs))
+          (Some (load_from (memory_of e.home) e.width to 0 (Local first)))) (only (Local to ∷ hs))
 
       by_second : (to first : ℕ) → temp r hs ≡ Some to → temp r (i ∷ h ∷ hs) ≡ Some first → (o : Option ℕ) → temp r (Local first ∷ i ∷ h ∷ hs) ≡ o
           → Right' (only (i ∷ h ∷ hs)) (by_temp o (λ second. made to first second)) (step' (LoadItem e))
@@ -421,7 +409,7 @@ module _ (k : Codes) (f : FirmProgram) (m : FirmProcedure) (call : FirmCaller Hi
       by_found : (o : Option Place) → slice_get (places_in lay e.home) e.column ≡ o → (u : Option ℕ) → slice_get lay.tables e.table ≡ u
           → (gs : List Operand) → ArePlaced r.locals gs → Right' (only gs) (load_item r e o u gs) (step' (LoadItem e))
       by_found o c None d gs placed1 = right_no_item k f m call handle p go lay r ws wide flash e d gs placed1
-      by_found None c (Some table) d gs placed1 = tt
+      by_found None c (Some table) d gs placed1 = right_dropped k f m call handle p go lay r ws wide flash e table c d gs placed1
       by_found (Some place) c (Some table) d [] placed1 = tt
       by_found (Some place) c (Some table) d (i ∷ []) placed1 = tt
       by_found (Some place) c (Some table) d (i ∷ h ∷ gs) placed1 =

@@ -41,6 +41,7 @@ use Rattle.vg_flatten_places.specs.Places.{is_width, load_from, places_in, memor
 use Rattle.vg_flatten_values.specs.Values.{test_of}
 use Rattle.vg_flatten.specs.Columns.{ColumnStands, TableStands, FlashStands}
 use Rattle.vg_flattened.proofs.MissingRight.{right_no_store}
+use Rattle.vg_flattened.proofs.DroppedRight.{right_store_dropped, step_then, times_is, less}
 use Rattle.vg_flattened.proofs.Alike.{IsFair, Alike, gives, wrong}
 use Rattle.vg_flattened.proofs.Related.{ArePlaced, AreAt, AreWidths, AreSame, Held, Leaves, said}
 use Rattle.vg_flattened.proofs.Numbers.{low_two, below_same}
@@ -51,7 +52,7 @@ use Rattle.vg_flattened.proofs.StepRight.{into_temp, computes_to, plain_goes}
 use Rattle.vg_flattened.proofs.CombinedRight.{stops_both, stopped, passed}
 use Rattle.vg_flattened.proofs.ColumnRight.{width_low, entry_within, null_then, loads}
 use Rattle.vg_flattened.proofs.StoreRight.{does_store}
-use Rattle.vg_flattened.proofs.ElementRight.{whole_behind, sum_small, times_small, sum_behind, sum_is, step_then, times_is, less}
+use Rattle.vg_flattened.proofs.ElementRight.{whole_behind, sum_small, times_small, sum_behind, sum_is}
 
 module _ (k : Codes) (f : FirmProgram) (m : FirmProcedure) (call : FirmCaller History) (handle : ℕ → Piece Firm History)
     (p : LinProgram) (go : LinCaller State) (lay : Layout) (r : Room) (ws : List ℕ) (wide : AreWidths r m.widths ws)
@@ -244,7 +245,7 @@ module _ (k : Codes) (f : FirmProgram) (m : FirmProcedure) (call : FirmCaller Hi
         → (b : Bool) → nat_lt x a.length ≡ b
         → Alike G L
         (stop_unless b 2 (checked (is_in e a.address) (store e.column (item_index e a.address x) y)) (record s { values = vs }) w)
-        (linear' (bounded reach last) d w)
+        (linear' (bounded reach (Some last)) d w)
     by_bound arrays tabled n x y small-y above a found short s vs d w fair q true c =
         subst (λ z. Alike G L (checked (is_in e a.address) (store e.column (item_index e a.address x) y) (record s { values = vs }) w)
         (and_then z (linear' (place_of reach last))))
@@ -269,13 +270,13 @@ module _ (k : Codes) (f : FirmProgram) (m : FirmProcedure) (call : FirmCaller Hi
         → (o : Option ArrayPlace) → slice_get arrays (n - 1) ≡ o
         → Alike G L
         (with_found o (λ a. stop_unless (nat_lt x a.length) 2 (checked (is_in e a.address) (store e.column (item_index e a.address x) y)))
-        (record s { values = vs }) w) (linear' (reached reach last) d w)
+        (record s { values = vs }) w) (linear' (reached reach (Some last)) d w)
     by_array arrays tabled n x y small-y above s vs d w fair q None found = wrong
     by_array arrays tabled n x y small-y above s vs d w fair q (Some a) found =
         step_then k f m call handle p go lay r ws wide flash (timed first 4 h) (Both (One (load_from Flash 2 second (table - 2) (Local first)))
-        (bounded reach last)) answer d w t1 (times_is k f m call handle p go lay r ws wide flash first 4 h n d.state w.outside
+        (bounded reach (Some last))) answer d w t1 (times_is k f m call handle p go lay r ws wide flash first 4 h n d.state w.outside
         (value_of_home h n d.state q.waits.1.1.0.0) few)
-        (step_then k f m call handle p go lay r ws wide flash (load_from Flash 2 second (table - 2) (Local first)) (bounded reach last) answer
+        (step_then k f m call handle p go lay r ws wide flash (load_from Flash 2 second (table - 2) (Local first)) (bounded reach (Some last)) answer
         (record d { state = t1 }) w t2
         (loads k f m call handle p go lay r ws wide flash Flash 2 second (table - 2) (n * 4) (table - first_address Flash + 4 * (n - 1) + 2) a.length
         (Local first) t1 w.outside q1.waits.0.0
@@ -320,7 +321,7 @@ module _ (k : Codes) (f : FirmProgram) (m : FirmProcedure) (call : FirmCaller Hi
         → AreSame lay r ws (from ∷ i ∷ h ∷ hs) (record s { values = y ∷ x ∷ n ∷ vs }) d.state → (o : Option (List ArrayPlace)) → slice_get f.tables e.table ≡ o
         → Alike G L
         (with_found (slice_get (arrays_of o) (n - 1)) (λ a. stop_unless (nat_lt x a.length) 2
-        (checked (is_in e a.address) (store e.column (item_index e a.address x) y))) (record s { values = vs }) w) (linear' (reached reach last) d w)
+        (checked (is_in e a.address) (store e.column (item_index e a.address x) y))) (record s { values = vs }) w) (linear' (reached reach (Some last)) d w)
     by_table n x y small-y above s vs d w fair q (Some arrays) tabled =
         by_array arrays tabled n x y small-y above s vs d w fair q (slice_get arrays (n - 1)) refl
     by_table n x y small-y above s vs d w fair q None tabled = wrong
@@ -328,9 +329,9 @@ module _ (k : Codes) (f : FirmProgram) (m : FirmProcedure) (call : FirmCaller Hi
     by_fit : (s : Firm) (d : Deciding State) (w : World History) → IsFair w → AreSame lay r ws (from ∷ i ∷ h ∷ hs) s d.state → (y x n : ℕ) (vs : List ℕ)
         → AreAt (from ∷ i ∷ h ∷ hs) (y ∷ x ∷ n ∷ vs) d.state.locals → (b : Bool) → nat_lt y (256 ^ e.width) ≡ b
         → Alike G L (checked b (taking (λ j. taking (at_item f e (λ c. store e.column c y) j))) (record s { values = x ∷ n ∷ vs }) w)
-        (linear' (element_of reach last) d w)
+        (linear' (element_of reach (Some last)) d w)
     by_fit s d w fair q y x n vs at true fit =
-        null_then k f m call handle p go lay r ws wide flash h n (sought y x) (linear' (reached reach last)) (record s { values = vs }) d w fair
+        null_then k f m call handle p go lay r ws wide flash h n (sought y x) (linear' (reached reach (Some last))) (record s { values = vs }) d w fair
         (value_of_home h n d.state at.1.1.0.0) at.1.1.0.1
         (λ above. by_table n x y (grind arith) above s vs (record d { truth = None }) w fair
         (record { waits = at; kept = q.kept; none = q.none; ram = q.ram }) (slice_get f.tables e.table) refl)
@@ -339,7 +340,7 @@ module _ (k : Codes) (f : FirmProgram) (m : FirmProcedure) (call : FirmCaller Hi
     by_values : (s : Firm) (d : Deciding State) (w : World History) → IsFair w → AreSame lay r ws (from ∷ i ∷ h ∷ hs) s d.state → (vs : List ℕ)
         → AreAt (from ∷ i ∷ h ∷ hs) vs d.state.locals
         → Alike G L (take_from vs (of_width e.width (λ y. taking (λ x. taking (at_item f e (λ c. store e.column c y) x)))) s w)
-        (linear' (element_of reach last) d w)
+        (linear' (element_of reach (Some last)) d w)
     by_values s d w fair q [] at = absurd at
     by_values s d w fair q (y ∷ []) at = absurd at.1
     by_values s d w fair q (y ∷ x ∷ []) at = absurd at.1.1
@@ -354,7 +355,7 @@ module _ (k : Codes) (f : FirmProgram) (m : FirmProcedure) (call : FirmCaller Hi
       made : (first second : ℕ) → Made
       made first second =
           Makes (element_of (record { first = first; second = second; table = table; width = e.width; home = h; index = i })
-          (store_at e.width 0 (Local first) from)) (only hs)
+          (Some (store_at e.width 0 (Local first) from))) (only hs)
 
       by_second : (first : ℕ) → temp r (from ∷ i ∷ h ∷ hs) ≡ Some first → (o : Option ℕ) → temp r (Local first ∷ from ∷ i ∷ h ∷ hs) ≡ o
           → Right' (only (from ∷ i ∷ h ∷ hs)) (by_temp o (λ second. made first second)) (step' (StoreItem e))
@@ -377,7 +378,7 @@ module _ (k : Codes) (f : FirmProgram) (m : FirmProcedure) (call : FirmCaller Hi
       by_found : (o : Option Place) → slice_get lay.ram e.column ≡ o → (u : Option ℕ) → slice_get lay.tables e.table ≡ u
           → (gs : List Operand) → ArePlaced r.locals gs → Right' (only gs) (store_item r e o u gs) (step' (StoreItem e))
       by_found o c None d gs placed1 = right_no_store k f m call handle p go lay r ws wide flash e d gs placed1
-      by_found None c (Some table) d gs placed1 = tt
+      by_found None c (Some table) d gs placed1 = right_store_dropped k f m call handle p go lay r ws wide flash e table c d gs placed1
       by_found (Some place) c (Some table) d [] placed1 = tt
       by_found (Some place) c (Some table) d (v ∷ []) placed1 = tt
       by_found (Some place) c (Some table) d (v ∷ i ∷ []) placed1 = tt

@@ -16,6 +16,7 @@ pub mod Writing
 pub mod MissingRight
 pub mod ColumnRight
 pub mod StoreRight
+pub mod DroppedRight
 pub mod ElementRight
 pub mod ElementStoreRight
 pub mod Passed

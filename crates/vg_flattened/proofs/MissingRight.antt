@@ -32,7 +32,7 @@ use Rattle.vg_flattened.proofs.Right.{Right, linear}
 use Rattle.vg_flattened.proofs.ObjectRight.{null_check}
 
 -- what is done with what is not there is Wrong
-not_found : {A : Type 0} {G : Firm → Deciding State → Type 0} {L : Signal → Firm → Deciding State → Type 0} (o : Option A) (next : A → Piece Firm History)
+pub not_found : {A : Type 0} {G : Firm → Deciding State → Type 0} {L : Signal → Firm → Deciding State → Type 0} (o : Option A) (next : A → Piece Firm History)
     (s : Firm) (w : World History) (b : Answer (Deciding State) History) → o ≡ None → Alike G L (with_found o next s w) b
 not_found None next s w b e = wrong
 not_found (Some x) next s w b e = absurd (none-some x (sym e))

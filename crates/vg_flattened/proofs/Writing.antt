@@ -26,6 +26,13 @@ found_elsewhere (y ∷ xs) zero (suc j) x ne = refl
 found_elsewhere (y ∷ xs) (suc i) zero x ne = refl
 found_elsewhere (y ∷ xs) (suc i) (suc j) x ne = found_elsewhere xs i j x (λ e. ne (ap suc e))
 
+none_still : {A : Type 0} (xs : List A) (i j : ℕ) (x : A) → slice_get xs j ≡ None → slice_get (slice_set xs i x) j ≡ None
+none_still [] i j x e = refl
+none_still (y ∷ xs) zero zero x e = none_is_not y (sym e)
+none_still (y ∷ xs) zero (suc j) x e = e
+none_still (y ∷ xs) (suc i) zero x e = none_is_not y (sym e)
+none_still (y ∷ xs) (suc i) (suc j) x e = none_still xs i j x e
+
 same_length : {A : Type 0} (xs : List A) (i : ℕ) (x : A) → length (slice_set xs i x) ≡ length xs
 same_length [] i x = refl
 same_length (y ∷ xs) zero x = refl
@@ -220,6 +227,7 @@ module _ (places : List Place) (columns : List (List ℕ)) (bytes : List ℕ) (a
       record {
         stands = stands_on;
         apart = λ d e first second us xs ne hd cd he ce. still d e first second us xs ne hd he (before_it d us cd) (before_it e xs ce);
+        known = λ d e. none_still columns c d (slice_set vs i v) (all.known d e);
       }
     where
       still : (d e : ℕ) (first second : Place) (us xs : List ℕ) → d ≢ e → slice_get places d ≡ Some first → slice_get places e ≡ Some second

@@ -1,5 +1,6 @@
 -- What the open procedures of linear code take of the stack at most, and that it is within what methods cost.
-use Rattle.std.specs.Prelude.{ℕ, suc, ◌≡◌, ◌+◌, ◌-◌, ◌*◌, ◌≤◌, max, List, [], ◌∷◌, take, Option, Some, None, slice_get}
+use Rattle.std.specs.Prelude.{ℕ, suc, ◌≡◌, ◌+◌, ◌-◌, ◌*◌, ◌≤◌, max, Bool, true, ◌&&◌, if◌then◌else◌, IsTrue, List, [], ◌∷◌, take}
+use Rattle.std.specs.Prelude.{Option, Some, None, is_some, slice_get}
 use Rattle.std.specs.List.{AllByRecursion}
 use Rattle.vg_lin.specs.declared.instr.Callee.{Callee}
 use Rattle.vg_lin.specs.declared.instr.Callee.TheVariants.{Procedure as ByNumber, Code as ByCode}
@@ -45,33 +46,46 @@ abbrev pub method_in : Option Procedure → Option ℕ
 method_in (Some p) = p.method
 method_in None = None
 
-abbrev pub IsSomeMethod : Option ℕ → Type 0
-IsSomeMethod (Some m) = Unit {0}
-IsSomeMethod None = ⊥
+-- A call is of a method: by the number of its procedure, or by a code number, since such numbers are to stand for methods alone.
+abbrev pub is_method_callee : List Procedure → Callee → Bool
+is_method_callee ps (ByNumber q) = is_some (method_in (slice_get ps q))
+is_method_callee ps (ByCode a) = true
 
--- a call is of a method, by the number of its procedure
-abbrev pub IsMethodCallee : List Procedure → Callee → Type 0
-IsMethodCallee ps (ByNumber q) = IsSomeMethod (method_in (slice_get ps q))
-IsMethodCallee ps (ByCode a) = ⊥
+abbrev pub is_method_call : List Procedure → Instr → Bool
+is_method_call ps (Call c) = is_method_callee ps c.callee
+is_method_call ps i = true
 
-abbrev pub IsMethodCall : List Procedure → Instr → Type 0
-IsMethodCall ps (Call c) = IsMethodCallee ps c.callee
-IsMethodCall ps i = Unit {0}
+-- each call of the code is of a method
+abbrev pub calls_methods : List Procedure → List Instr → Bool
+calls_methods ps [] = true
+calls_methods ps (i ∷ is) = is_method_call ps i && calls_methods ps is
 
--- A method costs what it takes, with what may lie beside it: four bytes below it, the return addresses into the code that was interrupted and into the stub
--- of its handler, and one procedure above it that is no method. One that is none takes no more than a routine, and calls methods alone.
+-- The bytes that may lie above a method, beside those of the methods that it calls: those of one procedure that is no method, where it may call such a one;
+-- else those that idling takes.
+abbrev pub above : List Procedure → Procedure → ℕ
+above ps p = if calls_methods ps p.code then idle_bytes p.code else routine_bytes
+
+-- and four bytes may lie below it, the return addresses into the code that was interrupted and into the stub of its handler
+abbrev pub beside : List Procedure → Procedure → ℕ
+beside ps p = 4 + above ps p
+
+-- A method costs what it takes, with what may lie beside it. A procedure that is none takes no more than a routine, and calls methods alone.
 abbrev pub FitsAs : List Procedure → (costs : List ℕ) → Procedure → Option ℕ → Type 0
-FitsAs ps costs p (Some method) = procedure_bytes p + 4 + routine_bytes ≤ cost_of costs method
-FitsAs ps costs p None = (procedure_bytes p + idle_bytes p.code ≤ routine_bytes) × AllByRecursion (IsMethodCall ps) p.code
+FitsAs ps costs p (Some method) = procedure_bytes p + beside ps p ≤ cost_of costs method
+FitsAs ps costs p None = (procedure_bytes p + idle_bytes p.code ≤ routine_bytes) × IsTrue (calls_methods ps p.code)
 
 abbrev pub Fits : List Procedure → (costs : List ℕ) → Procedure → Type 0
 Fits ps costs p = FitsAs ps costs p p.method
 
+abbrev pub IsByNumber : Callee → Type 0
+IsByNumber (ByNumber q) = Unit {0}
+IsByNumber (ByCode a) = ⊥
+
 abbrev pub BeginsWithCall : List Instr → Type 0
-BeginsWithCall (Call c ∷ is) = Unit {0}
+BeginsWithCall (Call c ∷ is) = IsByNumber c.callee
 BeginsWithCall is = ⊥
 
--- The procedure with which a run begins is no method, takes four bytes, and calls first.
+-- The procedure with which a run begins is no method, takes four bytes, and first calls one by its number.
 pub record IsFirst (p : Procedure) : Type 0 where
   pub unnamed : p.method ≡ None
   pub bytes : procedure_bytes p ≤ 4
@@ -82,7 +96,7 @@ IsFirstIn (Some p) = IsFirst p
 IsFirstIn None = ⊥
 
 abbrev pub IsMethod : Procedure → Type 0
-IsMethod p = IsSomeMethod p.method
+IsMethod p = IsTrue (is_some p.method)
 
 -- Each of these procedures fits, by the costs of methods by their numbers; one of them is that with which a run begins, and those before it are methods.
 pub record FramesFit (ps : List Procedure) (start : ℕ) (costs : List ℕ) : Type 0 where

@@ -1,16 +1,18 @@
 // Whether frames fit into what methods cost.
-ghost use Rattle.std.specs.Prelude.{◌↔◌, IsTrue, slice_get, take};
+ghost use Rattle.std.specs.Prelude.{◌≡◌, ◌≤◌, ◌↔◌, IsTrue, is_some, slice_get, take};
 ghost use Rattle.std.specs.List.{AllByRecursion};
 ghost use Rattle.vg_frame_costs.specs.Fitting.{
+  beside as bytes_beside,
   BeginsWithCall,
+  calls_methods as all_of_methods,
   Fits,
   FramesFit,
+  is_method_call as call_of_method,
+  is_method_callee as callee_of_method,
+  IsByNumber,
   IsFirst,
   IsFirstIn,
   IsMethod,
-  IsMethodCall,
-  IsMethodCallee,
-  IsSomeMethod,
   method_in,
 };
 
@@ -44,7 +46,10 @@ fn fits(procedures: &[LinProc], costs: &[u32], procedure: &LinProc) -> bool
     ensures { IsTrue result ↔ Fits procedures.now costs.now procedure.now }
 {
     match procedure.method() {
-        Some(method) => takes_within(procedure, 26, cost_of(costs, method)),
+        Some(method) => {
+            let more = beside(procedures, procedure);
+            takes_within(procedure, more, cost_of(costs, method))
+        }
         None => {
             let calls = calls_methods(procedures, procedure.code());
             takes_within(procedure, idle_bytes(procedure.code()), 22) && calls
@@ -52,9 +57,22 @@ fn fits(procedures: &[LinProc], costs: &[u32], procedure: &LinProc) -> bool
     }
 }
 
-// Whether each call is of a method, by the number of its procedure.
+/// The bytes that may lie beside a method: 4 below it, where it is the handler of an interrupt, and above it 22 of a procedure that is no method, where it may
+/// call such a one. Where it calls methods alone, these are only the 4 that idling takes.
+pub fn beside(procedures: &[LinProc], procedure: &LinProc) -> usize
+    ensures bytes { result ≡ bytes_beside procedures.now procedure.now }
+    ensures few { result ≤ 26 }
+{
+    if calls_methods(procedures, procedure.code()) {
+        4 + idle_bytes(procedure.code())
+    } else {
+        26
+    }
+}
+
+// Whether each call is of a method.
 fn calls_methods(procedures: &[LinProc], code: &[Instr]) -> bool
-    ensures { IsTrue result ↔ AllByRecursion (IsMethodCall procedures.now) code.now }
+    ensures { result ≡ all_of_methods procedures.now code.now }
 {
     for instr in code {
         if !is_method_call(procedures, *instr) {
@@ -65,7 +83,7 @@ fn calls_methods(procedures: &[LinProc], code: &[Instr]) -> bool
 }
 
 fn is_method_call(procedures: &[LinProc], instr: Instr) -> bool
-    ensures { IsTrue result ↔ IsMethodCall procedures.now instr }
+    ensures { result ≡ call_of_method procedures.now instr }
 {
     match instr {
         Instr::Call(call) => is_method_callee(procedures, call.callee),
@@ -74,17 +92,17 @@ fn is_method_call(procedures: &[LinProc], instr: Instr) -> bool
 }
 
 fn is_method_callee(procedures: &[LinProc], callee: Callee) -> bool
-    ensures { IsTrue result ↔ IsMethodCallee procedures.now callee }
+    ensures { result ≡ callee_of_method procedures.now callee }
 {
     match callee {
         Callee::Procedure(q) => is_method_at(procedures, q),
-        Callee::Code(_) => false,
+        Callee::Code(_) => true,
     }
 }
 
 // Whether the procedure of this number is a method.
 fn is_method_at(procedures: &[LinProc], q: u16) -> bool
-    ensures { IsTrue result ↔ IsSomeMethod (method_in (slice_get procedures.now q)) }
+    ensures { result ≡ is_some (method_in (slice_get procedures.now q)) }
 {
     match procedures.get(usize::from(q)) {
         Some(procedure) => procedure.method().is_some(),
@@ -114,8 +132,17 @@ fn begins_with_call(code: &[Instr]) -> bool
     ensures { IsTrue result ↔ BeginsWithCall code.now }
 {
     match code {
-        [Instr::Call(_), ..] => true,
+        [Instr::Call(call), ..] => is_by_number(call.callee),
         _ => false,
+    }
+}
+
+fn is_by_number(callee: Callee) -> bool
+    ensures { IsTrue result ↔ IsByNumber callee }
+{
+    match callee {
+        Callee::Procedure(_) => true,
+        Callee::Code(_) => false,
     }
 }
 

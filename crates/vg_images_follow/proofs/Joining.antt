@@ -19,7 +19,8 @@ use Rattle.vg_lin.specs.Program.{Program}
 use Rattle.vg_lin.specs.Sessions.{world, ShowsEnd}
 use Rattle.vg_lin.specs.State.{State}
 use Rattle.vg_lin.specs.Steps.{Config}
-use Rattle.vg_expand.specs.Runs.{ShowsSame, RunsAs}
+use Rattle.vg_expand.specs.Runs.{ShowsSame}
+use Rattle.vg_trimming.specs.Runs.{RunsAsRead}
 use Rattle.vg_flatten_shapes.specs.declared.layout.Layout.{Layout}
 use Rattle.vg_flatten.specs.Flattened.{AreFlat}
 use Rattle.vg_flattened.proofs.RunRight.{follows}
@@ -71,7 +72,7 @@ module _ (e : Run) (x : Links) (new : Program) (st : Stands e x new) (b : Begins
   does OutOfRoom h = over OutOfRoom h
   does Wrong h = over Wrong h
 
-pub joined : (k : Codes) (lay : Layout) (f : FirmProgram) (p new : Program) → AreFlat k lay f p → RunsAs p new → (e : Run) (x : Links) → Stands e x new
+pub joined : (k : Codes) (lay : Layout) (f : FirmProgram) (p new : Program) → AreFlat k lay f p → RunsAsRead p new → (e : Run) (x : Links) → Stands e x new
     → Begins e x new → (memory : PowerOn) → IsPowerOn memory → (clock : ℕ) (deepest : Option ℕ) (reads interrupts : List ℕ) (t : Firm) (v : World History)
     (why : End) → AreReads reads → AreVectors interrupts → IsLegal why
     → running full k f (length interrupts) (first_state f) (world clock deepest reads interrupts) ≡ Ends (Over why) t v → e.whole ≡ v.outside.trace
@@ -81,7 +82,7 @@ joined k lay f p new flat as' e x st b memory powered clock deepest reads interr
   where
     by_run : (j : ℕ) × (clock ≤ v.clock + j) × ShowsEnd why v (run p j reads interrupts)
         → (n : ℕ) × (clock ≤ v.clock + n) × DoesAs e x new n memory reads interrupts why v
-    by_run (j, spent, shows) = by_steps (as' j reads interrupts (not_wrong why (run p j reads interrupts) legal shows.ending))
+    by_run (j, spent, shows) = by_steps (as' j reads interrupts r (not_wrong why (run p j reads interrupts) legal shows.ending))
       where
         by_steps : (m : ℕ) × (j ≤ m) × ShowsSame (run p j reads interrupts) (run new m reads interrupts)
             → (n : ℕ) × (clock ≤ v.clock + n) × DoesAs e x new n memory reads interrupts why v

@@ -13,7 +13,7 @@ ghost use Rattle.avr_view.specs.Run.{Run};
 ghost use Rattle.vg_lin.specs.Follows.{IsLegal};
 ghost use Rattle.vg_lin.specs.Program.{Program};
 ghost use Rattle.vg_lin.specs.Sessions.{world};
-ghost use Rattle.vg_expand.specs.Runs.{RunsAs};
+ghost use Rattle.vg_trimming.specs.Runs.{RunsAsRead};
 ghost use Rattle.vg_flatten_shapes.specs.declared.layout.Layout.{Layout};
 ghost use Rattle.vg_flatten.specs.Flattened.{AreFlat};
 ghost use Rattle.vg_templates.specs.Whole.{Links};
@@ -26,7 +26,7 @@ ghost use Rattle.vg_images_follow.specs.Follows.{DoesAs};
 /// machine has shown the same and goes on, after at least as many instructions as ticks; or its stack reaches below the floor, which it does only where its
 /// bytes are too many. The body is empty: its contract is a law of the definitions.
 pub fn images_follow_packed()
-    ensures { (k : Codes) (lay : Layout) (f : FirmProgram) (p new : Program) → AreFlat k lay f p → RunsAs p new → (e : Run) (x : Links) → Stands e x new
+    ensures { (k : Codes) (lay : Layout) (f : FirmProgram) (p new : Program) → AreFlat k lay f p → RunsAsRead p new → (e : Run) (x : Links) → Stands e x new
         → Begins e x new → (memory : PowerOn) → IsPowerOn memory → (clock : ℕ) (deepest : Option ℕ) (reads interrupts : List ℕ) (t : Firm) (v : World History)
         (why : End) → AreReads reads → AreVectors interrupts → IsLegal why
         → running full k f (length interrupts) (first_state f) (world clock deepest reads interrupts) ≡ Ends (Over why) t v → e.whole ≡ v.outside.trace

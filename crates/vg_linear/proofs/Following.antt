@@ -8,9 +8,10 @@ use Rattle.vg_firm.specs.declared.procedure.Procedure.{Procedure as HeldProcedur
 use Rattle.vg_firm.specs.Held.{procedure_of}
 use Rattle.vg_firm.specs.Program.{Procedure as FirmProcedure}
 use Rattle.vg_lin.specs.Program.{Procedure, Program}
+use Rattle.vg_lin.specs.Meaning.{run}
 use Rattle.vg_lin.specs.Sound.{IsWidth}
 use Rattle.vg_expand.specs.Expansion.{HasRoutines}
-use Rattle.vg_expand.specs.Runs.{with_procedures, AllExpand, IsClosed, RunsAs}
+use Rattle.vg_expand.specs.Runs.{with_procedures, AllExpand, IsClosed, RunsAs, ShowsSame}
 use Rattle.vg_expand.proofs.Simulated.{runs_same}
 use Rattle.vg_flatten_shapes.specs.declared.layout.Layout.{Layout}
 use Rattle.vg_flatten_steps.specs.Calls.{passing_of}
@@ -20,6 +21,9 @@ use Rattle.vg_placement.specs.declared.column.Column.{Column}
 use Rattle.vg_packed.specs.declared.program.FirmProgram.{FirmProgram}
 use Rattle.vg_packed.specs.Programs.{program_of}
 use Rattle.vg_linear.specs.declared.whole.Linear.{Linear}
+use Rattle.vg_trimming.specs.Runs.{RunsAsRead}
+use Rattle.vg_trimming.specs.Trimmed.{IsTrimmedTo}
+use Rattle.vg_trimming.proofs.Runs as trimming
 use Rattle.vg_linear.specs.Expanded.{IsExpandedTo}
 use Rattle.vg_linear.specs.Passing.{passing_for}
 use Rattle.vg_linear.specs.Routines.{four_for}
@@ -42,11 +46,12 @@ pub all_long : (cs : List Column) (f : FirmProgram) (l : Linear) → IsLinear cs
 all_long cs f l is =
     let a = ap length is.made.routines in
     let b = length-append is.made.expanded (four_for (first_routine f) is.made.expanded) in
-    let c = AllZip-long (IsExpandedTo (first_routine f)) is.made.begun is.made.expanded is.made.are_expanded in
+    let c = AllZip-long (IsExpandedTo (first_routine f)) is.made.trimmed is.made.expanded is.made.are_expanded in
+    let t = AllZip-long IsTrimmedTo is.made.begun is.made.trimmed is.made.are_trimmed in
     let s = ap length is.made.with_start.behind in
     let d = length-append is.made.flats (start_of f.main is.made.with_start.main.receives ∷ []) in
     let e = AllZip-long (IsFlat l.layout) (packed_of f) is.made.flats is.made.are_flat in
-    let g = length-map f.procedures procedure_of in omega (arith, a, b, c, s, d, e, g)
+    let g = length-map f.procedures procedure_of in omega (arith, a, b, c, t, s, d, e, g)
 
 module _ (k : Codes) (cs : List Column) (f : FirmProgram) (l : Linear) (tables ram : List ℕ) (handler : ℕ → Option ℕ)
     (codes : AreCodes (length f.procedures) k) (stand : StandIn k l.layout f tables ram handler) (whole : IsLinear cs f l) where
@@ -105,6 +110,7 @@ module _ (k : Codes) (cs : List Column) (f : FirmProgram) (l : Linear) (tables r
     columns = λ c place vs e g. absurd (none-some place (sym (ap (λ (z : Layout). slice_get z.flash c) whole.layout) ∙ e));
     tables = stand.arrays;
     known = stand.known;
+    known_columns = λ c e. refl;
   }
 
   pub are_flat : AreFlat k lay (program_of k f) old
@@ -127,17 +133,24 @@ module _ (k : Codes) (cs : List Column) (f : FirmProgram) (l : Linear) (tables r
       let s = ap length is.with_start.behind in
       let a = length-append is.flats (start_of f.main is.with_start.main.receives ∷ []) in let n = flats_long in omega (arith, s, a, n)
 
-  all_expand : AllExpand (first_routine f) is.begun l.procedures
+  -- the same with trimmed procedures
+  abbrev middle : Program
+  middle = with_procedures old is.trimmed
+
+  trimmed_long : length is.trimmed ≡ first_routine f
+  trimmed_long = AllZip-long IsTrimmedTo is.begun is.trimmed is.are_trimmed ∙ begun_long
+
+  all_expand : AllExpand (first_routine f) is.trimmed l.procedures
   all_expand q m e =
-      let r = zip_at (IsExpandedTo (first_routine f)) is.begun is.expanded is.are_expanded q m e in (
+      let r = zip_at (IsExpandedTo (first_routine f)) is.trimmed is.expanded is.are_expanded q m e in (
         r.2.sound,
         (r.0, ap (λ z. slice_get z q) is.routines ∙ get_left is.expanded (four_for (first_routine f) is.expanded) q r.0 r.1, r.2.expands),
       )
 
-  has_routines : HasRoutines (first_routine f) (with_procedures old l.procedures)
+  has_routines : HasRoutines (first_routine f) (with_procedures middle l.procedures)
   has_routines =
-      let n = AllZip-long (IsExpandedTo (first_routine f)) is.begun is.expanded is.are_expanded in
-      let o = begun_long in routine_there (first_routine f) is.expanded l.procedures is.routines (omega (arith, n, o))
+      let n = AllZip-long (IsExpandedTo (first_routine f)) is.trimmed is.expanded is.are_expanded in
+      let o = trimmed_long in routine_there (first_routine f) is.expanded l.procedures is.routines (omega (arith, n, o))
 
   closed : IsClosed old
   closed = record {
@@ -145,8 +158,32 @@ module _ (k : Codes) (cs : List Column) (f : FirmProgram) (l : Linear) (tables r
     handlers = λ v q e. let h = stand.closed v q e in let o = begun_long in omega (arith, h, o);
   }
 
-  pub runs_as : RunsAs old (linear_program k f l tables ram handler)
-  runs_as = runs_same (first_routine f) old l.procedures all_expand has_routines closed
+  closed_too : IsClosed middle
+  closed_too = record {
+    start = let s = whole.start in let o = trimmed_long in omega (arith, s, o);
+    handlers = λ v q e. let h = stand.closed v q e in let o = trimmed_long in omega (arith, h, o);
+  }
 
-  pub follows : (p : Program) × AreFlat k lay (program_of k f) p × RunsAs p (linear_program k f l tables ram handler)
+  expanded_runs : RunsAs middle (linear_program k f l tables ram handler)
+  expanded_runs = runs_same (first_routine f) middle l.procedures all_expand has_routines closed_too
+
+  trimmed_runs : RunsAsRead old middle
+  trimmed_runs = trimming.runs_same old is.trimmed is.are_trimmed closed stand.ram_bytes stand.table_bytes
+
+  pub runs_as : RunsAsRead old (linear_program k f l tables ram handler)
+  runs_as steps reads interrupts bytes legal = by (trimmed_runs steps reads interrupts bytes legal)
+    where
+      by : (j : ℕ) × (steps ≤ j) × ShowsSame (run old steps reads interrupts) (run middle j reads interrupts)
+          → (j : ℕ) × (steps ≤ j) × ShowsSame (run old steps reads interrupts) (run (linear_program k f l tables ram handler) j reads interrupts)
+      by (j, more, same) = further (expanded_runs j reads interrupts (λ wrong. legal (sym same.ending ∙ wrong)))
+        where
+          further : (i : ℕ) × (j ≤ i) × ShowsSame (run middle j reads interrupts) (run (linear_program k f l tables ram handler) i reads interrupts)
+              → (i : ℕ) × (steps ≤ i) × ShowsSame (run old steps reads interrupts) (run (linear_program k f l tables ram handler) i reads interrupts)
+          further (i, on, shown) = (
+            i,
+            omega (arith, more, on),
+            record { outside = shown.outside ∙ same.outside; openings = shown.openings ∙ same.openings; ending = shown.ending ∙ same.ending },
+          )
+
+  pub follows : (p : Program) × AreFlat k lay (program_of k f) p × RunsAsRead p (linear_program k f l tables ram handler)
   follows = (old, are_flat, runs_as)

@@ -4,5 +4,6 @@ pub mod Called
 pub mod AllFlat
 pub mod Expanded
 pub mod Routined
+pub mod Trimmed
 pub mod Wholes
 pub mod Following

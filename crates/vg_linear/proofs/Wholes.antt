@@ -11,6 +11,7 @@ use Rattle.vg_flatten_shapes.specs.declared.layout.Layout.{Layout}
 use Rattle.vg_flatten.specs.Flattened.{start_of}
 use Rattle.vg_placement.specs.declared.column.Column.{Column}
 use Rattle.vg_packed.specs.declared.program.FirmProgram.{FirmProgram}
+use Rattle.vg_trimming.specs.Trimmed.{AreAllTrimmed}
 use Rattle.vg_linear.specs.Laying.{layout_of}
 use Rattle.vg_linear.specs.Flats.{AreAllFlat, AreTaken, AreTyped, IsRefusedFor}
 use Rattle.vg_linear.specs.Expanded.{AreAllExpanded, IsOneTooLong}
@@ -20,6 +21,7 @@ use Rattle.vg_linear.specs.Widths.{AllHaveWidths}
 use Rattle.vg_linear.specs.Refusals.{AreRefused, AreTakenIn, IsExpandedOrTooLong, IsRefused, IsTakenFor, IsTypedIn}
 use Rattle.vg_linear.proofs.Lists.{get_at}
 use Rattle.vg_linear.proofs.Expanded.{among}
+use Rattle.vg_linear.proofs.Trimmed.{long_before}
 
 -- ---- the start
 
@@ -50,11 +52,12 @@ module _ (lay : Layout) (f : FirmProgram) where
       (r.0, inl r.1)
 
   module _ (flats : List Procedure) (are_flat : AreAllFlat lay (packed_of f) flats) (begun : List Procedure) (with_start : IsWithStart f flats begun) where
-    module _ (ms : List Procedure) (e : ms ≡ begun) (first : ℕ) where
+    module _ (bs : List Procedure) (same : bs ≡ begun) (trimmed : List Procedure) (are_trimmed : AreAllTrimmed bs trimmed) (ms : List Procedure)
+        (e : ms ≡ trimmed) (first : ℕ) where
       long : IsOneTooLong ms → IsOneTooLong flats
       long h =
           among flats (start_of f.main with_start.main.receives) (let three : 3 < 32768 = omega arith in three)
-          (subst IsOneTooLong (e ∙ with_start.behind) h)
+          (subst IsOneTooLong (same ∙ with_start.behind) (long_before bs trimmed are_trimmed (subst IsOneTooLong e h)))
 
       pub expanded_refused : (why : Refusal Fault) → IsExpandedOrTooLong (Err why) first ms → AreRefused (Err why) lay f
       expanded_refused Memory h = tt
@@ -71,8 +74,10 @@ module _ (lay : Layout) (f : FirmProgram) where
         are_flat = are_flat;
         begun = begun;
         with_start = with_start;
+        trimmed = trimmed;
+        are_trimmed = subst (λ z. AreAllTrimmed z trimmed) same are_trimmed;
         expanded = expanded;
-        are_expanded = subst (λ z. AreAllExpanded z begun expanded) is (subst (λ z. AreAllExpanded first z expanded) e are_expanded);
+        are_expanded = subst (λ z. AreAllExpanded z trimmed expanded) is (subst (λ z. AreAllExpanded first z expanded) e are_expanded);
         routines = subst (λ z. WithRoutines z expanded all) is routines;
       }
 

@@ -4,6 +4,7 @@ use Rattle.vg_codes.specs.Codes.{Codes}
 use Rattle.vg_firm.specs.declared.step.ArrayPlace.{ArrayPlace}
 use Rattle.vg_flatten_shapes.specs.declared.layout.Layout.{Layout}
 use Rattle.vg_flatten.specs.Columns.{RamStands, TableStands}
+use Rattle.vg_trimming.specs.Runs.{AreBytes}
 use Rattle.vg_packed.specs.declared.program.FirmProgram.{FirmProgram}
 use Rattle.vg_packed.specs.Programs.{handler_in, program_of}
 
@@ -17,3 +18,6 @@ pub record StandIn (k : Codes) (lay : Layout) (f : FirmProgram) (tables ram : Li
   -- handlers are those of the program, and procedures of it
   pub handlers : (v : ℕ) → handler v ≡ handler_in f.handlers v
   pub closed : (v q : ℕ) → handler v ≡ Some q → q < length f.procedures
+  -- both memories hold bytes
+  pub ram_bytes : AreBytes ram
+  pub table_bytes : AreBytes tables

@@ -12,6 +12,7 @@ use Rattle.vg_linear.specs.declared.whole.Linear.{Linear}
 use Rattle.vg_linear.specs.Laying.{layout_of}
 use Rattle.vg_linear.specs.Widths.{AllHaveWidths}
 use Rattle.vg_linear.specs.Flats.{AreAllFlat}
+use Rattle.vg_trimming.specs.Trimmed.{AreAllTrimmed}
 use Rattle.vg_linear.specs.Expanded.{AreAllExpanded}
 use Rattle.vg_linear.specs.Routines.{WithRoutines}
 
@@ -38,9 +39,12 @@ pub record AreAllMade (lay : Layout) (f : FirmProgram) (all : List Procedure) : 
   -- with the start behind them
   pub begun : List Procedure
   pub with_start : IsWithStart f flats begun
+  -- all trimmed
+  pub trimmed : List Procedure
+  pub are_trimmed : AreAllTrimmed begun trimmed
   -- all expanded, with the routines that they call behind these
   pub expanded : List Procedure
-  pub are_expanded : AreAllExpanded (first_routine f) begun expanded
+  pub are_expanded : AreAllExpanded (first_routine f) trimmed expanded
   pub routines : WithRoutines (first_routine f) expanded all
 
 pub record IsLinear (cs : List Column) (f : FirmProgram) (l : Linear) : Type 0 where

@@ -1,5 +1,5 @@
 //! The linear program of a packed one: where its columns stand and how its procedures are called, its procedures flattened with the start behind them,
-//! all of them expanded, and the routines that they call behind these.
+//! all of them trimmed and expanded, and the routines that they call behind these.
 #![tactic(auto)]
 
 pub mod expanding;

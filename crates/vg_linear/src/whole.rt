@@ -18,13 +18,14 @@ use vg_flatten_shapes::{Fault, Layout};
 use vg_lin::LinProc;
 use vg_packed::FirmProgram;
 use vg_placement::Column;
+use vg_trim::trim_all;
 
 /// A linear program.
 #[derive(Drop)]
 pub struct Linear {
     /// Where columns and tables stand, and how procedures are called.
     pub layout: Layout,
-    /// Those of the packed program, in their order, and the start, each expanded; and behind them, in the place of each of the four routines, the routine
+    /// Those of the packed program, in their order, and the start, each trimmed and expanded; and behind them, in the place of each of the four routines, the routine
     /// where one of these procedures calls it, and else a procedure that returns at once.
     pub procedures: Row<LinProc>,
     /// The place of the start: behind those of the packed program.
@@ -66,7 +67,7 @@ pub fn make_linear(
     })
 }
 
-// Those of the program, flattened, and the start, all of them expanded, and the routines that they call.
+// Those of the program, flattened, and the start, all of them trimmed and expanded, and the routines that they call.
 fn all_procedures(
     alloc: Global,
     layout: &Layout,
@@ -86,7 +87,7 @@ fn all_procedures(
     made_of(alloc, layout, firm, flats)
 }
 
-// The flattened procedures and the start, expanded, and the routines that they call.
+// The flattened procedures and the start, trimmed and expanded, and the routines that they call.
 fn made_of(
     alloc: Global,
     layout: &Layout,
@@ -102,7 +103,8 @@ fn made_of(
 {
     let first = firm.procedures.len() as u16 + 1;
     let begun = with_start(alloc, firm, flats)?;
-    let expanded = match expanded(alloc, begun.as_slice(), first) {
+    let trimmed = trim_all(alloc, begun.as_slice())?;
+    let expanded = match expanded(alloc, trimmed.as_slice(), first) {
         Ok(expanded) => expanded,
         Err(why) => return Err(why),
     };

@@ -157,22 +157,21 @@ fn is_main(code: &[Instr]) -> bool {
     }
 }
 
-// Division is called, and its result is cut to a byte.
+// Division is called, and its result is cut to a byte in the local that it came to. No run comes behind the return.
 fn is_tenth(code: &[Instr]) -> bool {
     match code {
         [
             Instr::Call(call),
             Instr::Plain(Plain::Compute(cut)),
-            Instr::Return(first, value),
-            Instr::Return(last, end),
+            Instr::Return(width, value),
+            Instr::Plain(Plain::Stop(end)),
         ] => {
             is_call_of(*call, 4)
                 && is_division(*call)
                 && is_cut(*cut)
-                && *first == 1
+                && *width == 1
                 && is_local(*value, 1)
-                && *last == 1
-                && is_known(*end, 0)
+                && *end == 0
         }
         _ => false,
     }

@@ -26,7 +26,7 @@ use Rattle.vg_laid.specs.Linked.{HasPiece, ProcedureLinked}
 use Rattle.vg_laid.specs.Images.{HandlerLinked, ProgramLinked}
 use Rattle.vg_tables.specs.declared.datum.Datum.{Datum}
 use Rattle.vg_tables.specs.Bytes.{byte_of}
-use Rattle.vg_laid.specs.Laid.{unknown, known, idle_from, codes_from, index_in, stub_at, stubs_code, codes_by, links_of}
+use Rattle.vg_laid.specs.Laid.{unknown, known, idle_from, codes_from, index_in, stub_at, stubs_code, found_from, codes_by, links_of}
 use Rattle.vg_laid.proofs.Laying.{pieces_size, entry_is}
 use Rattle.vg_laid.proofs.Within.{all_within}
 use Rattle.vg_laid.proofs.Leading.{procedure_linked, fits}
@@ -35,6 +35,7 @@ use Rattle.vg_link.specs.declared.linked.Linked.{Linked}
 use Rattle.vg_link.specs.declared.unlinked.Handler.{Handler}
 use Rattle.vg_link.specs.declared.unlinked.Unlinked.{Unlinked}
 use Rattle.vg_link.specs.Linking.{handler_in, stubs_of, slot_of, slots_upto, bytes_by, program_of, CanBeLinked, IsLinked, first_of, laid_of, idle_of, words_laid}
+use Rattle.vg_link.proofs.Before.{kept_found}
 use Rattle.vg_link.proofs.Handlers.{handler_there, slot_is, slot_low}
 
 none_past : (xs : List ℕ) (q : ℕ) → length xs ≤ q → get_or xs q 0 ≡ 0
@@ -243,7 +244,8 @@ module _ (u : Unlinked) (can : CanBeLinked u) (room : words_laid u < 65536) wher
         woken = refl;
         handlers = handled;
         passes = λ vector v none. slot_is u.handlers stubs (e.idle + 4) vector (let h = v.1 in omega (arith, h)) ∙ ap (slot_of stubs (e.idle + 4)) none;
-        codes = λ c m h. (let f = found_has 0 codes c m h in let z : m ≡ f.0 = omega (arith, f.1) in ap (code_from codes) z ∙ f.2);
+        codes = λ c m h. (let f = found_has 0 codes c m (kept_found u.start (found_from 0 codes c) m h) in
+            let z : m ≡ f.0 = omega (arith, f.1) in ap (code_from codes) z ∙ f.2);
         tables = refl;
         few_tables = subst (λ k. k ≤ 60000) (sym (length-map u.tables (byte_of (codes_by codes)))) can.few_tables;
       }

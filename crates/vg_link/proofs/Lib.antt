@@ -1,3 +1,4 @@
+pub mod Before
 pub mod Handlers
 pub mod Imaging
 pub mod Beginning

@@ -6,7 +6,7 @@ use Rattle.avr_isa.specs.Standing.{widths}
 use Rattle.vg_base.specs.declared.refusal.Refusal.{Refusal}
 use Rattle.vg_base.specs.declared.refusal.Refusal.TheVariants.{Fault, NoMemory}
 use Rattle.vg_meaning.specs.Outside.{IsVector}
-use Rattle.vg_codes.specs.Codes.{AreCodes}
+use Rattle.vg_codes.specs.Codes.{Codes, AreCodes}
 use Rattle.vg_lin.specs.Program.{Procedure, Program}
 use Rattle.vg_followed.specs.Reset.{reset_code}
 use Rattle.vg_templates.specs.Whole.{Links}
@@ -56,12 +56,20 @@ slots_upto hs stubs at (suc v) = slots_upto hs stubs at v ++ slot_of stubs at (h
 abbrev pub bytes_by : (codes : List ℕ) → List Datum → List ℕ
 bytes_by codes ds = map (byte_of (codes_by codes)) ds
 
+-- A code number leads to a procedure before the one with which a run begins, which are the methods, and to no other.
+abbrev pub kept_before : (start : ℕ) → Option ℕ → Option ℕ
+kept_before start (Some q) = if nat_lt q start then Some q else None
+kept_before start None = None
+
+abbrev pub codes_before : (start : ℕ) → Codes → Codes
+codes_before start k = record { code = k.code; at_code = λ code. kept_before start (k.at_code code) }
+
 abbrev pub program_of : Unlinked → (codes : List ℕ) → Program
 program_of u codes =
     record {
       procedures = u.procedures;
       dispatches = u.dispatches;
-      codes = codes_by codes;
+      codes = codes_before u.start (codes_by codes);
       tables = bytes_by codes u.tables;
       ram = take u.static_bytes (bytes_by codes u.tables);
       handler = handler_in u.handlers;

@@ -140,8 +140,8 @@ module _ (p : Program) (ready : IsReady p) where
     abbrev Begun : Config State → Type 0
     Begun c = IsAtFirst p c ⊎ IsAmong (a ∷ []) c.openings
 
-    main_named : (call : Calling) → call.callee ≡ ByNumber first.main → (q : ℕ) → IsAim call.callee q → (language p).named q ≡ Some a
-    main_named call e q aim = subst (λ z. (language p).named z ≡ Some a) (subst (λ z. IsAim z q) e aim) first.named
+    main_named : (call : Calling) → call.callee ≡ ByNumber first.main → (q : ℕ) → IsAim p call.callee q → (language p).named q ≡ Some a
+    main_named call e q aim = subst (λ z. (language p).named z ≡ Some a) (subst (λ z. IsAim p z q) e aim) first.named
 
     noted_first : (o : Option Active) (calls under : List Active) (openings : List (List Active)) → o ≡ Some a → under ≡ []
         → IsAmong (a ∷ []) (noted o under openings)

@@ -2,12 +2,13 @@
 use Rattle.std.specs.Prelude.{ℕ, ◌==◌, ◌&&◌, Bool, true, false, List, [], ◌++◌, length, take, drop, reverse, Option, Some, None, slice_get, if◌then◌else◌}
 use Rattle.std.proofs.Common.{◌≡◌, refl, subst, arith}
 use Rattle.std.proofs.lemmas.Option.{same_Some, none-some}
+use Rattle.vg_codes.specs.Codes.{code_in}
 use Rattle.vg_lin.specs.declared.instr.Callee.{Callee}
 use Rattle.vg_lin.specs.declared.instr.Callee.TheVariants.{Procedure as ByNumber, Code as ByCode}
 use Rattle.vg_lin.specs.declared.instr.Call.{Call as Calling}
-use Rattle.vg_lin.specs.Meaning.{operands, values, values_of, begun, same_widths, called, gives_to, entry_with, entry_of, entry_at, enter}
+use Rattle.vg_lin.specs.Meaning.{operands, values, values_of, begun, same_widths, with_code, called, gives_to, entry_with, entry_of, entry_at, enter}
 use Rattle.vg_lin.specs.Program.{Procedure, Program}
-use Rattle.vg_lin.specs.State.{Waiting, State}
+use Rattle.vg_lin.specs.State.{Waiting, State, value}
 use Rattle.vg_lin.specs.Steps.{Entry}
 use Rattle.vg_open_calls.specs.Open.{IsAim}
 
@@ -18,7 +19,7 @@ pub record Entered (p : Program) (call : Calling) (s : State) (e : Entry State) 
   pub there : slice_get p.procedures e.proc ≡ Some procedure
   pub empty : e.state.waiting ≡ []
   pub kept : e.kept.waiting ≡ drop call.pushed s.waiting
-  pub aim : IsAim call.callee e.proc
+  pub aim : IsAim p call.callee e.proc
   pub others : List Waiting
   pub registers : values (operands call.registers) s ≡ Some others
   pub many : length (reverse (take call.pushed s.waiting) ++ others) ≡ procedure.params
@@ -39,7 +40,7 @@ module _ (p : Program) (call : Calling) (s : State) (e : Entry State) where
   abbrev pushed : List Waiting
   pushed = reverse (take call.pushed s.waiting)
 
-  module _ (q : ℕ) (m : Procedure) (there : slice_get p.procedures q ≡ Some m) (aim : IsAim call.callee q) where
+  module _ (q : ℕ) (m : Procedure) (there : slice_get p.procedures q ≡ Some m) (aim : IsAim p call.callee q) where
     abbrev entry : List Waiting → Entry State
     entry xs = record { proc = q; state = record { locals = begun m.widths (values_of xs); waiting = []; ram = left.ram }; kept = left }
 
@@ -74,17 +75,21 @@ module _ (p : Program) (call : Calling) (s : State) (e : Entry State) where
     by_pushed false is = absurd (none-some e is)
     by_pushed true is = by_registers (values (operands call.registers) s) refl is
 
-  by_procedure : (q : ℕ) (o : Option Procedure) → slice_get p.procedures q ≡ o → IsAim call.callee q → entry_of q o call s ≡ Some e → Entered p call s e
+  by_procedure : (q : ℕ) (o : Option Procedure) → slice_get p.procedures q ≡ o → IsAim p call.callee q → entry_of q o call s ≡ Some e → Entered p call s e
   by_procedure q None there aim is = absurd (none-some e is)
   by_procedure q (Some m) there aim is = by_pushed q m there aim (length (take call.pushed s.waiting) == call.pushed) is
 
-  by_called : (o : Option ℕ) → ((q : ℕ) → o ≡ Some q → IsAim call.callee q) → entry_at p o call s ≡ Some e → Entered p call s e
+  by_called : (o : Option ℕ) → ((q : ℕ) → o ≡ Some q → IsAim p call.callee q) → entry_at p o call s ≡ Some e → Entered p call s e
   by_called None aims is = absurd (none-some e is)
   by_called (Some q) aims is = by_procedure q (slice_get p.procedures q) refl (aims q refl) is
 
-  aims_of : (callee : Callee) (q : ℕ) → called p callee s ≡ Some q → IsAim callee q
+  coded : (v : Option ℕ) (q : ℕ) → with_code p v ≡ Some q → (code : ℕ) × (p.codes.at_code code ≡ Some q)
+  coded None q e1 = absurd (none-some q e1)
+  coded (Some v) q e1 = (code_in v, e1)
+
+  aims_of : (callee : Callee) (q : ℕ) → called p callee s ≡ Some q → IsAim p callee q
   aims_of (ByNumber r) q e1 = same_Some r q e1
-  aims_of (ByCode a) q e1 = tt
+  aims_of (ByCode a) q e1 = coded (value a s) q e1
 
   pub entered : enter p call s ≡ Some e → Entered p call s e
   entered is = by_called (called p call.callee s) (aims_of call.callee) is

@@ -26,14 +26,14 @@ pub record HasWaits (p : Program) (m pc : ℕ) (s : State) : Type 0 where
   pub within : pc < length procedure.code
   pub waits : waiting_widths s.waiting ≡ waits_of procedure pc
 
--- A callee is this procedure, as far as it is told before the run.
-abbrev pub IsAim : Callee → (q : ℕ) → Type 0
-IsAim (ByNumber r) q = r ≡ q
-IsAim (ByCode a) q = Unit {0}
+-- A callee is this procedure, as far as it is told before the run: that of its number, or one for which a code number stands.
+abbrev pub IsAim : Program → Callee → (q : ℕ) → Type 0
+IsAim p (ByNumber r) q = r ≡ q
+IsAim p (ByCode a) q = (code : ℕ) × (p.codes.at_code code ≡ Some q)
 
 -- A frame waits for procedure q: at a call that may lead there, or at an instruction that idles, where it is the handler of an interrupt.
 abbrev pub IsOpener : Program → (q : ℕ) → Frame State → Awaits → Type 0
-IsOpener p q f (Result call) = (fetch (codes_in p.procedures) f.proc f.pc ≡ Some (Call call)) × IsAim call.callee q
+IsOpener p q f (Result call) = (fetch (codes_in p.procedures) f.proc f.pc ≡ Some (Call call)) × IsAim p call.callee q
 IsOpener p q f Interrupt = (fetch (codes_in p.procedures) f.proc f.pc ≡ Some Idle) × ((v : ℕ) × (p.handler v ≡ Some q))
 
 -- Procedure m is open above these frames, of which the deepest is that of the procedure with which a run begins. What waits in each of them is

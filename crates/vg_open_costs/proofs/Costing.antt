@@ -18,19 +18,19 @@ use Rattle.vg_open_calls.specs.Noted.{IsAmong, IsAtFirst}
 use Rattle.vg_open_calls.proofs.Moving.{fetch_in}
 use Rattle.vg_open_calls.proofs.Along.{runs_open, first_open, open_after, runs_noted, runs_begun}
 use Rattle.vg_frame_costs.specs.Fitting.{bytes_of, procedure_bytes, idle_bytes, FramesFit}
-use Rattle.vg_open_costs.specs.Taken.{frame_in, opening_of, callers_take, taken, HandlersBefore}
+use Rattle.vg_open_costs.specs.Taken.{frame_in, opening_of, callers_take, taken, LeadBefore}
 use Rattle.vg_open_costs.proofs.Fitted.{waits_few, idles}
 use Rattle.vg_open_costs.proofs.Covered.{among_most, noted_most, first_is, Cover, covers, calls_first}
 use Rattle.vg_open_costs.proofs.Stepping.{opening_within, IsQuiet, IsSettled, IsHeld, stack_of, held, settled_next}
 
 module _ (p : Program) (cs : List ℕ) (ready : IsReady p) (fit : FramesFit p.procedures p.start cs) where
-  pub first_takes : HandlersBefore p → opening_of p p.start ≤ 4
+  pub first_takes : LeadBefore p → opening_of p p.start ≤ 4
   first_takes before =
       let within = opening_within p ready p.start ready.first ready.start in
       let frame = ap frame_in ready.start in
       let bytes = (first_is p cs ready fit before).bytes in omega (arith, within, frame, bytes)
 
-  module _ (before : HandlersBefore p) (reads interrupts : List ℕ) where
+  module _ (before : LeadBefore p) (reads interrupts : List ℕ) where
     abbrev at : ℕ → Config State
     at j = run p j reads interrupts
 

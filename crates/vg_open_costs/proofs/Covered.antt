@@ -1,5 +1,5 @@
 -- The bytes of open procedures are covered by the costs of the calls that they are.
-use Rattle.std.specs.Prelude.{ℕ, suc, ◌+◌, ◌≤◌, List, [], ◌∷◌, Option, Some, None, slice_get}
+use Rattle.std.specs.Prelude.{ℕ, suc, ◌+◌, ◌≤◌, Bool, true, false, if◌then◌else◌, List, [], ◌∷◌, Option, Some, None, is_some, slice_get}
 use Rattle.std.proofs.Common.{◌≡◌, inl, inr, refl, sym, ap, ◌∙◌, subst, arith}
 use Rattle.std.proofs.lemmas.Option.{none-some, same_Some}
 use Rattle.vg_meaning.specs.History.{Active, Calling}
@@ -16,10 +16,10 @@ use Rattle.vg_lin.specs.Steps.{Awaits, Result, Interrupt, Frame, with_named, ope
 use Rattle.vg_open_calls.specs.Open.{IsReady, HasWaits, IsAim, IsOpener, AreOpen}
 use Rattle.vg_open_calls.specs.Noted.{IsAmong, IsNoted, CallsFirst}
 use Rattle.vg_open_calls.proofs.Moving.{fetch_in}
-use Rattle.vg_frame_costs.specs.Fitting.{bytes_of, procedure_bytes, idle_bytes, routine_bytes, method_in, IsSomeMethod, IsMethodCallee, IsMethodCall}
-use Rattle.vg_frame_costs.specs.Fitting.{FitsAs, Fits, BeginsWithCall, IsFirst, IsFirstIn, IsMethod, FramesFit}
-use Rattle.vg_open_costs.specs.Taken.{frame_in, frame_of, between, callers_take, HandlersBefore}
-use Rattle.vg_open_costs.proofs.Fitted.{all_at, all_before, waits_few, idle_few}
+use Rattle.vg_frame_costs.specs.Fitting.{bytes_of, procedure_bytes, idle_bytes, routine_bytes, method_in, is_method_callee, calls_methods, above}
+use Rattle.vg_frame_costs.specs.Fitting.{FitsAs, Fits, IsByNumber, BeginsWithCall, IsFirst, IsFirstIn, IsMethod, FramesFit}
+use Rattle.vg_open_costs.specs.Taken.{frame_in, frame_of, between, callers_take, LeadBefore}
+use Rattle.vg_open_costs.proofs.Fitted.{all_at, all_before, call_at, above_many, waits_few}
 
 -- ---- costs
 
@@ -42,11 +42,15 @@ total_with cs (Some method) calls = refl
 total_with cs None calls = omega arith
 
 -- what a method has left for a procedure above it that is none
-abbrev spare : Option ℕ → ℕ
-spare (Some method) = routine_bytes
-spare None = 0
+abbrev spare : List Procedure → Procedure → Option ℕ → ℕ
+spare ps procedure (Some method) = above ps procedure
+spare ps procedure None = 0
 
-module _ (p : Program) (cs : List ℕ) (ready : IsReady p) (fit : FramesFit p.procedures p.start cs) (before : HandlersBefore p) where
+clashes : {C : Type 0} (b : Bool) → b ≡ true → b ≡ false → C
+clashes true e h = absurd (let clash : true ≡ false = h in cc)
+clashes false e h = absurd (let clash : false ≡ true = e in cc)
+
+module _ (p : Program) (cs : List ℕ) (ready : IsReady p) (fit : FramesFit p.procedures p.start cs) (before : LeadBefore p) where
   pub fits_at : (m : ℕ) (procedure : Procedure) → slice_get p.procedures m ≡ Some procedure → Fits p.procedures cs procedure
   fits_at m procedure e = all_at (Fits p.procedures cs) p.procedures m procedure fit.each e
 
@@ -68,29 +72,32 @@ module _ (p : Program) (cs : List ℕ) (ready : IsReady p) (fit : FramesFit p.pr
   -- ---- what is no method is opened by a method, at a call
 
   abbrev IsMethodAt : Option Procedure → Type 0
-  IsMethodAt o = IsSomeMethod (method_in o)
+  IsMethodAt o = is_some (method_in o) ≡ true
 
-  handled : (v q : ℕ) (procedure : Procedure) → p.handler v ≡ Some q → slice_get p.procedures q ≡ Some procedure → IsSomeMethod procedure.method
-  handled v q procedure e there = all_before IsMethod p.procedures p.start q procedure fit.methods (before v q e) there
+  handled : (v q : ℕ) (procedure : Procedure) → p.handler v ≡ Some q → slice_get p.procedures q ≡ Some procedure → is_some procedure.method ≡ true
+  handled v q procedure e there = all_before IsMethod p.procedures p.start q procedure fit.methods (before.handlers v q e) there
 
-  called_by : (callee : Callee) (q : ℕ) (procedure : Procedure) → slice_get p.procedures q ≡ Some procedure → IsAim callee q
-      → IsMethodCallee p.procedures callee → IsSomeMethod procedure.method
+  called_by : (callee : Callee) (q : ℕ) (procedure : Procedure) → slice_get p.procedures q ≡ Some procedure → IsAim p callee q
+      → is_method_callee p.procedures callee ≡ true → is_some procedure.method ≡ true
   called_by (ByNumber r) q procedure there aim h = subst IsMethodAt there (subst (λ z. IsMethodAt (slice_get p.procedures z)) aim h)
-  called_by (ByCode a) q procedure there aim h = absurd h
+  called_by (ByCode a) q procedure there (code, e) h = all_before IsMethod p.procedures p.start q procedure fit.methods (before.codes code q e) there
 
-  -- a procedure that is no method calls methods
+  -- code whose calls are of methods opens methods
   opened_method : (q : ℕ) (procedure : Procedure) → slice_get p.procedures q ≡ Some procedure → (f : Frame State) (caller : Procedure)
-      → slice_get p.procedures f.proc ≡ Some caller → caller.method ≡ None → (a : Awaits) → IsOpener p q f a → IsSomeMethod procedure.method
-  opened_method q procedure there f caller is unnamed Interrupt (e, (v, h)) = handled v q procedure h there
-  opened_method q procedure there f caller is unnamed (Result call) (e, aim) =
+      → slice_get p.procedures f.proc ≡ Some caller → calls_methods p.procedures caller.code ≡ true → (a : Awaits) → IsOpener p q f a
+      → is_some procedure.method ≡ true
+  opened_method q procedure there f caller is all Interrupt (e, (v, h)) = handled v q procedure h there
+  opened_method q procedure there f caller is all (Result call) (e, aim) =
       called_by call.callee q procedure there aim
-      (all_at (IsMethodCall p.procedures) caller.code f.pc (Call call) (subst (λ o. FitsAs p.procedures cs caller o) unnamed (fits_at f.proc caller is)).1
-      (sym (fetch_in p.procedures f.proc caller is f.pc) ∙ e))
+      (call_at p.procedures caller.code f.pc (Call call) all (sym (fetch_in p.procedures f.proc caller is f.pc) ∙ e))
+
+  unnamed_opened : (q : ℕ) (procedure : Procedure) → procedure.method ≡ None → is_some procedure.method ≡ true → ⊥
+  unnamed_opened q procedure unnamed h = absurd (let clash : false ≡ true = ap is_some (sym unnamed) ∙ h in cc)
 
   opened_at_call : (q : ℕ) (procedure : Procedure) → slice_get p.procedures q ≡ Some procedure → procedure.method ≡ None → (f : Frame State) (a : Awaits)
       → IsOpener p q f a → between a ≡ 0
   opened_at_call q procedure there unnamed f (Result call) h = refl
-  opened_at_call q procedure there unnamed f Interrupt (e, (v, h)) = absurd (subst IsSomeMethod unnamed (handled v q procedure h there))
+  opened_at_call q procedure there unnamed f Interrupt (e, (v, h)) = absurd (unnamed_opened q procedure unnamed (handled v q procedure h there))
 
   -- ---- all that are open
 
@@ -100,7 +107,7 @@ module _ (p : Program) (cs : List ℕ) (ready : IsReady p) (fit : FramesFit p.pr
       procedure_bytes procedure + idle_bytes procedure.code + callers_take p (f ∷ fs) ≤ 4 + total_cost cs (open_calls (language p) m (f ∷ fs))
 
   pub record Cover (m : ℕ) (fs : List (Frame State)) (procedure : Procedure) : Type 0 where
-    pub all : procedure_bytes procedure + callers_take p fs + spare procedure.method ≤ 4 + total_cost cs (open_calls (language p) m fs)
+    pub all : procedure_bytes procedure + callers_take p fs + spare p.procedures procedure procedure.method ≤ 4 + total_cost cs (open_calls (language p) m fs)
     pub idling : Idles procedure m fs
 
   between_few : (a : Awaits) → between a ≤ 4
@@ -109,7 +116,7 @@ module _ (p : Program) (cs : List ℕ) (ready : IsReady p) (fit : FramesFit p.pr
 
   -- what the callers take, by what the newest of them does
   below : (f : Frame State) (fs : List (Frame State)) (w : HasWaits p f.proc (suc f.pc) f.kept) → Cover f.proc fs w.procedure
-      → callers_take p (f ∷ fs) + spare w.procedure.method ≤ between f.awaits + 4 + total_cost cs (open_below (language p) (f ∷ fs))
+      → callers_take p (f ∷ fs) + spare p.procedures w.procedure w.procedure.method ≤ between f.awaits + 4 + total_cost cs (open_below (language p) (f ∷ fs))
   below f fs w c =
       let waits = ap bytes_of w.waits in
       let few = waits_few w.procedure (ready.sound f.proc w.procedure w.there) (suc f.pc) in
@@ -124,8 +131,8 @@ module _ (p : Program) (cs : List ℕ) (ready : IsReady p) (fit : FramesFit p.pr
       let total = total_is m procedure there (f ∷ fs) in
       let rest = below f fs w c in
       let space = between_few f.awaits in
-      let spares = ap spare is in
-      let idle = idle_few procedure.code in
+      let spares = ap (spare p.procedures procedure) is in
+      let idle = above_many p.procedures procedure in
       record { all = omega (arith, fits, cost, total, rest, space, spares); idling = omega (arith, fits, cost, total, rest, space, idle) }
   method_covers None m f fs procedure there is opener w c =
       let fits = (subst (λ o. FitsAs p.procedures cs procedure o) is (fits_at m procedure there)).0 in
@@ -133,27 +140,31 @@ module _ (p : Program) (cs : List ℕ) (ready : IsReady p) (fit : FramesFit p.pr
       let total = total_is m procedure there (f ∷ fs) in
       let rest = below f fs w c in
       let space = opened_at_call m procedure there is f f.awaits opener in
-      let spares = ap spare is in
-      let caller = spare_of w.procedure.method refl in
+      let spares = ap (spare p.procedures procedure) is in
+      let caller = spare_of w.procedure.method refl (calls_methods p.procedures w.procedure.code) refl in
       record { all = omega (arith, fits, cost, total, rest, space, spares, caller); idling = omega (arith, fits, cost, total, rest, space, caller) }
     where
-      spare_of : (o : Option ℕ) → w.procedure.method ≡ o → spare w.procedure.method ≡ routine_bytes
-      spare_of (Some method) e = ap spare e
-      spare_of None e = absurd (subst IsSomeMethod is (opened_method m procedure there f w.procedure w.there e f.awaits opener))
+      spare_of : (o : Option ℕ) → w.procedure.method ≡ o → (b : Bool) → calls_methods p.procedures w.procedure.code ≡ b
+          → spare p.procedures w.procedure w.procedure.method ≡ routine_bytes
+      spare_of o e true all = absurd (unnamed_opened m procedure is (opened_method m procedure there f w.procedure w.there all f.awaits opener))
+      spare_of (Some method) e false others =
+          ap (spare p.procedures w.procedure) e ∙ ap (λ b. if b then idle_bytes w.procedure.code else routine_bytes) others
+      spare_of None e false others = clashes (calls_methods p.procedures w.procedure.code)
+          (subst (λ o. FitsAs p.procedures cs w.procedure o) e (fits_at f.proc w.procedure w.there)).1 others
 
   pub covers : (m : ℕ) (fs : List (Frame State)) (procedure : Procedure) → slice_get p.procedures m ≡ Some procedure → AreOpen p m fs → Cover m fs procedure
   covers m [] procedure there e =
       let same = same_Some procedure ready.first (sym there ∙ ap (slice_get p.procedures) e ∙ ready.start) in
       let bytes = subst (λ z. procedure_bytes z ≤ 4) (sym same) first_is.bytes in
-      let spares = ap (λ z. spare z.method) same ∙ ap spare first_is.unnamed in
+      let spares = ap (λ (z : Procedure). spare p.procedures z z.method) same ∙ ap (spare p.procedures ready.first) first_is.unnamed in
       record { all = omega (arith, bytes, spares); idling = tt }
   covers m (f ∷ fs) procedure there (opener, (w, rest)) =
       method_covers procedure.method m f fs procedure there refl opener w (covers f.proc fs w.procedure w.there rest)
 
   -- ---- the first call
 
-  first_call : (is : List Instr) → BeginsWithCall is → (call : CallTo) × (slice_get is 0 ≡ Some (Call call))
-  first_call (Call c ∷ is) h = (c, refl)
+  first_call : (is : List Instr) → BeginsWithCall is → (call : CallTo) × (slice_get is 0 ≡ Some (Call call)) × IsByNumber call.callee
+  first_call (Call c ∷ is) h = (c, refl, h)
   first_call [] h = absurd h
   first_call (Plain q ∷ is) h = absurd h
   first_call (When t to ∷ is) h = absurd h
@@ -169,8 +180,8 @@ module _ (p : Program) (cs : List ℕ) (ready : IsReady p) (fit : FramesFit p.pr
     pub cost : 4 ≤ cost_of cs method
 
   by_method : (call : CallTo) → fetch (codes_in p.procedures) p.start 0 ≡ Some (Call call) → (q : ℕ) → call.callee ≡ ByNumber q → (o : Option Procedure)
-      → slice_get p.procedures q ≡ o → (x : Option ℕ) → method_in o ≡ x → IsSomeMethod x → FirstCall
-  by_method call first q callee o there None e h = absurd h
+      → slice_get p.procedures q ≡ o → (x : Option ℕ) → method_in o ≡ x → is_some x ≡ true → FirstCall
+  by_method call first q callee o there None e h = absurd (let clash : false ≡ true = h in cc)
   by_method call first q callee None there (Some method) e h = absurd (none-some method e)
   by_method call first q callee (Some procedure) there (Some method) e h = record {
     method = method;
@@ -186,13 +197,13 @@ module _ (p : Program) (cs : List ℕ) (ready : IsReady p) (fit : FramesFit p.pr
   }
 
   by_callee : (call : CallTo) → fetch (codes_in p.procedures) p.start 0 ≡ Some (Call call) → (callee : Callee) → call.callee ≡ callee
-      → IsMethodCallee p.procedures callee → FirstCall
-  by_callee call first (ByNumber q) e h = by_method call first q e (slice_get p.procedures q) refl (method_in (slice_get p.procedures q)) refl h
-  by_callee call first (ByCode a) e h = absurd h
+      → IsByNumber callee → is_method_callee p.procedures callee ≡ true → FirstCall
+  by_callee call first (ByNumber q) e number h = by_method call first q e (slice_get p.procedures q) refl (method_in (slice_get p.procedures q)) refl h
+  by_callee call first (ByCode a) e number h = absurd number
 
   pub calls_first : FirstCall
   calls_first =
-      let (call, e) = first_call ready.first.code first_is.calls in
-      by_callee call (fetch_in p.procedures p.start ready.first ready.start 0 ∙ e) call.callee refl
-      (all_at (IsMethodCall p.procedures) ready.first.code 0 (Call call)
+      let (call, e, number) = first_call ready.first.code first_is.calls in
+      by_callee call (fetch_in p.procedures p.start ready.first ready.start 0 ∙ e) call.callee refl number
+      (call_at p.procedures ready.first.code 0 (Call call)
       (subst (λ o. FitsAs p.procedures cs ready.first o) first_is.unnamed (fits_at p.start ready.first ready.start)).1 e)

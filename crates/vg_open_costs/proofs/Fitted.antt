@@ -1,7 +1,8 @@
 -- What is known of procedures that fit, and how many bytes wait in them.
-use Rattle.std.specs.Prelude.{ℕ, zero, suc, ◌+◌, ◌-◌, ◌*◌, ◌<◌, ◌≤◌, List, [], ◌∷◌, ◌++◌, length, drop, take, Some, slice_get}
+use Rattle.std.specs.Prelude.{ℕ, zero, suc, ◌+◌, ◌-◌, ◌*◌, ◌<◌, ◌≤◌, Bool, true, false, ◌&&◌, if◌then◌else◌, List, [], ◌∷◌, ◌++◌, length, drop, take}
+use Rattle.std.specs.Prelude.{Some, slice_get}
 use Rattle.std.specs.List.{AllByRecursion}
-use Rattle.std.proofs.Common.{◌≡◌, refl, subst, arith}
+use Rattle.std.proofs.Common.{◌≡◌, refl, sym, ap, ◌∙◌, subst, arith}
 use Rattle.std.proofs.lemmas.List.{length-drop}
 use Rattle.std.proofs.lemmas.Option.{none-some, same_Some}
 use Rattle.vg_lin.specs.declared.instr.Plain.{Plain as PlainInstr}
@@ -10,7 +11,7 @@ use Rattle.vg_lin.specs.declared.instr.Instr.{Instr}
 use Rattle.vg_lin.specs.declared.instr.Instr.TheVariants.{Plain, When, Unless, Jump, Call, Return, Idle}
 use Rattle.vg_lin.specs.Program.{Procedure}
 use Rattle.vg_lin.specs.Sound.{AreOperands, behind, waits_in, waits_of, IsSound}
-use Rattle.vg_frame_costs.specs.Fitting.{bytes_of, waiting_behind, most_waiting, idle_bytes}
+use Rattle.vg_frame_costs.specs.Fitting.{bytes_of, waiting_behind, most_waiting, idle_bytes, routine_bytes, is_method_call, calls_methods, above}
 
 -- ---- rows
 
@@ -24,6 +25,18 @@ all_before P [] n k x h less e = absurd (none-some x e)
 all_before P (y ∷ ys) zero k x h less e = absurd (omega (arith, less))
 all_before P (y ∷ ys) (suc n) zero x h less e = subst P (same_Some y x e) h.0
 all_before P (y ∷ ys) (suc n) (suc k) x h less e = all_before P ys n k x h.1 (omega (arith, less)) e
+
+-- ---- calls
+
+both_true : (a b : Bool) → (a && b) ≡ true → (a ≡ true) × (b ≡ true)
+both_true true b e = (refl, e)
+both_true false b e = absurd (let clash : false ≡ true = e in cc)
+
+-- each instruction of code whose calls are of methods
+pub call_at : (ps : List Procedure) (is : List Instr) (k : ℕ) (i : Instr) → calls_methods ps is ≡ true → slice_get is k ≡ Some i → is_method_call ps i ≡ true
+call_at ps [] k i h e = absurd (none-some i e)
+call_at ps (j ∷ is) zero i h e = ap (is_method_call ps) (sym (same_Some j i e)) ∙ (both_true (is_method_call ps j) (calls_methods ps is) h).0
+call_at ps (j ∷ is) (suc k) i h e = call_at ps is k i (both_true (is_method_call ps j) (calls_methods ps is) h).1 e
 
 -- ---- values that wait
 
@@ -114,6 +127,14 @@ idle_few (Unless t to ∷ is) = idle_few is
 idle_few (Jump to ∷ is) = idle_few is
 idle_few (Call c ∷ is) = idle_few is
 idle_few (Return w a ∷ is) = idle_few is
+
+-- what may lie above a method is no less than idling takes
+pub above_many : (ps : List Procedure) (m : Procedure) → idle_bytes m.code ≤ above ps m
+above_many ps m = by (calls_methods ps m.code)
+  where
+    by : (b : Bool) → idle_bytes m.code ≤ (if b then idle_bytes m.code else routine_bytes)
+    by true = omega arith
+    by false = let few = idle_few m.code in omega (arith, few)
 
 -- ---- sums
 

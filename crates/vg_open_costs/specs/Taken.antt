@@ -72,6 +72,7 @@ step_takes p c None = instr_takes p c.state (fetch (codes_in p.procedures) c.pro
 abbrev pub taken : Program → Config State → ℕ
 taken p c = stack_takes p c.proc c.state c.frames + step_takes p c c.woken
 
--- the handlers of interrupts stand before the procedure with which a run begins
-abbrev pub HandlersBefore : Program → Type 0
-HandlersBefore p = (v q : ℕ) → p.handler v ≡ Some q → q < p.start
+-- What an interrupt or a code number leads to stands before the procedure with which a run begins.
+pub record LeadBefore (p : Program) : Type 0 where
+  pub handlers : (v q : ℕ) → p.handler v ≡ Some q → q < p.start
+  pub codes : (code q : ℕ) → p.codes.at_code code ≡ Some q → q < p.start

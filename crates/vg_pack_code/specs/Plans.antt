@@ -43,10 +43,14 @@ column_of None = None
 abbrev pub no_table : ℕ
 no_table = 65535
 
+-- No column has this number: that of the elements of a type whose kept arrays have no elements, or of which no array is kept.
+abbrev pub no_column : ℕ
+no_column = 65535
+
 -- The elements of a type: those of no type stand nowhere.
 abbrev pub items_in : Option Elements → Elements
 items_in (Some e) = e
-items_in None = record { home = Ram; column = 0; address = 0; table = no_table; width = 0 }
+items_in None = record { home = Ram; column = no_column; address = 0; table = no_table; width = 0 }
 
 abbrev pub holds : Option Bool → Bool
 holds (Some b) = b

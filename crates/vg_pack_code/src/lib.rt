@@ -11,4 +11,4 @@ pub mod steps;
 
 pub use code::packed_code;
 pub use operators::width_of;
-pub use plan::{Asked, ColumnPlace, NO_TABLE, Plan, number_of, span_of};
+pub use plan::{Asked, ColumnPlace, NO_COLUMN, NO_TABLE, Plan, number_of, span_of};

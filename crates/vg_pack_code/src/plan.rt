@@ -11,6 +11,9 @@ use vg_number::{Numbers, Span};
 /// No table has this number: that of a type of which no array is kept.
 pub const NO_TABLE: u16 = 65_535;
 
+/// No column has this number: that of the elements of a type whose kept arrays have no elements, or of which no array is kept.
+pub const NO_COLUMN: u16 = 65_535;
+
 /// Where the column of a field stands: its home, and its place among the columns of this home.
 #[derive(Clone, Copy)]
 pub struct ColumnPlace {
@@ -78,7 +81,7 @@ impl Plan {
             Some(found) => *found,
             None => Elements {
                 home: Home::Ram,
-                column: 0,
+                column: NO_COLUMN,
                 address: 0,
                 table: NO_TABLE,
                 width: 0,

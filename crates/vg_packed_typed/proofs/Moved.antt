@@ -24,7 +24,7 @@ use Rattle.vg_firm.specs.declared.step.Step.TheVariants as firm
 use Rattle.vg_firm.specs.declared.step.Prefix.{Prefix}
 use Rattle.vg_firm.specs.Program.{Program as FirmProgram}
 use Rattle.vg_flatten_shapes.specs.declared.layout.Layout.{Layout as Placed}
-use Rattle.vg_firm_typed.specs.Steps.{columns_of, HasElements, LacksTable, Names}
+use Rattle.vg_firm_typed.specs.Steps.{columns_of, HasElements, LacksTable, LacksColumn, Names}
 use Rattle.vg_firm_typed.specs.Steps as firm_steps
 use Rattle.vg_firm_typed.specs.Typed.{Known, Leads, Typed, IsTyped}
 use Rattle.vg_firm_typed.specs.Typed as firm_typed
@@ -175,7 +175,8 @@ module _ (p : Tables) (l : Layout) (k : Codes) (f : FirmProgram) (lay : Placed) 
   step_typed looped calls o below x y xs ys (SetField at i) t a c = store_at_typed looped below x y at i a c
   step_typed looped calls o below x y xs ys (SetItem at u) (t_set_item {e = e} h sub) a c =
       one_step below x y (SetItem at u) (firm.StoreItem (l.items u)) refl refl (λ n z. tt)
-      (subst (λ z. HasElements lay (columns_of lay z) (l.items u) ⊎ LacksTable lay (l.items u).table) a (suits.items u e h)) c
+      (subst (λ z. HasElements lay (columns_of lay z) (l.items u) ⊎ (LacksTable lay (l.items u).table ⊎ LacksColumn lay (columns_of lay z) (l.items u))) a
+      (suits.items u e h)) c
   step_typed looped calls o below x y xs ys Forget t a c = one_step below x y Forget firm.Forget refl refl (λ n z. tt) tt c
   step_typed looped calls o below x y xs ys (Super d count) t a c = absurd a
 

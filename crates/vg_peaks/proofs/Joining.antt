@@ -20,7 +20,8 @@ use Rattle.vg_lin.specs.Program.{Program}
 use Rattle.vg_lin.specs.Sessions.{world, ShowsEnd}
 use Rattle.vg_lin.specs.State.{State}
 use Rattle.vg_lin.specs.Steps.{Config}
-use Rattle.vg_expand.specs.Runs.{ShowsSame, RunsAs}
+use Rattle.vg_expand.specs.Runs.{ShowsSame}
+use Rattle.vg_trimming.specs.Runs.{RunsAsRead}
 use Rattle.vg_flatten_shapes.specs.declared.layout.Layout.{Layout}
 use Rattle.vg_flatten.specs.Flattened.{AreFlat}
 use Rattle.vg_flattened.proofs.RunRight.{follows}
@@ -101,7 +102,7 @@ module _ (e : Run) (x : Links) (new : Program) (st : Stands e x new) (b : Begins
   does OutOfRoom h = over OutOfRoom h
   does Wrong h = over Wrong h
 
-pub within_peak : (k : Codes) (lay : Layout) (f : FirmProgram) (p new : Program) → AreFlat k lay f p → RunsAs p new → (e : Run) (x : Links)
+pub within_peak : (k : Codes) (lay : Layout) (f : FirmProgram) (p new : Program) → AreFlat k lay f p → RunsAsRead p new → (e : Run) (x : Links)
     → Stands e x new → Begins e x new → (cs : List ℕ) → HasFitFrames x new cs → (memory : PowerOn) → IsPowerOn memory
     → (clock : ℕ) (deepest : Option ℕ) (reads interrupts : List ℕ) (t : Firm) (v : World History) (why : End)
     → AreReads reads → AreVectors interrupts → IsLegal why
@@ -116,7 +117,7 @@ within_peak k lay f p new flat as' e x st b cs has memory powered clock deepest 
 
     by_run : (j : ℕ) × (clock ≤ v.clock + j) × ShowsEnd why v (run p j reads interrupts)
         → (n : ℕ) × (clock ≤ v.clock + n) × DoesWithinPeak e cs n memory reads interrupts why v
-    by_run (j, spent, shows) = by_steps (as' j reads interrupts (not_wrong why (run p j reads interrupts) legal shows.ending))
+    by_run (j, spent, shows) = by_steps (as' j reads interrupts r (not_wrong why (run p j reads interrupts) legal shows.ending))
       where
         by_steps : (m : ℕ) × (j ≤ m) × ShowsSame (run p j reads interrupts) (run new m reads interrupts)
             → (n : ℕ) × (clock ≤ v.clock + n) × DoesWithinPeak e cs n memory reads interrupts why v

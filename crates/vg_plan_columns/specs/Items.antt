@@ -8,11 +8,11 @@ use Rattle.vg_placement.specs.declared.column.Held.{Held}
 use Rattle.vg_placement.specs.declared.column.Held.TheVariants.{Initial, Field as TheField, Elements as TheItems, Table as TheTable}
 use Rattle.vg_placement.specs.declared.column.Column.{Column}
 use Rattle.vg_placement.specs.Columns.{address_for, ram_behind, flash_behind, column_width}
-use Rattle.vg_pack_code.specs.Plans.{items_in, no_table}
+use Rattle.vg_pack_code.specs.Plans.{items_in, no_column, no_table}
 
 -- The elements of a type that has neither a column nor a table.
 abbrev pub no_items : CoreType → Elements
-no_items t = record { home = Ram; column = 0; address = 0; table = no_table; width = column_width t }
+no_items t = record { home = Ram; column = no_column; address = 0; table = no_table; width = column_width t }
 
 -- The elements of the type t stand in this column.
 abbrev pub stood : (t : ℕ) → Home → (column address : ℕ) → List Elements → List Elements

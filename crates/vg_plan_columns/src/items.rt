@@ -7,7 +7,7 @@ use std::alloc::Global;
 use vg_base::{NoMemory, Row};
 use vg_core::CoreType;
 use vg_firm::{Elements, Home};
-use vg_pack_code::{NO_TABLE, width_of};
+use vg_pack_code::{NO_COLUMN, NO_TABLE, width_of};
 use vg_placement::{Column, Held};
 
 /// Of each type, where the elements of its arrays stand, and which table has the places of these arrays.
@@ -46,7 +46,7 @@ fn without_columns(alloc: Global, types: &[CoreType]) -> Result<Vec<Elements>, N
     for type_ in types {
         items.push(Elements {
             home: Home::Ram,
-            column: 0,
+            column: NO_COLUMN,
             address: 0,
             table: NO_TABLE,
             width: width_of(*type_),

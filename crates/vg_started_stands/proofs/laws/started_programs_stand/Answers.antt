@@ -2,13 +2,13 @@ use Rattle.vg_packed.specs.Programs.{program_of}
 use Rattle.vg_table_bytes.specs.Bytes.{columns_bytes, ram_widths, table_bytes_of}
 use Rattle.vg_started_bytes.specs.Started.{bytes_in, ram_places}
 use Rattle.vg_started_bytes.proofs.Ends as ends
-use Rattle.vg_started_stands.proofs.Stands.{columns_stand, table_stands, tables_known}
+use Rattle.vg_started_stands.proofs.Stands.{columns_stand, table_stands, columns_known, tables_known}
 use Rattle.vg_started_stands.proofs.laws.started_programs_stand.Goals as goal
 
 pub returns-clause-ram : goal.returns-clause-ram
 returns-clause-ram c = λ k p n κ cs f placed rows.
     columns_stand (bytes_in k (columns_bytes (ram_widths cs.list) 0 f.columns)) (ram_places cs.list) (program_of k f).ram
-    (ends.columns_stand k p n κ cs f placed rows)
+    (ends.columns_stand k p n κ cs f placed rows) (columns_known k cs.list f rows.lengths)
 
 pub returns-clause-flash : goal.returns-clause-flash
 returns-clause-flash c = λ k p n κ cs f placed rows t address arrays e1 e2.

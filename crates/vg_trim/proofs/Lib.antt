@@ -1,0 +1,4 @@
+pub mod Counted
+pub mod Ranged
+pub mod Flowing
+pub mod Soundness

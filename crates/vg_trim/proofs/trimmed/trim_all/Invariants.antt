@@ -1,0 +1,6 @@
+use Rattle.std.proofs.Common.{take}
+use Rattle.vg_trimming.specs.Trimmed.{AreAllTrimmed}
+use Rattle.vg_trim.proofs.trimmed.trim_all.Given as goal
+
+abbrev pub invariant-loop-procedure : goal.invariant-loop-procedure
+invariant-loop-procedure l = AreAllTrimmed (take l.procedure-index l.procedures) l.row

@@ -1,0 +1,46 @@
+-- Where instructions lead, and what they change of what waits.
+use Rattle.std.specs.Prelude.{◌≡◌, ℕ, suc, ◌<◌, Bool, true, false, Option, Some, None}
+use Rattle.vg_lin.specs.declared.instr.Plain.{Plain as PlainInstr}
+use Rattle.vg_lin.specs.declared.instr.Plain.TheVariants.{Push, Pop, Stop}
+use Rattle.vg_lin.specs.declared.instr.Instr.{Instr}
+use Rattle.vg_lin.specs.declared.instr.Instr.TheVariants.{Plain, When, Unless, Jump, Call, Return}
+use Rattle.vg_trim.specs.declared.flow.Effect.{Effect}
+use Rattle.vg_trim.specs.declared.flow.Effect.TheVariants.{Nothing, Pushes, Pops, Takes}
+
+abbrev pub effect_of_plain : PlainInstr → Effect
+effect_of_plain (Push w a) = Pushes w
+effect_of_plain (Pop w to) = Pops w
+effect_of_plain p = Nothing
+
+abbrev pub effect_of : Instr → Effect
+effect_of (Plain p) = effect_of_plain p
+effect_of (Call c) = Takes c.pushed
+effect_of i = Nothing
+
+abbrev pub target_of : Instr → Option ℕ
+target_of (When t to) = Some to
+target_of (Unless t to) = Some to
+target_of (Jump to) = Some to
+target_of i = None
+
+abbrev pub is_return : Instr → Bool
+is_return (Return w a) = true
+is_return i = false
+
+abbrev pub goes_next : Instr → Bool
+goes_next (Plain (Stop c)) = false
+goes_next (Jump to) = false
+goes_next (Return w a) = false
+goes_next i = true
+
+-- The newer one leads to no other place, or to that of the older one.
+abbrev pub LeadsAlong : (old new : Option ℕ) → Type 0
+LeadsAlong old None = Unit {0}
+LeadsAlong old (Some to) = old ≡ Some to
+
+-- The newer instruction leads only where the older one leads, or to a next one that there is, and both do the same with what waits.
+pub record FlowsAs (count at : ℕ) (i j : Instr) : Type 0 where
+  pub effect : effect_of i ≡ effect_of j
+  pub along : LeadsAlong (target_of i) (target_of j)
+  pub returns : is_return j ≡ true → is_return i ≡ true
+  pub next : goes_next j ≡ true → suc at < count

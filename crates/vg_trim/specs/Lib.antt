@@ -1,0 +1,3 @@
+pub mod Ranges
+pub mod Flow
+pub mod Looked

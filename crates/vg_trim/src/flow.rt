@@ -1,0 +1,105 @@
+// Where instructions lead, and what they change of what waits.
+ghost use Rattle.std.specs.Prelude.{◌≡◌, IsTrue};
+ghost use Rattle.vg_trim.specs.Flow.{effect_of_plain, effect_of, target_of, is_return, goes_next, LeadsAlong, FlowsAs};
+
+use vg_lin::{Instr, Plain};
+
+/// What an instruction changes of what waits.
+#[derive(Clone, Copy)]
+pub enum Effect {
+    Nothing,
+    /// A value of so many bytes waits.
+    Pushes(u8),
+    /// The newest value, of so many bytes, waits no more.
+    Pops(u8),
+    /// So many values wait no more.
+    Takes(u8),
+}
+
+fn effect_of_plain(plain: Plain) -> Effect
+    ensures { result ≡ effect_of_plain plain }
+{
+    match plain {
+        Plain::Push(width, _) => Effect::Pushes(width),
+        Plain::Pop(width, _) => Effect::Pops(width),
+        _ => Effect::Nothing,
+    }
+}
+
+fn effect_of(instr: Instr) -> Effect
+    ensures { result ≡ effect_of instr }
+{
+    match instr {
+        Instr::Plain(plain) => effect_of_plain(plain),
+        Instr::Call(call) => Effect::Takes(call.pushed),
+        _ => Effect::Nothing,
+    }
+}
+
+fn same_effect(a: Effect, b: Effect) -> bool
+    ensures { IsTrue result → a ≡ b }
+{
+    match (a, b) {
+        (Effect::Nothing, Effect::Nothing) => true,
+        (Effect::Pushes(v), Effect::Pushes(w)) => v == w,
+        (Effect::Pops(v), Effect::Pops(w)) => v == w,
+        (Effect::Takes(m), Effect::Takes(n)) => m == n,
+        _ => false,
+    }
+}
+
+/// The place to which an instruction may lead beside the next one.
+fn target_of(instr: Instr) -> Option<u16>
+    ensures { result ≡ target_of instr }
+{
+    match instr {
+        Instr::When(_, to) => Some(to),
+        Instr::Unless(_, to) => Some(to),
+        Instr::Jump(to) => Some(to),
+        _ => None,
+    }
+}
+
+fn is_return(instr: Instr) -> bool
+    ensures { result ≡ is_return instr }
+{
+    match instr {
+        Instr::Return(_, _) => true,
+        _ => false,
+    }
+}
+
+/// Whether an instruction may lead to the next one.
+fn goes_next(instr: Instr) -> bool
+    ensures { result ≡ goes_next instr }
+{
+    match instr {
+        Instr::Plain(Plain::Stop(_)) => false,
+        Instr::Jump(_) => false,
+        Instr::Return(_, _) => false,
+        _ => true,
+    }
+}
+
+/// Whether the newer instruction leads nowhere beside the next one, or where the older one leads.
+fn leads_along(i: Instr, j: Instr) -> bool
+    ensures { IsTrue result → LeadsAlong (target_of i) (target_of j) }
+{
+    match target_of(j) {
+        None => true,
+        Some(to) => match target_of(i) {
+            None => false,
+            Some(place) => place == to,
+        },
+    }
+}
+
+/// Whether the newer instruction leads only where the older one leads, or to a next one that there is, and both do the same with what waits.
+pub fn flows_as(count: usize, at: u16, i: Instr, j: Instr) -> bool
+    ensures { IsTrue result → FlowsAs count at i j }
+{
+    same_effect(effect_of(i), effect_of(j))
+        && leads_along(i, j)
+        && (!is_return(j) || is_return(i))
+        && (!goes_next(j) || usize::from(at) + 1 < count)
+}

@@ -1,0 +1,107 @@
+// What stands at a place of the newer code.
+ghost use Rattle.std.specs.Prelude.{◌≡◌, true, length, IsTrue};
+ghost use Rattle.vg_trimming.specs.Trimming.{instr_stands, is_quiet, may_stand, place_stands};
+
+use crate::branches::{check_left_out, checked, filling, no_change, same_test};
+use crate::calls::{call_change, same_call};
+use crate::homes::stands_for;
+use crate::lasting::leads_at;
+use crate::plains::{left_out_stands, narrower_stands, plain_stands};
+use vg_lin::{Instr, Operand, Plain};
+use vg_trimming::Facts;
+
+/// Whether an instruction of the newer code may stand for one of the older code, by what is known before it.
+fn instr_stands(
+    old: &[u8],
+    new: &[u8],
+    facts: &[Facts],
+    newer: &[Instr],
+    before: &Facts,
+    at: u16,
+    i: Instr,
+    j: Instr,
+) -> bool
+    ensures { IsTrue result → instr_stands old.now new.now facts.now newer.now before.now at i j ≡ true }
+{
+    let twins = before.twins.as_slice();
+    let next = usize::from(at) + 1;
+    match (i, j) {
+        (Instr::Plain(p), Instr::Plain(q)) => {
+            plain_stands(old, new, facts, before, at, p, q)
+                || narrower_stands(old, new, facts, before, at, p, q)
+                || left_out_stands(old, new, facts, before, at, p, q)
+        }
+        (Instr::When(t, to), Instr::When(u, place)) => {
+            to == place
+                && same_test(new, twins, t, u)
+                && leads_at(new, facts, before, no_change(), usize::from(to))
+                && leads_at(new, facts, before, filling(checked(t)), next)
+        }
+        (Instr::Unless(t, to), Instr::Unless(u, place)) => {
+            to == place
+                && same_test(new, twins, t, u)
+                && leads_at(new, facts, before, filling(checked(t)), usize::from(to))
+                && leads_at(new, facts, before, no_change(), next)
+        }
+        (Instr::Unless(t, to), Instr::Plain(q)) => {
+            check_left_out(old, new, facts, newer, before, at, t, to, q)
+        }
+        (Instr::Jump(to), Instr::Jump(place)) => {
+            to == place && leads_at(new, facts, before, no_change(), usize::from(to))
+        }
+        (Instr::Call(c), Instr::Call(d)) => {
+            same_call(twins, c, d)
+                && leads_at(new, facts, before, call_change(old, new, c, d), next)
+        }
+        (Instr::Return(w, u), Instr::Return(v, z)) => w == v && stands_for(twins, u, z),
+        (Instr::Idle, Instr::Idle) => leads_at(new, facts, before, no_change(), next),
+        _ => false,
+    }
+}
+
+fn is_quiet(i: Instr) -> bool
+    ensures { IsTrue result → is_quiet i ≡ true }
+{
+    match i {
+        Instr::Plain(Plain::Push(_, _)) => false,
+        Instr::Plain(Plain::Pop(_, _)) => false,
+        Instr::Call(_) => false,
+        _ => true,
+    }
+}
+
+/// Whether the second instruction may stand in place of the first where no run comes, in code of so many instructions.
+fn may_stand(count: usize, at: u16, i: Instr, j: Instr) -> bool
+    ensures { IsTrue result → may_stand count at i j ≡ true }
+{
+    match (i, j) {
+        (Instr::Plain(Plain::Push(w, _)), Instr::Plain(Plain::Push(v, _))) => w == v,
+        (Instr::Plain(Plain::Pop(w, _)), Instr::Plain(Plain::Pop(v, _))) => w == v,
+        (Instr::Call(c), Instr::Call(d)) => c.pushed == d.pushed,
+        (_, Instr::Plain(Plain::Stop(_))) => is_quiet(i),
+        (_, Instr::Plain(Plain::Copy(_, Operand::Known(_)))) => {
+            is_quiet(i) && usize::from(at) + 1 < count
+        }
+        _ => false,
+    }
+}
+
+/// Whether the second instruction may stand in place of the first, by what is known there.
+pub fn place_stands(
+    old: &[u8],
+    new: &[u8],
+    facts: &[Facts],
+    newer: &[Instr],
+    at: u16,
+    known: &Facts,
+    i: Instr,
+    j: Instr,
+) -> bool
+    ensures { IsTrue result → place_stands old.now new.now facts.now newer.now at known.now i j ≡ true }
+{
+    if known.reached {
+        instr_stands(old, new, facts, newer, known, at, i, j)
+    } else {
+        may_stand(newer.len(), at, i, j)
+    }
+}

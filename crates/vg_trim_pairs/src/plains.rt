@@ -1,0 +1,290 @@
+// Plain instructions.
+ghost use Rattle.std.specs.Prelude.{◌≡◌, ℕ, true, suc, IsTrue};
+ghost use Rattle.vg_lin.specs.declared.instr.Plain.TheVariants.{Compute};
+ghost use Rattle.vg_trimming.specs.Trimming.{same_operator, same_memory, same_plain, target_of, result_bytes, is_paired, gain_in, both_change, is_pure};
+ghost use Rattle.vg_trimming.specs.Trimming.{copied, left_out, is_stop, plain_stands, left_out_stands, fits_result, narrower, narrower_stands};
+
+use crate::homes::{bytes_of, stands_for, width_of};
+use crate::lasting::leads_at;
+use vg_lin::{Computation, Memory, Operand, Operator, Plain};
+use vg_trimming::{Change, Facts, Gain, Twin};
+
+fn same_operator(a: Operator, b: Operator) -> bool
+    ensures { IsTrue result → same_operator a b ≡ true }
+{
+    match (a, b) {
+        (Operator::Plus, Operator::Plus) => true,
+        (Operator::Minus, Operator::Minus) => true,
+        (Operator::Times, Operator::Times) => true,
+        (Operator::Divide, Operator::Divide) => true,
+        (Operator::Remainder, Operator::Remainder) => true,
+        (Operator::And, Operator::And) => true,
+        (Operator::Or, Operator::Or) => true,
+        (Operator::Xor, Operator::Xor) => true,
+        (Operator::ShiftLeft, Operator::ShiftLeft) => true,
+        (Operator::ShiftRight, Operator::ShiftRight) => true,
+        _ => false,
+    }
+}
+
+fn same_memory(a: Memory, b: Memory) -> bool
+    ensures { IsTrue result → same_memory a b ≡ true }
+{
+    match (a, b) {
+        (Memory::Ram, Memory::Ram) => true,
+        (Memory::Flash, Memory::Flash) => true,
+        _ => false,
+    }
+}
+
+fn same_computation(twins: &[Twin], c: Computation, d: Computation) -> bool
+    ensures { IsTrue result → same_plain twins.now (Compute c) (Compute d) ≡ true }
+{
+    same_operator(c.operator, d.operator)
+        && c.width == d.width
+        && stands_for(twins, c.left, d.left)
+        && stands_for(twins, c.right, d.right)
+}
+
+/// Whether both do the same with the same values, but for the local that gets the result.
+fn same_plain(twins: &[Twin], old: Plain, new: Plain) -> bool
+    ensures { IsTrue result → same_plain twins.now old new ≡ true }
+{
+    match (old, new) {
+        (Plain::Copy(_, a), Plain::Copy(_, b)) => stands_for(twins, a, b),
+        (Plain::Compute(c), Plain::Compute(d)) => same_computation(twins, c, d),
+        (Plain::Load(m, w, _, a), Plain::Load(n, v, _, b)) => {
+            same_memory(m, n) && w == v && a.base == b.base && stands_for(twins, a.index, b.index)
+        }
+        (Plain::Store(w, a, u), Plain::Store(v, b, z)) => {
+            w == v
+                && a.base == b.base
+                && stands_for(twins, a.index, b.index)
+                && stands_for(twins, u, z)
+        }
+        (Plain::ReadDevice(_, a), Plain::ReadDevice(_, b)) => a == b,
+        (Plain::WriteDevice(a, u), Plain::WriteDevice(b, z)) => a == b && stands_for(twins, u, z),
+        (Plain::Push(w, u), Plain::Push(v, z)) => w == v && stands_for(twins, u, z),
+        (Plain::Pop(w, _), Plain::Pop(v, _)) => w == v,
+        (Plain::Find(d, _, u), Plain::Find(e, _, z)) => d == e && stands_for(twins, u, z),
+        (Plain::CodeOf(q, _), Plain::CodeOf(r, _)) => q == r,
+        (Plain::Stop(c), Plain::Stop(d)) => c == d,
+        _ => false,
+    }
+}
+
+/// The local that gets the result.
+fn target_of(plain: Plain) -> Option<u8>
+    ensures { result ≡ target_of plain }
+{
+    match plain {
+        Plain::Copy(to, _) => Some(to),
+        Plain::Compute(c) => Some(c.to),
+        Plain::Load(_, _, to, _) => Some(to),
+        Plain::ReadDevice(to, _) => Some(to),
+        Plain::Pop(_, to) => Some(to),
+        Plain::Find(_, to, _) => Some(to),
+        Plain::CodeOf(_, to) => Some(to),
+        _ => None,
+    }
+}
+
+/// How many bytes hold the result, where that is told.
+fn result_bytes(widths: &[u8], plain: Plain) -> u8
+    ensures { result ≡ result_bytes widths.now plain }
+{
+    match plain {
+        Plain::Copy(_, from) => bytes_of(widths, from),
+        Plain::Compute(c) => c.width,
+        Plain::Load(_, width, _, _) => width,
+        Plain::ReadDevice(_, _) => 1,
+        _ => 5,
+    }
+}
+
+/// Whether both locals hold the same of a value of so many bytes.
+fn is_paired(old: &[u8], new: &[u8], x: u8, y: u8, bytes: u8) -> bool
+    ensures { result ≡ is_paired old.now new.now x y bytes }
+{
+    width_of(old, x, 5) == width_of(new, y, 6)
+        || bytes <= width_of(old, x, 0) && bytes <= width_of(new, y, 0)
+}
+
+/// Where the newer code has the new value of a local of the older code, where both give a local a value of so many bytes.
+pub fn gain_in(old: &[u8], new: &[u8], x: Option<u8>, y: Option<u8>, bytes: u8) -> Gain
+    ensures { result ≡ gain_in old.now new.now x y bytes }
+{
+    match (x, y) {
+        (Some(from), Some(to)) => {
+            if is_paired(old, new, from, to, bytes) {
+                Gain::In(to)
+            } else {
+                Gain::Nothing
+            }
+        }
+        _ => Gain::Nothing,
+    }
+}
+
+fn both_change(old: &[u8], new: &[u8], p: Plain, q: Plain) -> Change
+    ensures { result ≡ both_change old.now new.now p q }
+{
+    let from = target_of(p);
+    let to = target_of(q);
+    Change {
+        old: from,
+        new: to,
+        gain: gain_in(old, new, from, to, result_bytes(new, q)),
+        filled: None,
+    }
+}
+
+/// Whether the instruction gives a local a value and does nothing else.
+fn is_pure(plain: Plain) -> bool
+    ensures { result ≡ is_pure plain }
+{
+    match plain {
+        Plain::Copy(_, _) => true,
+        Plain::Compute(_) => true,
+        Plain::Load(_, _, _, _) => true,
+        Plain::Find(_, _, _) => true,
+        Plain::CodeOf(_, _) => true,
+        _ => false,
+    }
+}
+
+fn copied(old: &[u8], plain: Plain) -> Gain
+    ensures { result ≡ copied old.now plain }
+{
+    match plain {
+        Plain::Copy(to, from) => Gain::Copied(from, width_of(old, to, 0)),
+        _ => Gain::Nothing,
+    }
+}
+
+/// What changes where an instruction is left out, and a local gets a value that nobody needs.
+fn left_out(old: &[u8], plain: Plain, spoiled: u8) -> Change
+    ensures { result ≡ left_out old.now plain spoiled }
+{
+    Change {
+        old: target_of(plain),
+        new: Some(spoiled),
+        gain: copied(old, plain),
+        filled: None,
+    }
+}
+
+fn is_stop(plain: Plain) -> bool
+    ensures { result ≡ is_stop plain }
+{
+    match plain {
+        Plain::Stop(_) => true,
+        _ => false,
+    }
+}
+
+/// Whether the second instruction stands for the first, and does what it does.
+pub fn plain_stands(
+    old: &[u8],
+    new: &[u8],
+    facts: &[Facts],
+    before: &Facts,
+    at: u16,
+    p: Plain,
+    q: Plain,
+) -> bool
+    ensures { IsTrue result → plain_stands old.now new.now facts.now before.now at p q ≡ true }
+{
+    if !same_plain(before.twins.as_slice(), p, q) {
+        return false;
+    }
+    is_stop(p)
+        || leads_at(
+            new,
+            facts,
+            before,
+            both_change(old, new, p, q),
+            usize::from(at) + 1,
+        )
+}
+
+// Whether so many bytes of a result are all of it.
+fn fits_result(new: &[u8], operator: Operator, width: u8, left: Operand, right: Operand) -> bool
+    ensures { IsTrue result → fits_result new.now operator width left right ≡ true }
+{
+    match operator {
+        Operator::And => bytes_of(new, left) <= width || bytes_of(new, right) <= width,
+        Operator::Or => bytes_of(new, left) <= width && bytes_of(new, right) <= width,
+        Operator::Xor => bytes_of(new, left) <= width && bytes_of(new, right) <= width,
+        _ => false,
+    }
+}
+
+fn is_narrower(new: &[u8], twins: &[Twin], c: Computation, d: Computation) -> bool
+    ensures { IsTrue result → narrower new.now twins.now (Compute c) (Compute d) ≡ true }
+{
+    same_operator(c.operator, d.operator)
+        && d.width <= c.width
+        && stands_for(twins, c.left, d.left)
+        && stands_for(twins, c.right, d.right)
+        && fits_result(new, d.operator, d.width, d.left, d.right)
+}
+
+/// Whether the second instruction computes the same as the first, with fewer bytes.
+fn narrower(new: &[u8], twins: &[Twin], p: Plain, q: Plain) -> bool
+    ensures { IsTrue result → narrower new.now twins.now p q ≡ true }
+{
+    match (p, q) {
+        (Plain::Compute(c), Plain::Compute(d)) => is_narrower(new, twins, c, d),
+        _ => false,
+    }
+}
+
+/// Whether the second instruction stands for the first, and computes the same with fewer bytes.
+pub fn narrower_stands(
+    old: &[u8],
+    new: &[u8],
+    facts: &[Facts],
+    before: &Facts,
+    at: u16,
+    p: Plain,
+    q: Plain,
+) -> bool
+    ensures { IsTrue result → narrower_stands old.now new.now facts.now before.now at p q ≡ true }
+{
+    narrower(new, before.twins.as_slice(), p, q)
+        && leads_at(
+            new,
+            facts,
+            before,
+            both_change(old, new, p, q),
+            usize::from(at) + 1,
+        )
+}
+
+/// Whether the first instruction may be left out, for the second in its place.
+pub fn left_out_stands(
+    old: &[u8],
+    new: &[u8],
+    facts: &[Facts],
+    before: &Facts,
+    at: u16,
+    p: Plain,
+    q: Plain,
+) -> bool
+    ensures { IsTrue result → left_out_stands old.now new.now facts.now before.now at p q ≡ true }
+{
+    match q {
+        Plain::Copy(spoiled, Operand::Known(_)) => {
+            is_pure(p)
+                && leads_at(
+                    new,
+                    facts,
+                    before,
+                    left_out(old, p, spoiled),
+                    usize::from(at) + 1,
+                )
+        }
+        _ => false,
+    }
+}

@@ -1,0 +1,18 @@
+//! A guess at what a procedure of linear code becomes when it is trimmed, with what is known at each of its places. No proof stands on it: who uses it looks
+//! at the whole of it.
+#![tactic(auto)]
+
+pub mod filling;
+pub mod flow;
+pub mod grid;
+pub mod guess;
+pub mod homes;
+pub mod joining;
+pub mod living;
+pub mod making;
+pub mod mapping;
+pub mod planning;
+pub mod sizes;
+
+pub use guess::Plan;
+pub use planning::plan;

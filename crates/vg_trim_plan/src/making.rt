@@ -1,0 +1,489 @@
+// The newer code, place by place.
+use crate::filling::is_stop;
+use crate::flow::{Next, at, is_pure, is_read, reads_of, target_of};
+use crate::grid::Grid;
+use crate::homes::{Homes, NoRoom, is_same};
+use crate::joining::{Ways, is_at, next_in};
+use crate::living::{Life, is_behind, is_crossing_behind};
+use crate::mapping::{filler, mapped, mapped_call, mapped_test};
+use crate::sizes::{bytes_of, narrowed, result_bytes, width_of};
+use vg_base::Refusal;
+use vg_lin::{Call, Instr, Operand, Operator, Plain, Target};
+
+/// What is known of the older code.
+#[derive(Drop)]
+pub struct Older<'a> {
+    pub code: &'a [Instr],
+    pub widths: &'a [u8],
+    pub ways: &'a Ways,
+    pub life: &'a Life,
+    /// For each local how many bytes hold all its values that are needed where ways meet.
+    pub bytes: &'a [u8],
+    /// Whether a value may stand in a local with more bytes than it needs, so that there are fewer locals.
+    pub is_tight: bool,
+}
+
+impl Older<'_> {
+    fn next(&self, instr: Instr, place: usize) -> Next {
+        next_in(self.ways.needless.as_slice(), instr, place)
+    }
+
+    fn is_needed(&self, next: Next, local: u8) -> bool {
+        is_behind(&self.life.live, next, usize::from(local))
+    }
+
+    fn is_crossing(&self, next: Next, local: u8) -> bool {
+        is_crossing_behind(
+            &self.life.live,
+            &self.life.crossing,
+            self.ways,
+            next,
+            usize::from(local),
+        )
+    }
+
+    /// The width of the local that is kept for one of the older code.
+    pub fn own_width(&self, local: u8) -> u8 {
+        let width = width_of(self.widths, local);
+        if self.is_tight {
+            width
+        } else {
+            narrowed(width, width_of(self.bytes, local))
+        }
+    }
+}
+
+/// For each local how many bytes hold all its values that are needed where ways meet.
+pub fn note_bytes(code: &[Instr], widths: &[u8], ways: &Ways, life: &Life, bytes: &mut [u8]) {
+    let mut place = 0usize;
+    for instr in code {
+        if is_at(ways.reached.as_slice(), place) {
+            note_bytes_at(*instr, place, widths, ways, life, bytes);
+        }
+        place = place.saturating_add(1);
+    }
+}
+
+fn note_bytes_at(
+    instr: Instr,
+    place: usize,
+    widths: &[u8],
+    ways: &Ways,
+    life: &Life,
+    bytes: &mut [u8],
+) {
+    if let Some(local) = target_of(instr) {
+        let next = next_in(ways.needless.as_slice(), instr, place);
+        let index = usize::from(local);
+        let most = result_bytes(widths, instr);
+        if is_crossing_behind(&life.live, &life.crossing, ways, next, index)
+            && index < bytes.len()
+            && bytes[index] < most
+        {
+            bytes[index] = most;
+        }
+    }
+}
+
+/// The instruction that stands for that of the older code at a place; the homes are those behind it then.
+pub fn made(
+    older: &Older<'_>,
+    homes: &mut Homes,
+    instr: Instr,
+    place: usize,
+) -> Result<Instr, Refusal<NoRoom>> {
+    match instr {
+        Instr::Plain(plain) => made_plain(older, homes, plain, place),
+        Instr::When(test, to) => Ok(Instr::When(mapped_test(homes, test), to)),
+        Instr::Unless(test, to) => {
+            if is_at(older.ways.needless.as_slice(), place) {
+                Ok(filler(homes.spare()?))
+            } else {
+                Ok(Instr::Unless(mapped_test(homes, test), to))
+            }
+        }
+        Instr::Jump(to) => Ok(Instr::Jump(to)),
+        Instr::Call(call) => made_call(older, homes, call, place),
+        Instr::Return(width, value) => Ok(Instr::Return(width, homes.home(value))),
+        Instr::Idle => Ok(Instr::Idle),
+    }
+}
+
+fn made_plain(
+    older: &Older<'_>,
+    homes: &mut Homes,
+    plain: Plain,
+    place: usize,
+) -> Result<Instr, Refusal<NoRoom>> {
+    let instr = Instr::Plain(plain);
+    let Some(local) = target_of(instr) else {
+        return Ok(Instr::Plain(mapped(homes, plain, 0)));
+    };
+    let next = older.next(instr, place);
+    if !older.is_needed(next, local) {
+        let spare = homes.spare()?;
+        let made = mapped(homes, plain, spare);
+        homes.set(local, None);
+        if is_pure(plain) {
+            return Ok(filler(spare));
+        }
+        return Ok(Instr::Plain(made));
+    }
+    match plain {
+        Plain::Copy(_, value) => made_copy(older, homes, local, value, place),
+        _ => {
+            let to = place_for(older, homes, instr, local, place, next)?;
+            let made = mapped(homes, plain, to);
+            homes.give(local, to);
+            Ok(Instr::Plain(made))
+        }
+    }
+}
+
+fn made_copy(
+    older: &Older<'_>,
+    homes: &mut Homes,
+    local: u8,
+    value: Operand,
+    place: usize,
+) -> Result<Instr, Refusal<NoRoom>> {
+    let home = homes.home(value);
+    let next = older.next(Instr::Plain(Plain::Copy(local, value)), place);
+    if older.is_crossing(next, local) {
+        let own = homes.own(local, older.own_width(local))?;
+        homes.give(local, own);
+        if is_same(home, Operand::Local(own)) {
+            return Ok(filler(homes.spare()?));
+        }
+        return Ok(Instr::Plain(Plain::Copy(own, home)));
+    }
+    let bytes = bytes_of(homes.widths.as_slice(), home);
+    let width = width_of(older.widths, local);
+    if bytes <= width && is_free(homes, home) {
+        homes.set(local, Some(home));
+        return Ok(filler(homes.spare()?));
+    }
+    let wish = Wish {
+        local,
+        width,
+        bytes,
+        place,
+        next,
+        apart: None,
+    };
+    let to = pooled(older, homes, wish)?;
+    homes.give(local, to);
+    Ok(Instr::Plain(Plain::Copy(to, home)))
+}
+
+// Whether a value may stand there for a second local.
+fn is_free(homes: &Homes, home: Operand) -> bool {
+    match home {
+        Operand::Known(_) => true,
+        Operand::Local(local) => !homes.is_kept(local),
+    }
+}
+
+fn made_call(
+    older: &Older<'_>,
+    homes: &mut Homes,
+    call: Call,
+    place: usize,
+) -> Result<Instr, Refusal<NoRoom>> {
+    let Some(target) = call.to else {
+        return Ok(Instr::Call(mapped_call(homes, call, None)));
+    };
+    let instr = Instr::Call(call);
+    let next = older.next(instr, place);
+    if !older.is_needed(next, target.local) {
+        let made = mapped_call(homes, call, None);
+        homes.set(target.local, None);
+        return Ok(Instr::Call(made));
+    }
+    let to = place_for(older, homes, instr, target.local, place, next)?;
+    let made = mapped_call(
+        homes,
+        call,
+        Some(Target {
+            width: target.width,
+            local: to,
+        }),
+    );
+    homes.give(target.local, to);
+    Ok(Instr::Call(made))
+}
+
+// The local of the newer code that gets the result of an instruction.
+fn place_for(
+    older: &Older<'_>,
+    homes: &mut Homes,
+    instr: Instr,
+    local: u8,
+    place: usize,
+    next: Next,
+) -> Result<u8, Refusal<NoRoom>> {
+    if older.is_crossing(next, local) {
+        return homes.own(local, older.own_width(local));
+    }
+    let width = width_of(older.widths, local);
+    let bytes = mapped_bytes(homes, instr);
+    if let Some(aim) = aim_of(older, homes, local, place) {
+        let aimed = older.own_width(aim);
+        let own = homes.own(aim, aimed)?;
+        let has = homes.width(own);
+        if has == width || (bytes <= has && bytes <= width) {
+            return Ok(own);
+        }
+    }
+    let apart = products(instr);
+    let wish = Wish {
+        local,
+        width,
+        bytes,
+        place,
+        next,
+        apart,
+    };
+    pooled(older, homes, wish)
+}
+
+// How many bytes hold the result of an instruction whose operands stand where they do now.
+fn mapped_bytes(homes: &Homes, instr: Instr) -> u8 {
+    match instr {
+        Instr::Plain(plain) => {
+            let made = Instr::Plain(mapped(homes, plain, 0));
+            result_bytes(homes.widths.as_slice(), made)
+        }
+        _ => 5,
+    }
+}
+
+// An instruction whose result should not stand where its operands stand.
+fn products(instr: Instr) -> Option<Instr> {
+    match instr {
+        Instr::Plain(Plain::Compute(c)) => match c.operator {
+            Operator::Times => Some(instr),
+            _ => None,
+        },
+        _ => None,
+    }
+}
+
+// What a value asks of the local in which it is to stand.
+#[derive(Clone, Copy)]
+struct Wish {
+    // the local of the older code that has it, and the bytes of that
+    local: u8,
+    width: u8,
+    // how many bytes hold it
+    bytes: u8,
+    // the place of the instruction that gives it, and where that leads
+    place: usize,
+    next: Next,
+    // an instruction on whose operands it should not stand
+    apart: Option<Instr>,
+}
+
+// A local for a value.
+fn pooled(older: &Older<'_>, homes: &mut Homes, wish: Wish) -> Result<u8, Refusal<NoRoom>> {
+    let wanted = if older.is_tight {
+        wish.width
+    } else {
+        narrowed(wish.width, wish.bytes)
+    };
+    for index in 0..homes.widths.len() {
+        let number = (index % 256) as u8;
+        if is_wide(older, homes, wish, number, wanted) && is_idle(older, homes, wish, number) {
+            return Ok(number);
+        }
+    }
+    for index in 0..homes.owns.len() {
+        let owner = (index % 256) as u8;
+        if let Some(number) = lent(older, homes, wish, owner, wanted) {
+            return Ok(number);
+        }
+    }
+    homes.add(wanted, false)
+}
+
+// Whether a local has the width that is wanted, or, where there should be few, holds the value as the older code does.
+fn is_wide(older: &Older<'_>, homes: &Homes, wish: Wish, number: u8, wanted: u8) -> bool {
+    let has = homes.width(number);
+    let holds = has == wish.width || (wish.bytes <= has && wish.bytes <= wish.width);
+    has == wanted || (older.is_tight && holds)
+}
+
+// The local that is kept for one of the older code, as long as that needs none.
+fn lent(older: &Older<'_>, homes: &Homes, wish: Wish, owner: u8, wanted: u8) -> Option<u8> {
+    let own = match homes.owns.get(usize::from(owner)) {
+        Some(Some(own)) => *own,
+        _ => return None,
+    };
+    if is_wide(older, homes, wish, own, wanted)
+        && owner != wish.local
+        && !older.is_needed(wish.next, owner)
+        && !is_used(older, homes, own, wish.local, wish.next)
+        && !is_operand(homes, wish.apart, own)
+        && is_clear(older, owner, wish.local, wish.place)
+    {
+        Some(own)
+    } else {
+        None
+    }
+}
+
+// Whether the one local gets no value as long as the other one is needed.
+fn is_clear(older: &Older<'_>, owner: u8, local: u8, place: usize) -> bool {
+    let mut now = place.saturating_add(1);
+    for _step in 0..64u8 {
+        if !older.life.live.has(now, usize::from(local)) {
+            return true;
+        }
+        match past(older, owner, now) {
+            Some(to) => now = to,
+            None => return false,
+        }
+    }
+    false
+}
+
+// The place behind an instruction that gives that local no value and leads to no other place.
+fn past(older: &Older<'_>, owner: u8, place: usize) -> Option<usize> {
+    let instr = at(older.code, place)?;
+    match target_of(instr) {
+        Some(target) => {
+            if target == owner {
+                None
+            } else {
+                onward(older, instr, place)
+            }
+        }
+        None => onward(older, instr, place),
+    }
+}
+
+// Whether a local is kept for nothing, and no value stands there that is needed.
+fn is_idle(older: &Older<'_>, homes: &Homes, wish: Wish, number: u8) -> bool {
+    !homes.is_kept(number)
+        && !is_used(older, homes, number, wish.local, wish.next)
+        && !is_operand(homes, wish.apart, number)
+}
+
+// Whether the value of another local of the older code stands there that is needed.
+fn is_used(older: &Older<'_>, homes: &Homes, number: u8, local: u8, next: Next) -> bool {
+    for index in 0..homes.now.len() {
+        let other = (index % 256) as u8;
+        let is_there = match homes.now[index] {
+            Some(home) => is_same(home, Operand::Local(number)),
+            None => false,
+        };
+        if is_there && other != local && older.is_needed(next, other) {
+            return true;
+        }
+    }
+    false
+}
+
+fn is_operand(homes: &Homes, apart: Option<Instr>, number: u8) -> bool {
+    match apart {
+        Some(Instr::Plain(Plain::Compute(c))) => {
+            is_same(homes.home(c.left), Operand::Local(number))
+                || is_same(homes.home(c.right), Operand::Local(number))
+        }
+        _ => false,
+    }
+}
+
+// The local to which the value that a local gets at a place is copied soon, where nothing keeps it from standing there at once.
+fn aim_of(older: &Older<'_>, homes: &Homes, local: u8, place: usize) -> Option<u8> {
+    let copied = copy_of(older, local, place)?;
+    let (aim, last) = copied;
+    if is_touched(older, aim, local, place, last) || is_lent(older, homes, aim, place) {
+        return None;
+    }
+    Some(aim)
+}
+
+// The local that gets the value of a local in a copy behind a place, and the place of the copy.
+fn copy_of(older: &Older<'_>, local: u8, place: usize) -> Option<(u8, usize)> {
+    let mut now = place.saturating_add(1);
+    for _step in 0..64u8 {
+        if is_at(older.ways.joins.as_slice(), now) {
+            return None;
+        }
+        match at(older.code, now) {
+            Some(Instr::Plain(Plain::Copy(aim, Operand::Local(from)))) => {
+                if from == local {
+                    return taken(older, aim, local, now);
+                }
+                now = now.saturating_add(1);
+            }
+            Some(instr) => now = onward(older, instr, now)?,
+            None => return None,
+        }
+    }
+    None
+}
+
+// The copy is the last use of the local, and what it gives a value is needed where ways meet.
+fn taken(older: &Older<'_>, aim: u8, local: u8, place: usize) -> Option<(u8, usize)> {
+    let next = Next::One(place.saturating_add(1));
+    if aim != local && !older.is_needed(next, local) && older.is_crossing(next, aim) {
+        Some((aim, place))
+    } else {
+        None
+    }
+}
+
+// The place behind an instruction, where it leads to no other one but a stop.
+fn onward(older: &Older<'_>, instr: Instr, place: usize) -> Option<usize> {
+    let behind = place.saturating_add(1);
+    match instr {
+        Instr::Plain(Plain::Stop(_)) => None,
+        Instr::Plain(_) => Some(behind),
+        Instr::Call(_) => Some(behind),
+        Instr::Unless(_, to) => {
+            if usize::from(to) == behind.saturating_add(1) && is_stop(at(older.code, behind)) {
+                Some(usize::from(to))
+            } else {
+                None
+            }
+        }
+        _ => None,
+    }
+}
+
+// Whether the one local is read or set between two places, or the other one set.
+fn is_touched(older: &Older<'_>, aim: u8, local: u8, first: usize, last: usize) -> bool {
+    let from = first.saturating_add(1);
+    for place in from..last {
+        if let Some(instr) = at(older.code, place) {
+            let is_set = match target_of(instr) {
+                Some(target) => target == aim || target == local,
+                None => false,
+            };
+            if is_set || is_read(reads_of(instr), aim) {
+                return true;
+            }
+        }
+    }
+    false
+}
+
+// Whether a needed value of another local stands where that one is kept.
+fn is_lent(older: &Older<'_>, homes: &Homes, aim: u8, place: usize) -> bool {
+    match homes.owns.get(usize::from(aim)) {
+        Some(Some(own)) => is_used(older, homes, *own, aim, Next::One(place.saturating_add(1))),
+        _ => false,
+    }
+}
+
+/// The live locals of a place, for its facts.
+pub fn is_live(life: &Life, place: usize, local: usize) -> bool {
+    life.live.has(place, local)
+}
+
+/// Whether a local is not 0 at a place and needed there.
+pub fn is_filled(filled: &Grid, life: &Life, place: usize, local: usize) -> bool {
+    filled.has(place, local) && life.live.has(place, local)
+}

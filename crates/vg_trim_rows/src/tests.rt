@@ -1,0 +1,180 @@
+use std::alloc::Global;
+use vg_base::{NoMemory, Row};
+use vg_lin::{Comparison, Instr, Operand, Plain, Test};
+use vg_trim::looks_right;
+use vg_trimming::{Facts, Twin};
+
+// A branch over a stop, which is taken where the first local is not 0.
+fn check(to: u16) -> Instr {
+    Instr::Unless(
+        Test {
+            comparison: Comparison::Same,
+            width: 2,
+            left: Operand::Local(0),
+            right: Operand::Known(0),
+        },
+        to,
+    )
+}
+
+fn stop() -> Instr {
+    Instr::Plain(Plain::Stop(7))
+}
+
+fn copy(to: u8, from: Operand) -> Instr {
+    Instr::Plain(Plain::Copy(to, from))
+}
+
+fn give(local: u8) -> Instr {
+    Instr::Return(2, Operand::Local(local))
+}
+
+// What is known at a place: that no run comes there, or that the first local stands where it stood. It may also be known not to be 0, or the second local
+// to be its copy.
+#[derive(Clone, Copy)]
+enum Known {
+    Unreached,
+    First,
+    Filled,
+    Copied,
+    FilledAndCopied,
+}
+
+fn facts_of(alloc: Global, known: Known) -> Result<Facts, NoMemory> {
+    let (reached, filled, copied) = match known {
+        Known::Unreached => (false, false, false),
+        Known::First => (true, false, false),
+        Known::Filled => (true, true, false),
+        Known::Copied => (true, false, true),
+        Known::FilledAndCopied => (true, true, true),
+    };
+    let home = Operand::Local(0);
+    let mut twins = Row::new(alloc);
+    if reached {
+        twins.push(Twin { local: 0, home })?;
+    }
+    if copied {
+        twins.push(Twin { local: 1, home })?;
+    }
+    let mut locals = Row::new(alloc);
+    if filled {
+        locals.push(0)?;
+    }
+    Ok(Facts {
+        reached,
+        twins,
+        filled: locals,
+    })
+}
+
+fn all_facts(alloc: Global, all: &[Known]) -> Result<Row<Facts>, NoMemory> {
+    let mut row = Row::new(alloc);
+    for known in all {
+        row.push(facts_of(alloc, *known)?)?;
+    }
+    Ok(row)
+}
+
+// Whether the newer code stands for the older one, with one parameter, three locals of two bytes and a result of two bytes.
+fn stands(
+    alloc: Global,
+    older: &[Instr],
+    newer: &[Instr],
+    known: &[Known],
+) -> Result<bool, NoMemory> {
+    let facts = all_facts(alloc, known)?;
+    let widths: [u8; 3] = [2, 2, 2];
+    Ok(looks_right(
+        1,
+        2,
+        widths.as_slice(),
+        widths.as_slice(),
+        facts.as_slice(),
+        older,
+        newer,
+    ))
+}
+
+// The first local is checked, copied to the second, and checked again. The copy and the second check are left out, with this local in their place. This is
+// known before and behind the copy.
+fn checked_twice(
+    alloc: Global,
+    spoiled: u8,
+    before: Known,
+    behind: Known,
+) -> Result<bool, NoMemory> {
+    let left_out = copy(spoiled, Operand::Known(0));
+    let older = [
+        check(2),
+        stop(),
+        copy(1, Operand::Local(0)),
+        check(5),
+        stop(),
+        give(1),
+    ];
+    let newer = [check(2), stop(), left_out, left_out, left_out, give(0)];
+    let known = [
+        Known::First,
+        Known::First,
+        before,
+        behind,
+        Known::Unreached,
+        Known::Copied,
+    ];
+    stands(alloc, older.as_slice(), newer.as_slice(), known.as_slice())
+}
+
+// The same where the first local gets a value between both checks, behind which this is known.
+fn set_between(alloc: Global, behind: Known) -> Result<bool, NoMemory> {
+    let left_out = copy(2, Operand::Known(0));
+    let set = copy(0, Operand::Local(0));
+    let older = [check(2), stop(), set, check(5), stop(), give(0)];
+    let newer = [check(2), stop(), set, left_out, left_out, give(0)];
+    let known = [
+        Known::First,
+        Known::First,
+        Known::Filled,
+        behind,
+        Known::Unreached,
+        Known::First,
+    ];
+    stands(alloc, older.as_slice(), newer.as_slice(), known.as_slice())
+}
+
+// Where no run comes, a value waits, or an instruction stands in place of that.
+fn never_pushed(alloc: Global, instead: Instr) -> Result<bool, NoMemory> {
+    let push = Instr::Plain(Plain::Push(2, Operand::Local(0)));
+    let older = [Instr::Jump(2), push, give(0)];
+    let newer = [Instr::Jump(2), instead, give(0)];
+    let known = [Known::First, Known::Unreached, Known::First];
+    stands(alloc, older.as_slice(), newer.as_slice(), known.as_slice())
+}
+
+// A check of what was checked before may be left out, but not with the local in its place that has the value from then on.
+#[test]
+fn second_checks_are_left_out(rt: HostRuntime) {
+    let alloc = rt.alloc();
+    let is_left_out = checked_twice(alloc, 2, Known::Filled, Known::FilledAndCopied);
+    let not_known = checked_twice(alloc, 2, Known::First, Known::Copied);
+    let overwritten = checked_twice(alloc, 0, Known::Filled, Known::FilledAndCopied);
+    assert!(rt; is_left_out == Ok(true) && not_known == Ok(false) && overwritten == Ok(false));
+}
+
+// It may not be left out where the local got another value, whatever is said of that.
+#[test]
+fn changed_locals_are_checked(rt: HostRuntime) {
+    let alloc = rt.alloc();
+    let filled = set_between(alloc, Known::Filled);
+    let not_known = set_between(alloc, Known::First);
+    assert!(rt; filled == Ok(false) && not_known == Ok(false));
+}
+
+// What waits stays the same also where no run comes.
+#[test]
+fn waiting_values_stay(rt: HostRuntime) {
+    let alloc = rt.alloc();
+    let other = Instr::Plain(Plain::Push(2, Operand::Known(5)));
+    let pushed = never_pushed(alloc, other);
+    let left_out = never_pushed(alloc, copy(2, Operand::Known(0)));
+    assert!(rt; pushed == Ok(true) && left_out == Ok(false));
+}

@@ -1,0 +1,216 @@
+-- What is known at a place holds of a state of the older code and one of the newer code, and what lasts of it where both change.
+use Rattle.std.specs.Prelude.{◌≢◌, ℕ, zero, suc, ◌<◌, ◌≤◌, ◌^◌, Bool, true, false, ◌==◌, ◌&&◌, not, nat_lt, nat_le, List, [], ◌∷◌, length}
+use Rattle.std.specs.Prelude.{Option, Some, slice_get, get_or, if◌then◌else◌}
+use Rattle.std.specs.List.{AllByRecursion}
+use Rattle.std.proofs.Common.{◌≡◌, refl, sym, ap, ◌∙◌, subst, arith}
+use Rattle.std.proofs.Math.Nat.{mod-eq_of_lt, pow-le-pow_right}
+use Rattle.std.proofs.lemmas.Bool.{and_parts, not-true}
+use Rattle.std.proofs.lemmas.Option.{same_Some, none-some}
+use Rattle.vg_lin.specs.declared.instr.Operand.{Operand}
+use Rattle.vg_lin.specs.declared.instr.Operand.TheVariants.{Local, Known}
+use Rattle.vg_lin.specs.Values.{low}
+use Rattle.vg_lin.specs.Sound.{IsWidth}
+use Rattle.vg_lin.specs.State.{LocalState, State, value_in, value, with_local}
+use Rattle.vg_expand.specs.Expansion.{IsHeld, Holds}
+use Rattle.vg_trimming.specs.declared.facts.Twin.{Twin}
+use Rattle.vg_trimming.specs.declared.facts.Facts.{Facts}
+use Rattle.vg_trimming.specs.declared.facts.Change.{Change}
+use Rattle.vg_trimming.specs.Facts.{same_home, is_twin, stands_for, is_filled, bytes_of, is_it, overwrites, gains, twin_lasts, twins_last}
+use Rattle.vg_trimming.specs.Facts.{stays_filled, all_stay_filled, leads}
+use Rattle.vg_trimming.specs.Runs.{AreBytes}
+
+-- ---- tests
+
+pub no : {A : Type 0} → false ≡ true → A
+no e = absurd (let clash : false ≡ true = e in cc)
+
+pub same_number : (a b : ℕ) → (a == b) ≡ true → a ≡ b
+same_number a b e = grind arith
+
+pub at_most : (a b : ℕ) → nat_le a b ≡ true → a ≤ b
+at_most a b e = grind arith
+
+pub same_home_is : (g h : Operand) → same_home g h ≡ true → g ≡ h
+same_home_is (Local i) (Local j) e = ap Local (same_number i j e)
+same_home_is (Local i) (Known w) e = no e
+same_home_is (Known v) (Local j) e = no e
+same_home_is (Known v) (Known w) e = ap Known (same_number v w e)
+
+-- ---- locals
+
+abbrev pub local : List LocalState → ℕ → Option ℕ
+local ls x = value_in (slice_get ls x)
+
+pub own_value : (ws : List ℕ) (ls : List LocalState) (x z v d : ℕ) → Holds ws ls → local (with_local ls x z) x ≡ Some v → v ≡ low (get_or ws x d) z
+own_value [] [] x z v d h e = absurd (none-some v e)
+own_value [] (l ∷ ls) x z v d h e = absurd h
+own_value (w ∷ ws) [] x z v d h e = absurd h
+own_value (w ∷ ws) (l ∷ ls) zero z v d (g, i, h) e = sym (same_Some _ v e) ∙ ap (λ k. low k z) g
+own_value (w ∷ ws) (l ∷ ls) (suc x) z v d (g, i, h) e = own_value ws ls x z v d h e
+
+pub gets_value : (ws : List ℕ) (ls : List LocalState) (x z d : ℕ) → Holds ws ls → x < length ws
+    → local (with_local ls x z) x ≡ Some (low (get_or ws x d) z)
+gets_value [] ls x z d h lt = absurd (omega (arith, lt))
+gets_value (w ∷ ws) [] x z d h lt = absurd h
+gets_value (w ∷ ws) (l ∷ ls) zero z d (g, i, h) lt = ap (λ k. Some (low k z)) g
+gets_value (w ∷ ws) (l ∷ ls) (suc x) z d (g, i, h) lt = gets_value ws ls x z d h (omega (arith, lt))
+
+pub has_value : (ws : List ℕ) (ls : List LocalState) (x z v : ℕ) → Holds ws ls → local (with_local ls x z) x ≡ Some v → x < length ws
+has_value [] [] x z v h e = absurd (none-some v e)
+has_value [] (l ∷ ls) x z v h e = absurd h
+has_value (w ∷ ws) [] x z v h e = absurd h
+has_value (w ∷ ws) (l ∷ ls) zero z v (g, i, h) e = omega arith
+has_value (w ∷ ws) (l ∷ ls) (suc x) z v (g, i, h) e = let k = has_value ws ls x z v h e in omega (arith, k)
+
+pub held_value : (ws : List ℕ) (ls : List LocalState) (x v d : ℕ) → Holds ws ls → local ls x ≡ Some v → v < 256 ^ get_or ws x d
+held_value [] [] x v d h e = absurd (none-some v e)
+held_value [] (l ∷ ls) x v d h e = absurd h
+held_value (w ∷ ws) [] x v d h e = absurd h
+held_value (w ∷ ws) (l ∷ ls) zero v d (g, i, h) e = subst (IsHeld w) e i
+held_value (w ∷ ws) (l ∷ ls) (suc x) v d (g, i, h) e = held_value ws ls x v d h e
+
+pub other_local : (ls : List LocalState) (to i v : ℕ) → (to == i) ≡ false → local (with_local ls to v) i ≡ local ls i
+other_local [] to i v e = refl
+other_local (l ∷ ls) zero zero v e = absurd (grind arith)
+other_local (l ∷ ls) zero (suc i) v e = refl
+other_local (l ∷ ls) (suc to) zero v e = refl
+other_local (l ∷ ls) (suc to) (suc i) v e = other_local ls to i v (less_one to i e)
+  where
+    less_one : (to i : ℕ) → (suc to == suc i) ≡ false → (to == i) ≡ false
+    less_one to i e = grind arith
+
+pub same_default : (ws : List ℕ) (x d e : ℕ) → x < length ws → get_or ws x d ≡ get_or ws x e
+same_default [] x d e lt = absurd (omega (arith, lt))
+same_default (w ∷ ws) zero d e lt = refl
+same_default (w ∷ ws) (suc x) d e lt = same_default ws x d e (omega (arith, lt))
+
+pub few_bytes : (ws : List ℕ) (x : ℕ) → AllByRecursion IsWidth ws → get_or ws x 0 ≤ 4
+few_bytes [] x h = omega arith
+few_bytes (w ∷ ws) zero ((g, i), h) = i
+few_bytes (w ∷ ws) (suc x) (g, h) = few_bytes ws x h
+
+-- so many bytes hold a value
+pub low_small : (w v b : ℕ) → v < 256 ^ b → b ≤ w → low w v ≡ v
+low_small w v b h g = mod-eq_of_lt (let k : 256 ^ b ≤ 256 ^ w = pow-le-pow_right (omega arith) g in omega (arith, h, k))
+
+pub fits_bytes : (n : List ℕ) (h : Operand) (u : State) (v : ℕ) → Holds n u.locals → value h u ≡ Some v → bytes_of n h ≤ 4 → v < 256 ^ bytes_of n h
+fits_bytes n (Local i) u v g e f = held_value n u.locals i v 5 g e
+fits_bytes n (Known w) u v g e f = subst (λ k. k < 256 ^ bytes_of n (Known w)) (same_Some w v e) (by_first (nat_lt w 256) refl f)
+  where
+    below : (w k : ℕ) → nat_lt w k ≡ true → w < k
+    below w k e = grind arith
+
+    by_second : (b : Bool) → nat_lt w 65536 ≡ b → (if b then 2 else 5) ≤ 4 → w < 256 ^ (if b then 2 else 5)
+    by_second true e f = below w 65536 e
+    by_second false e f = absurd (omega (arith, f))
+
+    by_first : (b : Bool) → nat_lt w 256 ≡ b → (if b then 1 else if nat_lt w 65536 then 2 else 5) ≤ 4
+        → w < 256 ^ (if b then 1 else if nat_lt w 65536 then 2 else 5)
+    by_first true e f = below w 256 e
+    by_first false e f = by_second (nat_lt w 65536) refl f
+
+-- ---- what is known of two states
+
+abbrev pub Twinned : List Twin → (older newer : State) → Type 0
+Twinned ts s u = (x : ℕ) (h : Operand) (v : ℕ) → is_twin ts x h ≡ true → value (Local x) s ≡ Some v → value h u ≡ Some v
+
+abbrev pub Filled : List ℕ → State → Type 0
+Filled xs s = (x v : ℕ) → is_filled xs x ≡ true → value (Local x) s ≡ Some v → v ≢ 0
+
+-- what every step keeps
+pub record Steady (o n : List ℕ) (s u : State) : Type 0 where
+  pub held : Holds o s.locals
+  pub held_too : Holds n u.locals
+  pub bytes : AreBytes s.ram
+
+-- what is known at a place holds of both states
+pub record Agree (o n : List ℕ) (a : Facts) (s u : State) : Type 0 where
+  pub reached : a.reached ≡ true
+  pub twins : Twinned a.twins s u
+  pub filled : Filled a.filled s
+  pub waiting : u.waiting ≡ s.waiting
+  pub ram : u.ram ≡ s.ram
+  pub steady : Steady o n s u
+
+pub stands : (ts : List Twin) (s u : State) → Twinned ts s u → (a b : Operand) (v : ℕ) → stands_for ts a b ≡ true → value a s ≡ Some v → value b u ≡ Some v
+stands ts s u t (Local i) b v e f = t i b v e f
+stands ts s u t (Known w) b v e f = subst (λ h. value h u ≡ Some v) (same_home_is (Known w) b e) f
+
+-- ---- what a change leaves
+
+pub record Changed (n : List ℕ) (a : Facts) (c : Change) (s u s1 u1 : State) : Type 0 where
+  pub old_kept : (x : ℕ) → is_it c.old x ≡ false → value (Local x) s1 ≡ value (Local x) s
+  pub new_kept : (h : Operand) → overwrites c.new h ≡ false → value h u1 ≡ value h u
+  pub gained : (x : ℕ) (h : Operand) (v : ℕ) → is_it c.old x ≡ true → gains n a.twins c.new c.gain h ≡ true → value (Local x) s1 ≡ Some v
+      → value h u1 ≡ Some v
+  pub filled : (x v : ℕ) → is_it c.filled x ≡ true → value (Local x) s1 ≡ Some v → v ≢ 0
+  pub waiting : u1.waiting ≡ s1.waiting
+  pub ram : u1.ram ≡ s1.ram
+
+twin_behind : (n : List ℕ) (bs : List Twin) (c : Change) (ts : List Twin) (x : ℕ) (h : Operand) → twins_last n bs c ts ≡ true → is_twin ts x h ≡ true
+    → twin_lasts n bs c (record { local = x; home = h }) ≡ true
+twin_behind n bs c [] x h e f = no f
+twin_behind n bs c (t ∷ ts) x h e f =
+    by_first ((t.local == x) && same_home t.home h) refl f
+    (λ g. twin_behind n bs c ts x h (and_parts (twin_lasts n bs c t) (twins_last n bs c ts) e).1 g)
+  where
+    by_first : (b : Bool) → ((t.local == x) && same_home t.home h) ≡ b → (if b then true else is_twin ts x h) ≡ true
+        → (is_twin ts x h ≡ true → twin_lasts n bs c (record { local = x; home = h }) ≡ true)
+        → twin_lasts n bs c (record { local = x; home = h }) ≡ true
+    by_first true g f more =
+        let z = and_parts (t.local == x) (same_home t.home h) g in
+        subst (λ k. twin_lasts n bs c (record { local = x; home = k }) ≡ true) (same_home_is t.home h z.1)
+        (subst (λ y. twin_lasts n bs c (record { local = y; home = t.home }) ≡ true) (same_number t.local x z.0)
+        (and_parts (twin_lasts n bs c t) (twins_last n bs c ts) e).0)
+    by_first false g f more = more f
+
+filled_behind : (bs : List ℕ) (c : Change) (xs : List ℕ) (x : ℕ) → all_stay_filled bs c xs ≡ true → is_filled xs x ≡ true → stays_filled bs c x ≡ true
+filled_behind bs c [] x e f = no f
+filled_behind bs c (y ∷ xs) x e f =
+    by_first (y == x) refl f (λ g. filled_behind bs c xs x (and_parts (stays_filled bs c y) (all_stay_filled bs c xs) e).1 g)
+  where
+    by_first : (b : Bool) → (y == x) ≡ b → (if b then true else is_filled xs x) ≡ true → (is_filled xs x ≡ true → stays_filled bs c x ≡ true)
+        → stays_filled bs c x ≡ true
+    by_first true g f more = subst (λ k. stays_filled bs c k ≡ true) (same_number y x g) (and_parts (stays_filled bs c y) (all_stay_filled bs c xs) e).0
+    by_first false g f more = more f
+
+-- what is known behind an instruction holds of both states behind it
+pub behind : (o n : List ℕ) (a b : Facts) (c : Change) (s u s1 u1 : State) → leads n a c b ≡ true → Agree o n a s u → Changed n a c s u s1 u1
+    → Steady o n s1 u1 → Agree o n b s1 u1
+behind o n a b c s u s1 u1 e g ch st =
+    record {
+      reached = (and_parts b.reached (twins_last n a.twins c b.twins) both).0;
+      twins = twins;
+      filled = filled;
+      waiting = ch.waiting;
+      ram = ch.ram;
+      steady = st;
+    }
+  where
+    both : (b.reached && twins_last n a.twins c b.twins) ≡ true
+    both = (and_parts (b.reached && twins_last n a.twins c b.twins) (all_stay_filled a.filled c b.filled) e).0
+
+    by_old : (x : ℕ) (h : Operand) (v : ℕ) (z : Bool) → is_it c.old x ≡ z
+        → (if z then gains n a.twins c.new c.gain h else is_twin a.twins x h && not (overwrites c.new h)) ≡ true
+        → value (Local x) s1 ≡ Some v → value h u1 ≡ Some v
+    by_old x h v true k f q = ch.gained x h v k f q
+    by_old x h v false k f q =
+        let z = and_parts (is_twin a.twins x h) (not (overwrites c.new h)) f in
+        ch.new_kept h (not-true (overwrites c.new h) z.1) ∙ g.twins x h v z.0 (sym (ch.old_kept x k) ∙ q)
+
+    twins : Twinned b.twins s1 u1
+    twins x h v f q =
+        by_old x h v (is_it c.old x) refl
+        (twin_behind n a.twins c b.twins x h (and_parts b.reached (twins_last n a.twins c b.twins) both).1 f) q
+
+    by_filled : (x v : ℕ) (z : Bool) → is_it c.filled x ≡ z → (if z then true else is_filled a.filled x && not (is_it c.old x)) ≡ true
+        → value (Local x) s1 ≡ Some v → v ≢ 0
+    by_filled x v true k f q = ch.filled x v k q
+    by_filled x v false k f q =
+        let z = and_parts (is_filled a.filled x) (not (is_it c.old x)) f in
+        g.filled x v z.0 (sym (ch.old_kept x (not-true (is_it c.old x) z.1)) ∙ q)
+
+    filled : Filled b.filled s1
+    filled x v f q =
+        by_filled x v (is_it c.filled x) refl
+        (filled_behind a.filled c b.filled x (and_parts (b.reached && twins_last n a.twins c b.twins) (all_stay_filled a.filled c b.filled) e).1 f) q

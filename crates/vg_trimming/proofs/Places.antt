@@ -1,0 +1,481 @@
+-- Plain instructions and branches: where one stands for another one, both do the same, and what is known behind them holds.
+use Rattle.std.specs.Prelude.{◌≢◌, ℕ, zero, suc, ◌+◌, ◌*◌, ◌<◌, ◌≤◌, ◌^◌, bit_and, bit_or, bit_xor, Bool, true, false, ◌==◌, ◌&&◌, not, nat_le, List, [], ◌∷◌, length}
+use Rattle.std.specs.Prelude.{Option, Some, None, get_or, if◌then◌else◌}
+use Rattle.std.proofs.Common.{◌≡◌, refl, sym, ap, ◌∙◌, subst, arith, inl, inr, ◌⊎◌}
+use Rattle.std.proofs.Common.{pow-add}
+use Rattle.std.proofs.Math.Nat.{pow-suc, pow-le-pow_right}
+use Rattle.std.proofs.lemmas.Bool.{and_parts, or_cases, not-true}
+use Rattle.std.proofs.lemmas.Nat.{and_le_l, and_le_r, or_lt, xor_lt}
+use Rattle.vg_meaning.specs.declared.event.Event.TheVariants.{Write}
+use Rattle.vg_meaning.specs.Outside.{Outside, AreReads, with_event}
+use Rattle.vg_codes.specs.Dispatch.{dispatched}
+use Rattle.vg_lin.specs.declared.instr.Operand.{Operand}
+use Rattle.vg_lin.specs.declared.instr.Operand.TheVariants.{Local, Known}
+use Rattle.vg_lin.specs.declared.instr.Operator.{Operator}
+use Rattle.vg_lin.specs.declared.instr.Operator.TheVariants.{Plus, Minus, Times, Divide, Remainder, And, Or, Xor, ShiftLeft, ShiftRight}
+use Rattle.vg_lin.specs.declared.instr.Computation.{Computation}
+use Rattle.vg_lin.specs.declared.instr.Comparison.{Comparison}
+use Rattle.vg_lin.specs.declared.instr.Comparison.TheVariants.{Below, Less, Same}
+use Rattle.vg_lin.specs.declared.instr.Memory.{Memory}
+use Rattle.vg_lin.specs.declared.instr.Memory.TheVariants.{Ram, Flash}
+use Rattle.vg_lin.specs.declared.instr.Plain.{Plain as PlainInstr}
+use Rattle.vg_lin.specs.declared.instr.Plain.TheVariants.{Copy, Compute, Load, Store, ReadDevice, WriteDevice, Push, Pop, Find, CodeOf, Stop}
+use Rattle.vg_lin.specs.Values.{low, computed}
+use Rattle.vg_lin.specs.Steps.{Went, Goes, Raises, Lacks, Fails}
+use Rattle.vg_lin.specs.Program.{Procedure, Program}
+use Rattle.vg_lin.specs.Sound.{IsPlain, IsSound}
+use Rattle.vg_lin.specs.State.{Waiting, State, value, using, with_local, sets, number_at, with_number, index_of, loaded, stores, pushes, pops_from}
+use Rattle.vg_lin.specs.State.{reads_from, plain}
+use Rattle.vg_trimming.specs.declared.facts.Facts.{Facts}
+use Rattle.vg_trimming.specs.declared.facts.Gain.{Gain}
+use Rattle.vg_trimming.specs.declared.facts.Gain.TheVariants.{Nothing, In, Copied}
+use Rattle.vg_trimming.specs.Facts.{bytes_of, stands_for, is_it, overwrites, gains, filling, spoiling}
+use Rattle.vg_trimming.specs.Trimming.{same_operator, same_memory, same_plain, is_paired, gain_in, both_change, is_pure, left_out, is_stop}
+use Rattle.vg_trimming.specs.Trimming.{same_comparison, fits_result, narrower}
+use Rattle.vg_trimming.specs.Runs.{AreBytes}
+use Rattle.vg_trimming.proofs.Homes.{no, same_number, at_most, local, own_value, gets_value, other_local, same_default, few_bytes}
+use Rattle.vg_trimming.proofs.Homes.{low_small, fits_bytes, Agree, stands, same_home_is, Changed}
+use Rattle.vg_trimming.proofs.Values.{computed_below, loaded_below}
+
+-- ---- what two instructions do
+
+-- both go on, or end in the same way; nothing is asked where the first one fails
+pub data SameWent (C : State → State → Outside → Type 0) : Went State → Went State → Type 0 where
+  both_go : (s1 u1 : State) (o1 : Outside) → C s1 u1 o1 → SameWent C (Goes s1 o1) (Goes u1 o1)
+  both_raise : (code : ℕ) → SameWent C (Raises code) (Raises code)
+  both_lack : (address : ℕ) → SameWent C (Lacks address) (Lacks address)
+  wrong : (z : Went State) → SameWent C Fails z
+
+using_same : (C : State → State → Outside → Type 0) (x y : Option ℕ) (go go' : ℕ → Went State) → ((v : ℕ) → x ≡ Some v → y ≡ Some v)
+    → ((v : ℕ) → x ≡ Some v → y ≡ Some v → SameWent C (go v) (go' v)) → SameWent C (using x go) (using y go')
+using_same C (Some v) y go go' f g = subst (λ k. SameWent C (go v) (using k go')) (sym (f v refl)) (g v refl (f v refl))
+using_same C None y go go' f g = wrong (using y go')
+
+using_alone : (C : State → State → Outside → Type 0) (x : Option ℕ) (go : ℕ → Went State) (z : Went State)
+    → ((v : ℕ) → x ≡ Some v → SameWent C (go v) z) → SameWent C (using x go) z
+using_alone C (Some v) go z g = g v refl
+using_alone C None go z g = wrong z
+
+same_operator_is : (a b : Operator) → same_operator a b ≡ true → a ≡ b
+same_operator_is Plus Plus e = refl
+same_operator_is Minus Minus e = refl
+same_operator_is Times Times e = refl
+same_operator_is Divide Divide e = refl
+same_operator_is Remainder Remainder e = refl
+same_operator_is And And e = refl
+same_operator_is Or Or e = refl
+same_operator_is Xor Xor e = refl
+same_operator_is ShiftLeft ShiftLeft e = refl
+same_operator_is ShiftRight ShiftRight e = refl
+same_operator_is _ _ e = no e
+
+same_memory_is : (a b : Memory) → same_memory a b ≡ true → a ≡ b
+same_memory_is Ram Ram e = refl
+same_memory_is Flash Flash e = refl
+same_memory_is _ _ e = no e
+
+pub same_comparison_is : (a b : Comparison) → same_comparison a b ≡ true → a ≡ b
+same_comparison_is Below Below e = refl
+same_comparison_is Less Less e = refl
+same_comparison_is Same Same e = refl
+same_comparison_is _ _ e = no e
+
+-- ---- at a place
+
+module _ (p : Program) (tables : AreBytes p.tables) (old now : Procedure) (sound : IsSound old) (a : Facts) (s u : State)
+    (g : Agree old.widths now.widths a s u) where
+  abbrev o : List ℕ
+  o = old.widths
+
+  abbrev n : List ℕ
+  n = now.widths
+
+  operand : (x y : Operand) (v : ℕ) → stands_for a.twins x y ≡ true → value x s ≡ Some v → value y u ≡ Some v
+  operand x y v e f = stands a.twins s u g.twins x y v e f
+
+  value_kept : (y v : ℕ) (h : Operand) (u1 u2 : State) → u2.locals ≡ with_local u1.locals y v → overwrites (Some y) h ≡ false
+      → value h u2 ≡ value h u1
+  value_kept y v (Local i) u1 u2 q e = ap (λ k. local k i) q ∙ other_local u1.locals y i v e
+  value_kept y v (Known w) u1 u2 q e = refl
+
+  -- neither code gives a local a value
+  pub none_changed : (x : Option ℕ) (s1 u1 : State) → s1.locals ≡ s.locals → u1.locals ≡ u.locals → u1.waiting ≡ s1.waiting → u1.ram ≡ s1.ram
+      → ((y v : ℕ) → is_it x y ≡ true → value (Local y) s ≡ Some v → v ≢ 0) → Changed n a (filling x) s u s1 u1
+  none_changed x s1 u1 es eu ew er f =
+      record {
+        old_kept = λ y e. ap (λ k. local k y) es;
+        new_kept = new_kept;
+        gained = λ y h v e k q. no e;
+        filled = λ y v e q. f y v e (sym (ap (λ k. local k y) es) ∙ q);
+        waiting = ew;
+        ram = er;
+      }
+    where
+      new_kept : (h : Operand) → overwrites None h ≡ false → value h u1 ≡ value h u
+      new_kept (Local i) e = ap (λ k. local k i) eu
+      new_kept (Known w) e = refl
+
+  -- both give a local the same value
+  pub both_changed : (x y b z : ℕ) (s1 u1 : State) → y < length n → (b ≤ 4 → z < 256 ^ b) → s1.locals ≡ with_local s.locals x z
+      → u1.locals ≡ with_local u.locals y z → u1.waiting ≡ s1.waiting → u1.ram ≡ s1.ram
+      → Changed n a (record { old = Some x; new = Some y; gain = gain_in o n (Some x) (Some y) b; filled = None }) s u s1 u1
+  both_changed x y b z s1 u1 lt small es eu ew er =
+      record {
+        old_kept = λ k e. ap (λ ls. local ls k) es ∙ other_local s.locals x k z e;
+        new_kept = λ h e. value_kept y z h u u1 eu e;
+        gained = λ k h v e f q. by_pair h v (is_paired o n x y b) refl f
+            (sym (ap (λ ls. local ls x) es) ∙ (ap (λ i. local s1.locals i) (same_number x k e) ∙ q));
+        filled = λ k v e q. no e;
+        waiting = ew;
+        ram = er;
+      }
+    where
+      of_width : (v : ℕ) → local (with_local s.locals x z) x ≡ Some v
+          → ((get_or o x 5 == get_or n y 6) ≡ true) ⊎ ((nat_le b (get_or o x 0) && nat_le b (get_or n y 0)) ≡ true) → low (get_or n y 6) z ≡ v
+      of_width v q (inl e) =
+          ap (λ w. low w z) (sym (same_number (get_or o x 5) (get_or n y 6) e)) ∙ sym (own_value o s.locals x z v 5 g.steady.held q)
+      of_width v q (inr e) =
+          let h = and_parts (nat_le b (get_or o x 0)) (nat_le b (get_or n y 0)) e in
+          let k = few_bytes o x sound.widths in
+          let h0 = at_most b (get_or o x 0) h.0 in
+          let h1 = at_most b (get_or n y 0) h.1 in
+          let small' = small (omega (arith, k, h0)) in
+          ap (λ w. low w z) (same_default n y 6 0 lt) ∙ (low_small (get_or n y 0) z b small' h1
+          ∙ (sym (low_small (get_or o x 0) z b small' h0) ∙ sym (own_value o s.locals x z v 0 g.steady.held q)))
+
+      by_pair : (h : Operand) (v : ℕ) (t : Bool) → is_paired o n x y b ≡ t → gains n a.twins (Some y) (if t then In y else Nothing) h ≡ true
+          → local (with_local s.locals x z) x ≡ Some v → value h u1 ≡ Some v
+      by_pair h v true e f q =
+          subst (λ k. value k u1 ≡ Some v) (same_home_is (Local y) h f)
+          (ap (λ ls. local ls y) eu ∙ (gets_value n u.locals y z 6 g.steady.held_too lt
+          ∙ ap Some (of_width v q (or_cases (get_or o x 5 == get_or n y 6) (nat_le b (get_or o x 0) && nat_le b (get_or n y 0)) e))))
+      by_pair h v false e f q = no f
+
+  -- ---- plain instructions
+
+  abbrev pub BothGo : PlainInstr → PlainInstr → State → State → Outside → Type 0
+  BothGo i j s1 u1 o1 = (is_stop i ≡ false) × Changed n a (both_change o n i j) s u s1 u1
+
+  loaded_same : (m : Memory) (w : ℕ) (i : Option ℕ) → loaded p m u w i ≡ loaded p m s w i
+  loaded_same Ram w (Some i) = ap (λ r. number_at r w i) g.ram
+  loaded_same Flash w (Some i) = refl
+  loaded_same m w None = refl
+
+  does_load : (m m' : Memory) (w w' x y k k' : ℕ) (b b' : Operand) (o1 : Outside) → y < length n → m ≡ m' → w ≡ w' → k ≡ k'
+      → stands_for a.twins b b' ≡ true
+      → SameWent (BothGo (Load m w x (record { base = k; index = b })) (Load m' w' y (record { base = k'; index = b' })))
+      (plain p (Load m w x (record { base = k; index = b })) s o1) (plain p (Load m' w' y (record { base = k'; index = b' })) u o1)
+  does_load m m' w w' x y k k' b b' o1 lt em ew ek e =
+      using_same C (value b s) (value b' u) _ _ (λ i f. operand b b' i e f) (λ i f f'. using_same C (loaded p m s w (index_of m (k + i)))
+      (loaded p m' u w' (index_of m' (k' + i))) _ _ (λ z h. sym (same i) ∙ h)
+      (λ z h h'. both_go (sets x z s) (sets y z u) o1 (
+        refl,
+        both_changed x y w' z (sets x z s) (sets y z u) lt
+            (λ small. loaded_below p m' u w' (index_of m' (k' + i)) z tables (subst AreBytes (sym g.ram) g.steady.bytes) h') refl refl g.waiting g.ram,
+      )))
+    where
+      C : State → State → Outside → Type 0
+      C = BothGo (Load m w x (record { base = k; index = b })) (Load m' w' y (record { base = k'; index = b' }))
+
+      same : (i : ℕ) → loaded p m s w (index_of m (k + i)) ≡ loaded p m' u w' (index_of m' (k' + i))
+      same i =
+          sym (loaded_same m w (index_of m (k + i))) ∙ (ap (λ m. loaded p m u w (index_of m (k + i))) em
+          ∙ (ap (λ w. loaded p m' u w (index_of m' (k + i))) ew ∙ ap (λ k. loaded p m' u w' (index_of m' (k + i))) ek))
+
+  stores_same : (C : State → State → Outside → Type 0) (w w' x : ℕ) (i i' : Option ℕ) (o1 : Outside) → w ≡ w' → i ≡ i'
+      → ((s1 u1 : State) → s1.locals ≡ s.locals → u1.locals ≡ u.locals → u1.waiting ≡ s1.waiting → u1.ram ≡ s1.ram → C s1 u1 o1)
+      → SameWent C (stores s o1 w x i) (stores u o1 w' x i')
+  stores_same C w w' x i i' o1 ew ei c =
+      subst (λ k. SameWent C (stores s o1 w x i) (stores u o1 k x i')) ew (subst (λ k. SameWent C (stores s o1 w x i) (stores u o1 w x k)) ei (here i))
+    where
+      here : (i : Option ℕ) → SameWent C (stores s o1 w x i) (stores u o1 w x i)
+      here (Some i) =
+          using_same C (number_at s.ram w i) (number_at u.ram w i) _ _ (λ v e. ap (λ r. number_at r w i) g.ram ∙ e)
+          (λ v e f. both_go (record s { ram = with_number s.ram w i x }) (record u { ram = with_number u.ram w i x }) o1
+          (c _ _ refl refl g.waiting (ap (λ r. with_number r w i x) g.ram)))
+      here None = wrong (stores u o1 w x None)
+
+  pops_same : (w w' x y : ℕ) (o1 : Outside) → y < length n → w ≡ w'
+      → SameWent (BothGo (Pop w x) (Pop w' y)) (pops_from s.waiting w x s o1) (pops_from u.waiting w' y u o1)
+  pops_same w w' x y o1 lt e =
+      subst (λ k. SameWent C (pops_from s.waiting w x s o1) (pops_from u.waiting k y u o1)) e
+      (subst (λ ws. SameWent C (pops_from s.waiting w x s o1) (pops_from ws w y u o1)) (sym g.waiting) (here s.waiting))
+    where
+      C : State → State → Outside → Type 0
+      C = BothGo (Pop w x) (Pop w' y)
+
+      by_test : (v : Waiting) (vs : List Waiting) (b : Bool)
+          → SameWent C (if b then Goes (sets x v.value (record s { waiting = vs })) o1 else Fails)
+          (if b then Goes (sets y v.value (record u { waiting = vs })) o1 else Fails)
+      by_test v vs true = both_go _ _ o1 (refl, both_changed x y 5 v.value _ _ lt (λ k. absurd (omega (arith, k))) refl refl refl g.ram)
+      by_test v vs false = wrong Fails
+
+      here : (ws : List Waiting) → SameWent C (pops_from ws w x s o1) (pops_from ws w y u o1)
+      here [] = wrong Fails
+      here (v ∷ vs) = by_test v vs (v.width == w)
+
+  reads_same : (x y b b' : ℕ) (o1 : Outside) → y < length n → AreReads o1.reads → b ≡ b'
+      → SameWent (BothGo (ReadDevice x b) (ReadDevice y b')) (reads_from o1.reads x b s o1) (reads_from o1.reads y b' u o1)
+  reads_same x y b b' o1 lt reads e =
+      subst (λ k. SameWent C (reads_from o1.reads x b s o1) (reads_from o1.reads y k u o1)) e (here o1.reads reads)
+    where
+      C : State → State → Outside → Type 0
+      C = BothGo (ReadDevice x b) (ReadDevice y b')
+
+      here : (vs : List ℕ) → AreReads vs → SameWent C (reads_from vs x b s o1) (reads_from vs y b u o1)
+      here [] h = both_lack b
+      here (v ∷ vs) (h, k) = both_go _ _ _ (refl, both_changed x y 1 v (sets x v s) (sets y v u) lt (λ z. h) refl refl g.waiting g.ram)
+
+  no_local : (x v : ℕ) → is_it None x ≡ true → value (Local x) s ≡ Some v → v ≢ 0
+  no_local x v e = no e
+
+  pub plain_follows : (i j : PlainInstr) (o1 : Outside) → AreReads o1.reads → IsPlain now j → same_plain a.twins i j ≡ true
+      → SameWent (BothGo i j) (plain p i s o1) (plain p j u o1)
+  plain_follows (Copy x b) (Copy y c) o1 reads h e =
+      using_same (BothGo (Copy x b) (Copy y c)) (value b s) (value c u) _ _ (λ v f. operand b c v e f)
+      (λ v f k. both_go (sets x v s) (sets y v u) o1 (
+        refl,
+        both_changed x y (bytes_of n c) v (sets x v s) (sets y v u) h.0
+            (λ small. fits_bytes n c u v g.steady.held_too k small) refl refl g.waiting g.ram,
+      ))
+  plain_follows (Compute c) (Compute d) o1 reads h e =
+      using_same C (value c.left s) (value d.left u) _ _ (λ v. operand c.left d.left v z1.1) (λ x f f'.
+      using_same C (value c.right s) (value d.right u) _ _ (λ v. operand c.right d.right v z0.1) (λ y k k'.
+      using_same C (computed c.operator c.width x y) (computed d.operator d.width x y) _ _ (λ v q. sym (same x y) ∙ q) (λ v q q'.
+      both_go (sets c.to v s) (sets d.to v u) o1 (
+        refl,
+        both_changed c.to d.to d.width v (sets c.to v s) (sets d.to v u) h.1
+            (λ small. computed_below d.operator d.width x y v q') refl refl g.waiting g.ram,
+      ))))
+    where
+      C : State → State → Outside → Type 0
+      C = BothGo (Compute c) (Compute d)
+
+      z0 : ((same_operator c.operator d.operator && (c.width == d.width) && stands_for a.twins c.left d.left) ≡ true)
+          × (stands_for a.twins c.right d.right ≡ true)
+      z0 = and_parts (same_operator c.operator d.operator && (c.width == d.width) && stands_for a.twins c.left d.left) _ e
+
+      z1 : ((same_operator c.operator d.operator && (c.width == d.width)) ≡ true) × (stands_for a.twins c.left d.left ≡ true)
+      z1 = and_parts (same_operator c.operator d.operator && (c.width == d.width)) _ z0.0
+
+      z2 : (same_operator c.operator d.operator ≡ true) × ((c.width == d.width) ≡ true)
+      z2 = and_parts (same_operator c.operator d.operator) _ z1.0
+
+      same : (x y : ℕ) → computed c.operator c.width x y ≡ computed d.operator d.width x y
+      same x y =
+          ap (λ k. computed k c.width x y) (same_operator_is c.operator d.operator z2.0)
+          ∙ ap (λ k. computed d.operator k x y) (same_number c.width d.width z2.1)
+  plain_follows (Load m w x b) (Load m' w' y b') o1 reads h e =
+      let z0 = and_parts (same_memory m m' && (w == w') && (b.base == b'.base)) (stands_for a.twins b.index b'.index) e in
+      let z1 = and_parts (same_memory m m' && (w == w')) (b.base == b'.base) z0.0 in
+      let z2 = and_parts (same_memory m m') (w == w') z1.0 in
+      does_load m m' w w' x y b.base b'.base b.index b'.index o1 h.1 (same_memory_is m m' z2.0) (same_number w w' z2.1)
+      (same_number b.base b'.base z1.1) z0.1
+  plain_follows (Store w b t) (Store w' b' t') o1 reads h e =
+      let z0 = and_parts ((w == w') && (b.base == b'.base) && stands_for a.twins b.index b'.index) (stands_for a.twins t t') e in
+      let z1 = and_parts ((w == w') && (b.base == b'.base)) (stands_for a.twins b.index b'.index) z0.0 in
+      let z2 = and_parts (w == w') (b.base == b'.base) z1.0 in
+      using_same C (value b.index s) (value b'.index u) _ _ (λ v. operand b.index b'.index v z1.1) (λ i f f'.
+      using_same C (value t s) (value t' u) _ _ (λ v. operand t t' v z0.1) (λ x k k'.
+      stores_same C w w' x (index_of Ram (b.base + i)) (index_of Ram (b'.base + i)) o1 (same_number w w' z2.0)
+      (ap (λ k. index_of Ram (k + i)) (same_number b.base b'.base z2.1)) (λ s1 u1 es eu ew er. (refl, none_changed None s1 u1 es eu ew er no_local))))
+    where
+      C : State → State → Outside → Type 0
+      C = BothGo (Store w b t) (Store w' b' t')
+  plain_follows (ReadDevice x b) (ReadDevice y b') o1 reads h e = reads_same x y b b' o1 h reads (same_number b b' e)
+  plain_follows (WriteDevice b t) (WriteDevice b' t') o1 reads h e =
+      let z0 = and_parts (b == b') (stands_for a.twins t t') e in
+      using_same C (value t s) (value t' u) _ _ (λ v. operand t t' v z0.1) (λ v f f'.
+      subst (λ k. SameWent C (Goes s (with_event o1 (Write b (low 1 v)))) (Goes u (with_event o1 (Write k (low 1 v))))) (same_number b b' z0.0)
+      (both_go s u _ (refl, none_changed None s u refl refl g.waiting g.ram no_local)))
+    where
+      C : State → State → Outside → Type 0
+      C = BothGo (WriteDevice b t) (WriteDevice b' t')
+  plain_follows (Push w t) (Push w' t') o1 reads h e =
+      let z0 = and_parts (w == w') (stands_for a.twins t t') e in
+      using_same C (value t s) (value t' u) _ _ (λ v. operand t t' v z0.1) (λ v f f'.
+      subst (λ k. SameWent C (Goes (pushes w v s) o1) (Goes (pushes k v u) o1)) (same_number w w' z0.0)
+      (both_go (pushes w v s) (pushes w v u) o1 (
+        refl,
+        none_changed None (pushes w v s) (pushes w v u) refl refl
+            (ap (λ ws. record { width = w; value = low w v } ∷ ws) g.waiting) g.ram no_local,
+      )))
+    where
+      C : State → State → Outside → Type 0
+      C = BothGo (Push w t) (Push w' t')
+  plain_follows (Pop w x) (Pop w' y) o1 reads h e = pops_same w w' x y o1 h.1 (same_number w w' e)
+  plain_follows (Find d x t) (Find d' y t') o1 reads h e =
+      let z0 = and_parts (d == d') (stands_for a.twins t t') e in
+      using_same C (value t s) (value t' u) _ _ (λ v. operand t t' v z0.1) (λ v f f'.
+      using_same C (dispatched p.dispatches d v) (dispatched p.dispatches d' v) _ _ (λ q k. ap (λ d. dispatched p.dispatches d v)
+      (sym (same_number d d' z0.0)) ∙ k) (λ q k k'.
+      both_go _ _ o1 (
+        refl,
+        both_changed x y 5 (p.codes.code q) (sets x (p.codes.code q) s) (sets y (p.codes.code q) u) h.0
+            (λ small. absurd (omega (arith, small))) refl refl g.waiting g.ram,
+      )))
+    where
+      C : State → State → Outside → Type 0
+      C = BothGo (Find d x t) (Find d' y t')
+  plain_follows (CodeOf q x) (CodeOf r y) o1 reads h e =
+      subst (λ k. SameWent (BothGo (CodeOf q x) (CodeOf r y)) (Goes (sets x (p.codes.code q) s) o1) (Goes (sets y (p.codes.code k) u) o1))
+      (same_number q r e)
+      (both_go _ _ o1 (
+        refl,
+        both_changed x y 5 (p.codes.code q) (sets x (p.codes.code q) s) (sets y (p.codes.code q) u) h
+            (λ small. absurd (omega (arith, small))) refl refl g.waiting g.ram,
+      ))
+  plain_follows (Stop c) (Stop d) o1 reads h e =
+      subst (λ k. SameWent (BothGo (Stop c) (Stop d)) (Raises c) (Raises k)) (same_number c d e) (both_raise c)
+  plain_follows _ _ o1 reads h e = no e
+
+  -- ---- instructions that are left out
+
+  -- the older code gives a local a value, the newer one another local one that nobody needs
+  alone_changed : (x z v k : ℕ) (gain : Gain)
+      → ((h : Operand) (r : ℕ) → gains n a.twins (Some z) gain h ≡ true → local (with_local s.locals x k) x ≡ Some r → value h (sets z v u) ≡ Some r)
+      → Changed n a (record { old = Some x; new = Some z; gain = gain; filled = None }) s u (sets x k s) (sets z v u)
+  alone_changed x z v k gain f =
+      record {
+        old_kept = λ y e. other_local s.locals x y k e;
+        new_kept = λ h e. value_kept z v h u (sets z v u) refl e;
+        gained = λ y h r e q w. f h r q (ap (λ i. local (with_local s.locals x k) i) (same_number x y e) ∙ w);
+        filled = λ y r e q. no e;
+        waiting = g.waiting;
+        ram = g.ram;
+      }
+
+  -- ---- fewer bytes of a result
+
+  within : (v : ℕ) (h : Operand) (x : ℕ) → v ≤ 4 → value h u ≡ Some x → nat_le (bytes_of n h) v ≡ true → x < 256 ^ v
+  within v h x four e f =
+      let few = at_most (bytes_of n h) v f in
+      let k = fits_bytes n h u x g.steady.held_too e (omega (arith, few, four)) in
+      let more : 256 ^ bytes_of n h ≤ 256 ^ v = pow-le-pow_right (omega arith) few in omega (arith, k, more)
+
+  same_low : (w v z : ℕ) → z < 256 ^ v → v ≤ w → Some (low w z) ≡ Some (low v z)
+  same_low w v z small le = ap Some (low_small w z v small le ∙ sym (low_small v z v small (omega arith)))
+
+  bits_of : (v : ℕ) → 256 ^ v ≡ 2 ^ (8 * v)
+  bits_of zero = refl
+  bits_of (suc v) =
+      let e : 8 * suc v ≡ 8 * v + 8 = omega arith in
+      pow-suc 256 v ∙ (ap (λ k. k * 256) (bits_of v) ∙ (sym (pow-add 2 (8 * v) 8) ∙ ap (λ k. 2 ^ k) (sym e)))
+
+  narrower_same : (op : Operator) (w v x y : ℕ) (l r : Operand) → v ≤ 4 → v ≤ w → value l u ≡ Some x → value r u ≡ Some y
+      → fits_result n op v l r ≡ true → computed op w x y ≡ computed op v x y
+  narrower_same And w v x y l r four le el er f =
+      same_low w v (bit_and x y) (by (or_cases (nat_le (bytes_of n l) v) (nat_le (bytes_of n r) v) f)) le
+    where
+      by : (nat_le (bytes_of n l) v ≡ true) ⊎ (nat_le (bytes_of n r) v ≡ true) → bit_and x y < 256 ^ v
+      by (inl k) = let h = within v l x four el k in let m = and_le_l x y in omega (arith, h, m)
+      by (inr k) = let h = within v r y four er k in let m = and_le_r x y in omega (arith, h, m)
+  narrower_same Or w v x y l r four le el er f =
+      let k = and_parts (nat_le (bytes_of n l) v) (nat_le (bytes_of n r) v) f in
+      same_low w v (bit_or x y)
+      (subst (λ m. bit_or x y < m) (sym (bits_of v))
+      (or_lt (8 * v) x y (subst (λ m. x < m) (bits_of v) (within v l x four el k.0)) (subst (λ m. y < m) (bits_of v) (within v r y four er k.1)))) le
+  narrower_same Xor w v x y l r four le el er f =
+      let k = and_parts (nat_le (bytes_of n l) v) (nat_le (bytes_of n r) v) f in
+      same_low w v (bit_xor x y)
+      (subst (λ m. bit_xor x y < m) (sym (bits_of v))
+      (xor_lt (8 * v) x y (subst (λ m. x < m) (bits_of v) (within v l x four el k.0)) (subst (λ m. y < m) (bits_of v) (within v r y four er k.1)))) le
+  narrower_same Plus w v x y l r four le el er f = no f
+  narrower_same Minus w v x y l r four le el er f = no f
+  narrower_same Times w v x y l r four le el er f = no f
+  narrower_same Divide w v x y l r four le el er f = no f
+  narrower_same Remainder w v x y l r four le el er f = no f
+  narrower_same ShiftLeft w v x y l r four le el er f = no f
+  narrower_same ShiftRight w v x y l r four le el er f = no f
+
+  computed_narrower : (c d : Computation) (o1 : Outside) → IsPlain now (Compute d) → narrower n a.twins (Compute c) (Compute d) ≡ true
+      → SameWent (BothGo (Compute c) (Compute d)) (plain p (Compute c) s o1) (plain p (Compute d) u o1)
+  computed_narrower c d o1 h e =
+      using_same C (value c.left s) (value d.left u) _ _ (λ v. operand c.left d.left v z2.1) (λ x f f'.
+      using_same C (value c.right s) (value d.right u) _ _ (λ v. operand c.right d.right v z1.1) (λ y k k'.
+      using_same C (computed c.operator c.width x y) (computed d.operator d.width x y) _ _ (λ v q. sym (same x y f' k') ∙ q) (λ v q q'.
+      both_go (sets c.to v s) (sets d.to v u) o1 (
+        refl,
+        both_changed c.to d.to d.width v (sets c.to v s) (sets d.to v u) h.1
+            (λ small. computed_below d.operator d.width x y v q') refl refl g.waiting g.ram,
+      ))))
+    where
+      C : State → State → Outside → Type 0
+      C = BothGo (Compute c) (Compute d)
+
+      z0 : ((same_operator c.operator d.operator && nat_le d.width c.width && stands_for a.twins c.left d.left && stands_for a.twins c.right d.right) ≡ true)
+          × (fits_result n d.operator d.width d.left d.right ≡ true)
+      z0 = and_parts (same_operator c.operator d.operator && nat_le d.width c.width && stands_for a.twins c.left d.left && stands_for a.twins c.right d.right) _ e
+
+      z1 : ((same_operator c.operator d.operator && nat_le d.width c.width && stands_for a.twins c.left d.left) ≡ true)
+          × (stands_for a.twins c.right d.right ≡ true)
+      z1 = and_parts (same_operator c.operator d.operator && nat_le d.width c.width && stands_for a.twins c.left d.left) _ z0.0
+
+      z2 : ((same_operator c.operator d.operator && nat_le d.width c.width) ≡ true) × (stands_for a.twins c.left d.left ≡ true)
+      z2 = and_parts (same_operator c.operator d.operator && nat_le d.width c.width) _ z1.0
+
+      z3 : (same_operator c.operator d.operator ≡ true) × (nat_le d.width c.width ≡ true)
+      z3 = and_parts (same_operator c.operator d.operator) _ z2.0
+
+      same : (x y : ℕ) → value d.left u ≡ Some x → value d.right u ≡ Some y → computed c.operator c.width x y ≡ computed d.operator d.width x y
+      same x y f k =
+          ap (λ m. computed m c.width x y) (same_operator_is c.operator d.operator z3.0)
+          ∙ narrower_same d.operator c.width d.width x y d.left d.right h.0.1 (at_most d.width c.width z3.1) f k z0.1
+
+  pub narrower_follows : (i j : PlainInstr) (o1 : Outside) → IsPlain now j → narrower n a.twins i j ≡ true
+      → SameWent (BothGo i j) (plain p i s o1) (plain p j u o1)
+  narrower_follows (Compute c) (Compute d) o1 h e = computed_narrower c d o1 h e
+  narrower_follows i j o1 h e = no e
+
+  pub left_follows : (i : PlainInstr) (z v : ℕ) (o1 : Outside) → is_pure i ≡ true
+      → SameWent (λ s1 u1 o2. Changed n a (left_out o i z) s u s1 u1) (plain p i s o1) (Goes (sets z v u) o1)
+  left_follows (Copy x b) z v o1 e =
+      using_alone C (value b s) _ _ (λ k f. both_go (sets x k s) (sets z v u) o1 (alone_changed x z v k (Copied b (get_or o x 0)) (stays k f)))
+    where
+      C : State → State → Outside → Type 0
+      C s1 u1 o2 = Changed n a (left_out o (Copy x b) z) s u s1 u1
+
+      stays : (k : ℕ) → value b s ≡ Some k → (h : Operand) (r : ℕ) → gains n a.twins (Some z) (Copied b (get_or o x 0)) h ≡ true
+          → local (with_local s.locals x k) x ≡ Some r → value h (sets z v u) ≡ Some r
+      stays k f h r q w =
+          let z0 = and_parts (stands_for a.twins b h && nat_le (bytes_of n h) (get_or o x 0)) (not (overwrites (Some z) h)) q in
+          let z1 = and_parts (stands_for a.twins b h) (nat_le (bytes_of n h) (get_or o x 0)) z0.0 in
+          let few = few_bytes o x sound.widths in
+          let wide = at_most (bytes_of n h) (get_or o x 0) z1.1 in
+          let stood = operand b h k z1.0 f in
+          let small = fits_bytes n h u k g.steady.held_too stood (omega (arith, few, wide)) in
+          value_kept z v h u (sets z v u) refl (not-true (overwrites (Some z) h) z0.1)
+          ∙ (stood ∙ ap Some (sym (low_small (get_or o x 0) k (bytes_of n h) small wide) ∙ sym (own_value o s.locals x k r 0 g.steady.held w)))
+  left_follows (Compute c) z v o1 e =
+      using_alone C (value c.left s) _ _ (λ x f. using_alone C (value c.right s) _ _ (λ y k. using_alone C (computed c.operator c.width x y) _ _
+      (λ r q. both_go (sets c.to r s) (sets z v u) o1 (alone_changed c.to z v r Nothing (λ h r k. no k)))))
+    where
+      C : State → State → Outside → Type 0
+      C s1 u1 o2 = Changed n a (left_out o (Compute c) z) s u s1 u1
+  left_follows (Load m w x b) z v o1 e =
+      using_alone C (value b.index s) _ _ (λ i f. using_alone C (loaded p m s w (index_of m (b.base + i))) _ _
+      (λ r q. both_go (sets x r s) (sets z v u) o1 (alone_changed x z v r Nothing (λ h r k. no k))))
+    where
+      C : State → State → Outside → Type 0
+      C s1 u1 o2 = Changed n a (left_out o (Load m w x b) z) s u s1 u1
+  left_follows (Find d x t) z v o1 e =
+      using_alone C (value t s) _ _ (λ i f. using_alone C (dispatched p.dispatches d i) _ _
+      (λ r q. both_go _ (sets z v u) o1 (alone_changed x z v (p.codes.code r) Nothing (λ h r k. no k))))
+    where
+      C : State → State → Outside → Type 0
+      C s1 u1 o2 = Changed n a (left_out o (Find d x t) z) s u s1 u1
+  left_follows (CodeOf q x) z v o1 e = both_go _ (sets z v u) o1 (alone_changed x z v (p.codes.code q) Nothing (λ h r k. no k))
+  left_follows _ z v o1 e = no e
+
+  -- the newer code alone gives one local two values, one after the other
+  pub spoiled : (z v v' : ℕ) → Changed n a (spoiling z) s u s (sets z v' (sets z v u))
+  spoiled z v v' =
+      record {
+        old_kept = λ y e. refl;
+        new_kept = λ h e. value_kept z v' h (sets z v u) (sets z v' (sets z v u)) refl e
+            ∙ value_kept z v h u (sets z v u) refl e;
+        gained = λ y h r e q w. no e;
+        filled = λ y r e q. no e;
+        waiting = g.waiting;
+        ram = g.ram;
+      }

@@ -1,0 +1,107 @@
+-- What is known at a place of code, and what lasts behind an instruction.
+use Rattle.std.specs.Prelude.{ℕ, Bool, true, false, ◌==◌, ◌&&◌, not, nat_lt, nat_le, List, [], ◌∷◌, Option, Some, None, slice_get, get_or, if◌then◌else◌}
+use Rattle.vg_lin.specs.declared.instr.Operand.{Operand}
+use Rattle.vg_lin.specs.declared.instr.Operand.TheVariants.{Local, Known}
+use Rattle.vg_trimming.specs.declared.facts.Twin.{Twin}
+use Rattle.vg_trimming.specs.declared.facts.Facts.{Facts}
+use Rattle.vg_trimming.specs.declared.facts.Gain.{Gain}
+use Rattle.vg_trimming.specs.declared.facts.Gain.TheVariants.{Nothing, In, Copied}
+use Rattle.vg_trimming.specs.declared.facts.Change.{Change}
+
+-- ---- operands
+
+abbrev pub same_home : Operand → Operand → Bool
+same_home (Local i) (Local j) = i == j
+same_home (Local i) (Known w) = false
+same_home (Known v) (Local j) = false
+same_home (Known v) (Known w) = v == w
+
+-- The value of a local of the older code stands there.
+abbrev pub is_twin : List Twin → (local : ℕ) → Operand → Bool
+is_twin [] x h = false
+is_twin (t ∷ ts) x h = if (t.local == x) && same_home t.home h then true else is_twin ts x h
+
+-- An operand of the newer code has the value of one of the older code.
+abbrev pub stands_for : List Twin → (old new : Operand) → Bool
+stands_for ts (Local i) h = is_twin ts i h
+stands_for ts (Known v) h = same_home (Known v) h
+
+abbrev pub is_filled : List ℕ → (local : ℕ) → Bool
+is_filled [] x = false
+is_filled (y ∷ ys) x = if y == x then true else is_filled ys x
+
+-- How many bytes hold the value of an operand, of locals with these widths; more than any local has, where that is not told.
+abbrev pub bytes_of : (widths : List ℕ) → Operand → ℕ
+bytes_of ws (Local i) = get_or ws i 5
+bytes_of ws (Known v) = if nat_lt v 256 then 1 else if nat_lt v 65536 then 2 else 5
+
+-- ---- what lasts
+
+abbrev pub is_it : Option ℕ → (local : ℕ) → Bool
+is_it None x = false
+is_it (Some y) x = y == x
+
+abbrev pub overwrites : Option ℕ → Operand → Bool
+overwrites None h = false
+overwrites (Some y) h = same_home (Local y) h
+
+-- The newer code has the new value there.
+abbrev pub gains : (widths : List ℕ) → List Twin → (new : Option ℕ) → Gain → Operand → Bool
+gains ws ts new Nothing h = false
+gains ws ts new (In y) h = same_home (Local y) h
+gains ws ts new (Copied a width) h = stands_for ts a h && nat_le (bytes_of ws h) width && not (overwrites new h)
+
+abbrev pub twin_lasts : (widths : List ℕ) → List Twin → Change → Twin → Bool
+twin_lasts ws ts c t =
+    if is_it c.old t.local then gains ws ts c.new c.gain t.home else is_twin ts t.local t.home && not (overwrites c.new t.home)
+
+abbrev pub twins_last : (widths : List ℕ) → (before : List Twin) → Change → (behind : List Twin) → Bool
+twins_last ws ts c [] = true
+twins_last ws ts c (t ∷ more) = twin_lasts ws ts c t && twins_last ws ts c more
+
+abbrev pub stays_filled : (before : List ℕ) → Change → (local : ℕ) → Bool
+stays_filled xs c x = if is_it c.filled x then true else is_filled xs x && not (is_it c.old x)
+
+abbrev pub all_stay_filled : (before : List ℕ) → Change → (behind : List ℕ) → Bool
+all_stay_filled xs c [] = true
+all_stay_filled xs c (x ∷ more) = stays_filled xs c x && all_stay_filled xs c more
+
+-- What is known behind an instruction follows from what is known before it.
+abbrev pub leads : (widths : List ℕ) → (before : Facts) → Change → (behind : Facts) → Bool
+leads ws a c b = b.reached && twins_last ws a.twins c b.twins && all_stay_filled a.filled c b.filled
+
+abbrev pub leads_in : (widths : List ℕ) → (before : Facts) → Change → Option Facts → Bool
+leads_in ws a c (Some b) = leads ws a c b
+leads_in ws a c None = false
+
+-- The same at a place.
+abbrev pub leads_at : (widths : List ℕ) → List Facts → (before : Facts) → Change → (to : ℕ) → Bool
+leads_at ws fs a c to = leads_in ws a c (slice_get fs to)
+
+-- ---- changes
+
+abbrev pub no_change : Change
+no_change = record { old = None; new = None; gain = Nothing; filled = None }
+
+-- A test that a local is not 0 came out so.
+abbrev pub filling : Option ℕ → Change
+filling x = record { old = None; new = None; gain = Nothing; filled = x }
+
+-- The newer code alone gives a local a value that nobody needs.
+abbrev pub spoiling : (local : ℕ) → Change
+spoiling z = record { old = None; new = Some z; gain = Nothing; filled = None }
+
+-- ---- where a procedure begins
+
+-- A parameter stands where it stood; no other local has a value.
+abbrev pub begins_so : (params : ℕ) → List Twin → Bool
+begins_so params [] = true
+begins_so params (t ∷ ts) = (if nat_lt t.local params then same_home (Local t.local) t.home else true) && begins_so params ts
+
+abbrev pub is_none_filled : List ℕ → Bool
+is_none_filled [] = true
+is_none_filled (x ∷ xs) = false
+
+abbrev pub begins_with : (params : ℕ) → Option Facts → Bool
+begins_with params (Some a) = a.reached && begins_so params a.twins && is_none_filled a.filled
+begins_with params None = false

@@ -1,0 +1,4 @@
+pub mod Facts
+pub mod Trimming
+pub mod Trimmed
+pub mod Runs

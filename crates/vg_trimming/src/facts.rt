@@ -1,0 +1,47 @@
+// What is known at a place of code.
+use vg_base::Row;
+use vg_lin::Operand;
+
+/// A local of the older code, and where its value stands in the newer code.
+#[derive(Clone, Copy)]
+pub struct Twin {
+    /// The local of the older code.
+    pub local: u8,
+    /// The local of the newer code that has the same value, or the value itself.
+    pub home: Operand,
+}
+
+/// What is known at a place, whenever a run comes there.
+#[derive(Drop)]
+pub struct Facts {
+    /// Whether a run may come there.
+    pub reached: bool,
+    /// Where values of the older code stand in the newer code.
+    pub twins: Row<Twin>,
+    /// Locals of the older code that are not 0.
+    pub filled: Row<u8>,
+}
+
+/// Where the newer code has the new value of a local of the older code.
+#[derive(Clone, Copy)]
+pub enum Gain {
+    /// Nowhere.
+    Nothing,
+    /// In this local.
+    In(u8),
+    /// Where it had the value of this operand, as far as so many bytes hold it.
+    Copied(Operand, u8),
+}
+
+/// What an instruction changes.
+#[derive(Clone, Copy)]
+pub struct Change {
+    /// The local of the older code that gets a value.
+    pub old: Option<u8>,
+    /// The local of the newer code that gets one.
+    pub new: Option<u8>,
+    /// Where the newer code then has the value of the former.
+    pub gain: Gain,
+    /// A local of the older code that is not 0 then.
+    pub filled: Option<u8>,
+}
