@@ -30,7 +30,7 @@ use Rattle.vg_templates.specs.Held.{brings, gives}
 use Rattle.vg_templates.specs.Branches.{tests, told_by, near_branch}
 use Rattle.vg_templates.specs.Calls.{call_code}
 use Rattle.vg_templates.specs.Operands.{least, padded, known_registers, finds, spot_found, found_in}
-use Rattle.vg_templates.specs.Plain.{copies, computes, works, writes_register, reads_register, first_of}
+use Rattle.vg_templates.specs.Plain.{bytes_in, copies_low, copies, computes, works, writes_register, reads_register, first_of}
 use Rattle.vg_templates.specs.Accesses.{points_x, loads_x, stores_x}
 use Rattle.vg_templates.specs.Shifts.{doubles, halves, repeats, shifts_left, shifts_right}
 use Rattle.vg_templates.specs.Lookups.{points_z, loads_z, tries_cases}
@@ -178,8 +178,12 @@ module _ (m : Procedure) (s : IsSound m) where
   computation_some c ShiftRight (Local k) h = computes_some c h
   computation_some c ShiftRight (Known n) h = right_some c.width c.to c.left n h
 
+  copies_low_some : (to : ℕ) (a : Operand) (n : ℕ) → to < length m.widths → 1 ≤ length (copies_low l to a n)
+  copies_low_some to a n h = back (brings l a 22 n) (gives l to 22 n) (gives_some to 22 n h)
+
   copies_some : (to : ℕ) (a : Operand) → to < length m.widths → 1 ≤ length (copies l to a)
-  copies_some to a h = back (brings l a 22 (width_of l to)) (gives l to 22 (width_of l to)) (gives_some to 22 (width_of l to) h)
+  copies_some to (Local k) h = copies_low_some to (Local k) (width_of l to) h
+  copies_some to (Known v) h = copies_low_some to (Known v) (bytes_in (width_of l to) v) h
 
   plain_some : (p : Program) (i : PlainInstr) → IsPlain m i → 1 ≤ length (plain_template l p i)
   plain_some p (Copy to a) h = copies_some to a h.0
@@ -201,7 +205,7 @@ module _ (m : Procedure) (s : IsSound m) where
   plain_some p (Find place to a) h =
       let cases = tries_cases p.codes.code (cases_of (slice_get p.dispatches place)) in
       back (brings l a 24 2) (cases ++ gives l to 22 2) (back cases (gives l to 22 2) (gives_some to 22 2 h.0))
-  plain_some p (CodeOf q to) h = copies_some to (Known (p.codes.code q)) h
+  plain_some p (CodeOf q to) h = copies_low_some to (Known (p.codes.code q)) (width_of l to) h
   plain_some p (Stop code) h = omega arith
 
   pub selected_some : (p : Program) (ws : List ℕ) (to : Leading) (i : Instr) → AreOperands m i → 1 ≤ length (selected l p ws to i)

@@ -1,6 +1,6 @@
 // Values that go to locals, or wait for a call.
 ghost use Rattle.std.specs.Prelude.{◌≡◌, ◌≤◌, ◌<◌, ◌++◌, OnOk, length};
-ghost use Rattle.vg_templates.specs.Plain.{copies, pushes_value};
+ghost use Rattle.vg_templates.specs.Plain.{bytes_in, copies, copies_low, copies_whole, pushes_value};
 ghost use Rattle.vg_alloc.specs.Locations.{layout};
 ghost use Rattle.vg_put_values.specs.Within.{IsThere};
 
@@ -12,7 +12,53 @@ use vg_lin::Operand;
 use vg_put_chains::put_pushes;
 use vg_put_values::{found_in, put_brings, put_finds, put_gives};
 
-/// A value goes to a local.
+// So many low bytes of a value go to a local, and zeros behind them.
+fn put_copies_low(
+    code: &mut Row<Instr>,
+    locations: &Locations,
+    to: u8,
+    operand: Operand,
+    count: u8,
+) -> Result<(), NoMemory>
+    requires there { to < length locations.now.widths }
+    requires operand { IsThere (layout locations.now) operand }
+    requires few { count ≤ 4 }
+    ensures { OnOk result (code.new ≡ code.old ++ copies_low (layout locations.now) to operand count) }
+{
+    put_brings(code, locations, operand, 22, count)?;
+    put_gives(code, locations, to, 22, count)
+}
+
+/// A value goes to a local, by code of as many words for each value of its kind.
+pub fn put_copies_whole(
+    code: &mut Row<Instr>,
+    locations: &Locations,
+    to: u8,
+    operand: Operand,
+) -> Result<(), NoMemory>
+    requires there { to < length locations.now.widths }
+    requires operand { IsThere (layout locations.now) operand }
+    ensures { OnOk result (code.new ≡ code.old ++ copies_whole (layout locations.now) to operand) }
+{
+    let width = locations.width(to);
+    put_copies_low(code, locations, to, operand, width)
+}
+
+// How many low bytes of a number, of so many, have only zeros behind them.
+fn bytes_in(most: u8, value: u32) -> u8
+    ensures is { result ≡ bytes_in most value }
+    ensures few { result ≤ most }
+{
+    if most == 0 {
+        return 0;
+    }
+    if value == 0 {
+        return 0;
+    }
+    1 + bytes_in(most - 1, value / 256)
+}
+
+/// A value goes to a local. For the zeros with which a known number ends, nothing is loaded.
 pub fn put_copies(
     code: &mut Row<Instr>,
     locations: &Locations,
@@ -23,9 +69,13 @@ pub fn put_copies(
     requires operand { IsThere (layout locations.now) operand }
     ensures { OnOk result (code.new ≡ code.old ++ copies (layout locations.now) to operand) }
 {
-    let width = locations.width(to);
-    put_brings(code, locations, operand, 22, width)?;
-    put_gives(code, locations, to, 22, width)
+    match operand {
+        Operand::Local(_) => put_copies_whole(code, locations, to, operand),
+        Operand::Known(value) => {
+            let count = bytes_in(locations.width(to), value);
+            put_copies_low(code, locations, to, operand, count)
+        }
+    }
 }
 
 /// The low bytes of a value wait for a call.

@@ -1,4 +1,4 @@
-ghost use Rattle.std.specs.Prelude.{◌≡◌};
+ghost use Rattle.std.specs.Prelude.{◌≡◌, ◌≤◌};
 
 use crate::sample::sample_locations;
 use avr_instr::{FlagBit, Instr, NearOffset, encode};
@@ -11,7 +11,8 @@ use vg_put_operations::{
     put_divides_steps, put_finds_procedure, put_loads_table, put_multiplies, put_shifts_left,
 };
 use vg_put_plain::{
-    put_computes, put_copies, put_loads_column, put_pushes_value, put_stops, put_writes_device,
+    put_computes, put_copies, put_copies_whole, put_loads_column, put_pushes_value, put_stops,
+    put_writes_device,
 };
 
 // The words that spell instructions, one behind the other.
@@ -313,6 +314,38 @@ fn locals_are_in_registers(rt: HostRuntime) {
         0x2D64, 0x902F, 0x903F, 0x904F, 0x9508, // MOV r22, r4; POP r2; POP r3; POP r4; RET
     ];
     let holds = is_spelled(alloc, &code, &expected);
+    assert!(rt; holds);
+}
+
+fn copied(alloc: Global, params: u8) -> Result<Row<Instr>, NoMemory>
+    requires { params ≤ 2 }
+{
+    let locations = sample_locations(alloc, params)?;
+    let mut code = Row::new(alloc);
+    put_copies(&mut code, &locations, 1, Operand::Known(0))?;
+    put_copies(&mut code, &locations, 0, Operand::Known(5))?;
+    put_copies_whole(&mut code, &locations, 0, Operand::Known(5))?;
+    Ok(code)
+}
+
+// The zeros with which a known number ends come from r1, unless all numbers are to take as many words.
+#[test]
+fn zeros_are_not_loaded(rt: HostRuntime) {
+    let alloc = rt.alloc();
+    let in_frame = copied(alloc, 1);
+    let expected_in_frame = [
+        0x8219, // STD Y+1, r1
+        0xE065, 0x836E, 0x821F, // LDI r22, 5; STD Y+6, r22; STD Y+7, r1
+        0xE065, 0xE070, 0x836E, 0x837F, // LDI r22, 5; LDI r23, 0; STD Y+6, r22; STD Y+7, r23
+    ];
+    let in_registers = copied(alloc, 0);
+    let expected_in_registers = [
+        0x2C41, // MOV r4, r1
+        0xE065, 0x2E26, 0x2C31, // LDI r22, 5; MOV r2, r22; MOV r3, r1
+        0xE065, 0xE070, 0x011B, // LDI r22, 5; LDI r23, 0; MOVW r2, r22
+    ];
+    let holds = is_spelled(alloc, &in_frame, &expected_in_frame)
+        && is_spelled(alloc, &in_registers, &expected_in_registers);
     assert!(rt; holds);
 }
 

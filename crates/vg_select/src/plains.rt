@@ -18,8 +18,8 @@ use vg_put_operations::{
     code_of, put_divides_steps, put_finds_procedure, put_loads_table, put_multiplies,
 };
 use vg_put_plain::{
-    put_copies, put_loads_column, put_pushes_value, put_reads_device, put_stops, put_stores_column,
-    put_writes_device,
+    put_copies, put_copies_whole, put_loads_column, put_pushes_value, put_reads_device, put_stops,
+    put_stores_column, put_writes_device,
 };
 
 // The cases of a dispatch; none where the program has no such dispatch.
@@ -78,7 +78,7 @@ pub fn put_plain(
         ),
         Plain::CodeOf(procedure, to) => {
             let number = u32::from(code_of(codes, procedure));
-            put_copies(code, locations, to, Operand::Known(number))
+            put_copies_whole(code, locations, to, Operand::Known(number))
         }
         Plain::Stop(exception) => put_stops(code, exception),
     }

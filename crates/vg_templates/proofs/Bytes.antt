@@ -1,6 +1,6 @@
 -- Bytes of the stack, and low bytes of numbers.
 use Rattle.std.proofs.Common.{◌≡◌, ℕ, zero, suc, ◌+◌, ◌-◌, ◌*◌, ◌/◌, ◌%◌, ◌^◌, ◌<◌, ◌≤◌, ◌⊎◌, inl, inr, List, length}
-use Rattle.std.proofs.Common.{refl, sym, ap, ◌∙◌, arith, slice_index}
+use Rattle.std.proofs.Common.{◌==◌, Bool, true, false, if◌then◌else◌, refl, sym, ap, ◌∙◌, arith, slice_index}
 use Rattle.std.proofs.lemmas.Nat.{pow-add}
 use Rattle.std.proofs.Math.Nat.{pow-suc, pow-le-pow_right, mod-eq_of_lt, mod-mod_of_dvd, dvd-mul_right}
 use Rattle.avr_instr.specs.declared.instr.Instr.{Instr}
@@ -18,6 +18,7 @@ use Rattle.vg_templates.proofs.Numbers.{cut}
 use Rattle.vg_templates.specs.Pieces.{Sees, Takes}
 use Rattle.vg_templates.specs.Operands.{least, padded}
 use Rattle.vg_templates.specs.Numbers.{number_in}
+use Rattle.vg_templates.specs.Plain.{bytes_in}
 
 -- a byte of the stack
 pub stack_below : (e : Run) (pc : ℕ) (v : View) (s : State) → At e pc v s → (j : ℕ) → j < length v.stack → slice_index v.stack j < 256
@@ -89,6 +90,36 @@ cut_twice x k n h =
     let e : n ≡ k + rest = omega arith in
     let power : 256 ^ n ≡ 256 ^ k * 256 ^ rest = ap (λ m. 256 ^ m) e ∙ pow-add 256 k rest in
     ap (λ m. x % m % 256 ^ k) power ∙ mod-mod_of_dvd (256 ^ k) x (dvd-mul_right (256 ^ k) (256 ^ rest))
+
+-- ---- the low bytes of a number, behind which all others are zero
+
+few_by : (b : Bool) (m n : ℕ) → m ≤ n → (if b then zero else suc m) ≤ suc n
+few_by true m n h = omega arith
+few_by false m n h = omega arith
+
+pub bytes_in_few : (n v : ℕ) → bytes_in n v ≤ n
+bytes_in_few zero v = omega arith
+bytes_in_few (suc n) v = few_by (v == 0) (bytes_in n (v / 256)) n (bytes_in_few n (v / 256))
+
+-- either all of them are looked at, or the number has no others
+abbrev AreAll : (m n v : ℕ) → Type 0
+AreAll m n v = (m ≡ n) ⊎ (v < 256 ^ m)
+
+all_by : (b : Bool) (m n v : ℕ) → (v == 0) ≡ b → AreAll m n (v / 256) → AreAll (if b then zero else suc m) (suc n) v
+all_by true m n v e h = inr (let none : v ≡ 0 = grind (arith, e) in omega (arith, none))
+all_by false m n v e (inl h) = inl (ap suc h)
+all_by false m n v e (inr h) = inr (let power = pow-suc 256 m in omega (arith, h, power))
+
+bytes_in_all : (n v : ℕ) → AreAll (bytes_in n v) n v
+bytes_in_all zero v = inl refl
+bytes_in_all (suc n) v = all_by (v == 0) (bytes_in n (v / 256)) n v refl (bytes_in_all n (v / 256))
+
+-- so they tell as much of it as there is room for
+pub bytes_in_tell : (n v : ℕ) → v % 256 ^ bytes_in n v % 256 ^ n ≡ v % 256 ^ n
+bytes_in_tell n v = elim (bytes_in_all n v) [
+  | inl h ↦ ap (λ m. v % 256 ^ m % 256 ^ n) h ∙ cut_twice v n n (omega arith)
+  | inr h ↦ ap (λ z. z % 256 ^ n) (mod-eq_of_lt h)
+]
 
 -- registers of a list
 pub padded-number : (g : Regs) (r w n : ℕ) → g.of 1 ≡ 0 → number_in g (padded r w n) ≡ number g r (least w n)

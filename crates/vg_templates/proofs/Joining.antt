@@ -17,7 +17,7 @@ use Rattle.vg_templates.specs.Frames.{Places}
 use Rattle.vg_templates.specs.Pieces.{Takes}
 use Rattle.vg_templates.specs.Held.{Held}
 use Rattle.vg_templates.specs.Outcomes.{Lies}
-use Rattle.vg_templates.proofs.Storing.{takes_copies, takes_pushes_value, takes_writes_device}
+use Rattle.vg_templates.proofs.Storing.{takes_copies, takes_copies_whole, takes_pushes_value, takes_writes_device}
 use Rattle.vg_templates.proofs.Computing.{takes_computes}
 use Rattle.vg_templates.proofs.Pointing.{some_there, takes_loads_column, takes_stores_column}
 use Rattle.vg_templates.specs.Plain.{reads_device}
@@ -92,7 +92,7 @@ module _ (i : Places) (ok : (m : ℕ) → IsLayout (i.layouts m)) (m : ℕ) (fra
       (takes_writes_device i ok m frames e deep live behind s address a x v can.1.0 can.1.1 can.0 got (subst (Front e) (sym (same_outside s s' o o' last)) front) k)
   takes_plain_code live behind (CodeOf q to) s s' o' v made can front full k =
       ended behind (CodeOf q to) v (sets to (p.codes.code q) s) s' v.out o' made
-      (takes_copies i ok m frames e deep live behind s to (Known (p.codes.code q)) (p.codes.code q) v tt can refl k)
+      (takes_copies_whole i ok m frames e deep live behind s to (Known (p.codes.code q)) (p.codes.code q) v tt can refl k)
   takes_plain_code live behind (Push w a) s s' o' v made can front full k =
       let (x, (got, last)) = used (value a s) (λ x. GoesOn (record s { waiting = record { width = w; value = low w x } ∷ s.waiting }) v.out) s' o' made in
       ended behind (Push w a) v (record s { waiting = record { width = w; value = low w x } ∷ s.waiting }) s' v.out o' last

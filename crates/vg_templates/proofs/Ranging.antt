@@ -22,8 +22,8 @@ use Rattle.vg_templates.specs.Held.{IsReady, IsSet, brings, gives}
 use Rattle.vg_templates.specs.Numbers.{AreRegisters}
 use Rattle.vg_templates.specs.Chains.{adds_on, adds, subtracts_on, subtracts, takes_known_on, takes_known, ands, ors, eors}
 use Rattle.vg_templates.specs.Operands.{least, known_bytes, finds_spot, finds, found_in}
-use Rattle.vg_templates.specs.Plain.{copies, first_of, operates, works}
-use Rattle.vg_templates.proofs.Bytes.{least_is}
+use Rattle.vg_templates.specs.Plain.{copies_low, copies_whole, bytes_in, copies, first_of, operates, works}
+use Rattle.vg_templates.proofs.Bytes.{least_is, bytes_in_few}
 use Rattle.vg_templates.proofs.Finding.{beside_registers, found-length, found-beside}
 use Rattle.vg_templates.specs.Accesses.{plus_base, points_x, loads_x, stores_x}
 use Rattle.vg_templates.specs.Straight.{plain_code, IsCovered}
@@ -232,11 +232,20 @@ module _ (l : Layout) (ok : IsLayout l) (live behind : ℕ → Bool) where
   reads-fine true address r e word low = let inside : address < 0x60 = grind (arith, e) in ((low, omega arith), tt)
   reads-fine false address r e word low = ((low, word), tt)
 
+  copies_low-fine : (to : ℕ) (a : Operand) (n : ℕ) → IsReady l live a → IsSet l live behind to → n ≤ 4 → Fine (copies_low l to a n)
+  copies_low-fine to a n ready can few =
+      fine_append (brings l a 22 n) (gives l to 22 n) (brings-fine l ok live a 22 n ready (omega arith) (omega arith))
+      (gives-fine l ok live behind to 22 n can (omega arith))
+
+  copies_whole-fine : (to : ℕ) (a : Operand) → IsReady l live a → IsSet l live behind to → Fine (copies_whole l to a)
+  copies_whole-fine to a ready can = copies_low-fine to a (width_of l to) ready can (ok.narrow to can.there)
+
   copies-fine : (to : ℕ) (a : Operand) → IsReady l live a → IsSet l live behind to → Fine (copies l to a)
-  copies-fine to a ready can =
+  copies-fine to (Local k) ready can = copies_whole-fine to (Local k) ready can
+  copies-fine to (Known v) ready can =
       let small = ok.narrow to can.there in
-      fine_append (brings l a 22 (width_of l to)) (gives l to 22 (width_of l to))
-      (brings-fine l ok live a 22 (width_of l to) ready (omega arith) (omega arith)) (gives-fine l ok live behind to 22 (width_of l to) can (omega arith))
+      let few = bytes_in_few (width_of l to) v in
+      copies_low-fine to (Known v) (bytes_in (width_of l to) v) ready can (omega (arith, few, small))
 
   base-fine : (base : ℕ) → Fine (plus_base 26 base)
   base-fine base = by_test (base == 0) refl
@@ -254,7 +263,7 @@ module _ (l : Layout) (ok : IsLayout l) (live behind : ℕ → Bool) where
 
   pub plain_code-fine : (codes : ℕ → ℕ) (q : Plain) → IsCovered l live behind q → Fine (plain_code l codes q)
   plain_code-fine codes (Copy to a) can = copies-fine to a can.0 can.1
-  plain_code-fine codes (CodeOf q to) can = copies-fine to (Known (codes q)) tt can
+  plain_code-fine codes (CodeOf q to) can = copies_whole-fine to (Known (codes q)) tt can
   plain_code-fine codes (Compute c) can =
       let n = least c.width (width_of l c.to) in
       let narrow = ok.narrow c.to can.1.1.there in

@@ -8,6 +8,7 @@ use Rattle.vg_meaning.specs.Outside.{Outside, with_event}
 use Rattle.avr_instr.specs.declared.instr.Instr.TheVariants.{Out, Push, Sts}
 use Rattle.avr_isa.specs.Standing.{widths}
 use Rattle.vg_lin.specs.declared.instr.Operand.{Operand}
+use Rattle.vg_lin.specs.declared.instr.Operand.TheVariants.{Local, Known}
 use Rattle.vg_lin.specs.Steps.{Frame}
 use Rattle.vg_lin.specs.State.{LocalState, State, value, sets, with_local}
 use Rattle.vg_lin.specs.Values.{low}
@@ -29,8 +30,8 @@ use Rattle.vg_templates.proofs.Holding.{takes_brings, takes_gives}
 use Rattle.vg_templates.specs.Numbers.{number_in}
 use Rattle.vg_templates.specs.Operands.{finds, found_in}
 use Rattle.vg_templates.specs.Outcomes.{Found, Lies, IsKept}
-use Rattle.vg_templates.specs.Plain.{copies, pushes_value, first_of, writes_register, writes_device}
-use Rattle.vg_templates.proofs.Bytes.{cut_twice}
+use Rattle.vg_templates.specs.Plain.{copies_low, copies_whole, bytes_in, copies, pushes_value, first_of, writes_register, writes_device}
+use Rattle.vg_templates.proofs.Bytes.{cut_twice, bytes_in_few, bytes_in_tell}
 use Rattle.vg_templates.proofs.Finding.{found-length, takes_finds}
 
 -- ---- states that are the same
@@ -98,26 +99,48 @@ one_register g (r ∷ []) h = omega arith
 one_register g (r ∷ (s ∷ rs)) h = absurd (let none : suc (suc (length rs)) ≡ 1 = h in omega arith)
 
 module _ (i : Places) (ok : (m : ℕ) → IsLayout (i.layouts m)) (m : ℕ) (frames : List (Frame State)) (e : Run) (deep : Type 0) where
-  -- a value goes to a local
-  pub takes_copies : (live behind : ℕ → Bool) (s : State) (to : ℕ) (a : Operand) (x : ℕ) (v : View) → IsReady (i.layouts m) live a
-      → IsSet (i.layouts m) live behind to → value a s ≡ Some x → Held i m live s frames v
-      → Takes e deep v (copies (i.layouts m) to a) (Lies i m behind (sets to x s) frames v.out)
-  takes_copies live behind s to a x v ready can got k =
+  -- so many low bytes of a value, which tell what a local gets of it, go to the local
+  takes_copies_low : (live behind : ℕ → Bool) (s : State) (to : ℕ) (a : Operand) (n x : ℕ) (v : View) → IsReady (i.layouts m) live a
+      → IsSet (i.layouts m) live behind to → n ≤ 4 → x % 256 ^ n % 256 ^ width_of (i.layouts m) to ≡ x % 256 ^ width_of (i.layouts m) to
+      → value a s ≡ Some x → Held i m live s frames v
+      → Takes e deep v (copies_low (i.layouts m) to a n) (Lies i m behind (sets to x s) frames v.out)
+  takes_copies_low live behind s to a n x v ready can few tell got k =
       let l = i.layouts m in
       let w = width_of l to in
-      let small = (ok m).narrow to can.there in
       let goal = Lies i m behind (sets to x s) frames v.out in
-      takes_then e deep v (brings l a 22 w) (gives l to 22 w) (Brought i m live s frames 22 w x v) goal
-      (takes_brings i ok m frames e deep live s a 22 w x v ready got (omega arith) (omega arith) k)
-      (λ u b. takes_wider e deep u (gives l to 22 w) (Given i m behind (sets to (number u.regs 22 w) s) frames u) goal
+      takes_then e deep v (brings l a 22 n) (gives l to 22 n) (Brought i m live s frames 22 n x v) goal
+      (takes_brings i ok m frames e deep live s a 22 n x v ready got (omega arith) (omega arith) k)
+      (λ u b. takes_wider e deep u (gives l to 22 n) (Given i m behind (sets to (number u.regs 22 n) s) frames u) goal
       (λ t g.
-      let same : sets to (number u.regs 22 w) s ≡ sets to x s =
-      sets-same l s to (number u.regs 22 w) x k.stacked.fits.widths (ap (λ z. z % 256 ^ w) b.fetched.holds ∙ cut_twice x w w (omega arith)) in
+      let same : sets to (number u.regs 22 n) s ≡ sets to x s =
+      sets-same l s to (number u.regs 22 n) x k.stacked.fits.widths (ap (λ z. z % 256 ^ w) b.fetched.holds ∙ tell) in
       record {
         held = subst (λ z. Held i m behind z frames t) same g.held;
         out = g.out ∙ ap (λ (y : View). y.out) b.fetched.same;
       })
-      (takes_gives i ok m frames e deep live behind s to 22 w u can (omega arith) (omega arith) b.held))
+      (takes_gives i ok m frames e deep live behind s to 22 n u can (omega arith) (omega arith) b.held))
+
+  -- a value goes to a local
+  pub takes_copies_whole : (live behind : ℕ → Bool) (s : State) (to : ℕ) (a : Operand) (x : ℕ) (v : View) → IsReady (i.layouts m) live a
+      → IsSet (i.layouts m) live behind to → value a s ≡ Some x → Held i m live s frames v
+      → Takes e deep v (copies_whole (i.layouts m) to a) (Lies i m behind (sets to x s) frames v.out)
+  takes_copies_whole live behind s to a x v ready can got k =
+      let w = width_of (i.layouts m) to in
+      takes_copies_low live behind s to a w x v ready can ((ok m).narrow to can.there) (cut_twice x w w (omega arith)) got k
+
+  pub takes_copies : (live behind : ℕ → Bool) (s : State) (to : ℕ) (a : Operand) (x : ℕ) (v : View) → IsReady (i.layouts m) live a
+      → IsSet (i.layouts m) live behind to → value a s ≡ Some x → Held i m live s frames v
+      → Takes e deep v (copies (i.layouts m) to a) (Lies i m behind (sets to x s) frames v.out)
+  takes_copies live behind s to (Local j) x v ready can got k = takes_copies_whole live behind s to (Local j) x v ready can got k
+  takes_copies live behind s to (Known y) x v ready can got k =
+      let w = width_of (i.layouts m) to in
+      let small = (ok m).narrow to can.there in
+      let few = bytes_in_few w y in
+      takes_copies_low live behind s to (Known y) (bytes_in w y) x v ready can (omega (arith, few, small))
+      (subst (λ z. z % 256 ^ bytes_in w y % 256 ^ w ≡ z % 256 ^ w) (some_same y x got) (bytes_in_tell w y)) got k
+    where
+      some_same : (a b : ℕ) → Some a ≡ Some b → a ≡ b
+      some_same a b e1 = cc
 
   -- registers go on the stack
   takes_pushes : (ds : List ℕ) (v : View) → (0x1100 < e.floor + length v.stack + length ds → deep)

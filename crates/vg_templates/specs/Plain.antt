@@ -1,9 +1,9 @@
 -- The code for plain instructions of linear code. Values are worked on in r22 to r25, and a right one comes into r18 to r21.
-use Rattle.std.specs.Prelude.{ℕ, ◌-◌, ◌^◌, ◌%◌, ◌&&◌, nat_le, nat_lt, if◌then◌else◌, List, [], ◌∷◌, ◌++◌}
+use Rattle.std.specs.Prelude.{ℕ, zero, suc, ◌-◌, ◌/◌, ◌^◌, ◌%◌, ◌==◌, ◌&&◌, nat_le, nat_lt, if◌then◌else◌, List, [], ◌∷◌, ◌++◌}
 use Rattle.avr_instr.specs.declared.instr.Instr.{Instr}
 use Rattle.avr_instr.specs.declared.instr.Instr.TheVariants.{In, Lds, Out, Sts}
 use Rattle.vg_lin.specs.declared.instr.Operand.{Operand}
-use Rattle.vg_lin.specs.declared.instr.Operand.TheVariants.{Known}
+use Rattle.vg_lin.specs.declared.instr.Operand.TheVariants.{Local, Known}
 use Rattle.vg_lin.specs.declared.instr.Operator.{Operator}
 use Rattle.vg_lin.specs.declared.instr.Operator.TheVariants.{Plus, Minus, And, Or, Xor}
 use Rattle.vg_lin.specs.declared.instr.Computation.{Computation}
@@ -13,9 +13,23 @@ use Rattle.vg_templates.specs.Held.{brings, gives}
 use Rattle.vg_templates.specs.Chains.{adds, subtracts, takes_known, ands, ors, eors}
 use Rattle.vg_templates.specs.Operands.{least, finds, found_in}
 
+-- so many low bytes of a value go to a local, and zeros behind them
+abbrev pub copies_low : Layout → (to : ℕ) → Operand → (count : ℕ) → List Instr
+copies_low l to a n = brings l a 22 n ++ gives l to 22 n
+
 -- a value goes to a local
+abbrev pub copies_whole : Layout → (to : ℕ) → Operand → List Instr
+copies_whole l to a = copies_low l to a (width_of l to)
+
+-- how many low bytes of a number, of so many, have only zeros behind them
+abbrev pub bytes_in : (most value : ℕ) → ℕ
+bytes_in zero v = zero
+bytes_in (suc n) v = if v == 0 then zero else suc (bytes_in n (v / 256))
+
+-- the same, without code for the zeros with which a known number ends
 abbrev pub copies : Layout → (to : ℕ) → Operand → List Instr
-copies l to a = brings l a 22 (width_of l to) ++ gives l to 22 (width_of l to)
+copies l to (Local k) = copies_whole l to (Local k)
+copies l to (Known v) = copies_low l to (Known v) (bytes_in (width_of l to) v)
 
 -- the low bytes of a value wait for a call
 abbrev pub pushes_value : Layout → (width : ℕ) → Operand → List Instr

@@ -11,7 +11,7 @@ use Rattle.vg_lin.specs.Sound.{IsWidth}
 use Rattle.vg_templates.specs.Layouts.{Layout, width_of}
 use Rattle.vg_templates.specs.Held.{IsReady, IsSet}
 use Rattle.vg_templates.specs.Outcomes.{IsKept}
-use Rattle.vg_templates.specs.Plain.{IsBytewise, copies, pushes_value, writes_device, reads_device, computes}
+use Rattle.vg_templates.specs.Plain.{IsBytewise, copies, copies_whole, pushes_value, writes_device, reads_device, computes}
 use Rattle.vg_templates.specs.Accesses.{loads_column, stores_column}
 
 -- a run ends with a code in r24, by a jump to itself
@@ -27,7 +27,7 @@ plain_code l codes (Store w a from) = stores_column l w a.base a.index from
 plain_code l codes (ReadDevice to address) = reads_device l to address
 plain_code l codes (WriteDevice address a) = writes_device l address a
 plain_code l codes (Push w a) = pushes_value l w a
-plain_code l codes (CodeOf q to) = copies l to (Known (codes q))
+plain_code l codes (CodeOf q to) = copies_whole l to (Known (codes q))
 plain_code l codes _ = []
 
 -- There is a template for the instruction, and it can be used where these locals are live, and those behind it: operands are live, a local that is set
