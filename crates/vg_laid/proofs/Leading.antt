@@ -1,9 +1,9 @@
 -- Procedures that are put are linked.
-use Rattle.std.specs.Prelude.{ℕ, zero, suc, ◌+◌, ◌-◌, ◌%◌, ◌<◌, ◌≤◌, ◌≢◌, ◌==◌, ◌&&◌, Bool, true, false, List, [], ◌∷◌, ◌++◌, length, get_or, Option, Some, None, slice_get}
+use Rattle.std.specs.Prelude.{ℕ, zero, suc, ◌+◌, ◌-◌, ◌<◌, ◌≤◌, ◌≢◌, Bool, true, false, List, [], ◌++◌, length, get_or, Some, slice_get}
 use Rattle.std.proofs.Common.{◌≡◌, refl, sym, ap, ap₂, ◌∙◌, subst, arith, inl, inr}
 use Rattle.std.proofs.lemmas.List.{append_assoc}
+use Rattle.std.proofs.lemmas.Option.{slice_get_within}
 use Rattle.avr_instr.specs.declared.instr.Instr.{Instr as Avr}
-use Rattle.avr_isa.specs.Flow.{near_from}
 use Rattle.avr_isa.specs.Standing.{widths}
 use Rattle.avr_isa.proofs.Standing.{widths-append}
 use Rattle.avr_view.proofs.Going.{below_or_not}
@@ -22,53 +22,24 @@ use Rattle.vg_templates.specs.Layouts.{Layout}
 use Rattle.vg_templates.specs.Linkage.{prologue}
 use Rattle.vg_templates.specs.Calls as calls
 use Rattle.vg_templates.specs.Branches.{tests, told_by}
-use Rattle.vg_templates.specs.Flow.{branch_code, Direct, Past, Far}
+use Rattle.vg_templates.specs.Flow.{branch_code}
 use Rattle.vg_templates.specs.Whole.{Links, template}
 use Rattle.vg_followed.specs.Tables.{AreCases}
 use Rattle.vg_followed.specs.Stands.{HopLeads, TurnLeads, TestLeads, CalleeLeads, call_place}
 use Rattle.vg_covered.specs.Fitting.{IsPlainFit, IsFit}
 use Rattle.vg_put_operations.specs.Coded.{code_from}
-use Rattle.vg_select.specs.Selected.{Leading, selected}
+use Rattle.vg_select.specs.Selected.{selected}
 use Rattle.vg_put_procedures.specs.Emitted.{code_of, code_at, code_upto, body_code, place_of}
-use Rattle.vg_put_programs.specs.Programs.{turn_of, address_in, aim_in, callee_in, branches_to, is_stop, skips_at, Emission, piece_at, pieces_upto}
-use Rattle.vg_laid.specs.Linked.{HasPiece, leading_of, Targets, InstrLinked, ProcedureLinked}
-use Rattle.vg_laid.specs.Laid.{known, aim_of, called_of, turn_by, layout_of, instrs_of, behind_of, layout_at, instrs_at, known_places, leads_at, place_at, links_of, AreSound}
+use Rattle.vg_put_programs.specs.declared.reach.Reach.{Reach}
+use Rattle.vg_put_programs.specs.Programs.{turn_of, aim_in, behind_in, callee_in, reach_in, Emission, piece_at, pieces_upto}
+use Rattle.vg_laid.specs.Linked.{HasPiece, Targets, ProcedureLinked}
+use Rattle.vg_laid.specs.Laid.{known, reach_of, behind_hop, aim_of, called_of, hop_by, turn_by, layout_of, instrs_of, behind_of, layout_at, instrs_at}
+use Rattle.vg_laid.specs.Laid.{known_places, guessed_places, leads_at, place_at, links_of}
+use Rattle.vg_laid.proofs.Sizes.{turn_words, turn_takes}
+use Rattle.vg_laid.proofs.Reaching.{InReach, Nearer, reached, still_in_reach, hop_leads, turn_leads}
 use Rattle.vg_laid.proofs.Some.{selected_some, words_some}
 use Rattle.vg_laid.proofs.Turns.{turn_low}
-use Rattle.vg_laid.proofs.Laying.{pieces_parts, pieces_fit, entry_is, piece_there, place_known, there}
-
-both_true : (a b : Bool) → (a && b) ≡ true → (a ≡ true) × (b ≡ true)
-both_true true b e = (refl, e)
-both_true false b e = absurd (let clash : false ≡ true = e in cc)
-
-same_number : (a b : ℕ) → (a == b) ≡ true → a ≡ b
-same_number a b e = grind arith
-
--- what stops the run is a stop
-stop_is : (o : Option Instr) → is_stop o ≡ true → (code : ℕ) × (o ≡ Some (Plain (Stop code)))
-stop_is None e = absurd (let clash : false ≡ true = e in cc)
-stop_is (Some (Plain q)) e = plain_stop q e
-  where
-    plain_stop : (q : PlainInstr) → is_stop (Some (Plain q)) ≡ true → (code : ℕ) × (Some (Plain q) ≡ Some (Plain (Stop code)))
-    plain_stop (Stop code) e = (code, refl)
-    plain_stop (Copy to a) e = absurd (let clash : false ≡ true = e in cc)
-    plain_stop (Compute c) e = absurd (let clash : false ≡ true = e in cc)
-    plain_stop (Product to a b) e = absurd (let clash : false ≡ true = e in cc)
-    plain_stop (DivideSteps r d a) e = absurd (let clash : false ≡ true = e in cc)
-    plain_stop (Load k w to a) e = absurd (let clash : false ≡ true = e in cc)
-    plain_stop (Store w a from) e = absurd (let clash : false ≡ true = e in cc)
-    plain_stop (ReadDevice to a) e = absurd (let clash : false ≡ true = e in cc)
-    plain_stop (WriteDevice to a) e = absurd (let clash : false ≡ true = e in cc)
-    plain_stop (Push w a) e = absurd (let clash : false ≡ true = e in cc)
-    plain_stop (Pop w to) e = absurd (let clash : false ≡ true = e in cc)
-    plain_stop (Find d to a) e = absurd (let clash : false ≡ true = e in cc)
-    plain_stop (CodeOf q to) e = absurd (let clash : false ≡ true = e in cc)
-stop_is (Some (When t to)) e = absurd (let clash : false ≡ true = e in cc)
-stop_is (Some (Unless t to)) e = absurd (let clash : false ≡ true = e in cc)
-stop_is (Some (Jump to)) e = absurd (let clash : false ≡ true = e in cc)
-stop_is (Some (Call c)) e = absurd (let clash : false ≡ true = e in cc)
-stop_is (Some (Return w a)) e = absurd (let clash : false ≡ true = e in cc)
-stop_is (Some Idle) e = absurd (let clash : false ≡ true = e in cc)
+use Rattle.vg_laid.proofs.Laying.{pieces_parts, pieces_fit, entry_is, piece_there, place_known, far_place, place_guessed, far_wider, there}
 
 module _ (ms : List Procedure) (s : ℕ) (ds : List (List Case)) (first : ℕ) (stubs : List ℕ) (low : s < length ms)
     (room : first + widths (pieces_upto (known ms s ds first) (length ms)) < 65536) (p : Program)
@@ -163,12 +134,33 @@ module _ (ms : List Procedure) (s : ℕ) (ds : List (List Case)) (first : ℕ) (
 
   -- ---- where it leads
 
-  address : (to : ℕ) → to < length is → get_or (known_places e p m) to 0 % 65536 ≡ at to
-  address to h =
-      ap (λ z. z % 65536) (place_known ms s ds first low room p codes dispatches m procedure is_there to h) ∙ reduced (at to) (small to (omega (arith, h)))
+  abbrev guessed : List ℕ
+  guessed = guessed_places e p m
+
+  abbrev places : List ℕ
+  places = known_places e p m
+
+  abbrev far : ℕ → ℕ
+  far pc = far_place ms s ds first low room p codes dispatches m procedure is_there pc
+
+  far_known : (pc : ℕ) → pc < length is → get_or guessed pc 0 ≡ far pc
+  far_known pc h = place_guessed ms s ds first low room p codes dispatches m procedure is_there pc h
+
+  at_known : (pc : ℕ) → pc < length is → get_or places pc 0 ≡ at pc
+  at_known pc h = place_known ms s ds first low room p codes dispatches m procedure is_there pc h
+
+  -- no two instructions stand further from one another than they would with far jumps and branches
+  nearer : (u v : ℕ) → u < length is → v < length is → Nearer (far u) (far v) (at u) (at v)
+  nearer u v h g = elim (below_or_not v u) [
+    | inl less ↦ inl (wider v u (omega (arith, less)) h, from_to v u (omega (arith, less)))
+    | inr past ↦ inr (wider u v past g, from_to u v past)
+  ]
     where
-      reduced : (z : ℕ) → z < 65536 → z % 65536 ≡ z
-      reduced z g = omega (arith, g)
+      wider : (a b : ℕ) → a ≤ b → b < length is → at b + far a ≤ far b + at a
+      wider a b k j =
+          let z : a + (b - a) ≡ b = omega (arith, k) in
+          subst (λ c. at c + far a ≤ far c + at a) z
+          (far_wider ms s ds first low room p codes dispatches m procedure is_there a (b - a) (omega (arith, k, j)))
 
   away : (pc to : ℕ) (i : Instr) → slice_get is pc ≡ Some i → to < length is → to ≢ pc → (d : ℕ) → at pc + d < at (suc pc) → at to ≢ at pc + d
   away pc to i q h other d inner same = elim (below_or_not to pc) [
@@ -181,10 +173,6 @@ module _ (ms : List Procedure) (s : ℕ) (ds : List (List Case)) (first : ℕ) (
     ]
   ]
 
-  turns : (t : Test) (truth : Bool) (aim : ℕ) → widths (tests l t ++ branch_code (told_by t.comparison) truth (Past (Far aim))) ≡ widths (tests l t) + 3
-  turns t true aim = let w = widths-append (tests l t) (branch_code (told_by t.comparison) true (Past (Far aim))) in omega (arith, w)
-  turns t false aim = let w = widths-append (tests l t) (branch_code (told_by t.comparison) false (Past (Far aim))) in omega (arith, w)
-
   callee : (c : Callee) (at : ℕ) → CalleeLeads x c (calls.Far (callee_in e.codes c)) at
   callee (ByNumber q) at = refl
   callee (ByCode a) at = tt
@@ -192,63 +180,68 @@ module _ (ms : List Procedure) (s : ℕ) (ds : List (List Case)) (first : ℕ) (
   held : (pc to : ℕ) → to < length procedure.code → to < length is
   held pc to h = subst (λ z. to < length z) (sym is_is) h
 
-  near : (t : Test) (truth : Bool) → widths (tests l t ++ branch_code (told_by t.comparison) truth (Direct 2)) ≡ widths (tests l t) + 1
-  near t true = let w = widths-append (tests l t) (branch_code (told_by t.comparison) true (Direct 2)) in omega (arith, w)
-  near t false = let w = widths-append (tests l t) (branch_code (told_by t.comparison) false (Direct 2)) in omega (arith, w)
-
+  -- a branch is the last of the code of its instruction
   branches : (pc to : ℕ) (i : Instr) (t : Test) (truth : Bool) → slice_get is pc ≡ Some i
       → widths (code_at l p (leads_at e p m) is pc) ≡ widths (tests l t ++ branch_code (told_by t.comparison) truth (x.branch m pc))
-      → aim_in (known_places e p m) i ≡ address_in (known_places e p m) to → branches_to (pc + 2) i ≡ (to == pc + 2) → to ≢ pc → to < length is
-      → TestLeads x m pc to (at pc + widths (tests l t))
-  branches pc to i t truth q w aim over other h = by_test (skips_at pc (Some i) (slice_get is (suc pc))) refl
+      → ((ps : List ℕ) → aim_in ps i ≡ get_or ps to 0) → ((ps : List ℕ) → behind_in ps pc i ≡ get_or ps (suc pc) 0) → to ≢ pc → to < length is
+      → suc pc < length is → TestLeads x m pc to (at pc + widths (tests l t))
+  branches pc to i t truth q w aim behind other h g =
+      subst (λ b. TurnLeads b (at pc + widths (tests l t)) (at to)) (sym turn_is)
+      (turn_leads r (at pc + widths (tests l t)) (at (suc pc)) (at to) ends in_reach (small to (omega (arith, h)))
+      (λ inner same. away pc to i q h other (widths (tests l t) + 1) (omega (arith, inner)) (same ∙ regroup (at pc) (widths (tests l t)))))
     where
-      aimed : ℕ
-      aimed = address_in (known_places e p m) to
+      r : Reach
+      r = reach_in guessed pc i
 
-      turn_is : (b : Bool) → skips_at pc (Some i) (slice_get is (suc pc)) ≡ b → x.branch m pc ≡ turn_by b aimed
-      turn_is b s = ap (λ o. turn_by (skips_at pc o (slice_get is (suc pc))) (aim_of (known_places e p m) o)) q ∙ ap₂ turn_by s aim
+      turn_is : x.branch m pc ≡ turn_by r (at (suc pc)) (at to)
+      turn_is =
+          ap (λ o. turn_by (reach_of guessed pc o) (behind_hop places pc o) (aim_of places o)) q
+          ∙ ap₂ (turn_by r) (behind places ∙ at_known (suc pc) g) (aim places ∙ at_known to h)
 
-      size : (b : Bool) → skips_at pc (Some i) (slice_get is (suc pc)) ≡ b
-          → widths (code_at l p (leads_at e p m) is pc) ≡ widths (tests l t ++ branch_code (told_by t.comparison) truth (turn_by b aimed))
-      size b s = w ∙ ap (λ z. widths (tests l t ++ branch_code (told_by t.comparison) truth z)) (turn_is b s)
+      ends : at (suc pc) ≡ at pc + widths (tests l t) + turn_words r
+      ends =
+          let n = next pc in let s = w ∙ ap (λ z. widths (tests l t ++ branch_code (told_by t.comparison) truth z)) turn_is in
+          let a = widths-append (tests l t) (branch_code (told_by t.comparison) truth (turn_by r (at (suc pc)) (at to))) in
+          let k = turn_takes (told_by t.comparison) truth r (at (suc pc)) (at to) in omega (arith, n, s, a, k)
+
+      in_reach : InReach r (at (suc pc)) (at to)
+      in_reach =
+          still_in_reach r (far (suc pc)) (far to) (at (suc pc)) (at to) (far (suc pc)) (at (suc pc)) 0 (omega arith) (omega arith) (omega arith)
+          (nearer (suc pc) to g h)
+          (subst (λ z. InReach r z (far to)) (behind guessed ∙ far_known (suc pc) g)
+          (subst (λ z. InReach r (behind_in guessed pc i) z) (aim guessed ∙ far_known to h) (reached guessed pc i)))
 
       regroup : (a b : ℕ) → a + b + 1 ≡ a + (b + 1)
       regroup a b = omega arith
 
-      -- over the two words of a stop
-      over_stop : skips_at pc (Some i) (slice_get is (suc pc)) ≡ true → near_from (at pc + widths (tests l t)) 2 ≡ at to
-      over_stop s =
-          let both = both_true (branches_to (pc + 2) i) (is_stop (slice_get is (suc pc))) s in
-          let to_is = same_number to (pc + 2) (sym over ∙ both.0) in
-          let stop = stop_is (slice_get is (suc pc)) both.1 in
-          let here = next pc in
-          let test_size = size true s ∙ near t truth in
-          let behind = next (suc pc) in
-          let stop_size : widths (code_at l p (leads_at e p m) is (suc pc)) ≡ 2 = ap widths (code_is (suc pc) (Plain (Stop stop.0)) stop.1) in
-          let two : pc + 2 ≡ suc (suc pc) = omega arith in
-          let goal : at to ≡ at (suc (suc pc)) = ap at (to_is ∙ two) in
-          let sum : at pc + widths (tests l t) + 1 + 2 + 0 ≡ at to = omega (arith, here, test_size, behind, stop_size, goal) in
-          ap (λ z. z % 65536) sum ∙ reduced (at to) (small to (omega (arith, h)))
-        where
-          reduced : (z : ℕ) → z < 65536 → z % 65536 ≡ z
-          reduced z g = omega (arith, g)
+  jumps : (pc to : ℕ) → slice_get is pc ≡ Some (Jump to) → to ≢ pc → to < length is → pc < length is → HopLeads (x.jump m pc) (at pc) (at to)
+  jumps pc to q other h g =
+      subst (λ b. HopLeads b (at pc) (at to)) (sym hop_is)
+      (hop_leads r (at pc) (at pc + 1) (at to) refl in_reach (small to (omega (arith, h)))
+      (λ same. away pc to (Jump to) q h other 0 (let up = strict pc (Jump to) q in omega (arith, up)) (same ∙ (let z : at pc ≡ at pc + 0 = omega arith in z))))
+    where
+      r : Reach
+      r = reach_in guessed pc (Jump to)
 
-      by_test : (b : Bool) → skips_at pc (Some i) (slice_get is (suc pc)) ≡ b → TestLeads x m pc to (at pc + widths (tests l t))
-      by_test true s = subst (λ b. TurnLeads b (at pc + widths (tests l t)) (at to)) (sym (turn_is true s)) (over_stop s)
-      by_test false s =
-          let n = next pc in let u = size false s ∙ turns t truth aimed in
-          let inner : at pc + (widths (tests l t) + 1) < at (suc pc) = omega (arith, n, u) in
-          subst (λ b. TurnLeads b (at pc + widths (tests l t)) (at to)) (sym (turn_is false s))
-          (address to h, λ same. away pc to i q h other (widths (tests l t) + 1) inner (same ∙ regroup (at pc) (widths (tests l t))))
+      hop_is : x.jump m pc ≡ hop_by r (at pc + 1) (at to)
+      hop_is =
+          ap (λ o. hop_by (reach_of guessed pc o) (behind_hop places pc o) (aim_of places o)) q
+          ∙ ap₂ (λ u v. hop_by r (u + 1) v) (at_known pc g) (at_known to h)
+
+      in_reach : InReach r (at pc + 1) (at to)
+      in_reach =
+          still_in_reach r (far pc) (far to) (at pc) (at to) (far pc + 1) (at pc + 1) 1 (omega arith) refl refl (nearer pc to g h)
+          (subst (λ z. InReach r (z + 1) (far to)) (far_known pc g)
+          (subst (λ z. InReach r (get_or guessed pc 0 + 1) z) (far_known to h) (reached guessed pc (Jump to))))
 
   target : (pc : ℕ) (i : Instr) → slice_get is pc ≡ Some i → Waits procedure (waits_of procedure) pc i → Targets x m pc i
   target pc (Plain i) q w = tt
-  target pc (When t to) q w = branches pc to (When t to) t true q (ap widths (code_is pc (When t to) q)) refl refl w.0.0 (held pc to w.0.1.0)
-  target pc (Unless t to) q w = branches pc to (Unless t to) t false q (ap widths (code_is pc (Unless t to) q)) refl refl w.0.0 (held pc to w.0.1.0)
-  target pc (Jump to) q w =
-      let h = held pc to w.1.0 in let up = strict pc (Jump to) q in
-      subst (λ b. HopLeads b (at pc) (at to)) (sym (ap (λ o. Far (aim_of (known_places e p m) o)) q))
-      (address to h, λ same. away pc to (Jump to) q h w.0 0 (omega (arith, up)) (same ∙ (let z : at pc ≡ at pc + 0 = omega arith in z)))
+  target pc (When t to) q w =
+      branches pc to (When t to) t true q (ap widths (code_is pc (When t to) q)) (λ ps. refl) (λ ps. refl) w.0.0 (held pc to w.0.1.0) (held pc (suc pc) w.1.0)
+  target pc (Unless t to) q w =
+      branches pc to (Unless t to) t false q (ap widths (code_is pc (Unless t to) q)) (λ ps. refl) (λ ps. refl) w.0.0 (held pc to w.0.1.0)
+      (held pc (suc pc) w.1.0)
+  target pc (Jump to) q w = jumps pc to q w.0 (held pc to w.1.0) (slice_get_within is pc (Jump to) q)
   target pc (Call c) q w = (
     ap (behind_of l (at pc) (leads_at e p m pc)) q,
     subst (λ b. CalleeLeads x c.callee b (call_place x m pc c)) (sym (ap (λ o. calls.Far (called_of e.codes o)) q))

@@ -4,6 +4,7 @@ pub mod Some
 pub mod Sizes
 pub mod Turns
 pub mod Laying
+pub mod Reaching
 pub mod Leading
 pub mod Within
 pub mod Stubs

@@ -1,5 +1,6 @@
--- How many words the code of an instruction takes does not depend on code numbers, nor on where far jumps and far calls lead.
-use Rattle.std.specs.Prelude.{ℕ, zero, suc, ◌+◌, ◌/◌, ◌<◌, Bool, true, false, List, [], ◌∷◌, ◌++◌, Option, Some, None, slice_get}
+-- How many words the code of an instruction takes depends on how far off it leads, and not on code numbers, nor on where it leads; and it takes most where that is
+-- far off.
+use Rattle.std.specs.Prelude.{ℕ, zero, suc, ◌+◌, ◌/◌, ◌<◌, ◌≤◌, Bool, true, false, List, [], ◌∷◌, ◌++◌, Option, Some, None, slice_get}
 use Rattle.std.proofs.Common.{◌≡◌, refl, sym, ap, ap₂, ◌∙◌, subst, arith}
 use Rattle.avr_instr.specs.declared.instr.Instr.{Instr as Avr}
 use Rattle.avr_isa.specs.Standing.{width, widths}
@@ -10,10 +11,7 @@ use Rattle.vg_lin.specs.declared.instr.Callee.{Callee}
 use Rattle.vg_lin.specs.declared.instr.Callee.TheVariants.{Procedure as ByNumber, Code as ByCode}
 use Rattle.vg_lin.specs.declared.instr.Memory.TheVariants.{Ram, Flash}
 use Rattle.vg_lin.specs.declared.instr.Operand.{Operand}
-use Rattle.vg_lin.specs.declared.instr.Operand.TheVariants.{Local, Known}
-use Rattle.vg_lin.specs.declared.instr.Operator.{Operator}
-use Rattle.vg_lin.specs.declared.instr.Operator.TheVariants.{Plus, Minus, Times, Divide, Remainder, And, Or, Xor, ShiftLeft, ShiftRight}
-use Rattle.vg_lin.specs.declared.instr.Computation.{Computation}
+use Rattle.vg_lin.specs.declared.instr.Operand.TheVariants.{Known}
 use Rattle.vg_lin.specs.declared.instr.Plain.{Plain as PlainInstr}
 use Rattle.vg_lin.specs.declared.instr.Plain.TheVariants.{Copy, Compute, Product, DivideSteps, Load, Store, ReadDevice, WriteDevice, Push, Pop, Find, CodeOf, Stop}
 use Rattle.vg_lin.specs.declared.instr.Instr.{Instr}
@@ -28,16 +26,24 @@ use Rattle.vg_templates.specs.Calls.{call_code}
 use Rattle.vg_templates.specs.Calls as calls
 use Rattle.vg_templates.specs.Plain.{copies_whole}
 use Rattle.vg_templates.specs.Lookups.{tries_case, tries_cases, finds_procedure}
-use Rattle.vg_templates.specs.Flow.{branch_code, way_of}
+use Rattle.vg_templates.specs.Flow.{jump_code, branch_code, way_of}
 use Rattle.vg_templates.specs.Plains.{plain_template}
 use Rattle.vg_templates.specs.Whole.{call_front, call_back}
 use Rattle.vg_select.specs.Selected.{Leading, selected}
 use Rattle.vg_put_procedures.specs.Emitted.{code_of, code_at, code_upto}
-use Rattle.vg_laid.specs.Laid.{turn_by, far_lead}
+use Rattle.vg_put_programs.specs.declared.reach.Reach.{Reach}
+use Rattle.vg_put_programs.specs.declared.reach.Reach.TheVariants.{Short as Within7, Near as Within12, Far as Beyond}
+use Rattle.vg_laid.specs.Laid.{hop_by, turn_by, lead_by}
 
 -- Two pieces of code take as many words as two others, of which each takes as many.
 pub both_same : (a b c d : List Avr) → widths a ≡ widths c → widths b ≡ widths d → widths (a ++ b) ≡ widths (c ++ d)
 both_same a b c d h k = let e = widths-append a b in let f = widths-append c d in omega (arith, h, k, e, f)
+
+both_less : (a b c d : List Avr) → widths a ≤ widths c → widths b ≤ widths d → widths (a ++ b) ≤ widths (c ++ d)
+both_less a b c d h k = let e = widths-append a b in let f = widths-append c d in omega (arith, h, k, e, f)
+
+no_less : (a b : ℕ) → a ≡ b → a ≤ b
+no_less a b h = omega (arith, h)
 
 known_size : (d n x y : ℕ) → widths (known d n x) ≡ widths (known d n y)
 known_size d zero x y = refl
@@ -59,14 +65,54 @@ finds_size l f g cs es to a e =
     (both_same (tries_cases f cs) (gives l to 22 2) (tries_cases g es) (gives l to 22 2)
     (tries_size f g cs ∙ ap (λ z. widths (tries_cases g z)) e) refl)
 
-turn_size : (bit : ℕ) (wanted skips : Bool) (x y : ℕ) → widths (branch_code bit wanted (turn_by skips x)) ≡ widths (branch_code bit wanted (turn_by skips y))
-turn_size bit wanted true x y = refl
-turn_size bit true false x y = refl
-turn_size bit false false x y = refl
+hop_size : (r : Reach) (b a b' a' : ℕ) → widths (jump_code (hop_by r b a)) ≡ widths (jump_code (hop_by r b' a'))
+hop_size Within7 b a b' a' = refl
+hop_size Within12 b a b' a' = refl
+hop_size Beyond b a b' a' = refl
+
+hop_less : (r : Reach) (b a b' a' : ℕ) → widths (jump_code (hop_by r b a)) ≤ widths (jump_code (hop_by Beyond b' a'))
+hop_less Within7 b a b' a' = omega arith
+hop_less Within12 b a b' a' = omega arith
+hop_less Beyond b a b' a' = omega arith
+
+abbrev pub turn_words : Reach → ℕ
+turn_words Within7 = 1
+turn_words Within12 = 2
+turn_words Beyond = 3
+
+pub turn_takes : (bit : ℕ) (wanted : Bool) (r : Reach) (b a : ℕ) → widths (branch_code bit wanted (turn_by r b a)) ≡ turn_words r
+turn_takes bit true Within7 b a = refl
+turn_takes bit false Within7 b a = refl
+turn_takes bit true Within12 b a = refl
+turn_takes bit false Within12 b a = refl
+turn_takes bit true Beyond b a = refl
+turn_takes bit false Beyond b a = refl
+
+turn_size : (bit : ℕ) (wanted : Bool) (r : Reach) (b a b' a' : ℕ)
+    → widths (branch_code bit wanted (turn_by r b a)) ≡ widths (branch_code bit wanted (turn_by r b' a'))
+turn_size bit wanted r b a b' a' = turn_takes bit wanted r b a ∙ sym (turn_takes bit wanted r b' a')
+
+turn_less : (bit : ℕ) (wanted : Bool) (r : Reach) (b a b' a' : ℕ)
+    → widths (branch_code bit wanted (turn_by r b a)) ≤ widths (branch_code bit wanted (turn_by Beyond b' a'))
+turn_less bit wanted r b a b' a' =
+    let x = turn_takes bit wanted r b a in let y = turn_takes bit wanted Beyond b' a' in let few = at_most r in omega (arith, x, y, few)
+  where
+    at_most : (k : Reach) → turn_words k ≤ 3
+    at_most Within7 = omega arith
+    at_most Within12 = omega arith
+    at_most Beyond = omega arith
 
 call_size : (c : Callee) (x y : ℕ) → width (call_code (way_of c (calls.Far x))) ≡ width (call_code (way_of c (calls.Far y)))
 call_size (ByNumber q) x y = refl
 call_size (ByCode a) x y = refl
+
+-- Where an instruction leads, so far off.
+pub record LeadsBy (r : Reach) (to : Leading) : Type 0 where
+  pub behind : ℕ
+  pub aim : ℕ
+  pub called : ℕ
+  pub idle : ℕ
+  pub is : to ≡ lead_by r behind aim called idle
 
 module _ (l : Layout) (p q : Program) (same : p.dispatches ≡ q.dispatches) where
   plain_size : (i : PlainInstr) → widths (plain_template l p i) ≡ widths (plain_template l q i)
@@ -87,40 +133,80 @@ module _ (l : Layout) (p q : Program) (same : p.dispatches ≡ q.dispatches) whe
   plain_size (CodeOf m to) = copies_size l to (p.codes.code m) (q.codes.code m)
   plain_size (Stop code) = refl
 
-  pub selected_size : (ws : List ℕ) (t : Bool) (a b c x y z : ℕ) (i : Instr)
-      → widths (selected l p ws (far_lead t a b c) i) ≡ widths (selected l q ws (far_lead t x y z) i)
-  selected_size ws t a b c x y z (Plain i) = plain_size i
-  selected_size ws t a b c x y z (When k at) =
-      both_same (tests l k) (branch_code (told_by k.comparison) true (turn_by t a)) (tests l k) (branch_code (told_by k.comparison) true (turn_by t x))
-      refl (turn_size (told_by k.comparison) true t a x)
-  selected_size ws t a b c x y z (Unless k at) =
-      both_same (tests l k) (branch_code (told_by k.comparison) false (turn_by t a)) (tests l k) (branch_code (told_by k.comparison) false (turn_by t x))
-      refl (turn_size (told_by k.comparison) false t a x)
-  selected_size ws t a b c x y z (Jump at) = refl
-  selected_size ws t a b c x y z (Call k) =
-      let back = call_back l ws k in let w = call_size k.callee b y in
-      both_same (call_front l k) (call_code (way_of k.callee (calls.Far b)) ∷ back) (call_front l k) (call_code (way_of k.callee (calls.Far y)) ∷ back) refl
+  pub selected_size : (ws : List ℕ) (r : Reach) (b a c d b' a' c' d' : ℕ) (i : Instr)
+      → widths (selected l p ws (lead_by r b a c d) i) ≡ widths (selected l q ws (lead_by r b' a' c' d') i)
+  selected_size ws r b a c d b' a' c' d' (Plain i) = plain_size i
+  selected_size ws r b a c d b' a' c' d' (When k at) =
+      both_same (tests l k) (branch_code (told_by k.comparison) true (turn_by r b a)) (tests l k) (branch_code (told_by k.comparison) true (turn_by r b' a'))
+      refl (turn_size (told_by k.comparison) true r b a b' a')
+  selected_size ws r b a c d b' a' c' d' (Unless k at) =
+      both_same (tests l k) (branch_code (told_by k.comparison) false (turn_by r b a)) (tests l k) (branch_code (told_by k.comparison) false (turn_by r b' a'))
+      refl (turn_size (told_by k.comparison) false r b a b' a')
+  selected_size ws r b a c d b' a' c' d' (Jump at) = hop_size r b a b' a'
+  selected_size ws r b a c d b' a' c' d' (Call k) =
+      let back = call_back l ws k in let w = call_size k.callee c c' in
+      both_same (call_front l k) (call_code (way_of k.callee (calls.Far c)) ∷ back) (call_front l k) (call_code (way_of k.callee (calls.Far c')) ∷ back) refl
       (ap (λ n. n + widths back) w)
-  selected_size ws t a b c x y z (Return w v) = refl
-  selected_size ws t a b c x y z Idle = refl
+  selected_size ws r b a c d b' a' c' d' (Return w v) = refl
+  selected_size ws r b a c d b' a' c' d' Idle = refl
 
-  -- the code of the first instructions, so many, where each is led by far jumps and calls
-  pub upto_size : (f g : ℕ → Leading) (is : List Instr) (n : ℕ)
-      → ((pc : ℕ) → pc < n → (t : Bool) × (a : ℕ) × (b : ℕ) × (c : ℕ) × (x : ℕ) × (y : ℕ) × (z : ℕ) × (f pc ≡ far_lead t a b c)
-      × (g pc ≡ far_lead t x y z))
+  selected_less : (ws : List ℕ) (r : Reach) (b a c d b' a' c' d' : ℕ) (i : Instr)
+      → widths (selected l p ws (lead_by r b a c d) i) ≤ widths (selected l q ws (lead_by Beyond b' a' c' d') i)
+  selected_less ws r b a c d b' a' c' d' (Plain i) = no_less _ _ (plain_size i)
+  selected_less ws r b a c d b' a' c' d' (When k at) =
+      both_less (tests l k) (branch_code (told_by k.comparison) true (turn_by r b a)) (tests l k)
+      (branch_code (told_by k.comparison) true (turn_by Beyond b' a')) (omega arith) (turn_less (told_by k.comparison) true r b a b' a')
+  selected_less ws r b a c d b' a' c' d' (Unless k at) =
+      both_less (tests l k) (branch_code (told_by k.comparison) false (turn_by r b a)) (tests l k)
+      (branch_code (told_by k.comparison) false (turn_by Beyond b' a')) (omega arith) (turn_less (told_by k.comparison) false r b a b' a')
+  selected_less ws r b a c d b' a' c' d' (Jump at) = hop_less r b a b' a'
+  selected_less ws r b a c d b' a' c' d' (Call k) = no_less _ _ (selected_size ws Beyond b a c d b' a' c' d' (Call k))
+  selected_less ws r b a c d b' a' c' d' (Return w v) = omega arith
+  selected_less ws r b a c d b' a' c' d' Idle = omega arith
+
+  -- the code of the first instructions, so many, where each leads as far off
+  pub upto_size : (f g : ℕ → Leading) (is : List Instr) (n : ℕ) → ((pc : ℕ) → pc < n → (r : Reach) × LeadsBy r (f pc) × LeadsBy r (g pc))
       → widths (code_upto l p f is n) ≡ widths (code_upto l q g is n)
   upto_size f g is zero h = refl
   upto_size f g is (suc n) h =
       both_same (code_upto l p f is n) (code_at l p f is n) (code_upto l q g is n) (code_at l q g is n)
-      (upto_size f g is n (λ pc low. h pc (omega (arith, low)))) (each (slice_get is n) (h n (omega arith)))
+      (upto_size f g is n (λ pc low. h pc (omega (arith, low)))) (let t = h n (omega arith) in each (slice_get is n) t.0 t.1 t.2)
     where
-      each : (o : Option Instr) → (t : Bool) × (a : ℕ) × (b : ℕ) × (c : ℕ) × (x : ℕ) × (y : ℕ) × (z : ℕ) × (f n ≡ far_lead t a b c)
-          × (g n ≡ far_lead t x y z)
+      each : (o : Option Instr) (r : Reach) → LeadsBy r (f n) → LeadsBy r (g n)
           → widths (code_of l p (waits_in [] is n) (f n) o) ≡ widths (code_of l q (waits_in [] is n) (g n) o)
-      each None k = refl
-      each (Some i) (t, a, b, c, x, y, z, ef, eg) =
-          ap (λ to. widths (selected l p (waits_in [] is n) to i)) ef ∙ selected_size (waits_in [] is n) t a b c x y z i
-          ∙ ap (λ to. widths (selected l q (waits_in [] is n) to i)) (sym eg)
+      each None r x y = refl
+      each (Some i) r x y =
+          ap (λ to. widths (selected l p (waits_in [] is n) to i)) x.is
+          ∙ selected_size (waits_in [] is n) r x.behind x.aim x.called x.idle y.behind y.aim y.called y.idle i
+          ∙ ap (λ to. widths (selected l q (waits_in [] is n) to i)) (sym y.is)
+
+  -- an instruction takes as many words at most as where it leads far off
+  step_less : (f g : ℕ → Leading) (is : List Instr) (pc : ℕ) (r : Reach) → LeadsBy r (f pc) → LeadsBy Beyond (g pc)
+      → widths (code_at l p f is pc) ≤ widths (code_at l q g is pc)
+  step_less f g is pc r x y = each (slice_get is pc)
+    where
+      each : (o : Option Instr) → widths (code_of l p (waits_in [] is pc) (f pc) o) ≤ widths (code_of l q (waits_in [] is pc) (g pc) o)
+      each None = omega arith
+      each (Some i) =
+          subst (λ to. widths (selected l p (waits_in [] is pc) to i) ≤ widths (selected l q (waits_in [] is pc) (g pc) i)) (sym x.is)
+          (subst (λ to. widths (selected l p (waits_in [] is pc) (lead_by r x.behind x.aim x.called x.idle) i) ≤ widths (selected l q (waits_in [] is pc) to i))
+          (sym y.is) (selected_less (waits_in [] is pc) r x.behind x.aim x.called x.idle y.behind y.aim y.called y.idle i))
+
+  -- and so do instructions that stand one behind the other
+  pub between_less : (f g : ℕ → Leading) (is : List Instr) (n : ℕ)
+      → ((pc : ℕ) → pc < n → (r : Reach) × LeadsBy r (f pc) × LeadsBy Beyond (g pc)) → (a d : ℕ) → a + d ≤ n
+      → widths (code_upto l p f is (a + d)) + widths (code_upto l q g is a) ≤ widths (code_upto l q g is (a + d)) + widths (code_upto l p f is a)
+  between_less f g is n h a zero low =
+      let z : a + 0 ≡ a = omega arith in
+      subst (λ b. widths (code_upto l p f is b) + widths (code_upto l q g is a) ≤ widths (code_upto l q g is b) + widths (code_upto l p f is a)) (sym z)
+      (omega arith)
+  between_less f g is n h a (suc d) low =
+      let z : a + suc d ≡ suc (a + d) = omega arith in
+      subst (λ b. widths (code_upto l p f is b) + widths (code_upto l q g is a) ≤ widths (code_upto l q g is b) + widths (code_upto l p f is a)) (sym z)
+      (let rest = between_less f g is n h a d (omega (arith, low)) in let t = h (a + d) (omega (arith, low)) in
+      let step = step_less f g is (a + d) t.0 t.1 t.2 in
+      let u = widths-append (code_upto l p f is (a + d)) (code_at l p f is (a + d)) in
+      let v = widths-append (code_upto l q g is (a + d)) (code_at l q g is (a + d)) in omega (arith, rest, step, u, v))
 
 -- ---- the same code, where the code numbers are the same as well
 

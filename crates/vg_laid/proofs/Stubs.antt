@@ -11,7 +11,7 @@ use Rattle.vg_codes.specs.declared.case.Case.{Case}
 use Rattle.vg_codes.specs.Codes.{AreCodes}
 use Rattle.vg_lin.specs.Program.{Procedure, Program}
 use Rattle.vg_lin.specs.Sound.{waits_in, IsSound}
-use Rattle.vg_templates.specs.Layouts.{Layout, IsLayout}
+use Rattle.vg_templates.specs.Layouts.{IsLayout}
 use Rattle.vg_templates.specs.Linkage.{prologue}
 use Rattle.vg_templates.specs.Idle.{stub}
 use Rattle.vg_templates.specs.Framed.{framed}
@@ -20,8 +20,8 @@ use Rattle.vg_alloc.proofs.Spotting.{can_be_framed}
 use Rattle.vg_put_operations.specs.Coded.{code_from}
 use Rattle.vg_select.specs.Selected.{Leading, selected}
 use Rattle.vg_put_procedures.specs.Emitted.{code_of, code_at, code_upto, body_code}
-use Rattle.vg_put_programs.specs.Programs.{in_turn, turn_of, entry_in, codes_upto, placed_upto, Emission, piece_at, pieces_upto}
-use Rattle.vg_laid.specs.Laid.{unknown, known, codes_from, layout_of, instrs_of, index_in, stub_at, stubs_code, found_from, codes_by, layout_at, instrs_at, leads_at, AreSound}
+use Rattle.vg_put_programs.specs.Programs.{in_turn, turn_of, entry_in, codes_upto, Emission, piece_at, pieces_upto}
+use Rattle.vg_laid.specs.Laid.{placed_from, known, codes_from, layout_of, instrs_of, index_in, stubs_code, found_from, codes_by, layout_at, instrs_at, leads_at, AreSound}
 use Rattle.vg_laid.proofs.Some.{selected_some, words_some, front, back}
 use Rattle.vg_laid.proofs.Standing.{upto_parts}
 use Rattle.vg_laid.proofs.Turns.{counted, turned, turn_low}
@@ -137,7 +137,7 @@ get_there (x ∷ ms) (suc m) h = get_there ms m (omega (arith, h))
 
 pub codes_counted : (ms : List Procedure) (s : ℕ) (ds : List (List Case)) (first : ℕ) → length (codes_from ms s ds first) ≡ length ms
 codes_counted ms s ds first =
-    let placed = placed_upto (unknown ms s ds) first (length ms) in
+    let placed = placed_from ms s ds first in
     counted (λ j. entry_in placed (turn_of s (length ms) j) % 65536) (codes_upto placed s (length ms)) refl (λ j. refl) (length ms)
 
 module _ (ms : List Procedure) (s : ℕ) (ds : List (List Case)) (first : ℕ) (low : s < length ms)

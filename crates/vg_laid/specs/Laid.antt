@@ -1,5 +1,6 @@
--- Programs that are put twice: first to learn where all code stands, and then so that it leads there.
-use Rattle.std.specs.Prelude.{ℕ, zero, suc, ◌≡◌, ◌+◌, ◌*◌, ◌<◌, nat_lt, ◌==◌, Bool, true, false, if◌then◌else◌, List, [], ◌∷◌, ◌++◌, length, Option, Some, None, slice_get}
+-- Programs that are put three times: with far jumps and branches alone, to learn how far off each of them leads; with near ones where these reach, to learn where
+-- all code stands; and then so that it leads there.
+use Rattle.std.specs.Prelude.{ℕ, suc, ◌≡◌, ◌+◌, ◌*◌, ◌%◌, ◌<◌, ◌==◌, if◌then◌else◌, List, [], ◌∷◌, ◌++◌, length, Option, Some, None, slice_get}
 use Rattle.avr_instr.specs.declared.instr.Instr.{Instr as Avr}
 use Rattle.avr_isa.specs.Standing.{widths}
 use Rattle.vg_codes.specs.declared.case.Case.{Case}
@@ -14,32 +15,69 @@ use Rattle.vg_templates.specs.Framed.{framed}
 use Rattle.vg_templates.specs.Calls.{call_words}
 use Rattle.vg_templates.specs.Calls as calls
 use Rattle.vg_templates.specs.Idle.{stub}
-use Rattle.vg_templates.specs.Flow.{Far, Turn, Direct, Past, way_of}
+use Rattle.vg_templates.specs.Flow.{Hop, Near, Far, Turn, Direct, Past, way_of}
 use Rattle.vg_templates.specs.Whole.{Links, call_front}
 use Rattle.vg_covered.specs.Fitting.{IsFit}
 use Rattle.vg_put_operations.specs.Coded.{code_from}
 use Rattle.vg_select.specs.Selected.{Leading, with_codes}
 use Rattle.vg_put_procedures.specs.Emitted.{place_of}
-use Rattle.vg_put_programs.specs.Programs.{turn_of, places_at, codes_upto, aim_in, called_in, skips_at, Emission, emission, pieces_upto, placed_upto}
+use Rattle.vg_put_programs.specs.declared.placed.Placed.{Placed}
+use Rattle.vg_put_programs.specs.declared.reach.Reach.{Reach}
+use Rattle.vg_put_programs.specs.declared.reach.Reach.TheVariants.{Short as Within7, Near as Within12, Far as Beyond}
+use Rattle.vg_put_programs.specs.Programs.{turn_of, places_at, codes_upto, aim_in, behind_in, called_in, reach_in, offset_to}
+use Rattle.vg_put_programs.specs.Programs.{Emission, emission, pieces_upto, placed_upto}
 
--- ---- both times
+-- ---- each time
 
 abbrev pub unknown : List Procedure → (start : ℕ) → List (List Case) → Emission
-unknown ms s ds = emission ms s ds [] [] 0
+unknown ms s ds = emission ms s ds [] [] [] 0
+
+-- where all procedures would stand with far jumps and branches alone
+abbrev pub far_from : List Procedure → (start : ℕ) → List (List Case) → (first : ℕ) → List Placed
+far_from ms s ds first = placed_upto (unknown ms s ds) first (length ms)
+
+abbrev pub sized : List Procedure → (start : ℕ) → List (List Case) → (first : ℕ) → Emission
+sized ms s ds first = emission ms s ds (far_from ms s ds first) [] [] 0
+
+-- where they stand
+abbrev pub placed_from : List Procedure → (start : ℕ) → List (List Case) → (first : ℕ) → List Placed
+placed_from ms s ds first = placed_upto (sized ms s ds first) first (length ms)
 
 -- the word address behind all procedures: there the program waits for interrupts
 abbrev pub idle_from : List Procedure → (start : ℕ) → List (List Case) → (first : ℕ) → ℕ
-idle_from ms s ds first = first + widths (pieces_upto (unknown ms s ds) (length ms))
+idle_from ms s ds first = first + widths (pieces_upto (sized ms s ds first) (length ms))
 
 -- the code numbers: word addresses of entries, in two bytes
 abbrev pub codes_from : List Procedure → (start : ℕ) → List (List Case) → (first : ℕ) → List ℕ
-codes_from ms s ds first = codes_upto (placed_upto (unknown ms s ds) first (length ms)) s (length ms) (length ms)
+codes_from ms s ds first = codes_upto (placed_from ms s ds first) s (length ms) (length ms)
 
 abbrev pub known : List Procedure → (start : ℕ) → List (List Case) → (first : ℕ) → Emission
 known ms s ds first =
-    emission ms s ds (placed_upto (unknown ms s ds) first (length ms)) (codes_from ms s ds first) (idle_from ms s ds first)
+    emission ms s ds (far_from ms s ds first) (placed_from ms s ds first) (codes_from ms s ds first) (idle_from ms s ds first)
 
 -- ---- where instructions lead
+
+abbrev pub hop_by : Reach → (behind aim : ℕ) → Hop
+hop_by Within7 behind aim = Near (offset_to 4096 behind aim)
+hop_by Within12 behind aim = Near (offset_to 4096 behind aim)
+hop_by Beyond behind aim = Far (aim % 65536)
+
+abbrev pub turn_by : Reach → (behind aim : ℕ) → Turn
+turn_by Within7 behind aim = Direct (offset_to 128 behind aim)
+turn_by Within12 behind aim = Past (Near (offset_to 4096 behind aim))
+turn_by Beyond behind aim = Past (Far (aim % 65536))
+
+abbrev pub lead_by : Reach → (behind aim called idle : ℕ) → Leading
+lead_by reach behind aim called idle =
+    record { jump = hop_by reach behind aim; branch = turn_by reach behind aim; call = calls.Far called; idle = idle }
+
+abbrev pub reach_of : (guessed : List ℕ) (place : ℕ) → Option Instr → Reach
+reach_of guessed pc (Some i) = reach_in guessed pc i
+reach_of guessed pc None = Beyond
+
+abbrev pub behind_hop : (places : List ℕ) (place : ℕ) → Option Instr → ℕ
+behind_hop places pc (Some i) = behind_in places pc i
+behind_hop places pc None = 0
 
 abbrev pub aim_of : (places : List ℕ) → Option Instr → ℕ
 aim_of places (Some i) = aim_in places i
@@ -49,19 +87,11 @@ abbrev pub called_of : (codes : List ℕ) → Option Instr → ℕ
 called_of codes (Some i) = called_in codes i
 called_of codes None = 0
 
--- over a stop or past a far jump
-abbrev pub turn_by : (skips : Bool) (aim : ℕ) → Turn
-turn_by true aim = Direct 2
-turn_by false aim = Past (Far aim)
+abbrev pub lead_of : (guessed places codes : List ℕ) (idle place : ℕ) → Option Instr → Leading
+lead_of guessed places codes idle pc o = lead_by (reach_of guessed pc o) (behind_hop places pc o) (aim_of places o) (called_of codes o) idle
 
-abbrev pub far_lead : (skips : Bool) (aim called idle : ℕ) → Leading
-far_lead skips aim called idle = record { jump = Far aim; branch = turn_by skips aim; call = calls.Far called; idle = idle }
-
-abbrev pub lead_of : (places codes : List ℕ) (idle place : ℕ) (next here : Option Instr) → Leading
-lead_of places codes idle pc next o = far_lead (skips_at pc o next) (aim_of places o) (called_of codes o) idle
-
-abbrev pub lead_at : (places codes : List ℕ) (idle : ℕ) → List Instr → (place : ℕ) → Leading
-lead_at places codes idle is pc = lead_of places codes idle pc (slice_get is (suc pc)) (slice_get is pc)
+abbrev pub lead_at : (guessed places codes : List ℕ) (idle : ℕ) → List Instr → (place : ℕ) → Leading
+lead_at guessed places codes idle is pc = lead_of guessed places codes idle pc (slice_get is pc)
 
 -- ---- where it stands
 
@@ -102,8 +132,11 @@ module _ (e : Emission) (p : Program) where
   abbrev pub known_places : (m : ℕ) → List ℕ
   known_places m = places_at e.known (turn_of e.start (length e.procedures) m)
 
+  abbrev pub guessed_places : (m : ℕ) → List ℕ
+  guessed_places m = places_at e.guess (turn_of e.start (length e.procedures) m)
+
   abbrev pub leads_at : (m pc : ℕ) → Leading
-  leads_at m pc = lead_at (known_places m) e.codes e.idle (instrs_at m) pc
+  leads_at m pc = lead_at (guessed_places m) (known_places m) e.codes e.idle (instrs_at m) pc
 
   abbrev pub place_at : (m pc : ℕ) → ℕ
   place_at m pc =

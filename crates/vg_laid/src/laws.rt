@@ -13,9 +13,9 @@ ghost use Rattle.vg_put_programs.specs.Programs.{pieces_upto, AreWithin};
 ghost use Rattle.vg_laid.specs.Linked.{ProcedureLinked};
 ghost use Rattle.vg_laid.specs.Laid.{known, links_of, codes_by, AreSound};
 
-/// Laws of programs that are put twice. There is code for each instruction of sound procedures. Where the code that is put the second time is a piece of all
-/// code and stands within 65,535 words, each procedure that is sound and whose instructions are fit is linked in it, by the links that are known from the first
-/// time; and the word addresses of entries are code numbers, where the first one is not 0. The body is empty: its contract is a law of the definitions.
+/// Laws of programs that are put three times. There is code for each instruction of sound procedures. Where the code that is put the last time is a piece of all
+/// code and stands within 65,535 words, each procedure that is sound and whose instructions are fit is linked in it, by the links that are known from the times
+/// before; and the word addresses of entries are code numbers, where the first one is not 0. The body is empty: its contract is a law of the definitions.
 pub fn put_programs_are_linked()
     ensures within { (ms : List Procedure) (ds : List (List Case)) → AreSound ms ds → AreWithin ms }
     ensures linked { (ms : List Procedure) (s : ℕ) (ds : List (List Case)) (first : ℕ) (stubs : List ℕ) → s < length ms

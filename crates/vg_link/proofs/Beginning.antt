@@ -1,6 +1,6 @@
 -- The run of a linked image begins with its start procedure.
-use Rattle.std.specs.Prelude.{ℕ, ◌+◌, ◌<◌, ◌≤◌, true, List, [], ◌++◌, length, take, drop}
-use Rattle.std.proofs.Common.{◌≡◌, refl, sym, ap, ap₂, ◌∙◌, subst, arith}
+use Rattle.std.specs.Prelude.{ℕ, ◌+◌, ◌<◌, ◌≤◌, true, [], length, drop}
+use Rattle.std.proofs.Common.{◌≡◌, sym, ap, ap₂, ◌∙◌, subst, arith}
 use Rattle.std.proofs.lemmas.List.{take-append-drop, length-take-le, length-map}
 use Rattle.std.proofs.lemmas.Option.{slice_get_within}
 use Rattle.avr_instr.specs.declared.instr.Instr.TheVariants.{Jmp}
@@ -11,7 +11,7 @@ use Rattle.vg_templates.specs.Startup.{bytes_from}
 use Rattle.vg_followed.specs.Reset.{reset_code}
 use Rattle.vg_templates.specs.Whole.{Links}
 use Rattle.vg_followed.specs.Stands.{Stands}
-use Rattle.vg_image.specs.Image.{Parts, first_table, code_start, flash_of}
+use Rattle.vg_image.specs.Image.{first_table, code_start, flash_of}
 use Rattle.vg_image.proofs.Parts.{jumps, tables_stand, code_stands}
 use Rattle.vg_laid.proofs.Standing.{piece_stands}
 use Rattle.vg_laid.proofs.Placing.{program_stands}

@@ -1,11 +1,10 @@
 -- Each handler has a stub, and the slot of its vector leads there.
-use Rattle.std.specs.Prelude.{ℕ, zero, suc, ◌+◌, ◌*◌, ◌<◌, ◌≤◌, ◌==◌, nat_lt, Bool, true, false, if◌then◌else◌, List, [], ◌∷◌, ◌++◌, length, Option, Some, None, slice_get}
+use Rattle.std.specs.Prelude.{ℕ, suc, ◌+◌, ◌*◌, ◌<◌, ◌≤◌, ◌==◌, nat_lt, Bool, true, false, if◌then◌else◌, List, [], ◌∷◌, ◌++◌, length, Option, Some, None}
 use Rattle.std.proofs.Common.{◌≡◌, refl, sym, ap, ◌∙◌, subst, arith, inl, inr}
-use Rattle.std.proofs.lemmas.List.{length-append}
 use Rattle.std.proofs.lemmas.Option.{none-some, same_Some, slice_get_past}
 use Rattle.avr_view.proofs.Going.{below_or_not}
 use Rattle.vg_image.specs.Image.{flattened, slot_in}
-use Rattle.vg_laid.specs.Laid.{index_in, stub_at}
+use Rattle.vg_laid.specs.Laid.{index_in}
 use Rattle.vg_laid.proofs.Stubs.{index_low}
 use Rattle.vg_laid.proofs.Turns.{counted, got}
 use Rattle.vg_link.specs.declared.unlinked.Handler.{Handler}

@@ -1,22 +1,21 @@
 -- What linking makes is linked.
-use Rattle.std.specs.Prelude.{ℕ, zero, suc, ◌+◌, ◌*◌, ◌/◌, ◌<◌, ◌≤◌, List, [], ◌∷◌, ◌++◌, map, length, get_or, Option, Some, None, slice_get}
+use Rattle.std.specs.Prelude.{ℕ, zero, suc, ◌+◌, ◌*◌, ◌/◌, ◌<◌, ◌≤◌, List, [], ◌∷◌, ◌++◌, length, get_or, Option, Some, slice_get}
 use Rattle.std.specs.List.{AllByRecursion}
 use Rattle.std.proofs.Common.{◌≡◌, refl, sym, ap, ap₂, ◌∙◌, subst, arith, inl, inr}
-use Rattle.std.proofs.lemmas.List.{append_assoc, append-nil, length-map}
+use Rattle.std.proofs.lemmas.List.{append_assoc, length-map}
 use Rattle.std.proofs.lemmas.Option.{slice_get_within}
 use Rattle.avr_instr.specs.declared.instr.Instr.{Instr as Avr}
 use Rattle.avr_instr.specs.Spelled.{InRange}
 use Rattle.avr_isa.specs.Standing.{widths}
 use Rattle.avr_isa.proofs.Standing.{widths-append}
 use Rattle.avr_view.proofs.Going.{below_or_not}
-use Rattle.vg_meaning.specs.Outside.{IsVector}
 use Rattle.vg_codes.specs.declared.case.Case.{Case}
 use Rattle.vg_codes.specs.Codes.{AreCodes}
 use Rattle.vg_lin.specs.Program.{Procedure, Program}
 use Rattle.vg_templates.specs.Idle.{idle_piece, stub}
 use Rattle.vg_followed.specs.Reset.{reset_code}
 use Rattle.vg_templates.specs.Whole.{Links}
-use Rattle.vg_image.specs.Image.{Parts, parts, slot_in, first_table, code_start, flash_of, words_of}
+use Rattle.vg_image.specs.Image.{Parts, parts, first_table, code_start, flash_of, words_of}
 use Rattle.vg_image.proofs.Parts.{bytes_count}
 use Rattle.vg_put_operations.specs.Coded.{code_from}
 use Rattle.vg_select.specs.Selected.{with_codes}
@@ -26,7 +25,7 @@ use Rattle.vg_laid.specs.Linked.{HasPiece, ProcedureLinked}
 use Rattle.vg_laid.specs.Images.{HandlerLinked, ProgramLinked}
 use Rattle.vg_tables.specs.declared.datum.Datum.{Datum}
 use Rattle.vg_tables.specs.Bytes.{byte_of}
-use Rattle.vg_laid.specs.Laid.{unknown, known, idle_from, codes_from, index_in, stub_at, stubs_code, found_from, codes_by, links_of}
+use Rattle.vg_laid.specs.Laid.{known, index_in, stub_at, stubs_code, found_from, codes_by, links_of}
 use Rattle.vg_laid.proofs.Laying.{pieces_size, entry_is}
 use Rattle.vg_laid.proofs.Within.{all_within}
 use Rattle.vg_laid.proofs.Leading.{procedure_linked, fits}
@@ -34,7 +33,7 @@ use Rattle.vg_laid.proofs.Stubs.{stub_there, stubs_long, found_has, layouts_stan
 use Rattle.vg_link.specs.declared.linked.Linked.{Linked}
 use Rattle.vg_link.specs.declared.unlinked.Handler.{Handler}
 use Rattle.vg_link.specs.declared.unlinked.Unlinked.{Unlinked}
-use Rattle.vg_link.specs.Linking.{handler_in, stubs_of, slot_of, slots_upto, bytes_by, program_of, CanBeLinked, IsLinked, first_of, laid_of, idle_of, words_laid}
+use Rattle.vg_link.specs.Linking.{handler_in, stubs_of, slot_of, slots_upto, bytes_by, program_of, CanBeLinked, IsLinked, first_of, laid_by, end_by, idle_of, words_laid}
 use Rattle.vg_link.proofs.Before.{kept_found}
 use Rattle.vg_link.proofs.Handlers.{handler_there, slot_is, slot_low}
 
@@ -57,25 +56,26 @@ words_are u end count words stubs ee ec es ew = ew ∙ ap₂ (λ a b. a + 4 + 3 
 
 -- What is known of it before anything is put, of lists that are those of the program.
 module _ (u : Unlinked) (ps : List Procedure) (ds : List (List Case)) (ep : ps ≡ u.procedures) (ed : ds ≡ u.dispatches) where
-  pub laid_placed : (first : ℕ) (placed : List Placed) → first ≡ first_of u → placed ≡ placed_upto (emission ps u.start ds [] [] 0) first (length ps)
-      → placed ≡ laid_of u
-  laid_placed first placed ef h =
-      h ∙ ap₂ (λ a b. placed_upto (emission a u.start b [] [] 0) first (length a)) ep ed
-      ∙ ap (λ z. placed_upto (unknown u.procedures u.start u.dispatches) z (length u.procedures)) ef
+  pub laid_placed : (guess : List Placed) (first : ℕ) (placed : List Placed) → first ≡ first_of u
+      → placed ≡ placed_upto (emission ps u.start ds guess [] [] 0) first (length ps) → placed ≡ laid_by u guess
+  laid_placed guess first placed ef h =
+      h ∙ ap₂ (λ a b. placed_upto (emission a u.start b guess [] [] 0) first (length a)) ep ed
+      ∙ ap (λ z. placed_upto (emission u.procedures u.start u.dispatches guess [] [] 0) z (length u.procedures)) ef
 
-  pub laid_end : (first end : ℕ) → first ≡ first_of u → end ≡ first + widths (pieces_upto (emission ps u.start ds [] [] 0) (length ps)) → end ≡ idle_of u
-  laid_end first end ef h =
-      h ∙ ap₂ (λ a b. first + widths (pieces_upto (emission a u.start b [] [] 0) (length a))) ep ed
-      ∙ ap (idle_from u.procedures u.start u.dispatches) ef
+  pub laid_end : (guess : List Placed) (first end : ℕ) → first ≡ first_of u
+      → end ≡ first + widths (pieces_upto (emission ps u.start ds guess [] [] 0) (length ps)) → end ≡ end_by u guess
+  laid_end guess first end ef h =
+      h ∙ ap₂ (λ a b. first + widths (pieces_upto (emission a u.start b guess [] [] 0) (length a))) ep ed
+      ∙ ap (λ z. z + widths (pieces_upto (emission u.procedures u.start u.dispatches guess [] [] 0) (length u.procedures))) ef
 
   -- the code of reset, of all procedures, of the piece in which the program waits, and of the stubs
-  pub whole_is : (placed : List Placed) (codes : List ℕ) (idle : ℕ) (stubs : List ℕ) (reset one two three : List Avr)
-      → one ≡ reset ++ pieces_upto (emission ps u.start ds placed codes idle) (length ps) → two ≡ one ++ idle_piece → three ≡ two ++ stubs_code codes stubs
-      → three ≡ ((reset ++ pieces_upto (emission u.procedures u.start u.dispatches placed codes idle) (length u.procedures)) ++ idle_piece)
+  pub whole_is : (far placed : List Placed) (codes : List ℕ) (idle : ℕ) (stubs : List ℕ) (reset one two three : List Avr)
+      → one ≡ reset ++ pieces_upto (emission ps u.start ds far placed codes idle) (length ps) → two ≡ one ++ idle_piece → three ≡ two ++ stubs_code codes stubs
+      → three ≡ ((reset ++ pieces_upto (emission u.procedures u.start u.dispatches far placed codes idle) (length u.procedures)) ++ idle_piece)
       ++ stubs_code codes stubs
-  whole_is placed codes idle stubs reset one two three e1 e2 e3 =
+  whole_is far placed codes idle stubs reset one two three e1 e2 e3 =
       e3 ∙ ap (λ z. z ++ stubs_code codes stubs) (e2 ∙ ap (λ z. z ++ idle_piece) (e1
-      ∙ ap₂ (λ a b. reset ++ pieces_upto (emission a u.start b placed codes idle) (length a)) ep ed))
+      ∙ ap₂ (λ a b. reset ++ pieces_upto (emission a u.start b far placed codes idle) (length a)) ep ed))
 
 -- The stubs stand within two bytes of word addresses, where all words do.
 pub stubs_low : (u : Unlinked) → words_laid u < 65536 → (end : ℕ) (stubs : List ℕ) → end ≡ idle_of u → stubs ≡ stubs_of u.handlers
@@ -272,11 +272,11 @@ module _ (u : Unlinked) (can : CanBeLinked u) (room : words_laid u < 65536) wher
       bytes_count all (slot_low u.handlers stubs (e.idle + 4) stubs_room) ranged (let w = words in omega (arith, w, room)) ∙ ap (λ k. 2 * k) words
 
   -- The same of what linking makes, one list after the other.
-  module _ (placed : List Placed) (codes' known : List ℕ) (count idle : ℕ) (stubs' : List ℕ) (reset' : List Avr) (hs : List Handler) (ds : List Datum)
+  module _ (far placed : List Placed) (codes' known : List ℕ) (count idle : ℕ) (stubs' : List ℕ) (reset' : List Avr) (hs : List Handler) (ds : List Datum)
       (slots slots' : List (Option ℕ)) (tables tables' : List ℕ) (code' code'' : List Avr) (bytes flash : List ℕ)
-      (ep : placed ≡ e.known) (en : count ≡ n) (ec : codes' ≡ codes_upto placed u.start count count) (ek : known ≡ codes') (ei : idle ≡ e.idle)
+      (eg : far ≡ e.guess) (ep : placed ≡ e.known) (en : count ≡ n) (ec : codes' ≡ codes_upto placed u.start count count) (ek : known ≡ codes') (ei : idle ≡ e.idle)
       (es : stubs' ≡ stubs) (er : reset' ≡ reset) (eh : hs ≡ u.handlers) (ed : ds ≡ u.tables)
-      (ew : code' ≡ ((reset' ++ pieces_upto (emission u.procedures u.start u.dispatches placed known idle) n) ++ idle_piece) ++ stubs_code known stubs')
+      (ew : code' ≡ ((reset' ++ pieces_upto (emission u.procedures u.start u.dispatches far placed known idle) n) ++ idle_piece) ++ stubs_code known stubs')
       (el : slots ≡ slots_upto hs stubs' (idle + 4) 35) (et : tables ≡ bytes_by known ds) (ew' : code'' ≡ code') (el' : slots' ≡ slots)
       (et' : tables' ≡ tables) (ef : bytes ≡ flash_of (parts slots' tables' code'')) (ef' : flash ≡ bytes) where
     codes_same : codes' ≡ codes
@@ -285,10 +285,10 @@ module _ (u : Unlinked) (can : CanBeLinked u) (room : words_laid u < 65536) wher
     known_same : known ≡ codes
     known_same = ek ∙ codes_same
 
-    emission_same : emission u.procedures u.start u.dispatches placed known idle ≡ e
+    emission_same : emission u.procedures u.start u.dispatches far placed known idle ≡ e
     emission_same =
-        ap₂ (λ a b. emission u.procedures u.start u.dispatches a b idle) ep known_same
-        ∙ ap (λ a. emission u.procedures u.start u.dispatches e.known codes a) ei
+        ap₂ (λ a b. emission u.procedures u.start u.dispatches a b known idle) eg ep
+        ∙ ap₂ (λ a b. emission u.procedures u.start u.dispatches e.guess e.known a b) known_same ei
 
     code_same : code'' ≡ code
     code_same =

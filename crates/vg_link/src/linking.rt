@@ -5,7 +5,8 @@ ghost use Rattle.vg_followed.specs.Reset.{reset_code};
 ghost use Rattle.vg_templates.specs.Idle.{idle_piece};
 ghost use Rattle.vg_put_programs.specs.Programs.{emission, pieces_upto};
 ghost use Rattle.vg_laid.specs.Laid.{stubs_code};
-ghost use Rattle.vg_link.specs.Linking.{CanBeLinked, IsLinked, IsRefusedFor, first_of, laid_of, idle_of, stubs_of, words_laid};
+ghost use Rattle.vg_link.specs.Linking.{CanBeLinked, IsLinked, IsRefusedFor, first_of, laid_by, end_by};
+ghost use Rattle.vg_link.specs.Linking.{far_of, laid_of, idle_of, stubs_of, words_laid};
 
 use crate::linked::{CodeFull, Linked};
 use crate::reset::{put_idle, put_reset};
@@ -28,12 +29,13 @@ fn first_word(unlinked: &Unlinked, reset: &[Instr]) -> Result<u32, NoMemory>
     behind_code(word_behind_tables(unlinked.tables.len()), reset)
 }
 
-// Where all procedures stand: what they take does not depend on where they lead.
-fn lay(alloc: Global, unlinked: &Unlinked, first: u32) -> Result<Laid, NoMemory>
+// Where all procedures stand, where their instructions lead as far off as they would if they stood where it is guessed: what they take does not depend on where
+// they lead.
+fn lay(alloc: Global, unlinked: &Unlinked, first: u32, guess: &[Placed]) -> Result<Laid, NoMemory>
     requires can { CanBeLinked unlinked.now }
     requires first { first ≡ first_of unlinked.now }
-    ensures placed { IfOk result (λ laid. laid.placed ≡ laid_of unlinked.now) }
-    ensures end { IfOk result (λ laid. laid.end ≡ idle_of unlinked.now) }
+    ensures placed { IfOk result (λ laid. laid.placed ≡ laid_by unlinked.now guess.now) }
+    ensures end { IfOk result (λ laid. laid.end ≡ end_by unlinked.now guess.now) }
 {
     let procedures = unlinked.procedures.as_slice();
     let dispatches = unlinked.dispatches.as_slice();
@@ -44,6 +46,7 @@ fn lay(alloc: Global, unlinked: &Unlinked, first: u32) -> Result<Laid, NoMemory>
         procedures,
         unlinked.start,
         dispatches,
+        guess,
         &[],
         &[],
         0,
@@ -65,6 +68,7 @@ fn whole_code(
     alloc: Global,
     unlinked: &Unlinked,
     reset: Row<Instr>,
+    far: &[Placed],
     placed: &[Placed],
     codes: &[u16],
     idle: u16,
@@ -73,7 +77,7 @@ fn whole_code(
 ) -> Result<Row<Instr>, NoMemory>
     requires { CanBeLinked unlinked.now }
     ensures { IfOk result (λ code. code ≡ ((reset ++ pieces_upto
-        (emission unlinked.now.procedures unlinked.now.start unlinked.now.dispatches placed.now codes.now idle) (length unlinked.now.procedures))
+        (emission unlinked.now.procedures unlinked.now.start unlinked.now.dispatches far.now placed.now codes.now idle) (length unlinked.now.procedures))
         ++ idle_piece) ++ stubs_code codes.now stubs.now) }
 {
     let procedures = unlinked.procedures.as_slice();
@@ -85,6 +89,7 @@ fn whole_code(
         procedures,
         unlinked.start,
         dispatches,
+        far,
         placed,
         codes,
         idle,
@@ -101,11 +106,13 @@ fn linked(
     unlinked: &Unlinked,
     reset: Row<Instr>,
     first: u32,
+    far: &[Placed],
     laid: &Laid,
     stubs: &[u16],
 ) -> Result<Linked, NoMemory>
     requires can { CanBeLinked unlinked.now }
     requires reset { reset ≡ reset_code unlinked.now.static_bytes first_table }
+    requires far { far.now ≡ far_of unlinked.now }
     requires placed { laid.now.placed ≡ laid_of unlinked.now }
     requires end { laid.now.end ≡ idle_of unlinked.now }
     requires stubs { stubs.now ≡ stubs_of unlinked.now.handlers }
@@ -118,7 +125,9 @@ fn linked(
     let idle = laid.end as u16;
     let codes = codes_of(alloc, placed, unlinked.start, count)?;
     let known = codes.as_slice();
-    let code = whole_code(alloc, unlinked, reset, placed, known, idle, first, stubs)?;
+    let code = whole_code(
+        alloc, unlinked, reset, far, placed, known, idle, first, stubs,
+    )?;
     let slots = slots(alloc, unlinked.handlers.as_slice(), stubs, idle + 4)?;
     let tables = table_bytes(alloc, known, unlinked.tables.as_slice())?;
     let bytes = flash(alloc, slots.as_slice(), tables.as_slice(), code.as_slice())?;
@@ -130,7 +139,7 @@ fn linked(
 }
 
 /// The image of a program: vectors, tables, and the code of reset, of all procedures from the start procedure on, of the piece in which the program waits for
-/// interrupts, and of the stubs of handlers. Jumps and calls are far ones.
+/// interrupts, and of the stubs of handlers. Jumps and branches are near ones where they would reach if all of them were far ones; calls are far ones.
 ///
 /// It refuses a program exactly where these take more than 65,535 words of flash, and says how many; else want of memory is the only error.
 pub fn link(alloc: Global, unlinked: &Unlinked) -> Result<Linked, Refusal<CodeFull>>
@@ -142,11 +151,13 @@ pub fn link(alloc: Global, unlinked: &Unlinked) -> Result<Linked, Refusal<CodeFu
     let mut reset = Row::new(alloc);
     put_reset(&mut reset, unlinked.static_bytes)?;
     let first = first_word(unlinked, reset.as_slice())?;
-    let laid = lay(alloc, unlinked, first)?;
+    let widest = lay(alloc, unlinked, first, &[])?;
+    let far = widest.placed.as_slice();
+    let laid = lay(alloc, unlinked, first, far)?;
     let stubs = stubs_of(alloc, unlinked.handlers.as_slice())?;
     let words = words_taken(unlinked, &laid, stubs.as_slice())?;
     if words >= 65536 {
         return Err(Refusal::Fault(CodeFull { words }));
     }
-    Ok(linked(alloc, unlinked, reset, first, &laid, stubs.as_slice())?)
+    Ok(linked(alloc, unlinked, reset, first, far, &laid, stubs.as_slice())?)
 }

@@ -1,19 +1,19 @@
 -- The code of all procedures of a program, one behind the other from the start procedure on, and where it stands.
-use Rattle.std.specs.Prelude.{ℕ, zero, suc, ◌≡◌, ◌+◌, ◌-◌, ◌%◌, ◌==◌, nat_lt, Bool, true, false, ◌&&◌, if◌then◌else◌}
+use Rattle.std.specs.Prelude.{ℕ, zero, suc, ◌≡◌, ◌+◌, ◌-◌, ◌%◌, ◌==◌, nat_lt, Bool, ◌&&◌, if◌then◌else◌}
 use Rattle.std.specs.Prelude.{List, [], ◌∷◌, ◌++◌, length, get_or, Option, Some, None, slice_get}
 use Rattle.avr_instr.specs.declared.instr.Instr.{Instr as Avr}
 use Rattle.avr_isa.specs.Standing.{widths}
 use Rattle.vg_codes.specs.declared.case.Case.{Case}
 use Rattle.vg_lin.specs.declared.instr.Callee.{Callee}
 use Rattle.vg_lin.specs.declared.instr.Callee.TheVariants.{Procedure as ByNumber, Code as ByCode}
-use Rattle.vg_lin.specs.declared.instr.Plain.TheVariants.{Stop}
 use Rattle.vg_lin.specs.declared.instr.Instr.{Instr}
-use Rattle.vg_lin.specs.declared.instr.Instr.TheVariants.{Plain, When, Unless, Jump, Call}
+use Rattle.vg_lin.specs.declared.instr.Instr.TheVariants.{When, Unless, Jump, Call}
 use Rattle.vg_lin.specs.Program.{Procedure}
 use Rattle.vg_templates.specs.Linkage.{prologue}
 use Rattle.vg_templates.specs.Framed.{framed}
 use Rattle.vg_put_operations.specs.Coded.{code_from}
-use Rattle.vg_put_flow.specs.declared.ways.Hop.TheVariants.{Far}
+use Rattle.vg_put_flow.specs.declared.ways.Hop.{Hop}
+use Rattle.vg_put_flow.specs.declared.ways.Hop.TheVariants.{Near, Far}
 use Rattle.vg_put_flow.specs.declared.ways.Turn.{Turn}
 use Rattle.vg_put_flow.specs.declared.ways.Turn.TheVariants.{Direct, Past}
 use Rattle.vg_put_flow.specs.declared.ways.Way.TheVariants.{Far as FarOff}
@@ -22,6 +22,8 @@ use Rattle.vg_select.specs.Selected.{Leading, with_codes}
 use Rattle.vg_select.specs.Within.{IsWithin}
 use Rattle.vg_put_procedures.specs.Emitted.{leading_in, body_code, places_upto}
 use Rattle.vg_put_programs.specs.declared.placed.Placed.{Placed}
+use Rattle.vg_put_programs.specs.declared.reach.Reach.{Reach}
+use Rattle.vg_put_programs.specs.declared.reach.Reach.TheVariants.{Short as Within7, Near as Within12, Far as Beyond}
 
 -- ---- turns
 
@@ -55,15 +57,20 @@ codes_upto placed s n (suc m) = codes_upto placed s n m ++ entry_in placed (turn
 
 -- ---- where instructions lead
 
--- the word address of the instruction at a place, in two bytes
-abbrev pub address_in : (places : List ℕ) (to : ℕ) → ℕ
-address_in places to = get_or places to 0 % 65536
-
+-- the word address of the instruction to which a jump or a branch leads
 abbrev pub aim_in : (places : List ℕ) → Instr → ℕ
-aim_in places (When t to) = address_in places to
-aim_in places (Unless t to) = address_in places to
-aim_in places (Jump to) = address_in places to
+aim_in places (When t to) = get_or places to 0
+aim_in places (Unless t to) = get_or places to 0
+aim_in places (Jump to) = get_or places to 0
 aim_in places i = 0
+
+-- The word address from which its distance is counted, where a jump or a branch at a place is not a far one: that behind it. A jump is one word then, and a
+-- branch, with what it goes past, is the last of the code of its instruction.
+abbrev pub behind_in : (places : List ℕ) (place : ℕ) → Instr → ℕ
+behind_in places pc (When t to) = get_or places (suc pc) 0
+behind_in places pc (Unless t to) = get_or places (suc pc) 0
+behind_in places pc (Jump to) = get_or places pc 0 + 1
+behind_in places pc i = 0
 
 abbrev pub callee_in : (codes : List ℕ) → Callee → ℕ
 callee_in codes (ByNumber q) = code_from codes q
@@ -73,86 +80,96 @@ abbrev pub called_in : (codes : List ℕ) → Instr → ℕ
 called_in codes (Call c) = callee_in codes c.callee
 called_in codes i = 0
 
--- whether an instruction branches to a place, and whether one stops the run
-abbrev pub branches_to : (place : ℕ) → Instr → Bool
-branches_to n (When t to) = to == n
-branches_to n (Unless t to) = to == n
-branches_to n i = false
+-- whether a signed distance leads from one word address to another, where it has so many values below 0, and as many others
+abbrev pub is_within : (half behind aim : ℕ) → Bool
+is_within half behind aim = nat_lt behind (aim + half + 1) && nat_lt aim (behind + half)
 
-abbrev pub is_stop : Option Instr → Bool
-is_stop (Some (Plain (Stop code))) = true
-is_stop i = false
+abbrev pub reach_for : (behind aim : ℕ) → Reach
+reach_for behind aim = if is_within 64 behind aim then Within7 else if is_within 2048 behind aim then Within12 else Beyond
 
--- whether the instruction at a place branches over the next one, and that one stops the run
-abbrev pub skips_at : (place : ℕ) (here next : Option Instr) → Bool
-skips_at pc (Some i) next = branches_to (pc + 2) i && is_stop next
-skips_at pc None next = false
+-- How far off the instruction at a place leads, where the instructions stand at these places. Where they stand nowhere, it is a far one.
+abbrev pub reach_in : (places : List ℕ) (place : ℕ) → Instr → Reach
+reach_in places pc i = if length places == 0 then Beyond else reach_for (behind_in places pc i) (aim_in places i)
 
--- A branch over a stop is near by, over its two words. Any other one goes past a far jump.
-abbrev pub turn_for : (skips : Bool) (aim : ℕ) → Turn
-turn_for true aim = Direct 2
-turn_for false aim = Past (Far aim)
+-- the signed distance from one word address to another, of so many values
+abbrev pub offset_to : (values behind aim : ℕ) → ℕ
+offset_to values behind aim = (aim % values + (values - behind % values)) % values
 
--- by far jumps and far calls
-abbrev pub far_held : (places codes : List ℕ) (idle : ℕ) (skips : Bool) → Instr → Held
-far_held places codes idle skips i =
-    record { jump = Far (aim_in places i); branch = turn_for skips (aim_in places i); call = FarOff (called_in codes i); idle = idle }
+abbrev pub hop_for : Reach → (behind aim : ℕ) → Hop
+hop_for Within7 behind aim = Near (offset_to 4096 behind aim)
+hop_for Within12 behind aim = Near (offset_to 4096 behind aim)
+hop_for Beyond behind aim = Far (aim % 65536)
 
-abbrev pub held_of : (places codes : List ℕ) (idle place : ℕ) (next here : Option Instr) → Held
-held_of places codes idle pc next (Some i) = far_held places codes idle (skips_at pc (Some i) next) i
-held_of places codes idle pc next None = record { jump = Far 0; branch = Past (Far 0); call = FarOff 0; idle = idle }
+abbrev pub turn_for : Reach → (behind aim : ℕ) → Turn
+turn_for Within7 behind aim = Direct (offset_to 128 behind aim)
+turn_for Within12 behind aim = Past (Near (offset_to 4096 behind aim))
+turn_for Beyond behind aim = Past (Far (aim % 65536))
 
-abbrev pub held_at : (places codes : List ℕ) (idle : ℕ) → List Instr → (place : ℕ) → Held
-held_at places codes idle is pc = held_of places codes idle pc (slice_get is (suc pc)) (slice_get is pc)
+abbrev pub held_for : Reach → (behind aim called idle : ℕ) → Held
+held_for reach behind aim called idle =
+    record { jump = hop_for reach behind aim; branch = turn_for reach behind aim; call = FarOff called; idle = idle }
+
+-- as far off as it would be if the instructions stood at the places that are guessed
+abbrev pub held_of : (guessed places codes : List ℕ) (idle place : ℕ) → Option Instr → Held
+held_of guessed places codes idle pc (Some i) =
+    held_for (reach_in guessed pc i) (behind_in places pc i) (aim_in places i) (called_in codes i) idle
+held_of guessed places codes idle pc None = held_for Beyond 0 0 0 idle
+
+abbrev pub held_at : (guessed places codes : List ℕ) (idle : ℕ) → List Instr → (place : ℕ) → Held
+held_at guessed places codes idle is pc = held_of guessed places codes idle pc (slice_get is pc)
 
 -- of the first instructions, so many
-abbrev pub helds_upto : (places codes : List ℕ) (idle : ℕ) → List Instr → (count : ℕ) → List Held
-helds_upto places codes idle is zero = []
-helds_upto places codes idle is (suc n) = helds_upto places codes idle is n ++ held_at places codes idle is n ∷ []
+abbrev pub helds_upto : (guessed places codes : List ℕ) (idle : ℕ) → List Instr → (count : ℕ) → List Held
+helds_upto guessed places codes idle is zero = []
+helds_upto guessed places codes idle is (suc n) =
+    helds_upto guessed places codes idle is n ++ held_at guessed places codes idle is n ∷ []
 
-abbrev pub far_leads : (places codes : List ℕ) (idle : ℕ) → List Instr → ℕ → Leading
-far_leads places codes idle is = leading_in (helds_upto places codes idle is (length is))
+abbrev pub leads_by : (guessed places codes : List ℕ) (idle : ℕ) → List Instr → ℕ → Leading
+leads_by guessed places codes idle is = leading_in (helds_upto guessed places codes idle is (length is))
 
 -- ---- the code
 
--- What is put: all procedures, and what is taken to be known of where they stand, by their places in turn.
+-- What is put: all procedures, and what is taken to be known of where they stand, by their places in turn. How far off their instructions lead is guessed: as
+-- far as they would if the procedures stood elsewhere.
 pub record Emission : Type 0 where
   pub procedures : List Procedure
   pub start : ℕ
   pub dispatches : List (List Case)
+  pub guess : List Placed
   pub known : List Placed
   pub codes : List ℕ
   pub idle : ℕ
 
-abbrev pub emission : List Procedure → (start : ℕ) → List (List Case) → List Placed → (codes : List ℕ) → (idle : ℕ) → Emission
-emission ms s ds known codes idle = record { procedures = ms; start = s; dispatches = ds; known = known; codes = codes; idle = idle }
+abbrev pub emission : List Procedure → (start : ℕ) → List (List Case) → (guess known : List Placed) → (codes : List ℕ) → (idle : ℕ) → Emission
+emission ms s ds guess known codes idle =
+    record { procedures = ms; start = s; dispatches = ds; guess = guess; known = known; codes = codes; idle = idle }
 
 abbrev pub procedure_code : (codes : ℕ → ℕ) → List (List Case) → (leads : ℕ → Leading) → Procedure → List Avr
 procedure_code codes ds leads m =
     prologue (framed m.widths m.params) ++ body_code (framed m.widths m.params) (with_codes codes ds) leads m.code
 
-abbrev pub piece_of : (places codes : List ℕ) (idle : ℕ) → List (List Case) → Option Procedure → List Avr
-piece_of places codes idle ds (Some m) = procedure_code (code_from codes) ds (far_leads places codes idle m.code) m
-piece_of places codes idle ds None = []
+abbrev pub piece_of : (guessed places codes : List ℕ) (idle : ℕ) → List (List Case) → Option Procedure → List Avr
+piece_of guessed places codes idle ds (Some m) = procedure_code (code_from codes) ds (leads_by guessed places codes idle m.code) m
+piece_of guessed places codes idle ds None = []
 
 -- where it stands, from its entry on
-abbrev pub placed_of : (entry : ℕ) (places codes : List ℕ) (idle : ℕ) → List (List Case) → Option Procedure → Placed
-placed_of entry places codes idle ds (Some m) =
+abbrev pub placed_of : (entry : ℕ) (guessed places codes : List ℕ) (idle : ℕ) → List (List Case) → Option Procedure → Placed
+placed_of entry guessed places codes idle ds (Some m) =
     record {
       entry = entry;
       places =
-          places_upto (framed m.widths m.params) (with_codes (code_from codes) ds) (far_leads places codes idle m.code) m.code
+          places_upto (framed m.widths m.params) (with_codes (code_from codes) ds) (leads_by guessed places codes idle m.code) m.code
           (entry + widths (prologue (framed m.widths m.params))) (length m.code);
-      end = entry + widths (procedure_code (code_from codes) ds (far_leads places codes idle m.code) m);
+      end = entry + widths (procedure_code (code_from codes) ds (leads_by guessed places codes idle m.code) m);
     }
-placed_of entry places codes idle ds None = record { entry = entry; places = []; end = entry }
+placed_of entry guessed places codes idle ds None = record { entry = entry; places = []; end = entry }
 
 -- by the place in turn
 abbrev pub procedure_in : Emission → (k : ℕ) → Option Procedure
 procedure_in e k = slice_get e.procedures (in_turn e.start (length e.procedures) k)
 
 abbrev pub piece_at : Emission → (k : ℕ) → List Avr
-piece_at e k = piece_of (places_at e.known k) e.codes e.idle e.dispatches (procedure_in e k)
+piece_at e k = piece_of (places_at e.guess k) (places_at e.known k) e.codes e.idle e.dispatches (procedure_in e k)
 
 -- that of the first procedures in turn, so many, and where they stand
 abbrev pub pieces_upto : Emission → (count : ℕ) → List Avr
@@ -160,7 +177,8 @@ pieces_upto e zero = []
 pieces_upto e (suc k) = pieces_upto e k ++ piece_at e k
 
 abbrev pub placed_at : Emission → (first k : ℕ) → Placed
-placed_at e first k = placed_of (first + widths (pieces_upto e k)) (places_at e.known k) e.codes e.idle e.dispatches (procedure_in e k)
+placed_at e first k =
+    placed_of (first + widths (pieces_upto e k)) (places_at e.guess k) (places_at e.known k) e.codes e.idle e.dispatches (procedure_in e k)
 
 abbrev pub placed_upto : Emission → (first count : ℕ) → List Placed
 placed_upto e first zero = []

@@ -4,9 +4,11 @@
 pub mod leads;
 pub mod placed;
 pub mod programs;
+pub mod reach;
 pub mod turns;
 
-pub use leads::far_leadings;
+pub use leads::leadings;
 pub use placed::{Laid, Placed};
 pub use programs::put_programs;
+pub use reach::Reach;
 pub use turns::codes_of;

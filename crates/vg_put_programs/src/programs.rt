@@ -6,7 +6,7 @@ ghost use Rattle.vg_templates.specs.Framed.{framed};
 ghost use Rattle.vg_select.specs.Within.{IsWithin};
 ghost use Rattle.vg_put_programs.specs.Programs.{emission, piece_of, pieces_upto, placed_of, placed_upto, AreWithin};
 
-use crate::leads::far_leadings;
+use crate::leads::leadings;
 use crate::placed::{Laid, Placed};
 use crate::turns::{places_at, procedure_at};
 use avr_instr::Instr;
@@ -23,18 +23,19 @@ fn put_one(
     code: &mut Row<Instr>,
     procedure: &LinProc,
     dispatches: &[Row<Case>],
+    guessed: &[u32],
     places: &[u32],
     codes: &[u16],
     idle: u16,
     entry: u32,
 ) -> Result<Placed, NoMemory>
     requires { (pc : ℕ) (i : InstrValue) → slice_get procedure.now.code pc ≡ Some i → IsWithin (framed procedure.now.widths procedure.now.params) i }
-    ensures code { OnOk result (code.new ≡ code.old ++ piece_of places.now codes.now idle dispatches.now (Some procedure.now)) }
-    ensures placed { IfOk result (λ placed. placed ≡ placed_of entry places.now codes.now idle dispatches.now (Some procedure.now)) }
+    ensures code { OnOk result (code.new ≡ code.old ++ piece_of guessed.now places.now codes.now idle dispatches.now (Some procedure.now)) }
+    ensures placed { IfOk result (λ placed. placed ≡ placed_of entry guessed.now places.now codes.now idle dispatches.now (Some procedure.now)) }
 {
     let instrs = procedure.code();
     let locations = frames(alloc, procedure)?;
-    let leadings = far_leadings(alloc, places, codes, idle, instrs)?;
+    let leadings = leadings(alloc, guessed, places, codes, idle, instrs)?;
     let mut begins = Row::new(alloc);
     let end = put_procedure(
         alloc,
@@ -54,14 +55,16 @@ fn put_one(
     })
 }
 
-/// The code of all procedures goes behind the code so far, that of the start procedure at `first`, a word address. They lead to one another by far jumps, far
-/// branches and far calls, and near by over stops, as if they stood where `known` says, had these code numbers, and the program waited for interrupts in a piece at `idle`.
+/// The code of all procedures goes behind the code so far, that of the start procedure at `first`, a word address. Its instructions lead to where they would if
+/// the procedures stood where `known` says, had these code numbers, and the program waited for interrupts in a piece at `idle`. Jumps and branches have the form
+/// for the distances that they would have if the procedures stood where `guess` says, or the far one where it is empty; calls are far ones.
 pub fn put_programs(
     alloc: Global,
     code: &mut Row<Instr>,
     procedures: &[LinProc],
     start: u16,
     dispatches: &[Row<Case>],
+    guess: &[Placed],
     known: &[Placed],
     codes: &[u16],
     idle: u16,
@@ -70,21 +73,24 @@ pub fn put_programs(
     requires start { start < length procedures.now }
     requires within { AreWithin procedures.now }
     ensures code { OnOk result (code.new ≡ code.old
-        ++ pieces_upto (emission procedures.now start dispatches.now known.now codes.now idle) (length procedures.now)) }
+        ++ pieces_upto (emission procedures.now start dispatches.now guess.now known.now codes.now idle) (length procedures.now)) }
     ensures placed { IfOk result (λ laid. laid.placed
-        ≡ placed_upto (emission procedures.now start dispatches.now known.now codes.now idle) first (length procedures.now)) }
+        ≡ placed_upto (emission procedures.now start dispatches.now guess.now known.now codes.now idle) first (length procedures.now)) }
     ensures end { IfOk result (λ laid. laid.end
-        ≡ first + widths (pieces_upto (emission procedures.now start dispatches.now known.now codes.now idle) (length procedures.now))) }
+        ≡ first + widths (pieces_upto (emission procedures.now start dispatches.now guess.now known.now codes.now idle) (length procedures.now))) }
 {
     let mut placed = Row::new(alloc);
     let mut end = first;
     for k in 0..procedures.len() {
+        let guessed = places_at(guess, k);
+        let places = places_at(known, k);
         let one = put_one(
             alloc,
             code,
             procedure_at(procedures, start, k),
             dispatches,
-            places_at(known, k),
+            guessed,
+            places,
             codes,
             idle,
             end,

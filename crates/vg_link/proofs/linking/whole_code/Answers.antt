@@ -1,6 +1,6 @@
 use Rattle.std.proofs.Common.{sym, subst, length, ◌<◌}
 use Rattle.vg_put_programs.specs.Programs.{AreWithin}
-use Rattle.vg_link.proofs.Imaging.{start_low, are_within, whole_is}
+use Rattle.vg_link.proofs.Imaging.{start_low, are_within}
 use Rattle.vg_link.proofs.linking.whole_code.Goals as goal
 
 pub put_programs-requires-clause-start : goal.put_programs-requires-clause-start
