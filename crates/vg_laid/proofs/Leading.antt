@@ -1,5 +1,5 @@
 -- Procedures that are put are linked.
-use Rattle.std.specs.Prelude.{ℕ, zero, suc, ◌+◌, ◌-◌, ◌<◌, ◌≤◌, ◌≢◌, Bool, true, false, List, [], ◌++◌, length, get_or, Some, slice_get}
+use Rattle.std.specs.Prelude.{ℕ, zero, suc, ◌+◌, ◌-◌, ◌<◌, ◌≤◌, ◌≢◌, Bool, true, false, List, [], ◌∷◌, ◌++◌, length, get_or, Some, slice_get}
 use Rattle.std.proofs.Common.{◌≡◌, refl, sym, ap, ap₂, ◌∙◌, subst, arith, inl, inr}
 use Rattle.std.proofs.lemmas.List.{append_assoc}
 use Rattle.std.proofs.lemmas.Option.{slice_get_within}
@@ -11,6 +11,7 @@ use Rattle.vg_codes.specs.declared.case.Case.{Case}
 use Rattle.vg_codes.specs.Dispatch.{cases_of}
 use Rattle.vg_lin.specs.declared.instr.Callee.{Callee}
 use Rattle.vg_lin.specs.declared.instr.Callee.TheVariants.{Procedure as ByNumber, Code as ByCode}
+use Rattle.vg_lin.specs.declared.instr.Call.{Call as Calling}
 use Rattle.vg_lin.specs.declared.instr.Test.{Test}
 use Rattle.vg_lin.specs.declared.instr.Plain.{Plain as PlainInstr}
 use Rattle.vg_lin.specs.declared.instr.Plain.TheVariants.{Copy, Compute, Product, DivideSteps, Load, Store, ReadDevice, WriteDevice, Push, Pop, Find, CodeOf, Stop}
@@ -20,12 +21,12 @@ use Rattle.vg_lin.specs.Program.{Procedure, Program}
 use Rattle.vg_lin.specs.Sound.{waits_in, waits_of, Waits, IsSound}
 use Rattle.vg_templates.specs.Layouts.{Layout}
 use Rattle.vg_templates.specs.Linkage.{prologue}
-use Rattle.vg_templates.specs.Calls as calls
+use Rattle.vg_templates.specs.Calls.{Way, call_code}
 use Rattle.vg_templates.specs.Branches.{tests, told_by}
-use Rattle.vg_templates.specs.Flow.{branch_code}
-use Rattle.vg_templates.specs.Whole.{Links, template}
+use Rattle.vg_templates.specs.Flow.{branch_code, way_of}
+use Rattle.vg_templates.specs.Whole.{Links, template, call_front, call_back}
 use Rattle.vg_followed.specs.Tables.{AreCases}
-use Rattle.vg_followed.specs.Stands.{HopLeads, TurnLeads, TestLeads, CalleeLeads, call_place}
+use Rattle.vg_followed.specs.Stands.{HopLeads, TurnLeads, TestLeads, WayLeads, CalleeLeads, call_place}
 use Rattle.vg_covered.specs.Fitting.{IsPlainFit, IsFit}
 use Rattle.vg_put_operations.specs.Coded.{code_from}
 use Rattle.vg_select.specs.Selected.{selected}
@@ -33,13 +34,14 @@ use Rattle.vg_put_procedures.specs.Emitted.{code_of, code_at, code_upto, body_co
 use Rattle.vg_put_programs.specs.declared.reach.Reach.{Reach}
 use Rattle.vg_put_programs.specs.Programs.{turn_of, aim_in, behind_in, callee_in, reach_in, Emission, piece_at, pieces_upto}
 use Rattle.vg_laid.specs.Linked.{HasPiece, Targets, ProcedureLinked}
-use Rattle.vg_laid.specs.Laid.{known, reach_of, behind_hop, aim_of, called_of, hop_by, turn_by, layout_of, instrs_of, behind_of, layout_at, instrs_at}
-use Rattle.vg_laid.specs.Laid.{known_places, guessed_places, leads_at, place_at, links_of}
+use Rattle.vg_laid.specs.Laid.{unknown, known, reach_of, behind_hop, aim_of, hop_by, turn_by, way_by, layout_of, instrs_of, behind_of, layout_at, instrs_at}
+use Rattle.vg_laid.specs.Laid.{known_places, guessed_places, sites_of, leads_at, place_at, links_of}
 use Rattle.vg_laid.proofs.Sizes.{turn_words, turn_takes}
-use Rattle.vg_laid.proofs.Reaching.{InReach, Nearer, reached, still_in_reach, hop_leads, turn_leads}
+use Rattle.vg_laid.proofs.Reaching.{InReach, Nearer, reached, still_in_reach, hop_leads, way_leads, turn_leads}
 use Rattle.vg_laid.proofs.Some.{selected_some, words_some}
 use Rattle.vg_laid.proofs.Turns.{turn_low}
-use Rattle.vg_laid.proofs.Laying.{pieces_parts, pieces_fit, entry_is, piece_there, place_known, far_place, place_guessed, far_wider, there}
+use Rattle.vg_laid.proofs.Laying.{pieces_parts, pieces_fit, entry_is, piece_there, place_known, far_place, place_guessed, far_wider, far_end, there}
+use Rattle.vg_laid.proofs.Laying.{pieces_less, pieces_climb, guessed_entry, no_entry, no_code}
 
 module _ (ms : List Procedure) (s : ℕ) (ds : List (List Case)) (first : ℕ) (stubs : List ℕ) (low : s < length ms)
     (room : first + widths (pieces_upto (known ms s ds first) (length ms)) < 65536) (p : Program)
@@ -173,17 +175,13 @@ module _ (ms : List Procedure) (s : ℕ) (ds : List (List Case)) (first : ℕ) (
     ]
   ]
 
-  callee : (c : Callee) (at : ℕ) → CalleeLeads x c (calls.Far (callee_in e.codes c)) at
-  callee (ByNumber q) at = refl
-  callee (ByCode a) at = tt
-
   held : (pc to : ℕ) → to < length procedure.code → to < length is
   held pc to h = subst (λ z. to < length z) (sym is_is) h
 
   -- a branch is the last of the code of its instruction
   branches : (pc to : ℕ) (i : Instr) (t : Test) (truth : Bool) → slice_get is pc ≡ Some i
       → widths (code_at l p (leads_at e p m) is pc) ≡ widths (tests l t ++ branch_code (told_by t.comparison) truth (x.branch m pc))
-      → ((ps : List ℕ) → aim_in ps i ≡ get_or ps to 0) → ((ps : List ℕ) → behind_in ps pc i ≡ get_or ps (suc pc) 0) → to ≢ pc → to < length is
+      → ((es ps : List ℕ) → aim_in es ps i ≡ get_or ps to 0) → ((ps : List ℕ) → behind_in l ps pc i ≡ get_or ps (suc pc) 0) → to ≢ pc → to < length is
       → suc pc < length is → TestLeads x m pc to (at pc + widths (tests l t))
   branches pc to i t truth q w aim behind other h g =
       subst (λ b. TurnLeads b (at pc + widths (tests l t)) (at to)) (sym turn_is)
@@ -191,12 +189,12 @@ module _ (ms : List Procedure) (s : ℕ) (ds : List (List Case)) (first : ℕ) (
       (λ inner same. away pc to i q h other (widths (tests l t) + 1) (omega (arith, inner)) (same ∙ regroup (at pc) (widths (tests l t)))))
     where
       r : Reach
-      r = reach_in guessed pc i
+      r = reach_in l e.entries guessed pc i
 
       turn_is : x.branch m pc ≡ turn_by r (at (suc pc)) (at to)
       turn_is =
-          ap (λ o. turn_by (reach_of guessed pc o) (behind_hop places pc o) (aim_of places o)) q
-          ∙ ap₂ (turn_by r) (behind places ∙ at_known (suc pc) g) (aim places ∙ at_known to h)
+          ap (λ o. turn_by (reach_of l (sites_of e p m) pc o) (behind_hop l places pc o) (aim_of e.codes places o)) q
+          ∙ ap₂ (turn_by r) (behind places ∙ at_known (suc pc) g) (aim e.codes places ∙ at_known to h)
 
       ends : at (suc pc) ≡ at pc + widths (tests l t) + turn_words r
       ends =
@@ -209,7 +207,7 @@ module _ (ms : List Procedure) (s : ℕ) (ds : List (List Case)) (first : ℕ) (
           still_in_reach r (far (suc pc)) (far to) (at (suc pc)) (at to) (far (suc pc)) (at (suc pc)) 0 (omega arith) (omega arith) (omega arith)
           (nearer (suc pc) to g h)
           (subst (λ z. InReach r z (far to)) (behind guessed ∙ far_known (suc pc) g)
-          (subst (λ z. InReach r (behind_in guessed pc i) z) (aim guessed ∙ far_known to h) (reached guessed pc i)))
+          (subst (λ z. InReach r (behind_in l guessed pc i) z) (aim e.entries guessed ∙ far_known to h) (reached l e.entries guessed pc i)))
 
       regroup : (a b : ℕ) → a + b + 1 ≡ a + (b + 1)
       regroup a b = omega arith
@@ -221,32 +219,144 @@ module _ (ms : List Procedure) (s : ℕ) (ds : List (List Case)) (first : ℕ) (
       (λ same. away pc to (Jump to) q h other 0 (let up = strict pc (Jump to) q in omega (arith, up)) (same ∙ (let z : at pc ≡ at pc + 0 = omega arith in z))))
     where
       r : Reach
-      r = reach_in guessed pc (Jump to)
+      r = reach_in l e.entries guessed pc (Jump to)
 
       hop_is : x.jump m pc ≡ hop_by r (at pc + 1) (at to)
       hop_is =
-          ap (λ o. hop_by (reach_of guessed pc o) (behind_hop places pc o) (aim_of places o)) q
+          ap (λ o. hop_by (reach_of l (sites_of e p m) pc o) (behind_hop l places pc o) (aim_of e.codes places o)) q
           ∙ ap₂ (λ u v. hop_by r (u + 1) v) (at_known pc g) (at_known to h)
 
       in_reach : InReach r (at pc + 1) (at to)
       in_reach =
           still_in_reach r (far pc) (far to) (at pc) (at to) (far pc + 1) (at pc + 1) 1 (omega arith) refl refl (nearer pc to g h)
           (subst (λ z. InReach r (z + 1) (far to)) (far_known pc g)
-          (subst (λ z. InReach r (get_or guessed pc 0 + 1) z) (far_known to h) (reached guessed pc (Jump to))))
+          (subst (λ z. InReach r (get_or guessed pc 0 + 1) z) (far_known to h) (reached l e.entries guessed pc (Jump to))))
+
+  -- ---- calls
+
+  abbrev words : ℕ → ℕ
+  words j = widths (pieces_upto e j)
+
+  abbrev far_words : ℕ → ℕ
+  far_words j = widths (pieces_upto (unknown ms s ds) j)
+
+  -- where the next procedure begins
+  ends_at : at (length is) ≡ first + words (suc k)
+  ends_at =
+      let en = entry in let u = widths-append (pieces_upto e k) (piece_at e k) in let c = ap widths piece in
+      let v = widths-append (prologue l) body in omega (arith, en, u, c, v)
+
+  far_ends_at : far (length is) ≡ first + far_words (suc k)
+  far_ends_at = far_end ms s ds first low room p codes dispatches m procedure is_there
+
+  wider : (a b : ℕ) → a ≤ b → words b + far_words a ≤ far_words b + words a
+  wider a b h =
+      let z : a + (b - a) ≡ b = omega (arith, h) in
+      subst (λ c. words c + far_words a ≤ far_words c + words a) z (pieces_less ms s ds first a (b - a))
+
+  further : (a b : ℕ) → a ≤ b → words a ≤ words b
+  further a b h = let z : a + (b - a) ≡ b = omega (arith, h) in subst (λ c. words a ≤ words c) z (pieces_climb ms s ds first a (b - a))
+
+  -- Two places, one of them in the code of an instruction, so many words behind its beginning.
+  module _ (pc f : ℕ) (pc_low : pc < length is) (inner : at pc + f ≤ at (suc pc)) where
+    from_start : at pc + far_words k ≤ far pc + words k
+    from_start =
+        let w = far_wider ms s ds first low room p codes dispatches m procedure is_there 0 pc (omega (arith, pc_low)) in
+        let z : 0 + pc ≡ pc = omega arith in
+        let w' = subst (λ c. at c + far 0 ≤ far c + at 0) z w in let en = entry in omega (arith, w', en)
+
+    nowhere_nearer : Nearer (far pc + f) 0 (at pc + f) 0
+    nowhere_nearer = inl (let w = from_start in let v = wider 0 k (omega arith) in omega (arith, w, v), omega arith)
+
+    entry_nearer : (q : ℕ) → q < length ms → Nearer (far pc + f) (code_from e.entries q) (at pc + f) (code_from e.codes q)
+    entry_nearer q h = elim (below_or_not k j) [
+      | inr past ↦
+          (let w = wider j k past in let u = further j k past in let v = from_start in let en = entry in
+          inl (omega (arith, there, guess, w, v), omega (arith, there, u, en)))
+      | inl less ↦
+          (let w = wider (suc k) j (omega (arith, less)) in let u = further (suc k) j (omega (arith, less)) in let a = ends_at in let b = far_ends_at in
+          let c = to_end in let d = from_to (suc pc) (length is) (omega (arith, pc_low)) in
+          inr (omega (arith, there, guess, w, a, b, c), omega (arith, there, u, a, d, inner)))
+    ]
+      where
+        j : ℕ
+        j = turn_of s (length ms) q
+
+        there : code_from e.codes q ≡ first + words j
+        there = entry_is ms s ds first low room q h
+
+        guess : code_from e.entries q ≡ first + far_words j
+        guess = guessed_entry ms s ds first q low h
+
+        to_end : at (length is) + far pc ≤ far (length is) + at pc
+        to_end =
+            let z : pc + (length is - pc) ≡ length is = omega (arith, pc_low) in
+            subst (λ c. at c + far pc ≤ far c + at pc) z
+            (far_wider ms s ds first low room p codes dispatches m procedure is_there pc (length is - pc) (omega (arith, pc_low)))
+
+    callee_nearer : (c : Callee) → Nearer (far pc + f) (callee_in e.entries c) (at pc + f) (callee_in e.codes c)
+    callee_nearer (ByCode a) = nowhere_nearer
+    callee_nearer (ByNumber q) = elim (below_or_not q (length ms)) [
+      | inl less ↦ entry_nearer q less
+      | inr past ↦
+          subst (λ z. Nearer (far pc + f) z (at pc + f) (code_from e.codes q)) (sym (no_entry ms s ds first q past))
+          (subst (λ z. Nearer (far pc + f) 0 (at pc + f) z) (sym (no_code ms s ds first q past)) nowhere_nearer)
+    ]
+
+  callee_low : (c : Callee) → callee_in e.codes c < 65536
+  callee_low (ByCode a) = omega arith
+  callee_low (ByNumber q) = elim (below_or_not q (length ms)) [
+    | inl less ↦
+        (let a = entry_is ms s ds first low room q less in
+        let f = pieces_fit e (length ms) (turn_of s (length ms) q) (turn_low s (length ms) q low less) in omega (arith, a, f, room))
+    | inr past ↦ (let z = no_code ms s ds first q past in omega (arith, z))
+  ]
+
+  callee : (c : Callee) (w : Way) (here : ℕ) → WayLeads w here (callee_in e.codes c) → CalleeLeads x c w here
+  callee (ByNumber q) w here h = h
+  callee (ByCode a) w here h = tt
+
+  calling : (pc : ℕ) (c : Calling) → slice_get is pc ≡ Some (Call c) → CalleeLeads x c.callee (x.call m pc) (call_place x m pc c)
+  calling pc c q =
+      subst (λ w. CalleeLeads x c.callee w here) (sym way_is)
+      (callee c.callee (way_by r (here + 1) (callee_in e.codes c.callee)) here
+      (way_leads r here (here + 1) (callee_in e.codes c.callee) refl in_reach (callee_low c.callee)))
+    where
+      here : ℕ
+      here = at pc + widths (call_front l c)
+
+      r : Reach
+      r = reach_in l e.entries guessed pc (Call c)
+
+      pc_low : pc < length is
+      pc_low = slice_get_within is pc (Call c) q
+
+      way_is : x.call m pc ≡ way_by r (here + 1) (callee_in e.codes c.callee)
+      way_is =
+          ap (λ o. way_by (reach_of l (sites_of e p m) pc o) (behind_hop l places pc o) (aim_of e.codes places o)) q
+          ∙ ap (λ z. way_by r (z + widths (call_front l c) + 1) (callee_in e.codes c.callee)) (at_known pc pc_low)
+
+      inner : here ≤ at (suc pc)
+      inner =
+          let n = next pc in let w = ap widths (code_is pc (Call c) q) in
+          let a = widths-append (call_front l c) (call_code (way_of c.callee (x.call m pc)) ∷ call_back l (waits_in [] is pc) c) in omega (arith, n, w, a)
+
+      in_reach : InReach r (here + 1) (callee_in e.codes c.callee)
+      in_reach =
+          still_in_reach r (far pc + widths (call_front l c)) (callee_in e.entries c.callee) here (callee_in e.codes c.callee)
+          (far pc + widths (call_front l c) + 1) (here + 1) 1 (omega arith) refl refl (callee_nearer pc (widths (call_front l c)) pc_low inner c.callee)
+          (subst (λ z. InReach r (z + widths (call_front l c) + 1) (callee_in e.entries c.callee)) (far_known pc pc_low)
+          (reached l e.entries guessed pc (Call c)))
 
   target : (pc : ℕ) (i : Instr) → slice_get is pc ≡ Some i → Waits procedure (waits_of procedure) pc i → Targets x m pc i
   target pc (Plain i) q w = tt
   target pc (When t to) q w =
-      branches pc to (When t to) t true q (ap widths (code_is pc (When t to) q)) (λ ps. refl) (λ ps. refl) w.0.0 (held pc to w.0.1.0) (held pc (suc pc) w.1.0)
+      branches pc to (When t to) t true q (ap widths (code_is pc (When t to) q)) (λ es ps. refl) (λ ps. refl) w.0.0 (held pc to w.0.1.0) (held pc (suc pc) w.1.0)
   target pc (Unless t to) q w =
-      branches pc to (Unless t to) t false q (ap widths (code_is pc (Unless t to) q)) (λ ps. refl) (λ ps. refl) w.0.0 (held pc to w.0.1.0)
+      branches pc to (Unless t to) t false q (ap widths (code_is pc (Unless t to) q)) (λ es ps. refl) (λ ps. refl) w.0.0 (held pc to w.0.1.0)
       (held pc (suc pc) w.1.0)
   target pc (Jump to) q w = jumps pc to q w.0 (held pc to w.1.0) (slice_get_within is pc (Jump to) q)
-  target pc (Call c) q w = (
-    ap (behind_of l (at pc) (leads_at e p m pc)) q,
-    subst (λ b. CalleeLeads x c.callee b (call_place x m pc c)) (sym (ap (λ o. calls.Far (called_of e.codes o)) q))
-        (callee c.callee (call_place x m pc c)),
-  )
+  target pc (Call c) q w = (ap (behind_of l (at pc) (leads_at e p m pc)) q, calling pc c q)
   target pc (Return r a) q w = tt
   target pc Idle q w = ap (behind_of l (at pc) (leads_at e p m pc)) q
 

@@ -4,11 +4,12 @@ use Rattle.std.proofs.Common.{◌≡◌, refl, ap, ◌∙◌, arith, inl, inr}
 use Rattle.avr_isa.specs.Flow.{near_from, far_from}
 use Rattle.avr_view.proofs.Going.{below_or_not}
 use Rattle.vg_lin.specs.declared.instr.Instr.{Instr}
-use Rattle.vg_followed.specs.Stands.{HopLeads, TurnLeads}
+use Rattle.vg_templates.specs.Layouts.{Layout}
+use Rattle.vg_followed.specs.Stands.{HopLeads, TurnLeads, WayLeads}
 use Rattle.vg_put_programs.specs.declared.reach.Reach.{Reach}
 use Rattle.vg_put_programs.specs.declared.reach.Reach.TheVariants.{Short as Within7, Near as Within12, Far as Beyond}
 use Rattle.vg_put_programs.specs.Programs.{aim_in, behind_in, is_within, reach_for, reach_in, offset_to}
-use Rattle.vg_laid.specs.Laid.{hop_by, turn_by}
+use Rattle.vg_laid.specs.Laid.{hop_by, turn_by, way_by}
 use Rattle.vg_laid.proofs.Sizes.{turn_words}
 
 -- ---- what is in reach
@@ -45,12 +46,14 @@ for_reach behind aim = short (is_within 64 behind aim) refl
     short true e = within_reaches 64 behind aim e
     short false e = near (is_within 2048 behind aim) refl
 
-pub reached : (places : List ℕ) (pc : ℕ) (i : Instr) → InReach (reach_in places pc i) (behind_in places pc i) (aim_in places i)
-reached places pc i = by_length (length places == 0)
+pub reached : (l : Layout) (entries places : List ℕ) (pc : ℕ) (i : Instr)
+    → InReach (reach_in l entries places pc i) (behind_in l places pc i) (aim_in entries places i)
+reached l entries places pc i = by_length (length places == 0)
   where
-    by_length : (x : Bool) → InReach (if x then Beyond else reach_for (behind_in places pc i) (aim_in places i)) (behind_in places pc i) (aim_in places i)
+    by_length : (x : Bool)
+        → InReach (if x then Beyond else reach_for (behind_in l places pc i) (aim_in entries places i)) (behind_in l places pc i) (aim_in entries places i)
     by_length true = tt
-    by_length false = for_reach (behind_in places pc i) (aim_in places i)
+    by_length false = for_reach (behind_in l places pc i) (aim_in entries places i)
 
 -- ---- what is in reach stays there, where all stands nearer
 
@@ -128,7 +131,7 @@ leads7 here behind aim e (h, k) low = elim (below_or_not aim behind) [
       near_forward here (offset_to 128 behind aim) aim (omega (arith, x, k, d.1)) (omega (arith, x, e, d.1)) low)
 ]
 
--- ---- jumps and branches
+-- ---- jumps, calls and branches
 
 reduced : (z : ℕ) → z < 65536 → z % 65536 ≡ z
 reduced z h = omega (arith, h)
@@ -138,6 +141,11 @@ pub hop_leads : (r : Reach) (here behind aim : ℕ) → behind ≡ here + 1 → 
 hop_leads Within7 here behind aim e (h, k) low other = (leads12 here behind aim e (omega (arith, h), omega (arith, k)) low, other)
 hop_leads Within12 here behind aim e h low other = (leads12 here behind aim e h low, other)
 hop_leads Beyond here behind aim e h low other = (reduced aim low, other)
+
+pub way_leads : (r : Reach) (here behind aim : ℕ) → behind ≡ here + 1 → InReach r behind aim → aim < 65536 → WayLeads (way_by r behind aim) here aim
+way_leads Within7 here behind aim e (h, k) low = leads12 here behind aim e (omega (arith, h), omega (arith, k)) low
+way_leads Within12 here behind aim e h low = leads12 here behind aim e h low
+way_leads Beyond here behind aim e h low = reduced aim low
 
 -- A branch leads to no place within the code that it goes past.
 pub turn_leads : (r : Reach) (branch behind aim : ℕ) → behind ≡ branch + turn_words r → InReach r behind aim → aim < 65536

@@ -23,7 +23,6 @@ use Rattle.vg_templates.specs.Transfers.{known}
 use Rattle.vg_templates.specs.Held.{brings, gives}
 use Rattle.vg_templates.specs.Branches.{tests, told_by}
 use Rattle.vg_templates.specs.Calls.{call_code}
-use Rattle.vg_templates.specs.Calls as calls
 use Rattle.vg_templates.specs.Plain.{copies_whole}
 use Rattle.vg_templates.specs.Lookups.{tries_case, tries_cases, finds_procedure}
 use Rattle.vg_templates.specs.Flow.{jump_code, branch_code, way_of}
@@ -33,17 +32,27 @@ use Rattle.vg_select.specs.Selected.{Leading, selected}
 use Rattle.vg_put_procedures.specs.Emitted.{code_of, code_at, code_upto}
 use Rattle.vg_put_programs.specs.declared.reach.Reach.{Reach}
 use Rattle.vg_put_programs.specs.declared.reach.Reach.TheVariants.{Short as Within7, Near as Within12, Far as Beyond}
-use Rattle.vg_laid.specs.Laid.{hop_by, turn_by, lead_by}
+use Rattle.vg_laid.specs.Laid.{hop_by, turn_by, way_by, lead_by}
 
 -- Two pieces of code take as many words as two others, of which each takes as many.
 pub both_same : (a b c d : List Avr) → widths a ≡ widths c → widths b ≡ widths d → widths (a ++ b) ≡ widths (c ++ d)
 both_same a b c d h k = let e = widths-append a b in let f = widths-append c d in omega (arith, h, k, e, f)
 
-both_less : (a b c d : List Avr) → widths a ≤ widths c → widths b ≤ widths d → widths (a ++ b) ≤ widths (c ++ d)
+pub both_less : (a b c d : List Avr) → widths a ≤ widths c → widths b ≤ widths d → widths (a ++ b) ≤ widths (c ++ d)
 both_less a b c d h k = let e = widths-append a b in let f = widths-append c d in omega (arith, h, k, e, f)
 
 no_less : (a b : ℕ) → a ≡ b → a ≤ b
 no_less a b h = omega (arith, h)
+
+-- Where each step of one row is as long at most as that of another one, so is each way along it.
+pub apart_less : (near far : ℕ → ℕ) (n : ℕ) → ((k : ℕ) → k < n → near (suc k) + far k ≤ far (suc k) + near k) → (a d : ℕ) → a + d ≤ n
+    → near (a + d) + far a ≤ far (a + d) + near a
+apart_less near far n h a zero low =
+    let z : a + 0 ≡ a = omega arith in subst (λ b. near b + far a ≤ far b + near a) (sym z) (omega arith)
+apart_less near far n h a (suc d) low =
+    let z : a + suc d ≡ suc (a + d) = omega arith in
+    subst (λ b. near b + far a ≤ far b + near a) (sym z)
+    (let rest = apart_less near far n h a d (omega (arith, low)) in let step = h (a + d) (omega (arith, low)) in omega (arith, rest, step))
 
 known_size : (d n x y : ℕ) → widths (known d n x) ≡ widths (known d n y)
 known_size d zero x y = refl
@@ -102,17 +111,24 @@ turn_less bit wanted r b a b' a' =
     at_most Within12 = omega arith
     at_most Beyond = omega arith
 
-call_size : (c : Callee) (x y : ℕ) → width (call_code (way_of c (calls.Far x))) ≡ width (call_code (way_of c (calls.Far y)))
-call_size (ByNumber q) x y = refl
-call_size (ByCode a) x y = refl
+call_size : (c : Callee) (r : Reach) (b a b' a' : ℕ) → width (call_code (way_of c (way_by r b a))) ≡ width (call_code (way_of c (way_by r b' a')))
+call_size (ByNumber q) Within7 b a b' a' = refl
+call_size (ByNumber q) Within12 b a b' a' = refl
+call_size (ByNumber q) Beyond b a b' a' = refl
+call_size (ByCode x) r b a b' a' = refl
+
+call_less : (c : Callee) (r : Reach) (b a b' a' : ℕ) → width (call_code (way_of c (way_by r b a))) ≤ width (call_code (way_of c (way_by Beyond b' a')))
+call_less (ByNumber q) Within7 b a b' a' = omega arith
+call_less (ByNumber q) Within12 b a b' a' = omega arith
+call_less (ByNumber q) Beyond b a b' a' = omega arith
+call_less (ByCode x) r b a b' a' = omega arith
 
 -- Where an instruction leads, so far off.
 pub record LeadsBy (r : Reach) (to : Leading) : Type 0 where
   pub behind : ℕ
   pub aim : ℕ
-  pub called : ℕ
   pub idle : ℕ
-  pub is : to ≡ lead_by r behind aim called idle
+  pub is : to ≡ lead_by r behind aim idle
 
 module _ (l : Layout) (p q : Program) (same : p.dispatches ≡ q.dispatches) where
   plain_size : (i : PlainInstr) → widths (plain_template l p i) ≡ widths (plain_template l q i)
@@ -133,36 +149,39 @@ module _ (l : Layout) (p q : Program) (same : p.dispatches ≡ q.dispatches) whe
   plain_size (CodeOf m to) = copies_size l to (p.codes.code m) (q.codes.code m)
   plain_size (Stop code) = refl
 
-  pub selected_size : (ws : List ℕ) (r : Reach) (b a c d b' a' c' d' : ℕ) (i : Instr)
-      → widths (selected l p ws (lead_by r b a c d) i) ≡ widths (selected l q ws (lead_by r b' a' c' d') i)
-  selected_size ws r b a c d b' a' c' d' (Plain i) = plain_size i
-  selected_size ws r b a c d b' a' c' d' (When k at) =
+  pub selected_size : (ws : List ℕ) (r : Reach) (b a d b' a' d' : ℕ) (i : Instr)
+      → widths (selected l p ws (lead_by r b a d) i) ≡ widths (selected l q ws (lead_by r b' a' d') i)
+  selected_size ws r b a d b' a' d' (Plain i) = plain_size i
+  selected_size ws r b a d b' a' d' (When k at) =
       both_same (tests l k) (branch_code (told_by k.comparison) true (turn_by r b a)) (tests l k) (branch_code (told_by k.comparison) true (turn_by r b' a'))
       refl (turn_size (told_by k.comparison) true r b a b' a')
-  selected_size ws r b a c d b' a' c' d' (Unless k at) =
+  selected_size ws r b a d b' a' d' (Unless k at) =
       both_same (tests l k) (branch_code (told_by k.comparison) false (turn_by r b a)) (tests l k) (branch_code (told_by k.comparison) false (turn_by r b' a'))
       refl (turn_size (told_by k.comparison) false r b a b' a')
-  selected_size ws r b a c d b' a' c' d' (Jump at) = hop_size r b a b' a'
-  selected_size ws r b a c d b' a' c' d' (Call k) =
-      let back = call_back l ws k in let w = call_size k.callee c c' in
-      both_same (call_front l k) (call_code (way_of k.callee (calls.Far c)) ∷ back) (call_front l k) (call_code (way_of k.callee (calls.Far c')) ∷ back) refl
+  selected_size ws r b a d b' a' d' (Jump at) = hop_size r b a b' a'
+  selected_size ws r b a d b' a' d' (Call k) =
+      let back = call_back l ws k in let w = call_size k.callee r b a b' a' in
+      both_same (call_front l k) (call_code (way_of k.callee (way_by r b a)) ∷ back) (call_front l k) (call_code (way_of k.callee (way_by r b' a')) ∷ back) refl
       (ap (λ n. n + widths back) w)
-  selected_size ws r b a c d b' a' c' d' (Return w v) = refl
-  selected_size ws r b a c d b' a' c' d' Idle = refl
+  selected_size ws r b a d b' a' d' (Return w v) = refl
+  selected_size ws r b a d b' a' d' Idle = refl
 
-  selected_less : (ws : List ℕ) (r : Reach) (b a c d b' a' c' d' : ℕ) (i : Instr)
-      → widths (selected l p ws (lead_by r b a c d) i) ≤ widths (selected l q ws (lead_by Beyond b' a' c' d') i)
-  selected_less ws r b a c d b' a' c' d' (Plain i) = no_less _ _ (plain_size i)
-  selected_less ws r b a c d b' a' c' d' (When k at) =
+  selected_less : (ws : List ℕ) (r : Reach) (b a d b' a' d' : ℕ) (i : Instr)
+      → widths (selected l p ws (lead_by r b a d) i) ≤ widths (selected l q ws (lead_by Beyond b' a' d') i)
+  selected_less ws r b a d b' a' d' (Plain i) = no_less _ _ (plain_size i)
+  selected_less ws r b a d b' a' d' (When k at) =
       both_less (tests l k) (branch_code (told_by k.comparison) true (turn_by r b a)) (tests l k)
       (branch_code (told_by k.comparison) true (turn_by Beyond b' a')) (omega arith) (turn_less (told_by k.comparison) true r b a b' a')
-  selected_less ws r b a c d b' a' c' d' (Unless k at) =
+  selected_less ws r b a d b' a' d' (Unless k at) =
       both_less (tests l k) (branch_code (told_by k.comparison) false (turn_by r b a)) (tests l k)
       (branch_code (told_by k.comparison) false (turn_by Beyond b' a')) (omega arith) (turn_less (told_by k.comparison) false r b a b' a')
-  selected_less ws r b a c d b' a' c' d' (Jump at) = hop_less r b a b' a'
-  selected_less ws r b a c d b' a' c' d' (Call k) = no_less _ _ (selected_size ws Beyond b a c d b' a' c' d' (Call k))
-  selected_less ws r b a c d b' a' c' d' (Return w v) = omega arith
-  selected_less ws r b a c d b' a' c' d' Idle = omega arith
+  selected_less ws r b a d b' a' d' (Jump at) = hop_less r b a b' a'
+  selected_less ws r b a d b' a' d' (Call k) =
+      let back = call_back l ws k in let w = call_less k.callee r b a b' a' in
+      both_less (call_front l k) (call_code (way_of k.callee (way_by r b a)) ∷ back) (call_front l k)
+      (call_code (way_of k.callee (way_by Beyond b' a')) ∷ back) (omega arith) (omega (arith, w))
+  selected_less ws r b a d b' a' d' (Return w v) = omega arith
+  selected_less ws r b a d b' a' d' Idle = omega arith
 
   -- the code of the first instructions, so many, where each leads as far off
   pub upto_size : (f g : ℕ → Leading) (is : List Instr) (n : ℕ) → ((pc : ℕ) → pc < n → (r : Reach) × LeadsBy r (f pc) × LeadsBy r (g pc))
@@ -177,7 +196,7 @@ module _ (l : Layout) (p q : Program) (same : p.dispatches ≡ q.dispatches) whe
       each None r x y = refl
       each (Some i) r x y =
           ap (λ to. widths (selected l p (waits_in [] is n) to i)) x.is
-          ∙ selected_size (waits_in [] is n) r x.behind x.aim x.called x.idle y.behind y.aim y.called y.idle i
+          ∙ selected_size (waits_in [] is n) r x.behind x.aim x.idle y.behind y.aim y.idle i
           ∙ ap (λ to. widths (selected l q (waits_in [] is n) to i)) (sym y.is)
 
   -- an instruction takes as many words at most as where it leads far off
@@ -189,24 +208,25 @@ module _ (l : Layout) (p q : Program) (same : p.dispatches ≡ q.dispatches) whe
       each None = omega arith
       each (Some i) =
           subst (λ to. widths (selected l p (waits_in [] is pc) to i) ≤ widths (selected l q (waits_in [] is pc) (g pc) i)) (sym x.is)
-          (subst (λ to. widths (selected l p (waits_in [] is pc) (lead_by r x.behind x.aim x.called x.idle) i) ≤ widths (selected l q (waits_in [] is pc) to i))
-          (sym y.is) (selected_less (waits_in [] is pc) r x.behind x.aim x.called x.idle y.behind y.aim y.called y.idle i))
+          (subst (λ to. widths (selected l p (waits_in [] is pc) (lead_by r x.behind x.aim x.idle) i) ≤ widths (selected l q (waits_in [] is pc) to i))
+          (sym y.is) (selected_less (waits_in [] is pc) r x.behind x.aim x.idle y.behind y.aim y.idle i))
+
+  pub upto_less : (f g : ℕ → Leading) (is : List Instr) (n : ℕ) → ((pc : ℕ) → pc < n → (r : Reach) × LeadsBy r (f pc) × LeadsBy Beyond (g pc))
+      → widths (code_upto l p f is n) ≤ widths (code_upto l q g is n)
+  upto_less f g is zero h = omega arith
+  upto_less f g is (suc n) h =
+      both_less (code_upto l p f is n) (code_at l p f is n) (code_upto l q g is n) (code_at l q g is n)
+      (upto_less f g is n (λ pc low. h pc (omega (arith, low)))) (let t = h n (omega arith) in step_less f g is n t.0 t.1 t.2)
 
   -- and so do instructions that stand one behind the other
   pub between_less : (f g : ℕ → Leading) (is : List Instr) (n : ℕ)
       → ((pc : ℕ) → pc < n → (r : Reach) × LeadsBy r (f pc) × LeadsBy Beyond (g pc)) → (a d : ℕ) → a + d ≤ n
       → widths (code_upto l p f is (a + d)) + widths (code_upto l q g is a) ≤ widths (code_upto l q g is (a + d)) + widths (code_upto l p f is a)
-  between_less f g is n h a zero low =
-      let z : a + 0 ≡ a = omega arith in
-      subst (λ b. widths (code_upto l p f is b) + widths (code_upto l q g is a) ≤ widths (code_upto l q g is b) + widths (code_upto l p f is a)) (sym z)
-      (omega arith)
-  between_less f g is n h a (suc d) low =
-      let z : a + suc d ≡ suc (a + d) = omega arith in
-      subst (λ b. widths (code_upto l p f is b) + widths (code_upto l q g is a) ≤ widths (code_upto l q g is b) + widths (code_upto l p f is a)) (sym z)
-      (let rest = between_less f g is n h a d (omega (arith, low)) in let t = h (a + d) (omega (arith, low)) in
-      let step = step_less f g is (a + d) t.0 t.1 t.2 in
-      let u = widths-append (code_upto l p f is (a + d)) (code_at l p f is (a + d)) in
-      let v = widths-append (code_upto l q g is (a + d)) (code_at l q g is (a + d)) in omega (arith, rest, step, u, v))
+  between_less f g is n h =
+      apart_less (λ k. widths (code_upto l p f is k)) (λ k. widths (code_upto l q g is k)) n (λ k low.
+      let t = h k low in let step = step_less f g is k t.0 t.1 t.2 in
+      let u = widths-append (code_upto l p f is k) (code_at l p f is k) in
+      let v = widths-append (code_upto l q g is k) (code_at l q g is k) in omega (arith, step, u, v))
 
 -- ---- the same code, where the code numbers are the same as well
 

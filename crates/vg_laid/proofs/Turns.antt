@@ -1,6 +1,6 @@
 -- Lists that grow at their ends, and the turn in which procedures stand.
 use Rattle.std.specs.Prelude.{ℕ, zero, suc, ◌+◌, ◌-◌, ◌<◌, ◌≤◌, nat_lt, true, false, List, [], ◌∷◌, ◌++◌, length, get_or, Some, slice_get}
-use Rattle.std.proofs.Common.{◌≡◌, sym, ap, ◌∙◌, subst, arith, inl, inr}
+use Rattle.std.proofs.Common.{◌≡◌, refl, sym, ap, ◌∙◌, subst, arith, inl, inr}
 use Rattle.std.proofs.lemmas.List.{length-append, get_or_append_left}
 use Rattle.std.proofs.lemmas.Option.{slice_get_read}
 use Rattle.std.proofs.Math.Seq.{get_or-append_seam}
@@ -8,6 +8,11 @@ use Rattle.avr_view.proofs.Going.{below_or_not}
 use Rattle.vg_put_programs.specs.Programs.{in_turn, turn_of}
 
 -- ---- lists
+
+pub none_past : (xs : List ℕ) (q : ℕ) → length xs ≤ q → get_or xs q 0 ≡ 0
+none_past [] q h = refl
+none_past (x ∷ xs) zero h = absurd (omega (arith, h))
+none_past (x ∷ xs) (suc q) h = none_past xs q (omega (arith, h))
 
 module _ {A : Type 0} (f : ℕ → A) (list : ℕ → List A) (none : list 0 ≡ []) (more : (k : ℕ) → list (suc k) ≡ list k ++ f k ∷ []) where
   pub counted : (n : ℕ) → length (list n) ≡ n

@@ -1,5 +1,5 @@
--- Programs that are put three times: with far jumps and branches alone, to learn how far off each of them leads; with near ones where these reach, to learn where
--- all code stands; and then so that it leads there.
+-- Programs that are put three times: with far jumps, branches and calls alone, to learn how far off each of them leads; with near ones where these reach, to learn
+-- where all code stands; and then so that it leads there.
 use Rattle.std.specs.Prelude.{ℕ, suc, ◌≡◌, ◌+◌, ◌*◌, ◌%◌, ◌<◌, ◌==◌, if◌then◌else◌, List, [], ◌∷◌, ◌++◌, length, Option, Some, None, slice_get}
 use Rattle.avr_instr.specs.declared.instr.Instr.{Instr as Avr}
 use Rattle.avr_isa.specs.Standing.{widths}
@@ -24,20 +24,24 @@ use Rattle.vg_put_procedures.specs.Emitted.{place_of}
 use Rattle.vg_put_programs.specs.declared.placed.Placed.{Placed}
 use Rattle.vg_put_programs.specs.declared.reach.Reach.{Reach}
 use Rattle.vg_put_programs.specs.declared.reach.Reach.TheVariants.{Short as Within7, Near as Within12, Far as Beyond}
-use Rattle.vg_put_programs.specs.Programs.{turn_of, places_at, codes_upto, aim_in, behind_in, called_in, reach_in, offset_to}
+use Rattle.vg_put_programs.specs.Programs.{turn_of, places_at, entries_upto, codes_upto, aim_in, behind_in, reach_in, offset_to}
+use Rattle.vg_put_programs.specs.Programs.{Sites, sites}
 use Rattle.vg_put_programs.specs.Programs.{Emission, emission, pieces_upto, placed_upto}
 
 -- ---- each time
 
 abbrev pub unknown : List Procedure → (start : ℕ) → List (List Case) → Emission
-unknown ms s ds = emission ms s ds [] [] [] 0
+unknown ms s ds = emission ms s ds [] [] [] [] 0
 
--- where all procedures would stand with far jumps and branches alone
+-- where all procedures would stand with far jumps, branches and calls alone; and their entries
 abbrev pub far_from : List Procedure → (start : ℕ) → List (List Case) → (first : ℕ) → List Placed
 far_from ms s ds first = placed_upto (unknown ms s ds) first (length ms)
 
+abbrev pub entries_from : List Procedure → (start : ℕ) → List (List Case) → (first : ℕ) → List ℕ
+entries_from ms s ds first = entries_upto (far_from ms s ds first) s (length ms) (length ms)
+
 abbrev pub sized : List Procedure → (start : ℕ) → List (List Case) → (first : ℕ) → Emission
-sized ms s ds first = emission ms s ds (far_from ms s ds first) [] [] 0
+sized ms s ds first = emission ms s ds (far_from ms s ds first) (entries_from ms s ds first) [] [] 0
 
 -- where they stand
 abbrev pub placed_from : List Procedure → (start : ℕ) → List (List Case) → (first : ℕ) → List Placed
@@ -53,7 +57,8 @@ codes_from ms s ds first = codes_upto (placed_from ms s ds first) s (length ms) 
 
 abbrev pub known : List Procedure → (start : ℕ) → List (List Case) → (first : ℕ) → Emission
 known ms s ds first =
-    emission ms s ds (far_from ms s ds first) (placed_from ms s ds first) (codes_from ms s ds first) (idle_from ms s ds first)
+    emission ms s ds (far_from ms s ds first) (entries_from ms s ds first) (placed_from ms s ds first) (codes_from ms s ds first)
+    (idle_from ms s ds first)
 
 -- ---- where instructions lead
 
@@ -67,31 +72,32 @@ turn_by Within7 behind aim = Direct (offset_to 128 behind aim)
 turn_by Within12 behind aim = Past (Near (offset_to 4096 behind aim))
 turn_by Beyond behind aim = Past (Far (aim % 65536))
 
-abbrev pub lead_by : Reach → (behind aim called idle : ℕ) → Leading
-lead_by reach behind aim called idle =
-    record { jump = hop_by reach behind aim; branch = turn_by reach behind aim; call = calls.Far called; idle = idle }
+abbrev pub way_by : Reach → (behind aim : ℕ) → calls.Way
+way_by Within7 behind aim = calls.Near (offset_to 4096 behind aim)
+way_by Within12 behind aim = calls.Near (offset_to 4096 behind aim)
+way_by Beyond behind aim = calls.Far (aim % 65536)
 
-abbrev pub reach_of : (guessed : List ℕ) (place : ℕ) → Option Instr → Reach
-reach_of guessed pc (Some i) = reach_in guessed pc i
-reach_of guessed pc None = Beyond
+abbrev pub lead_by : Reach → (behind aim idle : ℕ) → Leading
+lead_by reach behind aim idle =
+    record { jump = hop_by reach behind aim; branch = turn_by reach behind aim; call = way_by reach behind aim; idle = idle }
 
-abbrev pub behind_hop : (places : List ℕ) (place : ℕ) → Option Instr → ℕ
-behind_hop places pc (Some i) = behind_in places pc i
-behind_hop places pc None = 0
+abbrev pub reach_of : Layout → Sites → (place : ℕ) → Option Instr → Reach
+reach_of l x pc (Some i) = reach_in l x.entries x.guessed pc i
+reach_of l x pc None = Beyond
 
-abbrev pub aim_of : (places : List ℕ) → Option Instr → ℕ
-aim_of places (Some i) = aim_in places i
-aim_of places None = 0
+abbrev pub behind_hop : Layout → (places : List ℕ) (place : ℕ) → Option Instr → ℕ
+behind_hop l places pc (Some i) = behind_in l places pc i
+behind_hop l places pc None = 0
 
-abbrev pub called_of : (codes : List ℕ) → Option Instr → ℕ
-called_of codes (Some i) = called_in codes i
-called_of codes None = 0
+abbrev pub aim_of : (codes places : List ℕ) → Option Instr → ℕ
+aim_of codes places (Some i) = aim_in codes places i
+aim_of codes places None = 0
 
-abbrev pub lead_of : (guessed places codes : List ℕ) (idle place : ℕ) → Option Instr → Leading
-lead_of guessed places codes idle pc o = lead_by (reach_of guessed pc o) (behind_hop places pc o) (aim_of places o) (called_of codes o) idle
+abbrev pub lead_of : Layout → Sites → (place : ℕ) → Option Instr → Leading
+lead_of l x pc o = lead_by (reach_of l x pc o) (behind_hop l x.places pc o) (aim_of x.codes x.places o) x.idle
 
-abbrev pub lead_at : (guessed places codes : List ℕ) (idle : ℕ) → List Instr → (place : ℕ) → Leading
-lead_at guessed places codes idle is pc = lead_of guessed places codes idle pc (slice_get is pc)
+abbrev pub lead_at : Layout → Sites → List Instr → (place : ℕ) → Leading
+lead_at l x is pc = lead_of l x pc (slice_get is pc)
 
 -- ---- where it stands
 
@@ -135,8 +141,11 @@ module _ (e : Emission) (p : Program) where
   abbrev pub guessed_places : (m : ℕ) → List ℕ
   guessed_places m = places_at e.guess (turn_of e.start (length e.procedures) m)
 
+  abbrev pub sites_of : (m : ℕ) → Sites
+  sites_of m = sites e.entries (guessed_places m) e.codes (known_places m) e.idle
+
   abbrev pub leads_at : (m pc : ℕ) → Leading
-  leads_at m pc = lead_at (guessed_places m) (known_places m) e.codes e.idle (instrs_at m) pc
+  leads_at m pc = lead_at (layout_at m) (sites_of m) (instrs_at m) pc
 
   abbrev pub place_at : (m pc : ℕ) → ℕ
   place_at m pc =

@@ -1,5 +1,5 @@
 -- What linking makes is linked.
-use Rattle.std.specs.Prelude.{ℕ, zero, suc, ◌+◌, ◌*◌, ◌/◌, ◌<◌, ◌≤◌, List, [], ◌∷◌, ◌++◌, length, get_or, Option, Some, slice_get}
+use Rattle.std.specs.Prelude.{ℕ, ◌+◌, ◌*◌, ◌/◌, ◌<◌, ◌≤◌, List, [], ◌++◌, length, Option, Some, slice_get}
 use Rattle.std.specs.List.{AllByRecursion}
 use Rattle.std.proofs.Common.{◌≡◌, refl, sym, ap, ap₂, ◌∙◌, subst, arith, inl, inr}
 use Rattle.std.proofs.lemmas.List.{append_assoc, length-map}
@@ -27,6 +27,7 @@ use Rattle.vg_tables.specs.declared.datum.Datum.{Datum}
 use Rattle.vg_tables.specs.Bytes.{byte_of}
 use Rattle.vg_laid.specs.Laid.{known, index_in, stub_at, stubs_code, found_from, codes_by, links_of}
 use Rattle.vg_laid.proofs.Laying.{pieces_size, entry_is}
+use Rattle.vg_laid.proofs.Turns.{none_past}
 use Rattle.vg_laid.proofs.Within.{all_within}
 use Rattle.vg_laid.proofs.Leading.{procedure_linked, fits}
 use Rattle.vg_laid.proofs.Stubs.{stub_there, stubs_long, found_has, layouts_stand, are_codes, codes_counted}
@@ -36,11 +37,6 @@ use Rattle.vg_link.specs.declared.unlinked.Unlinked.{Unlinked}
 use Rattle.vg_link.specs.Linking.{handler_in, stubs_of, slot_of, slots_upto, bytes_by, program_of, CanBeLinked, IsLinked, first_of, laid_by, end_by, idle_of, words_laid}
 use Rattle.vg_link.proofs.Before.{kept_found}
 use Rattle.vg_link.proofs.Handlers.{handler_there, slot_is, slot_low}
-
-none_past : (xs : List ℕ) (q : ℕ) → length xs ≤ q → get_or xs q 0 ≡ 0
-none_past [] q h = refl
-none_past (x ∷ xs) zero h = absurd (omega (arith, h))
-none_past (x ∷ xs) (suc q) h = none_past xs q (omega (arith, h))
 
 start_same : (codes : List ℕ) (ds : List Datum) → code_start (bytes_by [] ds) ≡ code_start (bytes_by codes ds)
 start_same codes ds = ap (λ n. 70 + (n + 1) / 2) (length-map ds (byte_of (codes_by [])) ∙ sym (length-map ds (byte_of (codes_by codes))))
@@ -56,26 +52,26 @@ words_are u end count words stubs ee ec es ew = ew ∙ ap₂ (λ a b. a + 4 + 3 
 
 -- What is known of it before anything is put, of lists that are those of the program.
 module _ (u : Unlinked) (ps : List Procedure) (ds : List (List Case)) (ep : ps ≡ u.procedures) (ed : ds ≡ u.dispatches) where
-  pub laid_placed : (guess : List Placed) (first : ℕ) (placed : List Placed) → first ≡ first_of u
-      → placed ≡ placed_upto (emission ps u.start ds guess [] [] 0) first (length ps) → placed ≡ laid_by u guess
-  laid_placed guess first placed ef h =
-      h ∙ ap₂ (λ a b. placed_upto (emission a u.start b guess [] [] 0) first (length a)) ep ed
-      ∙ ap (λ z. placed_upto (emission u.procedures u.start u.dispatches guess [] [] 0) z (length u.procedures)) ef
+  pub laid_placed : (guess : List Placed) (entries : List ℕ) (first : ℕ) (placed : List Placed) → first ≡ first_of u
+      → placed ≡ placed_upto (emission ps u.start ds guess entries [] [] 0) first (length ps) → placed ≡ laid_by u guess entries
+  laid_placed guess entries first placed ef h =
+      h ∙ ap₂ (λ a b. placed_upto (emission a u.start b guess entries [] [] 0) first (length a)) ep ed
+      ∙ ap (λ z. placed_upto (emission u.procedures u.start u.dispatches guess entries [] [] 0) z (length u.procedures)) ef
 
-  pub laid_end : (guess : List Placed) (first end : ℕ) → first ≡ first_of u
-      → end ≡ first + widths (pieces_upto (emission ps u.start ds guess [] [] 0) (length ps)) → end ≡ end_by u guess
-  laid_end guess first end ef h =
-      h ∙ ap₂ (λ a b. first + widths (pieces_upto (emission a u.start b guess [] [] 0) (length a))) ep ed
-      ∙ ap (λ z. z + widths (pieces_upto (emission u.procedures u.start u.dispatches guess [] [] 0) (length u.procedures))) ef
+  pub laid_end : (guess : List Placed) (entries : List ℕ) (first end : ℕ) → first ≡ first_of u
+      → end ≡ first + widths (pieces_upto (emission ps u.start ds guess entries [] [] 0) (length ps)) → end ≡ end_by u guess entries
+  laid_end guess entries first end ef h =
+      h ∙ ap₂ (λ a b. first + widths (pieces_upto (emission a u.start b guess entries [] [] 0) (length a))) ep ed
+      ∙ ap (λ z. z + widths (pieces_upto (emission u.procedures u.start u.dispatches guess entries [] [] 0) (length u.procedures))) ef
 
   -- the code of reset, of all procedures, of the piece in which the program waits, and of the stubs
-  pub whole_is : (far placed : List Placed) (codes : List ℕ) (idle : ℕ) (stubs : List ℕ) (reset one two three : List Avr)
-      → one ≡ reset ++ pieces_upto (emission ps u.start ds far placed codes idle) (length ps) → two ≡ one ++ idle_piece → three ≡ two ++ stubs_code codes stubs
-      → three ≡ ((reset ++ pieces_upto (emission u.procedures u.start u.dispatches far placed codes idle) (length u.procedures)) ++ idle_piece)
+  pub whole_is : (far : List Placed) (entries : List ℕ) (placed : List Placed) (codes : List ℕ) (idle : ℕ) (stubs : List ℕ) (reset one two three : List Avr)
+      → one ≡ reset ++ pieces_upto (emission ps u.start ds far entries placed codes idle) (length ps) → two ≡ one ++ idle_piece → three ≡ two ++ stubs_code codes stubs
+      → three ≡ ((reset ++ pieces_upto (emission u.procedures u.start u.dispatches far entries placed codes idle) (length u.procedures)) ++ idle_piece)
       ++ stubs_code codes stubs
-  whole_is far placed codes idle stubs reset one two three e1 e2 e3 =
+  whole_is far entries placed codes idle stubs reset one two three e1 e2 e3 =
       e3 ∙ ap (λ z. z ++ stubs_code codes stubs) (e2 ∙ ap (λ z. z ++ idle_piece) (e1
-      ∙ ap₂ (λ a b. reset ++ pieces_upto (emission a u.start b far placed codes idle) (length a)) ep ed))
+      ∙ ap₂ (λ a b. reset ++ pieces_upto (emission a u.start b far entries placed codes idle) (length a)) ep ed))
 
 -- The stubs stand within two bytes of word addresses, where all words do.
 pub stubs_low : (u : Unlinked) → words_laid u < 65536 → (end : ℕ) (stubs : List ℕ) → end ≡ idle_of u → stubs ≡ stubs_of u.handlers
@@ -272,11 +268,11 @@ module _ (u : Unlinked) (can : CanBeLinked u) (room : words_laid u < 65536) wher
       bytes_count all (slot_low u.handlers stubs (e.idle + 4) stubs_room) ranged (let w = words in omega (arith, w, room)) ∙ ap (λ k. 2 * k) words
 
   -- The same of what linking makes, one list after the other.
-  module _ (far placed : List Placed) (codes' known : List ℕ) (count idle : ℕ) (stubs' : List ℕ) (reset' : List Avr) (hs : List Handler) (ds : List Datum)
-      (slots slots' : List (Option ℕ)) (tables tables' : List ℕ) (code' code'' : List Avr) (bytes flash : List ℕ)
-      (eg : far ≡ e.guess) (ep : placed ≡ e.known) (en : count ≡ n) (ec : codes' ≡ codes_upto placed u.start count count) (ek : known ≡ codes') (ei : idle ≡ e.idle)
-      (es : stubs' ≡ stubs) (er : reset' ≡ reset) (eh : hs ≡ u.handlers) (ed : ds ≡ u.tables)
-      (ew : code' ≡ ((reset' ++ pieces_upto (emission u.procedures u.start u.dispatches far placed known idle) n) ++ idle_piece) ++ stubs_code known stubs')
+  module _ (far : List Placed) (entries : List ℕ) (placed : List Placed) (codes' known : List ℕ) (count idle : ℕ) (stubs' : List ℕ)
+      (reset' : List Avr) (hs : List Handler) (ds : List Datum) (slots slots' : List (Option ℕ)) (tables tables' : List ℕ) (code' code'' : List Avr) (bytes flash : List ℕ)
+      (eg : far ≡ e.guess) (ee : entries ≡ e.entries) (ep : placed ≡ e.known) (en : count ≡ n) (ec : codes' ≡ codes_upto placed u.start count count)
+      (ek : known ≡ codes') (ei : idle ≡ e.idle) (es : stubs' ≡ stubs) (er : reset' ≡ reset) (eh : hs ≡ u.handlers) (ed : ds ≡ u.tables)
+      (ew : code' ≡ ((reset' ++ pieces_upto (emission u.procedures u.start u.dispatches far entries placed known idle) n) ++ idle_piece) ++ stubs_code known stubs')
       (el : slots ≡ slots_upto hs stubs' (idle + 4) 35) (et : tables ≡ bytes_by known ds) (ew' : code'' ≡ code') (el' : slots' ≡ slots)
       (et' : tables' ≡ tables) (ef : bytes ≡ flash_of (parts slots' tables' code'')) (ef' : flash ≡ bytes) where
     codes_same : codes' ≡ codes
@@ -285,10 +281,11 @@ module _ (u : Unlinked) (can : CanBeLinked u) (room : words_laid u < 65536) wher
     known_same : known ≡ codes
     known_same = ek ∙ codes_same
 
-    emission_same : emission u.procedures u.start u.dispatches far placed known idle ≡ e
+    emission_same : emission u.procedures u.start u.dispatches far entries placed known idle ≡ e
     emission_same =
-        ap₂ (λ a b. emission u.procedures u.start u.dispatches a b known idle) eg ep
-        ∙ ap₂ (λ a b. emission u.procedures u.start u.dispatches e.guess e.known a b) known_same ei
+        ap₂ (λ a b. emission u.procedures u.start u.dispatches a b placed known idle) eg ee
+        ∙ ap (λ a. emission u.procedures u.start u.dispatches e.guess e.entries a known idle) ep
+        ∙ ap₂ (λ a b. emission u.procedures u.start u.dispatches e.guess e.entries e.known a b) known_same ei
 
     code_same : code'' ≡ code
     code_same =

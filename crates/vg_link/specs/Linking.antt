@@ -16,7 +16,7 @@ use Rattle.vg_laid.specs.Images.{ProgramLinked}
 use Rattle.vg_tables.specs.declared.datum.Datum.{Datum}
 use Rattle.vg_tables.specs.Bytes.{byte_of}
 use Rattle.vg_put_programs.specs.declared.placed.Placed.{Placed}
-use Rattle.vg_put_programs.specs.Programs.{emission, pieces_upto, placed_upto}
+use Rattle.vg_put_programs.specs.Programs.{emission, entries_upto, pieces_upto, placed_upto}
 use Rattle.vg_laid.specs.Laid.{idle_from, index_in, stub_at, codes_by, AreSound}
 use Rattle.vg_link.specs.declared.linked.CodeFull.{CodeFull}
 use Rattle.vg_link.specs.declared.linked.Linked.{Linked}
@@ -114,20 +114,25 @@ pub record IsLinked (u : Unlinked) (linked : Linked) : Type 0 where
 abbrev pub first_of : Unlinked → ℕ
 first_of u = code_start (bytes_by [] u.tables) + widths (reset_code u.static_bytes first_table)
 
--- where all procedures stand, and the word address behind them, where their instructions lead as far off as they would if they stood where it is guessed: their code
--- takes as many words then wherever it leads
-abbrev pub laid_by : Unlinked → (guess : List Placed) → List Placed
-laid_by u guess = placed_upto (emission u.procedures u.start u.dispatches guess [] [] 0) (first_of u) (length u.procedures)
+-- where all procedures stand, and the word address behind them, where their instructions lead as far off as they would if they stood where it is guessed, and had
+-- these entries: their code takes as many words then wherever it leads
+abbrev pub laid_by : Unlinked → (guess : List Placed) (entries : List ℕ) → List Placed
+laid_by u guess entries =
+    placed_upto (emission u.procedures u.start u.dispatches guess entries [] [] 0) (first_of u) (length u.procedures)
 
-abbrev pub end_by : Unlinked → (guess : List Placed) → ℕ
-end_by u guess = first_of u + widths (pieces_upto (emission u.procedures u.start u.dispatches guess [] [] 0) (length u.procedures))
+abbrev pub end_by : Unlinked → (guess : List Placed) (entries : List ℕ) → ℕ
+end_by u guess entries =
+    first_of u + widths (pieces_upto (emission u.procedures u.start u.dispatches guess entries [] [] 0) (length u.procedures))
 
--- with far jumps and branches alone, and with near ones where these reach
+-- with far jumps, branches and calls alone; and with near ones where these reach
 abbrev pub far_of : Unlinked → List Placed
-far_of u = laid_by u []
+far_of u = laid_by u [] []
+
+abbrev pub far_entries : Unlinked → List ℕ
+far_entries u = entries_upto (far_of u) u.start (length u.procedures) (length u.procedures)
 
 abbrev pub laid_of : Unlinked → List Placed
-laid_of u = laid_by u (far_of u)
+laid_of u = laid_by u (far_of u) (far_entries u)
 
 abbrev pub idle_of : Unlinked → ℕ
 idle_of u = idle_from u.procedures u.start u.dispatches (first_of u)

@@ -6,7 +6,7 @@ ghost use Rattle.vg_templates.specs.Idle.{idle_piece};
 ghost use Rattle.vg_put_programs.specs.Programs.{emission, pieces_upto};
 ghost use Rattle.vg_laid.specs.Laid.{stubs_code};
 ghost use Rattle.vg_link.specs.Linking.{CanBeLinked, IsLinked, IsRefusedFor, first_of, laid_by, end_by};
-ghost use Rattle.vg_link.specs.Linking.{far_of, laid_of, idle_of, stubs_of, words_laid};
+ghost use Rattle.vg_link.specs.Linking.{far_of, far_entries, laid_of, idle_of, stubs_of, words_laid};
 
 use crate::linked::{CodeFull, Linked};
 use crate::reset::{put_idle, put_reset};
@@ -18,7 +18,7 @@ use std::alloc::Global;
 use vg_base::{NoMemory, Refusal, Row};
 use vg_image::flash;
 use vg_put_procedures::words::behind_code;
-use vg_put_programs::{Laid, Placed, codes_of, put_programs};
+use vg_put_programs::{Laid, Placed, codes_of, entries_of, put_programs};
 
 // The word address at which the start procedure stands.
 fn first_word(unlinked: &Unlinked, reset: &[Instr]) -> Result<u32, NoMemory>
@@ -29,13 +29,19 @@ fn first_word(unlinked: &Unlinked, reset: &[Instr]) -> Result<u32, NoMemory>
     behind_code(word_behind_tables(unlinked.tables.len()), reset)
 }
 
-// Where all procedures stand, where their instructions lead as far off as they would if they stood where it is guessed: what they take does not depend on where
-// they lead.
-fn lay(alloc: Global, unlinked: &Unlinked, first: u32, guess: &[Placed]) -> Result<Laid, NoMemory>
+// Where all procedures stand, where their instructions lead as far off as they would if they stood where it is guessed, and had these entries: what they take
+// does not depend on where they lead.
+fn lay(
+    alloc: Global,
+    unlinked: &Unlinked,
+    first: u32,
+    guess: &[Placed],
+    entries: &[u32],
+) -> Result<Laid, NoMemory>
     requires can { CanBeLinked unlinked.now }
     requires first { first ≡ first_of unlinked.now }
-    ensures placed { IfOk result (λ laid. laid.placed ≡ laid_by unlinked.now guess.now) }
-    ensures end { IfOk result (λ laid. laid.end ≡ end_by unlinked.now guess.now) }
+    ensures placed { IfOk result (λ laid. laid.placed ≡ laid_by unlinked.now guess.now entries.now) }
+    ensures end { IfOk result (λ laid. laid.end ≡ end_by unlinked.now guess.now entries.now) }
 {
     let procedures = unlinked.procedures.as_slice();
     let dispatches = unlinked.dispatches.as_slice();
@@ -47,11 +53,22 @@ fn lay(alloc: Global, unlinked: &Unlinked, first: u32, guess: &[Placed]) -> Resu
         unlinked.start,
         dispatches,
         guess,
+        entries,
         &[],
         &[],
         0,
         first,
     )
+}
+
+// The entries of all procedures, where they stand with far jumps, branches and calls alone.
+fn far_entries(alloc: Global, unlinked: &Unlinked, far: &[Placed]) -> Result<Row<u32>, NoMemory>
+    requires can { CanBeLinked unlinked.now }
+    requires far { far.now ≡ far_of unlinked.now }
+    ensures { IfOk result (λ entries. entries ≡ far_entries unlinked.now) }
+{
+    let count = unlinked.procedures.len();
+    entries_of(alloc, far, unlinked.start, count)
 }
 
 // How many words the image takes.
@@ -69,6 +86,7 @@ fn whole_code(
     unlinked: &Unlinked,
     reset: Row<Instr>,
     far: &[Placed],
+    entries: &[u32],
     placed: &[Placed],
     codes: &[u16],
     idle: u16,
@@ -77,8 +95,8 @@ fn whole_code(
 ) -> Result<Row<Instr>, NoMemory>
     requires { CanBeLinked unlinked.now }
     ensures { IfOk result (λ code. code ≡ ((reset ++ pieces_upto
-        (emission unlinked.now.procedures unlinked.now.start unlinked.now.dispatches far.now placed.now codes.now idle) (length unlinked.now.procedures))
-        ++ idle_piece) ++ stubs_code codes.now stubs.now) }
+        (emission unlinked.now.procedures unlinked.now.start unlinked.now.dispatches far.now entries.now placed.now codes.now idle)
+        (length unlinked.now.procedures)) ++ idle_piece) ++ stubs_code codes.now stubs.now) }
 {
     let procedures = unlinked.procedures.as_slice();
     let dispatches = unlinked.dispatches.as_slice();
@@ -90,6 +108,7 @@ fn whole_code(
         unlinked.start,
         dispatches,
         far,
+        entries,
         placed,
         codes,
         idle,
@@ -107,12 +126,14 @@ fn linked(
     reset: Row<Instr>,
     first: u32,
     far: &[Placed],
+    entries: &[u32],
     laid: &Laid,
     stubs: &[u16],
 ) -> Result<Linked, NoMemory>
     requires can { CanBeLinked unlinked.now }
     requires reset { reset ≡ reset_code unlinked.now.static_bytes first_table }
     requires far { far.now ≡ far_of unlinked.now }
+    requires entries { entries.now ≡ far_entries unlinked.now }
     requires placed { laid.now.placed ≡ laid_of unlinked.now }
     requires end { laid.now.end ≡ idle_of unlinked.now }
     requires stubs { stubs.now ≡ stubs_of unlinked.now.handlers }
@@ -126,7 +147,7 @@ fn linked(
     let codes = codes_of(alloc, placed, unlinked.start, count)?;
     let known = codes.as_slice();
     let code = whole_code(
-        alloc, unlinked, reset, far, placed, known, idle, first, stubs,
+        alloc, unlinked, reset, far, entries, placed, known, idle, first, stubs,
     )?;
     let slots = slots(alloc, unlinked.handlers.as_slice(), stubs, idle + 4)?;
     let tables = table_bytes(alloc, known, unlinked.tables.as_slice())?;
@@ -139,7 +160,7 @@ fn linked(
 }
 
 /// The image of a program: vectors, tables, and the code of reset, of all procedures from the start procedure on, of the piece in which the program waits for
-/// interrupts, and of the stubs of handlers. Jumps and branches are near ones where they would reach if all of them were far ones; calls are far ones.
+/// interrupts, and of the stubs of handlers. Jumps, branches and calls are near ones where they would reach if all of them were far ones.
 ///
 /// It refuses a program exactly where these take more than 65,535 words of flash, and says how many; else want of memory is the only error.
 pub fn link(alloc: Global, unlinked: &Unlinked) -> Result<Linked, Refusal<CodeFull>>
@@ -151,13 +172,24 @@ pub fn link(alloc: Global, unlinked: &Unlinked) -> Result<Linked, Refusal<CodeFu
     let mut reset = Row::new(alloc);
     put_reset(&mut reset, unlinked.static_bytes)?;
     let first = first_word(unlinked, reset.as_slice())?;
-    let widest = lay(alloc, unlinked, first, &[])?;
+    let widest = lay(alloc, unlinked, first, &[], &[])?;
     let far = widest.placed.as_slice();
-    let laid = lay(alloc, unlinked, first, far)?;
+    let entries = far_entries(alloc, unlinked, far)?;
+    let guess = entries.as_slice();
+    let laid = lay(alloc, unlinked, first, far, guess)?;
     let stubs = stubs_of(alloc, unlinked.handlers.as_slice())?;
     let words = words_taken(unlinked, &laid, stubs.as_slice())?;
     if words >= 65536 {
         return Err(Refusal::Fault(CodeFull { words }));
     }
-    Ok(linked(alloc, unlinked, reset, first, far, &laid, stubs.as_slice())?)
+    Ok(linked(
+        alloc,
+        unlinked,
+        reset,
+        first,
+        far,
+        guess,
+        &laid,
+        stubs.as_slice(),
+    )?)
 }

@@ -16,16 +16,17 @@ use Rattle.vg_select.specs.declared.leading.Leading.{Leading as Held}
 use Rattle.vg_select.specs.Selected.{Leading, with_codes}
 use Rattle.vg_put_procedures.specs.Emitted.{leading_in, body_code, place_of, places_upto}
 use Rattle.vg_put_programs.specs.declared.placed.Placed.{Placed}
-use Rattle.vg_put_programs.specs.Programs.{places_at, leads_by, Emission, piece_of, placed_of, procedure_in, piece_at, pieces_upto, placed_at, placed_upto}
+use Rattle.vg_put_programs.specs.Programs.{places_at, Sites, sites, leads_by, Emission, piece_of, placed_of, procedure_in, sites_at, piece_at}
+use Rattle.vg_put_programs.specs.Programs.{pieces_upto, placed_at, placed_upto}
 
 pub record Done (e : Emission) (first : ℕ) (before : List Avr) (k : ℕ) (code : List Avr) (placed : List Placed) (end : ℕ) : Type 0 where
   pub code_is : code ≡ before ++ pieces_upto e k
   pub placed_are : placed ≡ placed_upto e first k
   pub end_is : end ≡ first + widths (pieces_upto e k)
 
-module _ (entry : ℕ) (guessed places codes : List ℕ) (idle : ℕ) (ds : List (List Case)) where
+module _ (entry : ℕ) (x : Sites) (ds : List (List Case)) where
   abbrev p : Program
-  p = with_codes (code_from codes) ds
+  p = with_codes (code_from x.codes) ds
 
   abbrev placed_by : Layout → (leads : ℕ → Leading) → List Instr → Placed
   placed_by l leads is =
@@ -37,25 +38,35 @@ module _ (entry : ℕ) (guessed places codes : List ℕ) (idle : ℕ) (ds : List
 
   -- what stands of one procedure, by its layout and by where its instructions lead
   pub one_placed : (m : Procedure) (l : Layout) (is : List Instr) (given leadings : List Held) (none begins : List ℕ) (end : ℕ)
-      → is ≡ m.code → l ≡ framed m.widths m.params → leading_in given ≡ leads_by guessed places codes idle is → leadings ≡ given → none ≡ []
+      → is ≡ m.code → l ≡ framed m.widths m.params → leading_in given ≡ leads_by l x is → leadings ≡ given → none ≡ []
       → begins ≡ none ++ places_upto l p (leading_in leadings) is (entry + widths (prologue l)) (length is)
       → end ≡ place_of l p (leading_in leadings) is (entry + widths (prologue l)) (length is)
-      → record { entry = entry; places = begins; end = end } ≡ placed_of entry guessed places codes idle ds (Some m)
+      → record { entry = entry; places = begins; end = end } ≡ placed_of entry x ds (Some m)
   one_placed m l is given leadings none begins end ei el eg es en eb ee =
       ap₂ (λ a b. record { entry = entry; places = a; end = b })
       (eb ∙ ap (λ z. z ++ places_upto l p (leading_in leadings) is (entry + widths (prologue l)) (length is)) en) (ee ∙ all_words)
       ∙ ap (λ f. placed_by l f is) (ap leading_in es ∙ eg)
-      ∙ ap (λ k. placed_by k (leads_by guessed places codes idle is) is) el
-      ∙ ap (λ z. placed_by (framed m.widths m.params) (leads_by guessed places codes idle z) z) ei
+      ∙ ap (λ k. placed_by k (leads_by k x is) is) el
+      ∙ ap (λ z. placed_by (framed m.widths m.params) (leads_by (framed m.widths m.params) x z) z) ei
     where
       all_words : place_of l p (leading_in leadings) is (entry + widths (prologue l)) (length is)
           ≡ entry + widths (prologue l ++ body_code l p (leading_in leadings) is)
       all_words = let w = widths-append (prologue l) (body_code l p (leading_in leadings) is) in omega (arith, w)
 
+  -- its code
+  pub one_piece : (m : Procedure) (l : Layout) (is : List Instr) (given leadings : List Held) (code code' : List Avr) → is ≡ m.code
+      → l ≡ framed m.widths m.params → leading_in given ≡ leads_by l x is → leadings ≡ given
+      → code' ≡ code ++ (prologue l ++ body_code l p (leading_in leadings) is) → code' ≡ code ++ piece_of x ds (Some m)
+  one_piece m l is given leadings code code' ei el eg es ec =
+      ec ∙ ap (λ z. code ++ z) (
+      ap (λ f. prologue l ++ body_code l p f is) (ap leading_in es ∙ eg) ∙ ap (λ k. prologue k ++ body_code k p (leads_by k x is) is) el
+      ∙ ap (λ z. prologue (framed m.widths m.params) ++ body_code (framed m.widths m.params) p (leads_by (framed m.widths m.params) x z) z) ei)
+
 pub done_next : (e : Emission) (first : ℕ) (before : List Avr) (k : ℕ) (code code' : List Avr) (placed placed' : List Placed) (end : ℕ) (m : Procedure)
     (gs ps : List ℕ) (one : Placed) → Done e first before k code placed end → procedure_in e k ≡ Some m → gs ≡ places_at e.guess k
-    → ps ≡ places_at e.known k → code' ≡ code ++ piece_of gs ps e.codes e.idle e.dispatches (Some m)
-    → one ≡ placed_of end gs ps e.codes e.idle e.dispatches (Some m) → placed' ≡ placed ++ one ∷ [] → Done e first before (k + 1) code' placed' one.end
+    → ps ≡ places_at e.known k → code' ≡ code ++ piece_of (sites e.entries gs e.codes ps e.idle) e.dispatches (Some m)
+    → one ≡ placed_of end (sites e.entries gs e.codes ps e.idle) e.dispatches (Some m) → placed' ≡ placed ++ one ∷ []
+    → Done e first before (k + 1) code' placed' one.end
 done_next e first before k code code' placed placed' end m gs ps one d p eg es ec eo ep =
     subst (λ n. Done e first before n code' placed' one.end) (let z : suc k ≡ k + 1 = omega arith in z) (
     record {
@@ -65,13 +76,13 @@ done_next e first before k code code' placed placed' end m gs ps one d p eg es e
           ∙ (let w = widths-append (pieces_upto e k) (piece_at e k) in omega (arith, w));
     })
   where
-    same : piece_of gs ps e.codes e.idle e.dispatches (Some m) ≡ piece_at e k
-    same =
-        ap₂ (λ g x. piece_of g x e.codes e.idle e.dispatches (Some m)) eg es
-        ∙ ap (piece_of (places_at e.guess k) (places_at e.known k) e.codes e.idle e.dispatches) (sym p)
+    there : sites e.entries gs e.codes ps e.idle ≡ sites_at e k
+    there = ap₂ (λ g x. sites e.entries g e.codes x e.idle) eg es
+
+    same : piece_of (sites e.entries gs e.codes ps e.idle) e.dispatches (Some m) ≡ piece_at e k
+    same = ap₂ (λ x o. piece_of x e.dispatches o) there (sym p)
 
     placed_is : one ≡ placed_at e first k
     placed_is =
-        eo ∙ ap (λ n. placed_of n gs ps e.codes e.idle e.dispatches (Some m)) d.end_is
-        ∙ ap₂ (λ g x. placed_of (first + widths (pieces_upto e k)) g x e.codes e.idle e.dispatches (Some m)) eg es
-        ∙ ap (placed_of (first + widths (pieces_upto e k)) (places_at e.guess k) (places_at e.known k) e.codes e.idle e.dispatches) (sym p)
+        eo ∙ ap₂ (λ n x. placed_of n x e.dispatches (Some m)) d.end_is there
+        ∙ ap (placed_of (first + widths (pieces_upto e k)) (sites_at e k) e.dispatches) (sym p)

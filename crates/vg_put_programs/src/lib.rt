@@ -11,4 +11,4 @@ pub use leads::leadings;
 pub use placed::{Laid, Placed};
 pub use programs::put_programs;
 pub use reach::Reach;
-pub use turns::codes_of;
+pub use turns::{codes_of, entries_of};

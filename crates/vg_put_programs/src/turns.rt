@@ -1,6 +1,6 @@
 // The turn in which procedures stand, and their code numbers.
 ghost use Rattle.std.specs.Prelude.{◌≡◌, ◌<◌, ◌++◌, ◌∷◌, [], length, IfOk, Some, slice_get};
-ghost use Rattle.vg_put_programs.specs.Programs.{in_turn, turn_of, entry_in, codes_upto, places_at};
+ghost use Rattle.vg_put_programs.specs.Programs.{in_turn, turn_of, entry_in, entries_upto, codes_upto, places_at};
 
 use crate::placed::Placed;
 use std::alloc::Global;
@@ -58,6 +58,23 @@ fn entry_in(placed: &[Placed], k: usize) -> u32
         Some(one) => one.entry,
         None => 0,
     }
+}
+
+/// The entries of so many procedures, by their numbers: word addresses.
+pub fn entries_of(
+    alloc: Global,
+    placed: &[Placed],
+    start: u16,
+    count: usize,
+) -> Result<Row<u32>, NoMemory>
+    requires { start < count }
+    ensures { IfOk result (λ entries. entries ≡ entries_upto placed.now start count count) }
+{
+    let mut entries = Row::new(alloc);
+    for procedure in 0..count {
+        entries.push(entry_in(placed, turn_of(usize::from(start), count, procedure)))?;
+    }
+    Ok(entries)
 }
 
 /// The code numbers of so many procedures, by their numbers: the low two bytes of the word addresses of their entries.

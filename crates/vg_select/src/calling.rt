@@ -138,8 +138,8 @@ fn put_takes_result(
     }
 }
 
-// Up to the instruction that calls.
-fn put_call_front(
+/// A call up to the instruction that calls.
+pub fn put_call_front(
     alloc: Global,
     code: &mut Row<Instr>,
     locations: &Locations,

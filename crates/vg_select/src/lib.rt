@@ -7,5 +7,6 @@ pub mod instructions;
 pub mod leading;
 pub mod plains;
 
+pub use calling::put_call_front;
 pub use instructions::put_selected;
 pub use leading::Leading;

@@ -14,11 +14,13 @@ put_programs-requires-clause-within c = subst AreWithin (sym c.as_slice-procedur
 pub returns-clause-placed : goal.returns-clause-placed
 returns-clause-placed c =
     IfOk-weaker c.put_programs.result _ _ (λ laid h.
-    laid_placed c.args.unlinked.now _ _ c.as_slice-procedures.ensures c.as_slice-dispatches.ensures c.args.guess.now c.args.first laid.placed c.requires.first h)
+    laid_placed c.args.unlinked.now _ _ c.as_slice-procedures.ensures c.as_slice-dispatches.ensures c.args.guess.now c.args.entries.now
+    c.args.first laid.placed c.requires.first h)
     c.put_programs.ensures.placed
 
 pub returns-clause-end : goal.returns-clause-end
 returns-clause-end c =
     IfOk-weaker c.put_programs.result _ _ (λ laid h.
-    laid_end c.args.unlinked.now _ _ c.as_slice-procedures.ensures c.as_slice-dispatches.ensures c.args.guess.now c.args.first laid.end c.requires.first h)
+    laid_end c.args.unlinked.now _ _ c.as_slice-procedures.ensures c.as_slice-dispatches.ensures c.args.guess.now c.args.entries.now
+    c.args.first laid.end c.requires.first h)
     c.put_programs.ensures.end

@@ -13,14 +13,14 @@ flash-requires c =
 
 pub returns-clause-linked : goal.returns-clause-linked
 returns-clause-linked c =
-    image_linked c.args.unlinked.now c.requires.can c.requires.room _ _ _ _ _ _ _ _ _ _ _ _ _ _ _ _ _ _
-    c.requires.far (c.as_slice-placed.ensures ∙ c.requires.placed) c.len-count.ensures c.in_ok-codes.ensures c.as_slice-known.ensures c.requires.end c.requires.stubs
-    c.requires.reset c.as_slice.ensures c.as_slice-2.ensures c.in_ok-code.ensures c.in_ok-slots.ensures c.in_ok-tables.ensures c.as_slice-5.ensures
+    image_linked c.args.unlinked.now c.requires.can c.requires.room _ _ _ _ _ _ _ _ _ _ _ _ _ _ _ _ _ _ _
+    c.requires.far c.requires.entries (c.as_slice-placed.ensures ∙ c.requires.placed) c.len-count.ensures c.in_ok-codes.ensures c.as_slice-known.ensures c.requires.end
+    c.requires.stubs c.requires.reset c.as_slice.ensures c.as_slice-2.ensures c.in_ok-code.ensures c.in_ok-slots.ensures c.in_ok-tables.ensures c.as_slice-5.ensures
     c.as_slice-3.ensures c.as_slice-4.ensures c.in_ok-bytes.ensures.flash c.from_vec.ensures c.in_ok-bytes.ensures.ranged
 
 pub returns-clause-size : goal.returns-clause-size
 returns-clause-size c =
-    flash_size c.args.unlinked.now c.requires.can c.requires.room _ _ _ _ _ _ _ _ _ _ _ _ _ _ _ _ _ _
-    c.requires.far (c.as_slice-placed.ensures ∙ c.requires.placed) c.len-count.ensures c.in_ok-codes.ensures c.as_slice-known.ensures c.requires.end c.requires.stubs
-    c.requires.reset c.as_slice.ensures c.as_slice-2.ensures c.in_ok-code.ensures c.in_ok-slots.ensures c.in_ok-tables.ensures c.as_slice-5.ensures
+    flash_size c.args.unlinked.now c.requires.can c.requires.room _ _ _ _ _ _ _ _ _ _ _ _ _ _ _ _ _ _ _
+    c.requires.far c.requires.entries (c.as_slice-placed.ensures ∙ c.requires.placed) c.len-count.ensures c.in_ok-codes.ensures c.as_slice-known.ensures c.requires.end
+    c.requires.stubs c.requires.reset c.as_slice.ensures c.as_slice-2.ensures c.in_ok-code.ensures c.in_ok-slots.ensures c.in_ok-tables.ensures c.as_slice-5.ensures
     c.as_slice-3.ensures c.as_slice-4.ensures c.in_ok-bytes.ensures.flash c.from_vec.ensures c.in_ok-bytes.ensures.ranged
