@@ -30,7 +30,7 @@ use Rattle.vg_flatten_shapes.specs.Blocks.{Block, Skip, One, CallTo, TakeInterru
 use Rattle.vg_flatten.specs.Closing.{AllSet}
 use Rattle.vg_flatten.specs.Flattened.{zeroes, receivers, with_receiver_width, own_widths, own_params, widened, wide_params, all_widths, result_width, whole}
 use Rattle.vg_flatten.proofs.Sound.{IsIn, ArePassedIn, IsTestIn, IsTruthIn, IsPlainIn, IsToIn, IsCalleeIn}
-use Rattle.vg_flatten.proofs.Whole.{own_long, widened_long}
+use Rattle.vg_flatten.proofs.Whole.{own_long, all_long}
 use Rattle.vg_flatten.proofs.PushedBlocks.{PlainOn, BlockOn}
 use Rattle.vg_flatten.proofs.PushedWaits.{fours, left, Marks, GoesTo, PlainHas, Has, AllHave, marks_front, have_both, ends, have}
 
@@ -282,7 +282,7 @@ whole_sound m b temps method code hp hw hr few hb set is =
       few = omega (arith, few, size_is);
       params = omega (arith, hp, size_is, own);
       result = small m.receives;
-      widths = with_temps (all_widths m) temps (widened_widths (wide_params m) (own_widths m) (receiver_widths m.receives m.widths hw));
+      widths = with_temps (all_widths m) temps (receiver_widths m.receives (widened (wide_params m) m.widths) (widened_widths (wide_params m) m.widths hw));
       operands = λ at i e. instr_in p i (instr_at at i e);
       begins = (omega (arith, code_is), refl);
       goes_on = λ at i e. waits_for p w i at (length front) (omega (arith, code_is)) (has_it at i e) (waits_marked [] code at i e)
@@ -308,7 +308,7 @@ whole_sound m b temps method code hp hw hr few hb set is =
     size_is : length (all_widths m ++ replicate temps 4) ≡ length (own_widths m) + temps
     size_is =
         length-append (all_widths m) (replicate temps 4) ∙ ap (λ z. length (all_widths m) + z) (length-replicate temps 4)
-        ∙ ap (λ z. z + temps) (widened_long (wide_params m) (own_widths m))
+        ∙ ap (λ z. z + temps) (all_long m)
 
     body : Block
     body = Both (zeroes (length m.widths - m.params) (own_params m)) b

@@ -40,6 +40,7 @@ use Rattle.vg_flatten_shapes.specs.declared.layout.Place.{Place}
 use Rattle.vg_flatten_shapes.specs.declared.layout.Layout.{Layout}
 use Rattle.vg_flatten_shapes.specs.declared.layout.Passing.{Passing}
 use Rattle.vg_flatten_shapes.specs.declared.layout.Width.{Width}
+use Rattle.vg_flatten_shapes.specs.declared.layout.Width.TheVariants.{Two as TwoBytes}
 use Rattle.vg_flatten_shapes.specs.Widths.{bytes_of as bytes_of_width}
 use Rattle.vg_flatten_shapes.specs.declared.room.Room.{Room}
 use Rattle.vg_flatten_shapes.specs.Shapes.{Shape, only, empty, is_empty, is_free, same_operand, same_homes, taken, temp}
@@ -52,7 +53,7 @@ use Rattle.vg_flatten_values.specs.Values.{divided, masked, shifted_left, shifte
 use Rattle.vg_flatten_places.specs.Places.{is_width, fetched, fetched_from, load_one, load_of, length_of, places_in, memory_of, multiplied}
 use Rattle.vg_flatten_places.specs.Places.{store_one, store_of, is_place, load_item, store_item, no_element}
 use Rattle.vg_flatten_steps.specs.Locals.{at_local, set_local, forgotten, written}
-use Rattle.vg_flatten_steps.specs.Calls.{in_widths, passing, passing_of, with_receiver, with_taken, resulting, called, passing_four, called_on, called_for, called_by, called_value, bound_for}
+use Rattle.vg_flatten_steps.specs.Calls.{in_widths, passing, passing_of, with_receiver, with_taken, resulting, called, passing_found, called_on, called_for, called_by, called_value, bound_for}
 use Rattle.vg_flatten_steps.specs.Objects.{is_one_of, cast_to}
 use Rattle.vg_flatten_places.specs.Places.{load_nothing, store_nothing}
 use Rattle.vg_flatten_steps.specs.Steps.{stepped}
@@ -203,9 +204,10 @@ module _ (lay : Layout) (r : Room) where
   widths_long [] (a ∷ xs) = ap suc (widths_long [] xs)
   widths_long (w ∷ ws) (a ∷ xs) = ap suc (widths_long ws xs)
 
-  four_few : (callee : Callee) (to : ℕ) (xs : List Operand) → block_size (passing_four callee to xs) ≤ length xs + 1
-  four_few callee to xs =
-      let p = passing_few callee (Some (record { width = 4; local = to })) (in_widths [] xs) in let l = widths_long [] xs in omega (arith, p, l)
+  found_few : (callee : Callee) (to : ℕ) (xs : List Operand) → block_size (passing_found callee to xs) ≤ length xs + 1
+  found_few callee to xs =
+      let p = passing_few callee (Some (record { width = 4; local = to })) (in_widths (TwoBytes ∷ []) xs) in
+      let l = widths_long (TwoBytes ∷ []) xs in omega (arith, p, l)
 
   receiver_few : (b : Bool) (xs : List Operand) → length (with_receiver b xs) ≤ length xs + 1
   receiver_few true xs = omega arith
@@ -228,12 +230,12 @@ module _ (lay : Layout) (r : Room) where
   small_on : (d code n : ℕ) (xs rest : List Operand) → length xs ≤ n + 1 → Small (12 + n) (called_on r d code xs rest)
   small_on d code n [] rest le = tt
   small_on d code n (a ∷ xs) rest le =
-      small_temp (12 + n) (temp r rest) _ (λ to. let p = four_few (ByCode (Local code)) to (a ∷ xs) in omega (arith, p, le))
+      small_temp (12 + n) (temp r rest) _ (λ to. let p = found_few (ByCode (Local code)) to (a ∷ xs) in omega (arith, p, le))
 
   small_by : (receiver n : ℕ) (xs rest : List Operand) → length xs ≤ n + 1 → Small (12 + n) (called_by r receiver xs rest)
   small_by receiver n [] rest le = tt
   small_by receiver n (a ∷ xs) rest le =
-      small_temp (12 + n) (temp r rest) _ (λ to. let p = four_few (ByCode a) to (Local receiver ∷ xs) in omega (arith, p, le))
+      small_temp (12 + n) (temp r rest) _ (λ to. let p = found_few (ByCode a) to (Local receiver ∷ xs) in omega (arith, p, le))
 
   small_bound_for : (d : ℕ) (hs : List Operand) → Small 12 (bound_for r d hs)
   small_bound_for d [] = tt

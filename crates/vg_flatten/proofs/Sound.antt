@@ -38,7 +38,7 @@ use Rattle.vg_flatten_values.specs.Values.{computing, comparing, by_order, test_
 use Rattle.vg_flatten_values.specs.Values.{computed, operated, operated_as, bytes_of, bytes_for, cut_bits, cut, applied, concatenated}
 use Rattle.vg_flatten_steps.specs.Locals.{put_number, at_local, get_receiver, put_in_local, set_local, forgotten}
 use Rattle.vg_flatten_steps.specs.Locals.{written}
-use Rattle.vg_flatten_steps.specs.Calls.{in_widths, registers_of, passing, with_taken, passing_of, with_receiver, resulting, called, passing_four}
+use Rattle.vg_flatten_steps.specs.Calls.{in_widths, registers_of, passing, with_taken, passing_of, with_receiver, resulting, called, passing_found}
 use Rattle.vg_flatten_steps.specs.Calls.{called_on, called_for, called_by, called_value, bound_for}
 use Rattle.vg_flatten_steps.specs.Steps.{stepped}
 use Rattle.vg_flatten_control.specs.Flat.{landed_as, landed, joined, chosen, repeated, repeated_test}
@@ -392,10 +392,10 @@ module _ (L : Type 0) (lay : Layout) (r : Room) where
     lt,
   )
 
-  in_passing_four : (callee : Callee) (to : ℕ) (xs : List Operand) → IsCalleeIn size callee → to < size → AreIn size xs
-      → BlockIn L r.result size (passing_four callee to xs)
-  in_passing_four callee to xs hc lt h =
-      in_passing callee (Some (record { width = 4; local = to })) (in_widths [] xs) hc (omega arith, lt) (in_all_widths [] xs h)
+  in_passing_found : (callee : Callee) (to : ℕ) (xs : List Operand) → IsCalleeIn size callee → to < size → AreIn size xs
+      → BlockIn L r.result size (passing_found callee to xs)
+  in_passing_found callee to xs hc lt h =
+      in_passing callee (Some (record { width = 4; local = to })) (in_widths (TwoBytes ∷ []) xs) hc (omega arith, lt) (in_all_widths (TwoBytes ∷ []) xs h)
 
   in_taken : (count : ℕ) (hs : List Operand) (go : List Operand → List Operand → Made) → AreIn size hs
       → ((xs rest : List Operand) → AreIn size xs → AreIn size rest → MadeIn L r.result size (go xs rest)) → MadeIn L r.result size (with_taken (taken count hs) go)
@@ -427,7 +427,7 @@ module _ (L : Type 0) (lay : Layout) (r : Room) where
   in_called_on d code lc [] rest hx hr = tt
   in_called_on d code lc (a ∷ xs) rest hx hr =
       in_by_temp rest _ (λ to lt. (
-        (in_stop 1 (Holds (is_zero a)) (in_test a (Known 0) hx.0 tt Same), ((lc, hx.0), in_passing_four (ByCode (Local code)) to (a ∷ xs) lc lt hx)),
+        (in_stop 1 (Holds (is_zero a)) (in_test a (Known 0) hx.0 tt Same), ((lc, hx.0), in_passing_found (ByCode (Local code)) to (a ∷ xs) lc lt hx)),
         ((lt, hr), tt),
       ))
 
@@ -440,7 +440,7 @@ module _ (L : Type 0) (lay : Layout) (r : Room) where
       in_by_temp rest _ (λ to lt. (
         (
           in_stop 1 (Holds (is_zero a)) (in_test a (Known 0) hx.0 tt Same),
-          ((omega arith, omega arith, lr, hx.0, tt), in_passing_four (ByCode a) to (Local receiver ∷ xs) hx.0 lt (lr, hx.1)),
+          ((omega arith, omega arith, lr, hx.0, tt), in_passing_found (ByCode a) to (Local receiver ∷ xs) hx.0 lt (lr, hx.1)),
         ),
         ((lt, hr), tt),
       ))

@@ -218,6 +218,11 @@ pub own_long : (b : Bool) (widths : List ℕ) → length (with_receiver_width b 
 own_long true ws = omega arith
 own_long false ws = omega arith
 
+pub all_long : (m : FirmProcedure) → length (all_widths m) ≡ length (own_widths m)
+all_long m =
+    own_long m.receives (widened (wide_params m) m.widths) ∙ ap (λ z. receivers m.receives + z) (widened_long (wide_params m) m.widths)
+    ∙ sym (own_long m.receives m.widths)
+
 module _ (p : Procedure) where
   operand_in : (h : Operand) → IsIn (length p.widths) h → IsOperand p h
   operand_in (Local i) h = h
@@ -338,7 +343,7 @@ whole_sound m b temps method code hp hw hr few hb set is =
       few = omega (arith, few, size_is);
       params = omega (arith, hp, size_is, own);
       result = small m.receives;
-      widths = with_temps (all_widths m) temps (widened_widths (wide_params m) (own_widths m) (receiver_widths m.receives m.widths hw));
+      widths = with_temps (all_widths m) temps (receiver_widths m.receives (widened (wide_params m) m.widths) (widened_widths (wide_params m) m.widths hw));
       operands = λ at i e. instr_in p i (instr_at at i e);
       begins = (omega (arith, code_is), refl);
       goes_on = λ at i e. waits_for p w i at (instr_at at i e) (length front) (omega (arith, code_is)) (jumps_at at i e) (marked_at at i e)
@@ -359,7 +364,7 @@ whole_sound m b temps method code hp hw hr few hb set is =
     size_is : length (all_widths m ++ replicate temps 4) ≡ length (own_widths m) + temps
     size_is =
         length-append (all_widths m) (replicate temps 4) ∙ ap (λ z. length (all_widths m) + z) (length-replicate temps 4)
-        ∙ ap (λ z. z + temps) (widened_long (wide_params m) (own_widths m))
+        ∙ ap (λ z. z + temps) (all_long m)
 
     zs : List Open
     zs = open_code (zeroes (length m.widths - m.params) (own_params m)) 0

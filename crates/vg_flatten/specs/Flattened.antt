@@ -53,13 +53,13 @@ widened zero ws = ws
 widened (suc n) [] = []
 widened (suc n) (w ∷ ws) = 4 ∷ widened n ws
 
--- A procedure that gets a receiver may be one that is found in the run: each of its parameters has four bytes, and so has its result.
--- Those of all others have the bytes that they need.
+-- A procedure that gets a receiver may be one that is found in the run: the receiver has two bytes, each parameter behind it four, and so
+-- has its result. Those of all others have the bytes that they need.
 abbrev pub wide_params : FirmProcedure → ℕ
-wide_params m = if m.receives then own_params m else 0
+wide_params m = if m.receives then m.params else 0
 
 abbrev pub all_widths : FirmProcedure → List ℕ
-all_widths m = widened (wide_params m) (own_widths m)
+all_widths m = with_receiver_width m.receives (widened (wide_params m) m.widths)
 
 abbrev pub result_width : FirmProcedure → ℕ
 result_width m = if m.receives then 4 else m.result
@@ -86,7 +86,7 @@ pub record IsFlat (lay : Layout) (m : FirmProcedure) (p : Procedure) : Type 0 wh
 
 -- Main is called, and on no receiver where it gets one.
 abbrev pub main_args : Bool → Registers
-main_args true = One' (record { width = 4; value = Known 0 })
+main_args true = One' (record { width = 2; value = Known 0 })
 main_args false = Empty
 
 abbrev pub calls_main : (main : ℕ) → (receives : Bool) → Call

@@ -4,7 +4,7 @@ ghost use Rattle.std.specs.List.{AllByRecursion};
 ghost use Rattle.vg_firm.specs.Held.{procedure_of, code_of};
 ghost use Rattle.vg_lin.specs.Sound.{IsWidth};
 ghost use Rattle.vg_flatten_shapes.specs.Blocks.{Block, open_code};
-ghost use Rattle.vg_flatten.specs.Flattened.{IsFlat, zero_list, receivers, own_widths, own_params, with_receiver_width, widened, all_widths, result_width};
+ghost use Rattle.vg_flatten.specs.Flattened.{IsFlat, zero_list, receivers, own_widths, own_params, with_receiver_width, widened, wide_params, all_widths, result_width};
 ghost use Rattle.vg_flatten.specs.Flattened.{main_args, whole, start_of};
 ghost use Rattle.vg_flatten_shapes.specs.Blocks.{set_in};
 ghost use Rattle.vg_flatten.specs.Sealing.{Seals, Wholes};
@@ -50,7 +50,7 @@ fn main_args(receives: bool) -> Registers
 {
     if receives {
         Registers::One(Passed {
-            width: 4,
+            width: 2,
             value: Operand::Known(0),
         })
     } else {
@@ -144,11 +144,15 @@ fn receivers(receives: bool) -> u8
     if receives { 1 } else { 0 }
 }
 
-/// How many of the parameters have four bytes: all of a procedure that gets a receiver.
-fn wide_params(receives: bool, params: u8) -> u8
-    ensures { result ≡ (if receives then params else 0) }
+/// How many of the parameters behind a receiver have four bytes: all of a procedure that gets one.
+fn wide_params(procedure: &Procedure) -> u8
+    ensures { result ≡ wide_params (procedure_of procedure.now) }
 {
-    if receives { params } else { 0 }
+    if procedure.receives {
+        procedure.params
+    } else {
+        0
+    }
 }
 
 /// How many bytes a result has: four of a procedure that gets a receiver.
@@ -193,6 +197,16 @@ fn widened(alloc: Global, count: u8, widths: &[u8]) -> Result<Row<u8>, NoMemory>
     let mut row = with_temps(Row::new(alloc), count)?;
     row.append(&widths[count as usize..])?;
     Ok(row)
+}
+
+/// The widths of its locals: two bytes for a receiver, and four for each parameter behind it.
+fn all_widths(alloc: Global, procedure: &Procedure) -> Result<Row<u8>, NoMemory>
+    requires { procedure.now.params ≤ length procedure.now.widths }
+    ensures { IfOk result (λ row. row ≡ all_widths (procedure_of procedure.now)) }
+{
+    let wide = wide_params(procedure);
+    let widths = widened(alloc, wide, procedure.widths.as_slice())?;
+    with_receiver_width(alloc, procedure.receives, widths.as_slice())
 }
 
 /// As many temporaries as there is room for beside so many locals.
@@ -372,8 +386,7 @@ fn flattened_with(
     let code = whole_code(alloc, layout, room, procedure)?;
     let instrs = sealed(alloc, code.as_slice())?;
     let params = receiver + procedure.params;
-    let wide = wide_params(procedure.receives, params);
-    let widths = with_temps(widened(alloc, wide, own)?, temps)?;
+    let widths = with_temps(all_widths(alloc, procedure)?, temps)?;
     let made = LinProc::new(Some(procedure.method), params, given, widths, instrs);
     made.keeps();
     Ok(made)
@@ -410,8 +423,7 @@ fn pushed_with(
     let code = pushed_code(alloc, layout, room, procedure)?;
     let instrs = sealed(alloc, code.as_slice())?;
     let params = receiver + procedure.params;
-    let wide = wide_params(procedure.receives, params);
-    let widths = with_temps(widened(alloc, wide, own)?, temps)?;
+    let widths = with_temps(all_widths(alloc, procedure)?, temps)?;
     let made = LinProc::new(Some(procedure.method), params, given, widths, instrs);
     made.keeps();
     Ok(made)

@@ -1,5 +1,5 @@
 -- Small bodies and their flattened code, instruction by instruction. The code was worked by hand.
-use Rattle.std.specs.Prelude.{◌≡◌, refl, ℕ, zero, suc, ◌++◌, Bool, true, false, List, [], ◌∷◌, length, map, replicate, Option, Some, None}
+use Rattle.std.specs.Prelude.{◌≡◌, refl, ℕ, zero, suc, ◌++◌, true, false, List, [], ◌∷◌, length, map, replicate, Option, Some, None}
 use Rattle.std.specs.Option.{option_map}
 use Rattle.vg_meaning.specs.Code.{Code, Nothing, Then, Do, If, Loop, Break, Continue, Return as Returning}
 use Rattle.vg_firm.specs.declared.step.Home.TheVariants.{Ram, Flash}
@@ -29,7 +29,7 @@ use Rattle.vg_lin.specs.declared.instr.Instr.TheVariants.{Plain, When, Unless, J
 use Rattle.vg_flatten_shapes.specs.declared.layout.Place.{Place}
 use Rattle.vg_flatten_shapes.specs.declared.layout.Layout.{Layout}
 use Rattle.vg_flatten_shapes.specs.declared.layout.Passing.{Passing}
-use Rattle.vg_flatten_shapes.specs.declared.layout.Width.TheVariants.{One as OneByte, Four as FourBytes}
+use Rattle.vg_flatten_shapes.specs.declared.layout.Width.TheVariants.{One as OneByte, Two as TwoBytes, Four as FourBytes}
 use Rattle.vg_flatten_shapes.specs.Shapes.{empty}
 use Rattle.vg_flatten_shapes.specs.Blocks.{open_code, set_in}
 use Rattle.vg_flatten_shapes.specs.Made.{Made, Gives, Refused}
@@ -77,7 +77,10 @@ less x y = record { comparison = IsLess; width = 4; left = x; right = y }
 abbrev pub is_zero : Operand → Test
 is_zero x = record { comparison = Same; width = 4; left = x; right = Known 0 }
 
--- An argument, and a result, of four bytes.
+-- A receiver, or an argument, of two bytes; and an argument, and a result, of four.
+abbrev pub two : Operand → Passed
+two a = record { width = 2; value = a }
+
 abbrev pub four : Operand → Passed
 four a = record { width = 4; value = a }
 
@@ -255,8 +258,11 @@ abbrev pub place : (address width : ℕ) → Place
 place address width = record { address = address; width = width }
 
 -- How procedures are called: on no receiver, on one, and with an argument of one byte, another of four and no result.
-abbrev pub wide : (receives : Bool) → Passing
-wide receives = record { receives = receives; widths = []; result = Some FourBytes }
+abbrev pub wide : Passing
+wide = record { receives = false; widths = []; result = Some FourBytes }
+
+abbrev pub received : Passing
+received = record { receives = true; widths = TwoBytes ∷ []; result = Some FourBytes }
 
 abbrev pub narrow : Passing
 narrow = record { receives = false; widths = OneByte ∷ FourBytes ∷ []; result = None }
@@ -268,7 +274,7 @@ layout =
       ram = place 256 1 ∷ place 258 2 ∷ [];
       flash = place 150 2 ∷ place 160 1 ∷ place 200 4 ∷ [];
       tables = 180 ∷ [];
-      passing = wide false ∷ wide true ∷ wide false ∷ wide false ∷ narrow ∷ [];
+      passing = wide ∷ received ∷ wide ∷ wide ∷ narrow ∷ [];
     }
 
 abbrev pub loads : (width to base : ℕ) → Operand → Instr
@@ -421,16 +427,16 @@ method_increment : flattened 4 (method 1 (4 ∷ []) (steps (Get 0 ∷ Number 1 �
     ≡ Some (sum 4 2 (Local 1) (Known 1) ∷ Plain (Copy 1 (Local 2)) ∷ Return 4 (Known 0) ∷ [])
 method_increment = refl
 
--- o.m(5); by the dispatch 3: the receiver is the first argument.
+-- o.m(5); by the dispatch 3: the receiver is the first argument, of two bytes.
 dispatch_call : flattened 4 (procedure 1 (2 ∷ []) (steps (Get 0 ∷ Number 5 ∷ CallFor 3 1 ∷ Forget ∷ []) Nothing))
     ≡ Some (
-    Unless (is_zero (Local 0)) 2 ∷ Plain (Stop 1) ∷ Plain (Find 3 3 (Local 0)) ∷ calls_code (Local 3) (Two (four (Local 0)) (four (Known 5))) 1 ∷ Return 4 (Known 0) ∷ [])
+    Unless (is_zero (Local 0)) 2 ∷ Plain (Stop 1) ∷ Plain (Find 3 3 (Local 0)) ∷ calls_code (Local 3) (Two (two (Local 0)) (four (Known 5))) 1 ∷ Return 4 (Known 0) ∷ [])
 dispatch_call = refl
 
 -- d(); of a delegate in a local: its receiver is in the upper two bytes.
 delegate_call : flattened 4 (procedure 1 (4 ∷ []) (steps (Get 0 ∷ CallValue 0 ∷ Forget ∷ []) Nothing))
     ≡ Some (
-    Unless (is_zero (Local 0)) 2 ∷ Plain (Stop 1) ∷ computes RightShift 4 2 (Local 0) (Known 16) ∷ calls_code (Local 0) (One (four (Local 2))) 1
+    Unless (is_zero (Local 0)) 2 ∷ Plain (Stop 1) ∷ computes RightShift 4 2 (Local 0) (Known 16) ∷ calls_code (Local 0) (One (two (Local 2))) 1
     ∷ Return 4 (Known 0) ∷ [])
 delegate_call = refl
 
@@ -448,7 +454,7 @@ bound_for_object = refl
 
 -- C.m(); of a component's method of which delegates are made, in this layout procedure 1: it gets a receiver that it does not use.
 called_on_none : flattened_in layout 4 (procedure 0 [] (steps (CallOf 1 0 ∷ Forget ∷ []) Nothing))
-    ≡ Some (calls 1 (One (four (Known 0))) 0 ∷ Return 4 (Known 0) ∷ [])
+    ≡ Some (calls 1 (One (two (Known 0))) 0 ∷ Return 4 (Known 0) ∷ [])
 called_on_none = refl
 
 -- f(1, 2, 3, 4, 5, 6); the arguments before the last four are pushed.

@@ -11,9 +11,7 @@ use Rattle.vg_firm.specs.declared.step.Prefix.TheVariants.{Cut}
 use Rattle.vg_firm.specs.declared.step.Step.{Step}
 use Rattle.vg_firm.specs.declared.step.Step.TheVariants.{Number, Local as Get, SetLocal, Forget, Operate, Apply, WriteDevice, LoadItem, StoreItem}
 use Rattle.vg_firm.specs.declared.step.Step.TheVariants.{Length, Call as CallOf, CallValue}
-use Rattle.vg_lin.specs.declared.instr.Operand.{Operand}
 use Rattle.vg_lin.specs.declared.instr.Operand.TheVariants.{Local, Known}
-use Rattle.vg_lin.specs.declared.instr.Passed.{Passed}
 use Rattle.vg_lin.specs.declared.instr.Plain.TheVariants.{WriteDevice as Writes}
 use Rattle.vg_lin.specs.declared.instr.Callee.TheVariants.{Procedure as ByNumber}
 use Rattle.vg_lin.specs.declared.instr.Registers.{Registers}
@@ -22,11 +20,7 @@ use Rattle.vg_lin.specs.declared.instr.Instr.{Instr}
 use Rattle.vg_lin.specs.declared.instr.Instr.TheVariants.{Plain, Jump, Call, Return, Idle}
 use Rattle.vg_lin.specs.Program.{Procedure, Program}
 use Rattle.vg_lin.specs.Meaning.{run}
-use Rattle.vg_flatten_rows.specs.Bodies.{steps, procedure, flattened_in, layout, four, four_to, bytes, sum}
-
--- An argument of two bytes.
-abbrev pub two : Operand → Passed
-two a = record { width = 2; value = a }
+use Rattle.vg_flatten_rows.specs.Bodies.{steps, procedure, flattened_in, layout, two, four, four_to, bytes, sum}
 
 -- Procedures have the code numbers from 256 on.
 abbrev pub codes : Codes
@@ -73,9 +67,9 @@ written =
       code = Plain (Writes 0x38 (Local 0)) ∷ Plain (Writes 0x38 (Local 1)) ∷ Return 4 (Known 0) ∷ [];
     }
 
--- A method of which delegates are made: its receiver is written.
+-- A method of which delegates are made: its receiver, of two bytes, is written.
 abbrev pub called : Procedure
-called = record { method = Some 1; params = 1; result = 4; widths = 4 ∷ []; code = Plain (Writes 0x38 (Local 0)) ∷ Return 4 (Known 0) ∷ [] }
+called = record { method = Some 1; params = 1; result = 4; widths = 2 ∷ []; code = Plain (Writes 0x38 (Local 0)) ∷ Return 4 (Known 0) ∷ [] }
 
 -- Two arrays of three bytes stand in RAM, at 256 and at 259, by a table at 180: an address and a length each.
 abbrev pub program : Procedure → Registers → Program

@@ -12,7 +12,7 @@ use Rattle.vg_flatten_shapes.specs.declared.fault.Fault.TheVariants.{NotTaken}
 use Rattle.vg_flatten_shapes.specs.declared.layout.Layout.{Layout}
 use Rattle.vg_flatten_shapes.specs.declared.layout.Passing.{Passing}
 use Rattle.vg_flatten_shapes.specs.declared.layout.Width.{Width}
-use Rattle.vg_flatten_shapes.specs.declared.layout.Width.TheVariants.{Four as Four'}
+use Rattle.vg_flatten_shapes.specs.declared.layout.Width.TheVariants.{Two as Two', Four as Four'}
 use Rattle.vg_flatten_shapes.specs.Widths.{bytes_of}
 use Rattle.vg_flatten_shapes.specs.declared.room.Room.{Room}
 use Rattle.vg_lin.specs.declared.instr.Callee.{Callee}
@@ -79,13 +79,14 @@ called_as r q p xs rest = resulting r (Procedure q) p.result (in_widths p.widths
 abbrev pub called : Layout → Room → (q count : ℕ) → List Operand → Made
 called lay r q count hs = with_taken (taken count hs) (called_as r q (passing_of (slice_get lay.passing q)))
 
--- A procedure that is found in the run gets four bytes of each argument, and gives back as many.
-abbrev pub passing_four : Callee → (to : ℕ) → List Operand → Block
-passing_four callee to xs = passing callee (Some (record { width = 4; local = to })) (in_widths [] xs)
+-- A procedure that is found in the run gets two bytes of its receiver, which is the first argument, and four of each other; and it gives
+-- back four.
+abbrev pub passing_found : Callee → (to : ℕ) → List Operand → Block
+passing_found callee to xs = passing callee (Some (record { width = 4; local = to })) (in_widths (Two' ∷ []) xs)
 
 -- Behind the null check of the receiver, its procedure is found, and called on it.
 abbrev pub found_and_called : (d to code : ℕ) → Operand → List Operand → Block
-found_and_called d to code h xs = Both (stop_where 1 (Holds (is_zero h))) (Both (One (Find d code h)) (passing_four (Code (InLocal code)) to (h ∷ xs)))
+found_and_called d to code h xs = Both (stop_where 1 (Holds (is_zero h))) (Both (One (Find d code h)) (passing_found (Code (InLocal code)) to (h ∷ xs)))
 
 abbrev pub called_on : Room → (d code : ℕ) → (xs rest : List Operand) → Made
 called_on r d code (h ∷ xs) rest = by_temp (temp r rest) (λ to. Gives (found_and_called d to code h xs) (only (InLocal to ∷ rest)))
@@ -98,7 +99,7 @@ called_for r d count hs = by_temp (temp r hs) (λ code. with_taken (taken (count
 abbrev pub parted_and_called : (to receiver : ℕ) → Operand → List Operand → Block
 parted_and_called to receiver h xs =
     Both (stop_where 1 (Holds (is_zero h)))
-    (Both (One (Compute (record { operator = RightShift; width = 4; to = receiver; left = h; right = Known 16 }))) (passing_four (Code h) to (InLocal receiver ∷ xs)))
+    (Both (One (Compute (record { operator = RightShift; width = 4; to = receiver; left = h; right = Known 16 }))) (passing_found (Code h) to (InLocal receiver ∷ xs)))
 
 abbrev pub called_by : Room → (receiver : ℕ) → (xs rest : List Operand) → Made
 called_by r receiver (h ∷ xs) rest = by_temp (temp r rest) (λ to. Gives (parted_and_called to receiver h xs) (only (InLocal to ∷ rest)))

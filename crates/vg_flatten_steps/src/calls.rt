@@ -3,7 +3,7 @@ ghost use Rattle.std.specs.Prelude.{◌≡◌, ◌+◌, ◌-◌, ◌≤◌, ◌<
 ghost use Rattle.vg_lin.specs.declared.instr.Operand.TheVariants.{Local};
 ghost use Rattle.vg_flatten_shapes.specs.Blocks.{call_code, open_code};
 ghost use Rattle.vg_flatten_shapes.specs.Laying.{Lays};
-ghost use Rattle.vg_flatten_steps.specs.Calls.{in_widths, registers_of, pushed_of, call_with, passing, with_receiver, resulting, called_as, called, passing_four};
+ghost use Rattle.vg_flatten_steps.specs.Calls.{in_widths, registers_of, pushed_of, call_with, passing, with_receiver, resulting, called_as, called, passing_found};
 ghost use Rattle.vg_flatten_steps.specs.Calls.{called_for, called_on, called_value, called_by};
 
 use std::alloc::Global;
@@ -217,8 +217,8 @@ pub(crate) fn called(
     }
 }
 
-/// A procedure that is found in the run gets four bytes of each argument, and gives back as many.
-fn passing_four(
+/// A procedure that is found in the run gets two bytes of its receiver, which is the first argument, and four of each other; and it gives back four.
+fn passing_found(
     alloc: Global,
     code: Row<Open>,
     at: u16,
@@ -227,9 +227,9 @@ fn passing_four(
     args: &[Operand],
 ) -> Result<Row<Open>, NoMemory>
     requires { length args.now ≤ 256 }
-    ensures { IfOk result (λ all. all ≡ code ++ open_code (passing_four callee to args.now) at) }
+    ensures { IfOk result (λ all. all ≡ code ++ open_code (passing_found callee to args.now) at) }
 {
-    let args = in_widths(alloc, &[], args)?;
+    let args = in_widths(alloc, &[Width::Two], args)?;
     let target = Target {
         width: 4,
         local: to,
@@ -281,7 +281,7 @@ fn called_on(
             all.push(Open::Set(Instr::Plain(Plain::Find(dispatch, code, *home))))?;
             let call_at = place_behind(at, 3)?;
             let callee = Callee::Code(Operand::Local(code));
-            let all = passing_four(alloc, all, call_at, callee, to, args)?;
+            let all = passing_found(alloc, all, call_at, callee, to, args)?;
             let mut homes = homes;
             homes.push(Operand::Local(to))?;
             Ok(Piece { code: all, homes })
@@ -338,7 +338,7 @@ fn called_by(
             let call_at = place_behind(at, 3)?;
             let passed = with_first(alloc, Operand::Local(receiver), rest)?;
             let callee = Callee::Code(*home);
-            let all = passing_four(alloc, all, call_at, callee, to, passed.as_slice())?;
+            let all = passing_found(alloc, all, call_at, callee, to, passed.as_slice())?;
             let mut homes = homes;
             homes.push(Operand::Local(to))?;
             Ok(Piece { code: all, homes })

@@ -5,7 +5,7 @@ use Rattle.vg_firm.specs.Meaning.{fits}
 use Rattle.vg_firm.specs.Session.{all_fit, may_receive}
 use Rattle.vg_firm.specs.Program.{Procedure as FirmProcedure}
 use Rattle.vg_flatten.specs.Flattened.{receivers, with_receiver_width, own_widths, own_params, widened, wide_params, all_widths, IsFit}
-use Rattle.vg_flatten.proofs.Whole.{own_long, widened_long}
+use Rattle.vg_flatten.proofs.Whole.{own_long, all_long}
 use Rattle.vg_flattened.proofs.Numbers.{low_within}
 use Rattle.vg_flattened.proofs.CallRight.{ArePassed}
 use Rattle.vg_lin.specs.Values.{low}
@@ -78,14 +78,19 @@ module _ (r : Room) (m : FirmProcedure) (receiver : r.receiver ≡ receivers m.r
 
   width_at : (i w : ℕ) → slice_get m.widths i ≡ Some w → (v : ℕ) × (slice_get all (r.receiver + i) ≡ Some v) × (w ≤ v)
   width_at i w h =
-      let g = widened_get (wide_params m) (own_widths m) (receivers m.receives + i) w (own_get m.receives m.widths i w h) (fit.widths i w h) in
-      (g.0, ap (λ z. slice_get all (z + i)) receiver ∙ get_front (all_widths m) (replicate r.temps 4) (receivers m.receives + i) g.0 g.1, g.2)
+      let g = widened_get (wide_params m) m.widths i w h (fit.widths i w h) in (
+        g.0,
+        ap (λ z. slice_get all (z + i)) receiver
+            ∙ get_front (all_widths m) (replicate r.temps 4) (receivers m.receives + i) g.0
+            (own_get m.receives (widened (wide_params m) m.widths) i g.0 g.1),
+        g.2,
+      )
 
   pub widths_are : AreWidths r m.widths all
   widths_are =
       record {
         locals = width_at;
-        temps = λ k lt. ap (λ z. slice_get all (z + k)) (locals ∙ sym (widened_long (wide_params m) (own_widths m)))
+        temps = λ k lt. ap (λ z. slice_get all (z + k)) (locals ∙ sym (all_long m))
             ∙ get_behind (all_widths m) (replicate r.temps 4) k ∙ get_replicate r.temps 4 k lt;
       }
 
@@ -239,19 +244,17 @@ module _ (r : Room) (m : FirmProcedure) (receiver : r.receiver ≡ receivers m.r
       (sym (get_behind args (replicate others 0) (i - length args)) ∙ ap (slice_get (args ++ replicate others 0)) at ∙ h))
 
   -- the receiver
-  two_bytes : (b : Bool) → (widths : List ℕ) (n : ℕ) → b ≡ true
-      → (v : ℕ) × (slice_get (widened n (with_receiver_width b widths)) 0 ≡ Some v) × (2 ≤ v)
-  two_bytes true widths zero e = (2, refl, omega arith)
-  two_bytes true widths (suc n) e = (4, refl, omega arith)
-  two_bytes false widths n e = absurd (grind arith)
+  two_bytes : (b : Bool) → (widths : List ℕ) → b ≡ true → slice_get (with_receiver_width b widths) 0 ≡ Some 2
+  two_bytes true widths e = refl
+  two_bytes false widths e = absurd (grind arith)
 
   received : (n : ℕ) → m.receives ≡ true → n < 256 ^ 2 → slice_get xs 0 ≡ Some n → IsReceiver r (Some n) (zeroed others (own_params m) (begun ws xs))
   received n is lt first =
-      let g = two_bytes m.receives m.widths (wide_params m) is in
+      let g = two_bytes m.receives (widened (wide_params m) m.widths) is in
       let one : receivers m.receives ≡ 1 = ap receivers is in (
         (omega (arith, receiver, one), omega (arith, locals, own, one)),
         ap value_in (zeroed_before others (own_params m) (begun ws xs) 0 (omega (arith, one)))
-            ∙ begun_value ws xs 0 g.0 n (get_front (all_widths m) (replicate r.temps 4) 0 g.0 g.1) first ∙ ap Some (low_within 2 g.0 n g.2 lt),
+            ∙ begun_value ws xs 0 2 n (get_front (all_widths m) (replicate r.temps 4) 0 2 g) first ∙ ap Some (low_within 2 2 n (omega arith) lt),
         small n lt,
       )
     where

@@ -1,5 +1,5 @@
 -- That calls become blocks that do the same, where what they call does.
-use Rattle.std.specs.Prelude.{ℕ, zero, suc, ◌+◌, ◌-◌, ◌<◌, ◌≤◌, ◌^◌, Bool, true, false, ◌==◌, ◌&&◌, nat_le, List, [], ◌∷◌, ◌++◌, length, reverse, take, drop, replicate, Option, Some, None}
+use Rattle.std.specs.Prelude.{ℕ, zero, ◌+◌, ◌-◌, ◌<◌, ◌≤◌, ◌^◌, Bool, true, false, ◌==◌, ◌&&◌, nat_lt, nat_le, List, [], ◌∷◌, ◌++◌, length, reverse, take, drop, replicate, Option, Some, None}
 use Rattle.std.specs.Prelude.{slice_get, if◌then◌else◌}
 use Rattle.std.proofs.Common.{◌≡◌, ◌≢◌, ◌⊎◌, inl, inr, refl, sym, ap, ◌∙◌, subst, arith}
 use Rattle.std.proofs.lemmas.List.{length-drop, length-take-le}
@@ -29,14 +29,15 @@ use Rattle.vg_flatten_shapes.specs.Shapes.{Shape, only, temp}
 use Rattle.vg_flatten_shapes.specs.Blocks.{Block, CallTo}
 use Rattle.vg_flatten_shapes.specs.Made.{Made}
 use Rattle.vg_flatten_shapes.specs.declared.layout.Width.{Width}
+use Rattle.vg_flatten_shapes.specs.declared.layout.Width.TheVariants.{Two as Two'}
 use Rattle.vg_flatten_steps.specs.Calls.{in_widths, pushed_of, call_with, passing}
 use Rattle.vg_flatten.specs.Columns.{RamStands}
 use Rattle.vg_flatten.specs.Flattened.{receivers, with_receiver_width, own_params, widened, all_widths, result_width, IsFlat, IsFit}
 use Rattle.vg_flattened.proofs.Alike.{IsFair, Alike, gives, leaves, overs, wrong, AlikePiece}
 use Rattle.vg_flattened.proofs.Related.{ArePlaced, AreAt, AreWidths, AreKept, AreSame, Held, Leaves}
 use Rattle.vg_flattened.proofs.Locals.{put_temp}
-use Rattle.vg_flattened.proofs.Passed.{Valued, Passes, passes_long, passes_take, passes_drop, passes_as, passes_in, bytes_in, bytes_in_fours, Within, within_fours, within_fit}
-use Rattle.vg_flattened.proofs.Passed.{take_widened, waits_of, waits_long, waits_values, waits_split, waits_same, registers_valued, stacked, stacked_long, stacked_taken, stacked_dropped, stacked_reversed}
+use Rattle.vg_flattened.proofs.Passed.{Valued, Passes, passes_long, passes_take, passes_drop, passes_as, passes_in, bytes_in, bytes_in_fours, Within, within_fit}
+use Rattle.vg_flattened.proofs.Passed.{IsNarrow, take_found, within_found, waits_of, waits_long, waits_values, waits_split, waits_same, registers_valued, stacked, stacked_long, stacked_taken, stacked_dropped, stacked_reversed}
 use Rattle.vg_flattened.proofs.Right.{Right, linear}
 
 -- A call leaves in no other way than by the end of the whole run.
@@ -173,6 +174,7 @@ module _ (k : Codes) (f : FirmProgram) (m : FirmProcedure) (call : FirmCaller Hi
   pub record Takes (mq : FirmProcedure) (self : Option ℕ) (args vs : List ℕ) (xs : List Passed) (to : Option Target) : Type 0 where
     pub passed : ArePassed mq.receives self args vs
     pub long : length vs ≡ receivers mq.receives + length args
+    pub narrow : IsNarrow mq.receives vs
     pub widths : take (own_params mq) (all_widths mq) ≡ bytes_in xs
     pub result : gives_to (result_width mq) to ≡ true
 
@@ -190,20 +192,17 @@ module _ (k : Codes) (f : FirmProgram) (m : FirmProcedure) (call : FirmCaller Hi
 
   -- the bytes of the parameters hold what is passed
   within : (mq : FirmProcedure) (self : Option ℕ) (args vs : List ℕ) (os : List Operand) (t : State) → IsFit mq → all_fit mq.widths args ≡ true
-      → length args ≡ mq.params → ArePassed mq.receives self args vs → length vs ≡ receivers mq.receives + length args → Valued os vs t
-      → Within (take (own_params mq) (all_widths mq)) vs
-  within mq self args vs os t fit fits' many passed long valued =
-      by_kind mq.receives mq.params mq.widths mq.widths refl fit.params fits' many passed long
+      → length args ≡ mq.params → ArePassed mq.receives self args vs → length vs ≡ receivers mq.receives + length args → IsNarrow mq.receives vs
+      → Valued os vs t → Within (take (own_params mq) (all_widths mq)) vs
+  within mq self args vs os t fit fits' many passed long narrow valued =
+      by_kind mq.receives mq.params mq.widths fit.params fits' many passed long narrow
     where
-      by_kind : (b : Bool) (params : ℕ) (widths ns : List ℕ) → widths ≡ ns → params ≤ length widths → all_fit widths args ≡ true → length args ≡ params
-          → ArePassed b self args vs → length vs ≡ receivers b + length args
-          → Within (take (receivers b + params) (widened (if b then receivers b + params else 0) (with_receiver_width b ns))) vs
-      by_kind true params widths ns e le fs ml ps lg =
-          subst (λ z. Within z vs) (sym (take_widened (1 + params) (2 ∷ ns) (let l = ap length e in omega (arith, le, l))
-          ∙ ap (λ n. replicate n 4) (omega (arith, lg, ml)))) (within_fours os vs t valued)
-      by_kind false params widths ns e le fs ml ps lg =
-          subst (λ z. Within (take z ns) vs) (omega (arith, ml, lg))
-          (within_fit ns vs (subst (λ z. all_fit z vs ≡ true) e (subst (λ z. all_fit widths z ≡ true) (sym ps) fs)))
+      by_kind : (b : Bool) (params : ℕ) (ns : List ℕ) → params ≤ length ns → all_fit ns args ≡ true → length args ≡ params
+          → ArePassed b self args vs → length vs ≡ receivers b + length args → IsNarrow b vs
+          → Within (take (receivers b + params) (with_receiver_width b (widened (if b then params else 0) ns))) vs
+      by_kind true params ns le fs ml ps lg nw = within_found params ns os vs t le (omega (arith, lg, ml)) nw valued
+      by_kind false params ns le fs ml ps lg nw =
+          subst (λ z. Within (take z ns) vs) (omega (arith, ml, lg)) (within_fit ns vs (subst (λ z. all_fit ns z ≡ true) (sym ps) fs))
 
   pub right_passing : (callee : Callee) (q count : ℕ) (to : Option Target) (home : Operand) (self : Option ℕ) (us : List Width) (os hs : List Operand)
       → Lands q to home hs
@@ -256,7 +255,7 @@ module _ (k : Codes) (f : FirmProgram) (m : FirmProcedure) (call : FirmCaller Hi
           passes =
               passes_in us os vs d.state valued
               (subst (λ z. Within z vs) takes.widths
-              (within en.packed self (arguments count s) vs os d.state en.fit en.fits (en.long ∙ en.many) takes.passed takes.long valued))
+              (within en.packed self (arguments count s) vs os d.state en.fit en.fits (en.long ∙ en.many) takes.passed takes.long takes.narrow valued))
 
           ps : List Waiting
           ps = waits_of (take n xs) (take n vs)
@@ -317,29 +316,34 @@ module _ (k : Codes) (f : FirmProgram) (m : FirmProcedure) (call : FirmCaller Hi
       by_kind false h = none v (subst (λ z. v < 256 ^ z) h fit)
 
   -- a call of a procedure that is found in the run
-  pub fours_taken : (q count to : ℕ) (n : ℕ) (args us : List ℕ) (os : List Operand) → length os ≡ suc (length us) → us ≡ args
-      → TakesIn q count (Some n) args (n ∷ us) (in_widths [] os) (Some (record { width = 4; local = to }))
-  fours_taken q count to n args us os many same mq e fit cm long ok =
+  pub found_taken : (q count to : ℕ) (n : ℕ) (args us : List ℕ) (o : Operand) (os : List Operand) → length os ≡ length us → us ≡ args
+      → TakesIn q count (Some n) args (n ∷ us) (in_widths (Two' ∷ []) (o ∷ os)) (Some (record { width = 4; local = to }))
+  found_taken q count to n args us o os many same mq e fit cm long ok =
       record {
         passed = subst (λ z. ArePassed z (Some n) args (n ∷ us)) (sym is) (ap (λ z. n ∷ z) same);
         long = subst (λ z. length (n ∷ us) ≡ receivers z + length args) (sym is) (let l = ap length same in omega (arith, l));
+        narrow = subst (λ z. IsNarrow z (n ∷ us)) (sym is) (lt_of n (256 ^ 2) (both_of mq.receives (fits 2 n) ok).1);
         widths = widths_are;
         result = subst (λ z. gives_to (if z then 4 else mq.result) (Some (record { width = 4; local = to })) ≡ true) (sym is) refl;
       }
     where
-      first_of : (a b : Bool) → (a && b) ≡ true → a ≡ true
-      first_of true b e1 = refl
-      first_of false b e1 = absurd (grind arith)
+      both_of : (a b : Bool) → (a && b) ≡ true → (a ≡ true) × (b ≡ true)
+      both_of true true e1 = (refl, refl)
+      both_of true false e1 = absurd (grind arith)
+      both_of false b e1 = absurd (grind arith)
+
+      lt_of : (a b : ℕ) → nat_lt a b ≡ true → a < b
+      lt_of a b e1 = grind arith
 
       is : mq.receives ≡ true
-      is = first_of mq.receives (fits 2 n) ok
+      is = (both_of mq.receives (fits 2 n) ok).0
 
-      widths_are : take (own_params mq) (all_widths mq) ≡ bytes_in (in_widths [] os)
+      widths_are : take (own_params mq) (all_widths mq) ≡ bytes_in (in_widths (Two' ∷ []) (o ∷ os))
       widths_are = at mq.receives is mq.params mq.widths cm fit.params
         where
           at : (b : Bool) → b ≡ true → (params : ℕ) (ns : List ℕ) → count ≡ params → params ≤ length ns
-              → take (receivers b + params) (widened (if b then receivers b + params else 0) (with_receiver_width b ns)) ≡ bytes_in (in_widths [] os)
+              → take (receivers b + params) (with_receiver_width b (widened (if b then params else 0) ns)) ≡ bytes_in (in_widths (Two' ∷ []) (o ∷ os))
           at false b params ns cp le = absurd (grind arith)
           at true b params ns cp le =
-              take_widened (1 + params) (2 ∷ ns) (omega (arith, le)) ∙ ap (λ k. replicate k 4) (let l = ap length same in omega (arith, many, l, long, cp))
-              ∙ sym (bytes_in_fours os)
+              take_found params ns le ∙ ap (λ k. 2 ∷ replicate k 4) (let l = ap length same in omega (arith, many, l, long, cp))
+              ∙ ap (λ z. 2 ∷ z) (sym (bytes_in_fours os))

@@ -31,24 +31,25 @@ use Rattle.vg_flatten_shapes.specs.declared.open.Truth.TheVariants.{Holds}
 use Rattle.vg_flatten_shapes.specs.declared.layout.Layout.{Layout}
 use Rattle.vg_flatten_shapes.specs.declared.layout.Passing.{Passing}
 use Rattle.vg_flatten_shapes.specs.declared.layout.Width.{Width}
+use Rattle.vg_flatten_shapes.specs.declared.layout.Width.TheVariants.{Two as Two'}
 use Rattle.vg_flatten_shapes.specs.Widths.{bytes_of, result_bytes}
 use Rattle.vg_flatten_shapes.specs.declared.room.Room.{Room}
 use Rattle.vg_flatten_shapes.specs.Shapes.{Shape, Taken, only, taken, temp}
 use Rattle.vg_flatten_shapes.specs.Blocks.{Block, One, Both, stop_where}
 use Rattle.vg_flatten_shapes.specs.Made.{Made, Gives as Makes, Refused, by_temp, is_zero}
-use Rattle.vg_flatten_steps.specs.Calls.{in_widths, passing, with_taken, passing_of, with_receiver, resulting, called, passing_four, found_and_called, called_on, called_for, parted_and_called, called_by, called_value, bound, found_and_bound, bound_for}
+use Rattle.vg_flatten_steps.specs.Calls.{in_widths, passing, with_taken, passing_of, with_receiver, resulting, called, passing_found, found_and_called, called_on, called_for, parted_and_called, called_by, called_value, bound, found_and_bound, bound_for}
 use Rattle.vg_flatten.specs.Columns.{FlashStands}
-use Rattle.vg_flatten.specs.Flattened.{receivers, with_receiver_width, own_params, widened, wide_params, all_widths, result_width, IsPassing}
-use Rattle.vg_flatten.proofs.Whole.{own_long, widened_long}
+use Rattle.vg_flatten.specs.Flattened.{receivers, own_params, all_widths, result_width, IsPassing}
+use Rattle.vg_flatten.proofs.Whole.{own_long, all_long}
 use Rattle.vg_flattened.proofs.Alike.{IsFair, Alike, gives, wrong}
 use Rattle.vg_flattened.proofs.Related.{ArePlaced, AreAt, AreWidths, AreSame, Held, Leaves}
 use Rattle.vg_flattened.proofs.Numbers.{low_same}
 use Rattle.vg_flattened.proofs.Locals.{value_of_home, put_temp, placed_temp, value_stays}
-use Rattle.vg_flattened.proofs.Passed.{Valued, bytes_in_widths, all_bytes_long, valued_homes, valued_long, valued_take, valued_reverse, split_below, without, placed_drop, at_drop}
+use Rattle.vg_flattened.proofs.Passed.{IsNarrow, Valued, bytes_in_widths, all_bytes_long, valued_homes, valued_long, valued_take, valued_reverse, split_below, without, placed_drop, at_drop}
 use Rattle.vg_flattened.proofs.Right.{Right, linear}
 use Rattle.vg_flattened.proofs.StepRight.{plain_goes, into_temp, computes_to}
 use Rattle.vg_flattened.proofs.ColumnRight.{null_then}
-use Rattle.vg_flattened.proofs.CallRight.{ArePassed, Enters, AlikeCalls, TakesIn, Lands, right_passing, in_temp, in_none, fours_taken}
+use Rattle.vg_flattened.proofs.CallRight.{ArePassed, Enters, AlikeCalls, TakesIn, Lands, right_passing, in_temp, in_none, found_taken}
 
 -- The numbers that are passed where a procedure is called on no receiver.
 abbrev numbers : Bool → List ℕ → List ℕ
@@ -62,6 +63,10 @@ numbers_valued false xs vs t h = h
 numbers_passed : (b : Bool) (vs : List ℕ) → ArePassed b None vs (numbers b vs) × (length (numbers b vs) ≡ receivers b + length vs)
 numbers_passed true vs = (inl (0, refl), omega arith)
 numbers_passed false vs = (refl, omega arith)
+
+numbers_narrow : (b : Bool) (vs : List ℕ) → IsNarrow b (numbers b vs)
+numbers_narrow true vs = omega arith
+numbers_narrow false vs = tt
 
 receiver_long : (b : Bool) (xs : List Operand) → length (with_receiver b xs) ≡ receivers b + length xs
 receiver_long true xs = omega arith
@@ -117,6 +122,7 @@ module _ (k : Codes) (f : FirmProgram) (m : FirmProcedure) (call : FirmCaller Hi
       record {
         passed = subst (λ z. ArePassed z None args (numbers x.receives args)) is.receives (numbers_passed x.receives args).0;
         long = (numbers_passed x.receives args).1 ∙ ap (λ z. receivers z + length args) is.receives;
+        narrow = subst (λ z. IsNarrow z (numbers x.receives args)) is.receives (numbers_narrow x.receives args);
         widths = sym is.widths ∙ sym (bytes_in_widths x.widths (with_receiver x.receives os) as_many);
         result = ok mq e;
       }
@@ -131,14 +137,13 @@ module _ (k : Codes) (f : FirmProgram) (m : FirmProcedure) (call : FirmCaller Hi
       as_many =
           let a = all_bytes_long x.widths in
           let b = ap length is.widths in
-          let c = length-take-le (own_params mq) (all_widths mq) (le mq.receives mq.params mq.widths (wide_params mq) fit.params) in
+          let c = length-take-le (own_params mq) (all_widths mq) le in
           let d1 = receiver_long x.receives os in
           let o = ap receivers is.receives in
           omega (arith, a, b, c, d1, o, many, long, cm)
         where
-          le : (b : Bool) (params : ℕ) (widths : List ℕ) (n : ℕ) → params ≤ length widths
-              → receivers b + params ≤ length (widened n (with_receiver_width b widths))
-          le b params widths n h = let l = widened_long n (with_receiver_width b widths) in let o = own_long b widths in omega (arith, l, o, h)
+          le : own_params mq ≤ length (all_widths mq)
+          le = let l = all_long mq in let o = own_long mq.receives mq.widths in let h = fit.params in omega (arith, l, o, h)
 
   right_resulting : (q count : ℕ) (hs : List Operand) → ArePlaced r.locals hs → (o : Option Width)
       → result_bytes o ≡ result_bytes (passing_of (slice_get lay.passing q)).result
@@ -242,7 +247,7 @@ module _ (k : Codes) (f : FirmProgram) (m : FirmProcedure) (call : FirmCaller Hi
           → (n : ℕ) (us : List ℕ) → reverse (take (count + 1) s.values) ≡ n ∷ us → count + 1 ≤ length s.values
           → value h dd.state ≡ Some n → (q : ℕ) → dispatched f.dispatches d n ≡ Some q
           → Alike (Held lay r ws (only (Local to ∷ rest))) (Leaves lay r ws) (call q count (Some n) (without_receiver count s) w)
-          (linear' (Both (One (Find d code h)) (passing_four (ByCode (Local code)) to (h ∷ xs))) dd w)
+          (linear' (Both (One (Find d code h)) (passing_found (ByCode (Local code)) to (h ∷ xs))) dd w)
       does code has_code h xs eh to has s dd w i same n us en le hv q eq =
           by_call (calls q count (Some n) (without_receiver count s) w dd.state.ram i same.ram)
         where
@@ -254,18 +259,18 @@ module _ (k : Codes) (f : FirmProgram) (m : FirmProcedure) (call : FirmCaller Hi
 
           by_range : q < length f.procedures
               → Alike (Held lay r ws (only (Local to ∷ rest))) (Leaves lay r ws) (call q count (Some n) (without_receiver count s) w)
-              (linear' (Both (One (Find d code h)) (passing_four (ByCode (Local code)) to (h ∷ xs))) dd w)
+              (linear' (Both (One (Find d code h)) (passing_found (ByCode (Local code)) to (h ∷ xs))) dd w)
           by_range lt =
               subst (λ z. Alike (Held lay r ws (only (Local to ∷ rest))) (Leaves lay r ws) (call q count (Some n) (without_receiver count s) w)
-              (and_then z (linear' (passing_four (ByCode (Local code)) to (h ∷ xs)))))
+              (and_then z (linear' (passing_found (ByCode (Local code)) to (h ∷ xs)))))
               (sym (plain_goes k f m call handle p go lay r ws wide (Find d code h) dd w t1 (found d code n q h dd.state w.outside hv eq)))
               (right_passing k f m call handle p go lay r ws wide calls (ByCode (Local code)) q count (Some (record { width = 4; local = to })) (Local to)
-              (Some n) [] (h ∷ xs) rest (in_temp k f m call handle p go lay r ws wide calls q 4 to rest placed_rest has)
+              (Some n) (Two' ∷ []) (h ∷ xs) rest (in_temp k f m call handle p go lay r ws wide calls q 4 to rest placed_rest has)
               (without_receiver count s) (record dd { state = t1 }) w i (n ∷ us)
               valued1
               (λ u. ap (with_code p) there.waits.0.0 ∙ called_code q (k.code q) refl lt)
-              (fours_taken k f m call handle p go lay r ws wide calls q count to n (arguments count (without_receiver count s)) us (h ∷ xs)
-              (valued_long (h ∷ xs) (n ∷ us) t1 valued1) (sym args_are))
+              (found_taken k f m call handle p go lay r ws wide calls q count to n (arguments count (without_receiver count s)) us h xs
+              (valued_long xs us t1 valued1.2) (sym args_are))
               (subst (λ z. AreAt rest z t1.locals) (sym (without count s.values (omega (arith, le))).1) (at_drop (count + 1) hs s.values t1.locals there.waits.1))
               there.kept there.none there.ram)
             where
@@ -280,10 +285,10 @@ module _ (k : Codes) (f : FirmProgram) (m : FirmProcedure) (call : FirmCaller Hi
           by_call : (call q count (Some n) (without_receiver count s) w ≡ over Wrong (without_receiver count s) w)
               ⊎ Enters lay f p call go q count (Some n) (without_receiver count s) w dd.state.ram
               → Alike (Held lay r ws (only (Local to ∷ rest))) (Leaves lay r ws) (call q count (Some n) (without_receiver count s) w)
-              (linear' (Both (One (Find d code h)) (passing_four (ByCode (Local code)) to (h ∷ xs))) dd w)
+              (linear' (Both (One (Find d code h)) (passing_found (ByCode (Local code)) to (h ∷ xs))) dd w)
           by_call (inl e) =
               subst (λ z. Alike (Held lay r ws (only (Local to ∷ rest))) (Leaves lay r ws) z
-              (linear' (Both (One (Find d code h)) (passing_four (ByCode (Local code)) to (h ∷ xs))) dd w)) (sym e) wrong
+              (linear' (Both (One (Find d code h)) (passing_found (ByCode (Local code)) to (h ∷ xs))) dd w)) (sym e) wrong
           by_call (inr en1) = by_range (below f.procedures q en1.packed en1.is_packed)
 
       by_found : (code : ℕ) → temp r hs ≡ Some code → (h : Operand) (xs : List Operand) → reverse (take (count + 1) hs) ≡ h ∷ xs
@@ -291,7 +296,7 @@ module _ (k : Codes) (f : FirmProgram) (m : FirmProcedure) (call : FirmCaller Hi
           → (n : ℕ) (us : List ℕ) → reverse (take (count + 1) s.values) ≡ n ∷ us → count + 1 ≤ length s.values
           → value h dd.state ≡ Some n → (o : Option ℕ) → dispatched f.dispatches d n ≡ o
           → Alike (Held lay r ws (only (Local to ∷ rest))) (Leaves lay r ws) (with_found o (λ q. call q count (Some n)) (without_receiver count s) w)
-          (linear' (Both (One (Find d code h)) (passing_four (ByCode (Local code)) to (h ∷ xs))) dd w)
+          (linear' (Both (One (Find d code h)) (passing_found (ByCode (Local code)) to (h ∷ xs))) dd w)
       by_found code has_code h xs eh to has s dd w i same n us en le hv None eq = wrong
       by_found code has_code h xs eh to has s dd w i same n us en le hv (Some q) eq = does code has_code h xs eh to has s dd w i same n us en le hv q eq
 
@@ -304,7 +309,7 @@ module _ (k : Codes) (f : FirmProgram) (m : FirmProcedure) (call : FirmCaller Hi
       by_values code has_code h xs eh to has s dd w i same le (n ∷ us) ev valued =
           subst (λ z. Alike (Held lay r ws (only (Local to ∷ rest))) (Leaves lay r ws) (with_found z (not_null next) (without_receiver count s) w)
           (linear' (found_and_called d to code h xs) dd w)) (sym (split_below count s.values n us le ev).0)
-          (null_then k f m call handle p go lay r ws wide flash h n next (linear' (Both (One (Find d code h)) (passing_four (ByCode (Local code)) to (h ∷ xs))))
+          (null_then k f m call handle p go lay r ws wide flash h n next (linear' (Both (One (Find d code h)) (passing_found (ByCode (Local code)) to (h ∷ xs))))
           (without_receiver count s) dd w i valued.0 valued.1
           (λ pos. by_found code has_code h xs eh to has s (record dd { truth = None }) w i same n us ev le valued.0 (dispatched f.dispatches d n) refl))
 
@@ -353,22 +358,22 @@ module _ (k : Codes) (f : FirmProgram) (m : FirmProcedure) (call : FirmCaller Hi
           → (v : ℕ) (us : List ℕ) → reverse (take (count + 1) s.values) ≡ v ∷ us → count + 1 ≤ length s.values
           → value h dd.state ≡ Some v → v < 2 ^ 32 → (o : Option ℕ) → k.at_code (code_in v) ≡ o
           → Alike (Held lay r ws (only (Local to ∷ rest))) (Leaves lay r ws) (with_found o (λ q. call q count (Some (receiver_in v))) (without_receiver count s) w)
-          (linear' (Both (part receiver h) (passing_four (ByCode h) to (Local receiver ∷ xs))) dd w)
+          (linear' (Both (part receiver h) (passing_found (ByCode h) to (Local receiver ∷ xs))) dd w)
       by_found receiver has_r h xs eh to has s dd w i same v us en le hv small None eq = wrong
       by_found receiver has_r h xs eh to has s dd w i same v us en le hv small (Some q) eq =
           subst (λ z. Alike (Held lay r ws (only (Local to ∷ rest))) (Leaves lay r ws) (call q count (Some (receiver_in v)) (without_receiver count s) w)
-          (and_then z (linear' (passing_four (ByCode h) to (Local receiver ∷ xs)))))
+          (and_then z (linear' (passing_found (ByCode h) to (Local receiver ∷ xs)))))
           (sym (plain_goes k f m call handle p go lay r ws wide
           (Compute (record { operator = RightShift; width = 4; to = receiver; left = h; right = Known 16 })) dd w t1
           (computes_to k f m call handle p go lay r ws wide RightShift 4 receiver h (Known 16) v 16 (receiver_in v) dd.state w.outside hv refl
           (ap (λ z. Some (z / 2 ^ 16)) (low_same v small)))))
           (right_passing k f m call handle p go lay r ws wide calls (ByCode h) q count (Some (record { width = 4; local = to })) (Local to)
-          (Some (receiver_in v)) [] (Local receiver ∷ xs) rest (in_temp k f m call handle p go lay r ws wide calls q 4 to rest placed_rest has)
+          (Some (receiver_in v)) (Two' ∷ []) (Local receiver ∷ xs) rest (in_temp k f m call handle p go lay r ws wide calls q 4 to rest placed_rest has)
           (without_receiver count s) (record dd { state = t1 }) w i (receiver_in v ∷ us)
           (there.waits.0.0, there.waits.0.1, valued1.2)
           (λ u. ap (with_code p) (value_waiting h u ∙ valued1.0) ∙ ap (λ z. z.at_code (code_in v)) codes ∙ eq)
-          (fours_taken k f m call handle p go lay r ws wide calls q count to (receiver_in v) (arguments count (without_receiver count s)) us
-          (Local receiver ∷ xs) (ap suc (valued_long xs us t1 valued1.2)) (sym args_are))
+          (found_taken k f m call handle p go lay r ws wide calls q count to (receiver_in v) (arguments count (without_receiver count s)) us
+          (Local receiver) xs (valued_long xs us t1 valued1.2) (sym args_are))
           (subst (λ z. AreAt rest z t1.locals) (sym (without count s.values (omega (arith, le))).1) (at_drop (count + 1) hs s.values t1.locals there.waits.1))
           there.kept there.none there.ram)
         where
@@ -402,7 +407,7 @@ module _ (k : Codes) (f : FirmProgram) (m : FirmProcedure) (call : FirmCaller Hi
       by_values receiver has_r h xs eh to has s dd w i same le (v ∷ us) ev valued =
           subst (λ z. Alike (Held lay r ws (only (Local to ∷ rest))) (Leaves lay r ws) (with_found z (not_null next) (without_receiver count s) w)
           (linear' (parted_and_called to receiver h xs) dd w)) (sym (split_below count s.values v us le ev).0)
-          (null_then k f m call handle p go lay r ws wide flash h v next (linear' (Both (part receiver h) (passing_four (ByCode h) to (Local receiver ∷ xs))))
+          (null_then k f m call handle p go lay r ws wide flash h v next (linear' (Both (part receiver h) (passing_found (ByCode h) to (Local receiver ∷ xs))))
           (without_receiver count s) dd w i valued.0 valued.1
           (λ pos. by_found receiver has_r h xs eh to has s (record dd { truth = None }) w i same v us ev le valued.0 valued.1 (k.at_code (code_in v)) refl))
 

@@ -271,10 +271,37 @@ within_fit (w ∷ ws) (v ∷ vs) e =
     lt_of : (a b : ℕ) → nat_lt a b ≡ true → a < b
     lt_of a b h = grind arith
 
+-- the number of a receiver, where one is passed, is within two bytes
+abbrev pub IsNarrow : (receives : Bool) → List ℕ → Type 0
+IsNarrow true (v ∷ vs) = v < 256 ^ 2
+IsNarrow true [] = Unit {0}
+IsNarrow false vs = Unit {0}
+
 pub take_widened : (n : ℕ) (ws : List ℕ) → n ≤ length ws → take n (widened n ws) ≡ replicate n 4
 take_widened zero ws le = refl
 take_widened (suc n) [] le = absurd (omega (arith, le))
 take_widened (suc n) (w ∷ ws) le = ap (λ z. 4 ∷ z) (take_widened n ws (omega (arith, le)))
+
+-- the widths of a receiver and of so many parameters behind it
+pub take_found : (n : ℕ) (ws : List ℕ) → n ≤ length ws → take (1 + n) (2 ∷ widened n ws) ≡ 2 ∷ replicate n 4
+take_found n ws le = ap (λ z. take z (2 ∷ widened n ws)) (next n) ∙ ap (λ z. 2 ∷ z) (take_widened n ws le)
+  where
+    next : (a : ℕ) → 1 + a ≡ suc a
+    next a = omega arith
+
+pub within_found : (n : ℕ) (ws : List ℕ) (xs : List Operand) (vs : List ℕ) (t : State) → n ≤ length ws → length vs ≡ 1 + n → IsNarrow true vs → Valued xs vs t
+    → Within (take (1 + n) (2 ∷ widened n ws)) vs
+within_found n ws [] [] t le long narrow h = absurd (omega (arith, long))
+within_found n ws (a ∷ xs) [] t le long narrow h = absurd h
+within_found n ws [] (v ∷ vs) t le long narrow h = absurd h
+within_found n ws (a ∷ xs) (v ∷ vs) t le long narrow h =
+    subst (λ z. Within z (v ∷ vs)) (sym (take_found n ws le ∙ ap (λ k. 2 ∷ replicate k 4) (as_many n (length vs) long))) held
+  where
+    as_many : (a b : ℕ) → suc b ≡ 1 + a → a ≡ b
+    as_many a b e = omega (arith, e)
+
+    held : Within (2 ∷ replicate (length vs) 4) (v ∷ vs)
+    held = (mod-eq_of_lt narrow, within_fours xs vs t h.2)
 
 -- ---- the value below so many others
 

@@ -35,7 +35,7 @@ use Rattle.vg_flatten_shapes.proofs.Temps.{some_is, none_is_not}
 use Rattle.vg_flattened.proofs.CallRight.{Never, Returned, begins, alike_behind_both, ArePassed, Enters, AlikeCalls}
 use Rattle.vg_flatten_shapes.specs.Blocks.{set_in}
 use Rattle.vg_flattened.proofs.Standing.{Lies, stands}
-use Rattle.vg_flatten.specs.Flattened.{receivers, with_receiver_width, widened, main_args, whole, calls_main, start_of, IsFlat, IsFit, AreFlat}
+use Rattle.vg_flatten.specs.Flattened.{receivers, with_receiver_width, widened, wide_params, main_args, whole, calls_main, start_of, IsFlat, IsFit, AreFlat}
 use Rattle.vg_flatten.specs.Columns.{RamStands}
 use Rattle.vg_firm_frames.proofs.Framed.{step_stays}
 use Rattle.vg_flattened.proofs.BodyRight.{alike_handling, alike_body}
@@ -248,7 +248,7 @@ module _ (k : Codes) (lay : Layout) (f : FirmProgram) (p : LinProgram) (flat : A
   main_numbers false = []
 
   abbrev main_waits : Bool → List Waiting
-  main_waits true = record { width = 4; value = 0 } ∷ []
+  main_waits true = record { width = 2; value = 0 } ∷ []
   main_waits false = []
 
   main_values : (b : Bool) (t : State) → values (operands (main_args b)) t ≡ Some (main_waits b)
@@ -267,12 +267,10 @@ module _ (k : Codes) (lay : Layout) (f : FirmProgram) (p : LinProgram) (flat : A
   main_numbered true = refl
   main_numbered false = refl
 
-  -- main gets a receiver in the four bytes of its parameter
-  main_same : (b : Bool) (params : ℕ) (ws more : List ℕ)
-      → same_widths (widened (if b then receivers b + params else 0) (with_receiver_width b ws) ++ more) (main_waits b) ≡ true
-  main_same true params ws more =
-      let e : 1 + params ≡ suc params = omega arith in ap (λ n. same_widths (widened n (2 ∷ ws) ++ more) (main_waits true)) e
-  main_same false params ws more = refl
+  -- main gets a receiver in its two bytes
+  main_same : (b : Bool) (ws more : List ℕ) → same_widths (with_receiver_width b ws ++ more) (main_waits b) ≡ true
+  main_same true ws more = refl
+  main_same false ws more = refl
 
   module _ (lp : LinProcedure) (has : slice_get p.procedures f.main ≡ Some lp) (params : lp.params ≡ receivers flat.main.receives)
       (same : same_widths lp.widths (main_waits flat.main.receives) ≡ true) where
@@ -341,7 +339,7 @@ module _ (k : Codes) (lay : Layout) (f : FirmProgram) (p : LinProgram) (flat : A
           by_enters en en.packed (some_is flat.main en.packed (sym flat.is_main ∙ en.is_packed)) en.flattened en.is_linear
           (en.flat.parameters ∙ ap (λ z. receivers en.packed.receives + z) (sym en.many) ∙ alone (receivers en.packed.receives))
           (ap (λ z. same_widths z (main_waits en.packed.receives)) en.flat.widths
-          ∙ main_same en.packed.receives en.packed.params en.packed.widths (replicate en.flat.room.temps 4)) en.alike
+          ∙ main_same en.packed.receives (widened (wide_params en.packed) en.packed.widths) (replicate en.flat.room.temps 4)) en.alike
         where
           alone : (a : ℕ) → a + 0 ≡ a
           alone a = omega arith

@@ -43,12 +43,11 @@ widened_front (suc n) (w ∷ ws) h = ap (λ z. 4 ∷ z) (widened_front n ws (ome
 
 module _ (m : Procedure) (has : HasWidths m) where
   widths_are : (b : Bool) → all_bytes (passing_as b m).widths
-      ≡ take (receivers b + m.params) (widened (if b then receivers b + m.params else 0) (with_receiver_width b m.widths))
+      ≡ take (receivers b + m.params) (with_receiver_width b (widened (if b then m.params else 0) m.widths))
   widths_are true =
-      let one : suc m.params ≡ 1 + m.params = omega arith in let p = has.params in
-      four_each (suc m.params)
-      ∙ (sym (widened_front (suc m.params) (2 ∷ m.widths) (omega (arith, p)))
-      ∙ ap (λ z. take z (widened z (2 ∷ m.widths))) one)
+      let one : suc m.params ≡ 1 + m.params = omega arith in
+      ap (λ z. 2 ∷ z) (four_each m.params ∙ sym (widened_front m.params m.widths has.params))
+      ∙ ap (λ z. take z (2 ∷ widened m.params m.widths)) one
   widths_are false =
       let none : m.params ≡ 0 + m.params = omega arith in
       widths_back m.params m.widths has.widths ∙ ap (λ z. take z m.widths) none

@@ -1,5 +1,5 @@
 -- How procedures are called.
-use Rattle.std.specs.Prelude.{ℕ, suc, ◌==◌, Bool, true, false, List, map, replicate, take, Option, Some, None, if◌then◌else◌}
+use Rattle.std.specs.Prelude.{ℕ, ◌==◌, Bool, true, false, List, ◌∷◌, map, replicate, take, Option, Some, None, if◌then◌else◌}
 use Rattle.vg_firm.specs.declared.procedure.Procedure.{Procedure}
 use Rattle.vg_flatten_shapes.specs.declared.layout.Passing.{Passing}
 use Rattle.vg_flatten_shapes.specs.declared.layout.Width.{Width}
@@ -13,9 +13,10 @@ width_for n = if n == 1 then One else (if n == 2 then Two else (if n == 3 then T
 abbrev pub result_for : ℕ → Option Width
 result_for n = if n == 0 then None else Some (width_for n)
 
--- One that gets a receiver may be found in the run: each argument has four bytes, and so has its result. Those of all others have what they need.
+-- One that gets a receiver may be found in the run: the receiver has two bytes, each argument behind it four, and so has its result. Those of
+-- all others have what they need.
 abbrev pub passing_as : (receives : Bool) → Procedure → Passing
-passing_as true m = record { receives = true; widths = replicate (suc m.params) Four; result = Some Four }
+passing_as true m = record { receives = true; widths = Two ∷ replicate m.params Four; result = Some Four }
 passing_as false m = record { receives = false; widths = map width_for (take m.params m.widths); result = result_for m.result }
 
 abbrev pub passing_for : Procedure → Passing

@@ -1,6 +1,6 @@
 // How procedures are called.
-ghost use Rattle.std.specs.Prelude.{◌≡◌, ◌+◌, ◌≤◌, IfOk, map, replicate, take, length};
-ghost use Rattle.vg_flatten_shapes.specs.declared.layout.Width.TheVariants.{Four as FourBytes};
+ghost use Rattle.std.specs.Prelude.{◌≡◌, ◌≤◌, ◌∷◌, IfOk, map, replicate, take, length};
+ghost use Rattle.vg_flatten_shapes.specs.declared.layout.Width.TheVariants.{Two as TwoBytes, Four as FourBytes};
 ghost use Rattle.vg_linear.specs.Passing.{passing_for, passings_for, result_for, width_for};
 ghost use Rattle.vg_linear.specs.Widths.{AllHaveWidths, HasWidths};
 
@@ -21,7 +21,8 @@ pub fn passings(alloc: Global, procedures: &[Procedure]) -> Result<Row<Passing>,
     Ok(row)
 }
 
-// How a procedure is called: one that gets a receiver may be found in the run, and has four bytes for each argument and for its result.
+// How a procedure is called: one that gets a receiver may be found in the run, and has two bytes for the receiver, and four for each argument
+// behind it and for its result.
 fn passing(alloc: Global, procedure: &Procedure) -> Result<Passing, NoMemory>
     requires { HasWidths procedure.now }
     ensures { IfOk result (λ p. p ≡ passing_for procedure.now) }
@@ -29,7 +30,7 @@ fn passing(alloc: Global, procedure: &Procedure) -> Result<Passing, NoMemory>
     if procedure.receives {
         Ok(Passing {
             receives: true,
-            widths: four_bytes(alloc, procedure.params)?,
+            widths: found_widths(alloc, procedure.params)?,
             result: Some(Width::Four),
         })
     } else {
@@ -42,11 +43,15 @@ fn passing(alloc: Global, procedure: &Procedure) -> Result<Passing, NoMemory>
     }
 }
 
-// Four bytes for a receiver and for each of so many parameters.
-fn four_bytes(alloc: Global, params: u8) -> Result<Row<Width>, NoMemory>
-    ensures { IfOk result (λ row. row ≡ replicate (1 + params) FourBytes) }
+// Two bytes for a receiver, and four for each of so many parameters behind it.
+fn found_widths(alloc: Global, params: u8) -> Result<Row<Width>, NoMemory>
+    ensures { IfOk result (λ row. row ≡ TwoBytes ∷ replicate params FourBytes) }
 {
-    Ok(Row::from_vec(Vec::from_elem(alloc, Width::Four, 1 + usize::from(params))?))
+    let fours = Vec::from_elem(alloc, Width::Four, usize::from(params))?;
+    let mut all = Vec::new(alloc);
+    all.push(Width::Two)?;
+    all.extend_from_slice(fours.as_slice())?;
+    Ok(Row::from_vec(all))
 }
 
 fn widths_of(alloc: Global, bytes: &[u8]) -> Result<Row<Width>, NoMemory>

@@ -1,4 +1,3 @@
-use Rattle.std.specs.Prelude.{if◌then◌else◌}
 use Rattle.std.proofs.Common.{true, false, length, map, ◌++◌, ◌+◌, ◌-◌, ◌≤◌, ◌≡◌, replicate, Some, ap, sym, subst, ◌∙◌}
 use Rattle.vg_firm.specs.Held.{code_of, procedure_of}
 use Rattle.vg_lin.specs.Onward.{all_lead_on}
@@ -6,7 +5,7 @@ use Rattle.vg_lin.specs.Sound.{IsSound}
 use Rattle.vg_lin.specs.Program.{Procedure}
 use Rattle.vg_flatten_shapes.specs.Blocks.{set_in}
 use Rattle.vg_flatten.specs.Closing.{AllSet}
-use Rattle.vg_flatten.specs.Flattened.{IsFlat, own_widths, own_params, widened, wide_params, all_widths, result_width, with_receiver_width}
+use Rattle.vg_flatten.specs.Flattened.{IsFlat, own_params, result_width}
 use Rattle.vg_flatten.specs.Loops.{has_loop}
 use Rattle.vg_flatten.proofs.Finished.{procedure_sound, procedure_flat, procedure_onward}
 use Rattle.vg_flatten.proofs.procedure.flattened_with.Goals as goal
@@ -14,11 +13,6 @@ use Rattle.vg_flatten.proofs.procedure.flattened_with.Goals as goal
 pub new-made-requires : goal.new-made-requires
 new-made-requires c =
     let own_is = c.requires.own in
-    let widths_are : c.in_ok-widened.field-0 ≡ all_widths (procedure_of c.args.procedure.now) =
-    c.in_ok-widened.ensures ∙ ap (λ z. widened z c.args.own.now)
-    (c.wide_params-wide.ensures
-    ∙ ap (λ z. if c.args.procedure.now.receives then z + c.args.procedure.now.params else 0) c.receivers-receiver.ensures)
-    ∙ ap (widened (wide_params (procedure_of c.args.procedure.now))) own_is in
     subst (λ w. IsSound (record {
       method = Some c.args.procedure.now.method;
       params = c.receivers-receiver.result + c.args.procedure.now.params;
@@ -39,16 +33,11 @@ new-made-requires c =
     (ap length own_is) c.result_width-given.ensures c.requires.room c.requires.params c.requires.widths c.requires.given c.in_ok-code.code c.in_ok-instrs.instrs
     c.in_ok-widths.widths c.in_ok-code.ensures (c.in_ok-instrs.ensures.0 ∙ ap (map (set_in 0 0)) c.as_slice.ensures)
     (subst AllSet c.as_slice.ensures c.in_ok-instrs.ensures.1)
-    (c.in_ok-widths.ensures ∙ ap (λ z. z ++ replicate c.args.temps 4) widths_are)))
+    (c.in_ok-widths.ensures ∙ ap (λ z. z ++ replicate c.args.temps 4) c.in_ok-all_widths.ensures)))
 
 pub returns : goal.returns
 returns c =
     let own_is = c.requires.own in
-    let widths_are : c.in_ok-widened.field-0 ≡ all_widths (procedure_of c.args.procedure.now) =
-    c.in_ok-widened.ensures ∙ ap (λ z. widened z c.args.own.now)
-    (c.wide_params-wide.ensures
-    ∙ ap (λ z. if c.args.procedure.now.receives then z + c.args.procedure.now.params else 0) c.receivers-receiver.ensures)
-    ∙ ap (widened (wide_params (procedure_of c.args.procedure.now))) own_is in
     let made_is : ◌≡◌ {A = Procedure} c.new-made.result record {
       method = Some c.args.procedure.now.method;
       params = own_params (procedure_of c.args.procedure.now);
@@ -78,7 +67,7 @@ returns c =
           (ap length own_is) c.result_width-given.ensures c.requires.room c.requires.params c.requires.widths c.requires.given c.in_ok-code.code c.in_ok-instrs.instrs
           c.in_ok-widths.widths c.in_ok-code.ensures (c.in_ok-instrs.ensures.0 ∙ ap (map (set_in 0 0)) c.as_slice.ensures)
           (subst AllSet c.as_slice.ensures c.in_ok-instrs.ensures.1)
-          (c.in_ok-widths.ensures ∙ ap (λ z. z ++ replicate c.args.temps 4) widths_are));
+          (c.in_ok-widths.ensures ∙ ap (λ z. z ++ replicate c.args.temps 4) c.in_ok-all_widths.ensures));
       onward =
           subst (λ z. has_loop (code_of c.args.procedure.now.body) ≡ false → all_lead_on 0 z.code ≡ true) (sym made_is)
           (procedure_onward c.args.layout.now (procedure_of c.args.procedure.now)
@@ -87,7 +76,7 @@ returns c =
           (ap length own_is) c.result_width-given.ensures c.requires.room c.requires.params c.requires.widths c.requires.given c.in_ok-code.code c.in_ok-instrs.instrs
           c.in_ok-widths.widths c.in_ok-code.ensures (c.in_ok-instrs.ensures.0 ∙ ap (map (set_in 0 0)) c.as_slice.ensures)
           (subst AllSet c.as_slice.ensures c.in_ok-instrs.ensures.1)
-          (c.in_ok-widths.ensures ∙ ap (λ z. z ++ replicate c.args.temps 4) widths_are));
+          (c.in_ok-widths.ensures ∙ ap (λ z. z ++ replicate c.args.temps 4) c.in_ok-all_widths.ensures));
       few = c.keeps.ensures.few;
       refusal = λ e. tt;
     }
