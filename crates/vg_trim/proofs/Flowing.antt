@@ -11,7 +11,7 @@ use Rattle.vg_lin.specs.Program.{Procedure}
 use Rattle.vg_lin.specs.Sound.{behind_plain, behind, GoesOn, Jumps, PlainWaits, Waits}
 use Rattle.vg_trim.specs.declared.flow.Effect.{Effect}
 use Rattle.vg_trim.specs.declared.flow.Effect.TheVariants.{Nothing, Pushes, Pops, Takes}
-use Rattle.vg_trim.specs.Flow.{effect_of_plain, effect_of, target_of, is_return, goes_next, LeadsAlong}
+use Rattle.vg_trim.specs.Flow.{effect_of_plain, effect_of, led_to, is_return, goes_next, LeadsAlong}
 
 -- ---- what waits
 
@@ -82,7 +82,7 @@ module _ (p : Procedure) (w : ℕ → List ℕ) (at : ℕ) where
   gives (Return v a) h = tt {0}
   gives Idle h = tt {0}
 
-  jumps : (i : Instr) (to : ℕ) → target_of i ≡ Some to → Waits p w at i → Jumps p w at to (w at)
+  jumps : (i : Instr) (to : ℕ) → led_to i ≡ Some to → Waits p w at i → Jumps p w at to (w at)
   jumps (Plain i) to e h = absurd (none-some to e)
   jumps (When t x) to e (j, g) = subst (λ z. Jumps p w at z (w at)) (same_Some x to e) j
   jumps (Unless t x) to e (j, g) = subst (λ z. Jumps p w at z (w at)) (same_Some x to e) j
@@ -91,7 +91,7 @@ module _ (p : Procedure) (w : ℕ → List ℕ) (at : ℕ) where
   jumps (Return v a) to e h = absurd (none-some to e)
   jumps Idle to e h = absurd (none-some to e)
 
-  returns : (i : Instr) → is_return i ≡ true → Waits p w at i → w at ≡ []
+  pub returns : (i : Instr) → is_return i ≡ true → Waits p w at i → w at ≡ []
   returns (Plain i) e h = absurd (grind arith)
   returns (When t to) e h = absurd (grind arith)
   returns (Unless t to) e h = absurd (grind arith)
@@ -106,7 +106,7 @@ rest_of : (held rest : List ℕ) (x : ℕ) → held ≡ x ∷ rest → drop 1 he
 rest_of held rest x e = ap (drop 1) e
 
 module _ (p q : Procedure) (w : ℕ → List ℕ) (at : ℕ) (long : length q.code ≡ length p.code) (i : Instr) (h : Waits p w at i) where
-  jumps_too : (to : ℕ) → target_of i ≡ Some to → Jumps q w at to (w at)
+  jumps_too : (to : ℕ) → led_to i ≡ Some to → Jumps q w at to (w at)
   jumps_too to e =
       let (n, (lt, same)) = jumps p w at i to e h in
       (n, (subst (λ k. to < k) (sym long) lt, same))
@@ -129,7 +129,7 @@ module _ (p q : Procedure) (w : ℕ → List ℕ) (at : ℕ) (long : length q.co
   plain_too (CodeOf n to) e g = g refl
   plain_too (Stop c) e g = tt {0}
 
-  pub waits_too : (j : Instr) → effect_of i ≡ effect_of j → LeadsAlong (target_of i) (target_of j) → (is_return j ≡ true → is_return i ≡ true)
+  pub waits_too : (j : Instr) → effect_of i ≡ effect_of j → LeadsAlong (led_to i) (led_to j) → (is_return j ≡ true → is_return i ≡ true)
       → (goes_next j ≡ true → GoesOn q w (suc at) (behind j (w at))) → Waits q w at j
   waits_too (Plain j) e l r g = plain_too j e g
   waits_too (When t to) e l r g = (jumps_too to l, g refl)

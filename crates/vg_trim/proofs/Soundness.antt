@@ -1,15 +1,17 @@
 -- The procedure of a guess that was looked at keeps what every procedure keeps, and is the older one, trimmed.
-use Rattle.std.specs.Prelude.{◌⊎◌, ℕ, zero, suc, ◌<◌, List, [], ◌∷◌, length, Option, Some, slice_get}
+use Rattle.std.specs.Prelude.{◌⊎◌, ℕ, zero, suc, ◌<◌, true, List, [], ◌∷◌, length, Option, Some, None, slice_get}
 use Rattle.std.proofs.Common.{◌≡◌, inl, inr, refl, sym, ap, ◌∙◌, subst, arith}
 use Rattle.std.proofs.lemmas.Option.{slice_get_within}
 use Rattle.vg_lin.specs.declared.instr.Instr.{Instr}
+use Rattle.vg_lin.specs.declared.instr.Instr.TheVariants.{Jump}
 use Rattle.vg_lin.specs.Program.{Procedure}
 use Rattle.vg_lin.specs.Sound.{behind, waits_of, Waits, IsSound}
 use Rattle.vg_lin.proofs.Scanned.{sound_by, waits_marked}
 use Rattle.vg_trimming.specs.declared.facts.Facts.{Facts}
 use Rattle.vg_trimming.specs.Trimmed.{Trims, IsTrimmedTo}
+use Rattle.vg_trim.specs.Flow.{led_to, is_return, LeadsAlong, ReturnsThere, ReturnsLater}
 use Rattle.vg_trim.specs.Looked.{IsInOrder, IsLookedAt}
-use Rattle.vg_trim.proofs.Flowing.{same_behind, waits_too}
+use Rattle.vg_trim.proofs.Flowing.{same_behind, returns, waits_too}
 use Rattle.vg_trim.proofs.Ranged.{ranged}
 
 at_place : {A : Type 0} (xs : List A) (k : ℕ) → k < length xs → (x : A) × (slice_get xs k ≡ Some x)
@@ -27,7 +29,7 @@ module _ (old : Procedure) (widths : List ℕ) (code : List Instr) (fs : List Fa
   record Paired (at : ℕ) (j : Instr) : Type 0 where
     i : Instr
     there : slice_get old.code at ≡ Some i
-    order : IsInOrder widths old.result (length code) at i j
+    order : IsInOrder widths old.result code at i j
 
   paired : (at : ℕ) (j : Instr) → slice_get code at ≡ Some j → Paired at j
   paired at j e =
@@ -38,10 +40,28 @@ module _ (old : Procedure) (widths : List ℕ) (code : List Instr) (fs : List Fa
   marked_at : (at : ℕ) (j : Instr) → Paired at j → w (suc at) ≡ behind j (w at)
   marked_at at j p = waits_marked [] old.code at p.i p.there ∙ same_behind p.i j (w at) p.order.flows.effect
 
+  -- where both codes return nothing waits
+  none_waits : (at : ℕ) (j : Instr) (p : Paired at j) → is_return p.i ≡ true → w at ≡ []
+  none_waits at j p e = returns old w at p.i e (sound.goes_on at p.i p.there)
+
+  goes_later : (at : ℕ) (j : Instr) (p : Paired at j) → ReturnsLater code at p.i j → Waits new w at j
+  goes_later at (Jump to) p (e, lt, there) = by_there (slice_get code to) refl there
+    where
+      by_there : (k : Option Instr) → slice_get code to ≡ k → ReturnsThere k → Waits new w at (Jump to)
+      by_there (Some j) f r =
+          let q = paired to j f in
+          (λ same. absurd (omega (arith, lt, same)), (slice_get_within code to j f, none_waits to j q (q.order.flows.returns r) ∙ sym (none_waits at (Jump to) p e)))
+      by_there None f r = absurd r
+  goes_later at _ p h = absurd h
+
   goes : (at : ℕ) (j : Instr) → Paired at j → Waits new w at j
-  goes at j p =
-      waits_too old new w at looked.long p.i (sound.goes_on at p.i p.there) j p.order.flows.effect p.order.flows.along p.order.flows.returns
-      (λ n. (p.order.flows.next n, marked_at at j p))
+  goes at j p = by_along p.order.flows.along
+    where
+      by_along : LeadsAlong (led_to p.i) (led_to j) ⊎ ReturnsLater code at p.i j → Waits new w at j
+      by_along (inl l) =
+          waits_too old new w at looked.long p.i (sound.goes_on at p.i p.there) j p.order.flows.effect l p.order.flows.returns
+          (λ n. (p.order.flows.next n, marked_at at j p))
+      by_along (inr r) = goes_later at j p r
 
   pub sound_new : IsSound new
   sound_new =

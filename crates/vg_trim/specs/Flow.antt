@@ -1,5 +1,5 @@
 -- Where instructions lead, and what they change of what waits.
-use Rattle.std.specs.Prelude.{◌≡◌, ℕ, suc, ◌<◌, Bool, true, false, Option, Some, None}
+use Rattle.std.specs.Prelude.{◌≡◌, ◌⊎◌, ℕ, suc, ◌<◌, Bool, true, false, List, length, Option, Some, None, slice_get}
 use Rattle.vg_lin.specs.declared.instr.Plain.{Plain as PlainInstr}
 use Rattle.vg_lin.specs.declared.instr.Plain.TheVariants.{Push, Pop, Stop}
 use Rattle.vg_lin.specs.declared.instr.Instr.{Instr}
@@ -17,11 +17,12 @@ effect_of (Plain p) = effect_of_plain p
 effect_of (Call c) = Takes c.pushed
 effect_of i = Nothing
 
-abbrev pub target_of : Instr → Option ℕ
-target_of (When t to) = Some to
-target_of (Unless t to) = Some to
-target_of (Jump to) = Some to
-target_of i = None
+-- The place to which an instruction may lead beside the next one.
+abbrev pub led_to : Instr → Option ℕ
+led_to (When t to) = Some to
+led_to (Unless t to) = Some to
+led_to (Jump to) = Some to
+led_to i = None
 
 abbrev pub is_return : Instr → Bool
 is_return (Return w a) = true
@@ -38,9 +39,19 @@ abbrev pub LeadsAlong : (old new : Option ℕ) → Type 0
 LeadsAlong old None = Unit {0}
 LeadsAlong old (Some to) = old ≡ Some to
 
--- The newer instruction leads only where the older one leads, or to a next one that there is, and both do the same with what waits.
-pub record FlowsAs (count at : ℕ) (i j : Instr) : Type 0 where
+abbrev pub ReturnsThere : Option Instr → Type 0
+ReturnsThere (Some j) = is_return j ≡ true
+ReturnsThere None = ⊥
+
+-- The older one returns, and the newer one jumps to a later one that returns.
+abbrev pub ReturnsLater : (newer : List Instr) → (at : ℕ) → (old new : Instr) → Type 0
+ReturnsLater js at i (Jump to) = (is_return i ≡ true) × (at < to) × ReturnsThere (slice_get js to)
+ReturnsLater js at i j = ⊥
+
+-- The newer instruction leads only where the older one leads, or to a next one that there is, or to a return as the older one is, and both do the same with
+-- what waits.
+pub record FlowsAs (newer : List Instr) (at : ℕ) (i j : Instr) : Type 0 where
   pub effect : effect_of i ≡ effect_of j
-  pub along : LeadsAlong (target_of i) (target_of j)
+  pub along : LeadsAlong (led_to i) (led_to j) ⊎ ReturnsLater newer at i j
   pub returns : is_return j ≡ true → is_return i ≡ true
-  pub next : goes_next j ≡ true → suc at < count
+  pub next : goes_next j ≡ true → suc at < length newer

@@ -11,14 +11,14 @@ use Rattle.vg_trim.specs.Flow.{FlowsAs}
 use Rattle.vg_trim.specs.Ranges.{with_locals}
 
 -- The instruction of the newer code has its operands in range, and leads where that of the older code leads.
-pub record IsInOrder (new : List ℕ) (result count at : ℕ) (i j : Instr) : Type 0 where
+pub record IsInOrder (new : List ℕ) (result : ℕ) (newer : List Instr) (at : ℕ) (i j : Instr) : Type 0 where
   pub operands : AreOperands (with_locals new result) j
-  pub flows : FlowsAs count at i j
+  pub flows : FlowsAs newer at i j
 
 -- It also stands for that of the older code, at a place of both codes.
 pub record IsPlaceInOrder (old new : List ℕ) (fs : List Facts) (older newer : List Instr) (result at : ℕ) : Type 0 where
   pub stands : stands_at old new fs newer at (slice_get fs at) (slice_get older at) (slice_get newer at) ≡ true
-  pub order : (i j : Instr) → slice_get older at ≡ Some i → slice_get newer at ≡ Some j → IsInOrder new result (length newer) at i j
+  pub order : (i j : Instr) → slice_get older at ≡ Some i → slice_get newer at ≡ Some j → IsInOrder new result newer at i j
 
 -- The locals are few, of one to four bytes, and the parameters are the same.
 pub record HasLocals (params : ℕ) (old new : List ℕ) : Type 0 where

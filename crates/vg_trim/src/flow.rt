@@ -1,6 +1,6 @@
 // Where instructions lead, and what they change of what waits.
-ghost use Rattle.std.specs.Prelude.{◌≡◌, IsTrue};
-ghost use Rattle.vg_trim.specs.Flow.{effect_of_plain, effect_of, target_of, is_return, goes_next, LeadsAlong, FlowsAs};
+ghost use Rattle.std.specs.Prelude.{◌≡◌, ◌⊎◌, IsTrue, slice_get};
+ghost use Rattle.vg_trim.specs.Flow.{effect_of_plain, effect_of, led_to, is_return, goes_next, LeadsAlong, ReturnsThere, ReturnsLater, FlowsAs};
 
 use vg_lin::{Instr, Plain};
 
@@ -49,8 +49,8 @@ fn same_effect(a: Effect, b: Effect) -> bool
 }
 
 /// The place to which an instruction may lead beside the next one.
-fn target_of(instr: Instr) -> Option<u16>
-    ensures { result ≡ target_of instr }
+fn led_to(instr: Instr) -> Option<u16>
+    ensures { result ≡ led_to instr }
 {
     match instr {
         Instr::When(_, to) => Some(to),
@@ -83,23 +83,50 @@ fn goes_next(instr: Instr) -> bool
 
 /// Whether the newer instruction leads nowhere beside the next one, or where the older one leads.
 fn leads_along(i: Instr, j: Instr) -> bool
-    ensures { IsTrue result → LeadsAlong (target_of i) (target_of j) }
+    ensures { IsTrue result → LeadsAlong (led_to i) (led_to j) }
 {
-    match target_of(j) {
+    match led_to(j) {
         None => true,
-        Some(to) => match target_of(i) {
+        Some(to) => match led_to(i) {
             None => false,
             Some(place) => place == to,
         },
     }
 }
 
-/// Whether the newer instruction leads only where the older one leads, or to a next one that there is, and both do the same with what waits.
-pub fn flows_as(count: usize, at: u16, i: Instr, j: Instr) -> bool
-    ensures { IsTrue result → FlowsAs count at i j }
+fn returns_there(code: &[Instr], place: u16) -> bool
+    ensures { IsTrue result → ReturnsThere (slice_get code.now place) }
+{
+    match code.get(usize::from(place)) {
+        Some(instr) => is_return(*instr),
+        None => false,
+    }
+}
+
+/// Whether the older instruction returns, and the newer one jumps to a later one that returns.
+fn returns_later(newer: &[Instr], at: u16, i: Instr, j: Instr) -> bool
+    ensures { IsTrue result → ReturnsLater newer.now at i j }
+{
+    match j {
+        Instr::Jump(to) => is_return(i) && at < to && returns_there(newer, to),
+        _ => false,
+    }
+}
+
+/// Whether the newer instruction leads where it may.
+fn leads(newer: &[Instr], at: u16, i: Instr, j: Instr) -> bool
+    ensures { IsTrue result → LeadsAlong (led_to i) (led_to j) ⊎ ReturnsLater newer.now at i j }
+{
+    leads_along(i, j) || returns_later(newer, at, i, j)
+}
+
+/// Whether the newer instruction leads only where the older one leads, or to a next one that there is, or to a return as the older one is, and both do the
+/// same with what waits.
+pub fn flows_as(newer: &[Instr], at: u16, i: Instr, j: Instr) -> bool
+    ensures { IsTrue result → FlowsAs newer.now at i j }
 {
     same_effect(effect_of(i), effect_of(j))
-        && leads_along(i, j)
+        && leads(newer, at, i, j)
         && (!is_return(j) || is_return(i))
-        && (!goes_next(j) || usize::from(at) + 1 < count)
+        && (!goes_next(j) || usize::from(at) + 1 < newer.len())
 }

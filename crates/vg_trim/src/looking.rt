@@ -125,14 +125,14 @@ fn place_in_order(
     match (facts.get(place), older.get(place), newer.get(place)) {
         (Some(known), Some(i), Some(j)) => {
             place_stands(old, new, facts, newer, at, known, *i, *j)
-                && in_order(new, result_width, newer.len(), at, *i, *j)
+                && in_order(new, result_width, newer, at, *i, *j)
         }
         _ => false,
     }
 }
 
-fn in_order(new: &[u8], result_width: u8, count: usize, at: u16, i: Instr, j: Instr) -> bool
-    ensures { IsTrue result → IsInOrder new.now result_width count at i j }
+fn in_order(new: &[u8], result_width: u8, newer: &[Instr], at: u16, i: Instr, j: Instr) -> bool
+    ensures { IsTrue result → IsInOrder new.now result_width newer.now at i j }
 {
-    are_operands(new, result_width, j) && flows_as(count, at, i, j)
+    are_operands(new, result_width, j) && flows_as(newer, at, i, j)
 }

@@ -14,7 +14,11 @@ pub fn trim(alloc: Global, old: &LinProc) -> Result<LinProc, NoMemory>
     ensures trimmed { IfOk result (λ new. IsTrimmedTo old.now new) }
     ensures long { IfOk result (λ new. length new.code ≡ length old.now.code) }
 {
-    let guess = plan(alloc, old)?;
+    let bold = plan(alloc, old, true)?;
+    if trims(old, &bold) {
+        return Ok(trimmed(old, bold));
+    }
+    let guess = plan(alloc, old, false)?;
     if trims(old, &guess) {
         Ok(trimmed(old, guess))
     } else {

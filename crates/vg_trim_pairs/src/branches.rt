@@ -121,6 +121,7 @@ pub fn no_change() -> Change
         new: None,
         gain: Gain::Nothing,
         filled: None,
+        worked: None,
     }
 }
 
@@ -133,6 +134,7 @@ pub fn filling(local: Option<u8>) -> Change
         new: None,
         gain: Gain::Nothing,
         filled: local,
+        worked: None,
     }
 }
 
@@ -145,6 +147,7 @@ fn spoiling(local: u8) -> Change
         new: Some(local),
         gain: Gain::Nothing,
         filled: None,
+        worked: None,
     }
 }
 

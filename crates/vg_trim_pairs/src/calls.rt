@@ -76,6 +76,7 @@ pub fn call_change(old: &[u8], new: &[u8], c: Call, d: Call) -> Change
         new: to,
         gain: gain_in(old, new, from, to, 5),
         filled: None,
+        worked: None,
     }
 }
 

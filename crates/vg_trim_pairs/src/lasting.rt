@@ -2,11 +2,12 @@
 ghost use Rattle.std.specs.Prelude.{◌≡◌, true, nat_lt, slice_get, if◌then◌else◌};
 ghost use Rattle.vg_lin.specs.declared.instr.Operand.TheVariants.{Local};
 ghost use Rattle.vg_trimming.specs.Facts.{same_home, gains, twin_lasts, twins_last, stays_filled, all_stay_filled, leads, leads_at, begins_so};
-ghost use Rattle.vg_trimming.specs.Facts.{is_none_filled, begins_with};
+ghost use Rattle.vg_trimming.specs.Facts.{is_none_filled, is_none_worked, begins_with};
 
 use crate::homes::{bytes_of, is_filled, is_it, is_twin, overwrites, same_home, stands_for};
+use crate::worked::all_stay_worked;
 use vg_lin::Operand;
-use vg_trimming::{Change, Facts, Gain, Twin};
+use vg_trimming::{Change, Facts, Gain, Twin, Worked};
 
 /// Whether the newer code has the new value there.
 fn gains(widths: &[u8], twins: &[Twin], new: Option<u8>, gain: Gain, home: Operand) -> bool
@@ -72,6 +73,7 @@ fn leads(widths: &[u8], before: &Facts, change: Change, behind: &Facts) -> bool
             behind.twins.as_slice(),
         )
         && all_stay_filled(before.filled.as_slice(), change, behind.filled.as_slice())
+        && all_stay_worked(before.worked.as_slice(), change, behind.worked.as_slice())
 }
 
 /// Whether what is known at a place follows from what is known before an instruction that leads there, by what it changes.
@@ -108,6 +110,15 @@ fn is_none_filled(filled: &[u8]) -> bool
     }
 }
 
+fn is_none_worked(worked: &[Worked]) -> bool
+    ensures { result ≡ is_none_worked worked.now }
+{
+    match worked {
+        [] => true,
+        _ => false,
+    }
+}
+
 /// Whether no more is known at the first place than what holds there.
 pub fn begins_with(params: u8, facts: &[Facts]) -> bool
     ensures { result ≡ begins_with params (slice_get facts.now 0) }
@@ -117,6 +128,7 @@ pub fn begins_with(params: u8, facts: &[Facts]) -> bool
             known.reached
                 && begins_so(params, known.twins.as_slice())
                 && is_none_filled(known.filled.as_slice())
+                && is_none_worked(known.worked.as_slice())
         }
         None => false,
     }

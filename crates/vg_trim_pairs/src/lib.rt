@@ -7,6 +7,7 @@ pub mod homes;
 pub mod lasting;
 pub mod places;
 pub mod plains;
+pub mod worked;
 
 pub use lasting::begins_with;
 pub use places::place_stands;

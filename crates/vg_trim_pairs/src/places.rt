@@ -1,14 +1,48 @@
 // What stands at a place of the newer code.
 ghost use Rattle.std.specs.Prelude.{◌≡◌, true, length, IsTrue};
-ghost use Rattle.vg_trimming.specs.Trimming.{instr_stands, is_quiet, may_stand, place_stands};
+ghost use Rattle.std.specs.Prelude.{slice_get};
+ghost use Rattle.vg_trimming.specs.Trimming.{gives_same, returns_there, instr_stands, is_quiet, may_stand, place_stands};
 
 use crate::branches::{check_left_out, checked, filling, no_change, same_test};
 use crate::calls::{call_change, same_call};
 use crate::homes::stands_for;
 use crate::lasting::leads_at;
-use crate::plains::{left_out_stands, narrower_stands, plain_stands};
+use crate::plains::{plain_stands, shorter_stands};
 use vg_lin::{Instr, Operand, Plain};
-use vg_trimming::Facts;
+use vg_trimming::{Facts, Twin};
+
+// Whether this instruction gives the same back, in so many bytes.
+fn gives_same(twins: &[Twin], width: u8, value: Operand, instr: Option<Instr>) -> bool
+    ensures { IsTrue result → gives_same twins.now width value instr ≡ true }
+{
+    match instr {
+        Some(Instr::Return(v, other)) => width == v && stands_for(twins, value, other),
+        _ => false,
+    }
+}
+
+fn instr_at(code: &[Instr], place: u16) -> Option<Instr>
+    ensures { result ≡ slice_get code.now place }
+{
+    match code.get(usize::from(place)) {
+        Some(instr) => Some(*instr),
+        None => None,
+    }
+}
+
+// Whether the newer code gives the same back at a later place.
+fn returns_there(
+    twins: &[Twin],
+    newer: &[Instr],
+    at: u16,
+    width: u8,
+    value: Operand,
+    to: u16,
+) -> bool
+    ensures { IsTrue result → returns_there twins.now newer.now at width value to ≡ true }
+{
+    at < to && gives_same(twins, width, value, instr_at(newer, to))
+}
 
 /// Whether an instruction of the newer code may stand for one of the older code, by what is known before it.
 fn instr_stands(
@@ -28,8 +62,7 @@ fn instr_stands(
     match (i, j) {
         (Instr::Plain(p), Instr::Plain(q)) => {
             plain_stands(old, new, facts, before, at, p, q)
-                || narrower_stands(old, new, facts, before, at, p, q)
-                || left_out_stands(old, new, facts, before, at, p, q)
+                || shorter_stands(old, new, facts, before, at, p, q)
         }
         (Instr::When(t, to), Instr::When(u, place)) => {
             to == place
@@ -54,6 +87,7 @@ fn instr_stands(
                 && leads_at(new, facts, before, call_change(old, new, c, d), next)
         }
         (Instr::Return(w, u), Instr::Return(v, z)) => w == v && stands_for(twins, u, z),
+        (Instr::Return(w, u), Instr::Jump(to)) => returns_there(twins, newer, at, w, u, to),
         (Instr::Idle, Instr::Idle) => leads_at(new, facts, before, no_change(), next),
         _ => false,
     }

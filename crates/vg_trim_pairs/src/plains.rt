@@ -1,31 +1,15 @@
 // Plain instructions.
 ghost use Rattle.std.specs.Prelude.{◌≡◌, ℕ, true, suc, IsTrue};
 ghost use Rattle.vg_lin.specs.declared.instr.Plain.TheVariants.{Compute};
-ghost use Rattle.vg_trimming.specs.Trimming.{same_operator, same_memory, same_plain, target_of, result_bytes, is_paired, gain_in, both_change, is_pure};
+ghost use Rattle.vg_trimming.specs.Trimming.{same_memory, same_plain, target_of, result_bytes, is_paired, gain_in, keeps_operands, worked_in, both_change, is_pure};
 ghost use Rattle.vg_trimming.specs.Trimming.{copied, left_out, is_stop, plain_stands, left_out_stands, fits_result, narrower, narrower_stands};
+ghost use Rattle.vg_trimming.specs.Trimming.{found_in, reused, reuses, reused_stands, shorter_stands};
 
-use crate::homes::{bytes_of, stands_for, width_of};
+use crate::homes::{bytes_of, overwrites, stands_for, width_of};
 use crate::lasting::leads_at;
+use crate::worked::{found_for, same_operator};
 use vg_lin::{Computation, Memory, Operand, Operator, Plain};
-use vg_trimming::{Change, Facts, Gain, Twin};
-
-fn same_operator(a: Operator, b: Operator) -> bool
-    ensures { IsTrue result → same_operator a b ≡ true }
-{
-    match (a, b) {
-        (Operator::Plus, Operator::Plus) => true,
-        (Operator::Minus, Operator::Minus) => true,
-        (Operator::Times, Operator::Times) => true,
-        (Operator::Divide, Operator::Divide) => true,
-        (Operator::Remainder, Operator::Remainder) => true,
-        (Operator::And, Operator::And) => true,
-        (Operator::Or, Operator::Or) => true,
-        (Operator::Xor, Operator::Xor) => true,
-        (Operator::ShiftLeft, Operator::ShiftLeft) => true,
-        (Operator::ShiftRight, Operator::ShiftRight) => true,
-        _ => false,
-    }
-}
+use vg_trimming::{Change, Facts, Gain, Twin, Worked};
 
 fn same_memory(a: Memory, b: Memory) -> bool
     ensures { IsTrue result → same_memory a b ≡ true }
@@ -126,6 +110,39 @@ pub fn gain_in(old: &[u8], new: &[u8], x: Option<u8>, y: Option<u8>, bytes: u8) 
     }
 }
 
+// Whether the result of a computation goes to none of its operands.
+fn keeps_operands(c: Computation) -> bool
+    ensures { result ≡ keeps_operands c }
+{
+    !overwrites(Some(c.to), c.left) && !overwrites(Some(c.to), c.right)
+}
+
+// What the newer code has of a computation, where both compute the same and it keeps all of it.
+fn worked_of(new: &[u8], c: Computation, d: Computation) -> Option<Worked>
+    ensures { result ≡ worked_in new.now (Compute c) (Compute d) }
+{
+    if c.width == d.width && d.width <= width_of(new, d.to, 0) && keeps_operands(c) {
+        Some(Worked {
+            operator: c.operator,
+            width: c.width,
+            left: c.left,
+            right: c.right,
+            home: d.to,
+        })
+    } else {
+        None
+    }
+}
+
+fn worked_in(new: &[u8], p: Plain, q: Plain) -> Option<Worked>
+    ensures { result ≡ worked_in new.now p q }
+{
+    match (p, q) {
+        (Plain::Compute(c), Plain::Compute(d)) => worked_of(new, c, d),
+        _ => None,
+    }
+}
+
 fn both_change(old: &[u8], new: &[u8], p: Plain, q: Plain) -> Change
     ensures { result ≡ both_change old.now new.now p q }
 {
@@ -136,6 +153,7 @@ fn both_change(old: &[u8], new: &[u8], p: Plain, q: Plain) -> Change
         new: to,
         gain: gain_in(old, new, from, to, result_bytes(new, q)),
         filled: None,
+        worked: worked_in(new, p, q),
     }
 }
 
@@ -171,6 +189,7 @@ fn left_out(old: &[u8], plain: Plain, spoiled: u8) -> Change
         new: Some(spoiled),
         gain: copied(old, plain),
         filled: None,
+        worked: None,
     }
 }
 
@@ -241,7 +260,7 @@ fn narrower(new: &[u8], twins: &[Twin], p: Plain, q: Plain) -> bool
 }
 
 /// Whether the second instruction stands for the first, and computes the same with fewer bytes.
-pub fn narrower_stands(
+fn narrower_stands(
     old: &[u8],
     new: &[u8],
     facts: &[Facts],
@@ -263,7 +282,7 @@ pub fn narrower_stands(
 }
 
 /// Whether the first instruction may be left out, for the second in its place.
-pub fn left_out_stands(
+fn left_out_stands(
     old: &[u8],
     new: &[u8],
     facts: &[Facts],
@@ -287,4 +306,94 @@ pub fn left_out_stands(
         }
         _ => false,
     }
+}
+
+// The local in which the newer code has the result of a computation, where the older code's local holds all of it and no other value comes there.
+fn found_in(old: &[u8], c: Computation, spoiled: u8, known: Option<Worked>) -> Option<u8>
+    ensures { result ≡ found_in old.now c spoiled known }
+{
+    match known {
+        Some(worked) => {
+            if c.width <= width_of(old, c.to, 0) && worked.home != spoiled {
+                Some(worked.home)
+            } else {
+                None
+            }
+        }
+        None => None,
+    }
+}
+
+fn reused(spoiled: u8, c: Computation, home: u8) -> Change
+    ensures { result ≡ reused spoiled c home }
+{
+    Change {
+        old: Some(c.to),
+        new: Some(spoiled),
+        gain: Gain::In(home),
+        filled: None,
+        worked: None,
+    }
+}
+
+fn reuses(
+    new: &[u8],
+    facts: &[Facts],
+    before: &Facts,
+    at: u16,
+    c: Computation,
+    spoiled: u8,
+    home: Option<u8>,
+) -> bool
+    ensures { result ≡ reuses new.now facts.now before.now at c spoiled home }
+{
+    match home {
+        Some(local) => leads_at(
+            new,
+            facts,
+            before,
+            reused(spoiled, c, local),
+            usize::from(at) + 1,
+        ),
+        None => false,
+    }
+}
+
+/// Whether what the first instruction computes is there already, for the second in its place.
+fn reused_stands(
+    old: &[u8],
+    new: &[u8],
+    facts: &[Facts],
+    before: &Facts,
+    at: u16,
+    p: Plain,
+    q: Plain,
+) -> bool
+    ensures { IsTrue result → reused_stands old.now new.now facts.now before.now at p q ≡ true }
+{
+    match (p, q) {
+        (Plain::Compute(c), Plain::Copy(spoiled, Operand::Known(_))) => {
+            let known = found_for(before.worked.as_slice(), c);
+            let home = found_in(old, c, spoiled, known);
+            reuses(new, facts, before, at, c, spoiled, home)
+        }
+        _ => false,
+    }
+}
+
+/// Whether the second instruction stands for the first, and does with less.
+pub fn shorter_stands(
+    old: &[u8],
+    new: &[u8],
+    facts: &[Facts],
+    before: &Facts,
+    at: u16,
+    p: Plain,
+    q: Plain,
+) -> bool
+    ensures { IsTrue result → shorter_stands old.now new.now facts.now before.now at p q ≡ true }
+{
+    narrower_stands(old, new, facts, before, at, p, q)
+        || left_out_stands(old, new, facts, before, at, p, q)
+        || reused_stands(old, new, facts, before, at, p, q)
 }

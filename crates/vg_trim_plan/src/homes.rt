@@ -21,6 +21,8 @@ pub struct Homes {
     pub now: Vec<Option<Operand>>,
     /// The local for values that nobody needs.
     pub spare: Option<u8>,
+    /// For each kept computation the local with its result.
+    pub works: Vec<u8>,
 }
 
 impl Homes {
@@ -33,6 +35,7 @@ impl Homes {
             owns: Vec::from_elem(alloc, None, count)?,
             now: Vec::from_elem(alloc, None, count)?,
             spare: None,
+            works: Vec::new(alloc),
         };
         let mut local = 0u8;
         for width in widths {

@@ -12,7 +12,9 @@ pub mod living;
 pub mod making;
 pub mod mapping;
 pub mod planning;
+pub mod returning;
 pub mod sizes;
+pub mod working;
 
 pub use guess::Plan;
 pub use planning::plan;

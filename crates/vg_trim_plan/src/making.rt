@@ -7,6 +7,7 @@ use crate::joining::{Ways, is_at, next_in};
 use crate::living::{Life, is_behind, is_crossing_behind};
 use crate::mapping::{filler, mapped, mapped_call, mapped_test};
 use crate::sizes::{bytes_of, narrowed, result_bytes, width_of};
+use crate::working::{Seen, Works};
 use vg_base::Refusal;
 use vg_lin::{Call, Instr, Operand, Operator, Plain, Target};
 
@@ -21,11 +22,24 @@ pub struct Older<'a> {
     pub bytes: &'a [u8],
     /// Whether a value may stand in a local with more bytes than it needs, so that there are fewer locals.
     pub is_tight: bool,
+    /// The computations whose results are kept.
+    pub works: &'a Works,
 }
 
 impl Older<'_> {
     fn next(&self, instr: Instr, place: usize) -> Next {
         next_in(self.ways.needless.as_slice(), instr, place)
+    }
+
+    // The kept computation that an instruction does.
+    fn work_in(&self, instr: Instr, place: usize) -> Option<usize> {
+        let seen = Seen {
+            code: self.code,
+            widths: self.widths,
+            ways: self.ways,
+            life: self.life,
+        };
+        seen.work_in(self.works, instr, place)
     }
 
     fn is_needed(&self, next: Next, local: u8) -> bool {
@@ -129,6 +143,11 @@ fn made_plain(
         }
         return Ok(Instr::Plain(made));
     }
+    if let Some(number) = older.work_in(instr, place) {
+        if number < homes.works.len() {
+            return made_work(older, homes, plain, local, place, number);
+        }
+    }
     match plain {
         Plain::Copy(_, value) => made_copy(older, homes, local, value, place),
         _ => {
@@ -138,6 +157,28 @@ fn made_plain(
             Ok(Instr::Plain(made))
         }
     }
+}
+
+// A kept computation: it is left out where its result is there.
+fn made_work(
+    older: &Older<'_>,
+    homes: &mut Homes,
+    plain: Plain,
+    local: u8,
+    place: usize,
+    number: usize,
+) -> Result<Instr, Refusal<NoRoom>> {
+    if number >= homes.works.len() {
+        return Err(Refusal::Fault(NoRoom));
+    }
+    let home = homes.works[number];
+    if older.works.there.has(place, number) {
+        homes.set(local, Some(Operand::Local(home)));
+        return Ok(filler(homes.spare()?));
+    }
+    let made = mapped(homes, plain, home);
+    homes.give(local, home);
+    Ok(Instr::Plain(made))
 }
 
 fn made_copy(

@@ -8,31 +8,48 @@ use crate::joining::{find_ways, is_at, next_in};
 use crate::living::find_life;
 use crate::making::{Older, is_filled, is_live, made, note_bytes};
 use crate::mapping::{filler, stand_in};
+use crate::returning::shared;
+use crate::working::{Seen, Works, find_works};
 use std::alloc::Global;
 use vg_base::{NoMemory, Refusal, Row};
 use vg_lin::{Instr, LinProc, Operand, Operator, Plain};
-use vg_trimming::{Facts, Twin};
+use vg_trimming::{Facts, Twin, Worked};
 
-/// A guess at the trimmed procedure. Where there is none nothing is known at any place.
-pub fn plan(alloc: Global, procedure: &LinProc) -> Result<Plan, NoMemory> {
+/// A guess at the trimmed procedure; a bold one keeps results of computations that are done again. Where there is none nothing is known at any place.
+pub fn plan(alloc: Global, procedure: &LinProc, is_bold: bool) -> Result<Plan, NoMemory> {
     if are_known(procedure.code()) {
-        if let Some(plan) = plan_within(alloc, procedure, false)? {
+        if is_bold {
+            if let Some(plan) = plan_within(alloc, procedure, Manner::Bold)? {
+                return Ok(plan);
+            }
+        }
+        if let Some(plan) = plan_within(alloc, procedure, Manner::Plain)? {
             return Ok(plan);
         }
-        if let Some(plan) = plan_within(alloc, procedure, true)? {
+        if let Some(plan) = plan_within(alloc, procedure, Manner::Tight)? {
             return Ok(plan);
         }
     }
     as_it_is(alloc)
 }
 
+// How a guess is made.
+#[derive(Clone, Copy, PartialEq, Eq)]
+enum Manner {
+    // results of computations are kept
+    Bold,
+    Plain,
+    // with few locals
+    Tight,
+}
+
 // A guess whose locals take few bytes, if there is one.
 fn plan_within(
     alloc: Global,
     procedure: &LinProc,
-    is_tight: bool,
+    manner: Manner,
 ) -> Result<Option<Plan>, NoMemory> {
-    match planned(alloc, procedure, is_tight) {
+    match planned(alloc, procedure, manner) {
         Ok(plan) => {
             if sum_of(plan.widths.as_slice()) <= most_of(procedure) {
                 Ok(Some(plan))
@@ -113,7 +130,7 @@ fn as_it_is(alloc: Global) -> Result<Plan, NoMemory> {
     })
 }
 
-fn planned(alloc: Global, procedure: &LinProc, is_tight: bool) -> Result<Plan, Refusal<NoRoom>> {
+fn planned(alloc: Global, procedure: &LinProc, manner: Manner) -> Result<Plan, Refusal<NoRoom>> {
     let code = procedure.code();
     let widths = procedure.widths();
     let filled = filled(alloc, code, widths.len())?;
@@ -122,13 +139,25 @@ fn planned(alloc: Global, procedure: &LinProc, is_tight: bool) -> Result<Plan, R
     let life = find_life(alloc, code, &ways, widths.len())?;
     let mut bytes = Vec::from_elem(alloc, 0u8, widths.len())?;
     note_bytes(code, widths, &ways, &life, bytes.as_mut_slice());
+    let works = if manner == Manner::Bold {
+        let seen = Seen {
+            code,
+            widths,
+            ways: &ways,
+            life: &life,
+        };
+        find_works(alloc, &seen)?
+    } else {
+        Works::none(alloc)?
+    };
     let older = Older {
         code,
         widths,
         ways: &ways,
         life: &life,
         bytes: bytes.as_slice(),
-        is_tight,
+        is_tight: manner == Manner::Tight,
+        works: &works,
     };
     laid(alloc, &older, &filled, usize::from(procedure.params()))
 }
@@ -172,15 +201,20 @@ fn laid(
         facts: Row::new(alloc),
         entries,
     };
+    for kind in older.works.kinds.as_slice() {
+        let home = work.homes.add(kind.width, true)?;
+        work.homes.works.push(home)?;
+    }
     settle(older, &mut work.homes, 0)?;
     let mut flows = true;
     for place in 0..older.code.len() {
         flows = lay(alloc, older, filled, &mut work, place, flows)?;
     }
     let widths = Row::from_slice(alloc, work.homes.widths.as_slice())?;
+    let code = shared(work.code, params, widths.as_slice());
     Ok(Plan {
         widths,
-        code: work.code,
+        code,
         facts: work.facts,
     })
 }
@@ -249,6 +283,7 @@ fn unreached(alloc: Global) -> Facts {
         reached: false,
         twins: Row::new(alloc),
         filled: Row::new(alloc),
+        worked: Row::new(alloc),
     }
 }
 
@@ -283,7 +318,31 @@ fn known(
         reached: true,
         twins,
         filled: sure,
+        worked: worked_at(alloc, older, homes, place)?,
     })
+}
+
+// The results of kept computations that are there at a place.
+fn worked_at(
+    alloc: Global,
+    older: &Older<'_>,
+    homes: &Homes,
+    place: usize,
+) -> Result<Row<Worked>, NoMemory> {
+    let mut worked = Row::new(alloc);
+    for number in 0..older.works.kinds.len() {
+        if number < homes.works.len() && older.works.there.has(place, number) {
+            let kind = older.works.kinds[number];
+            worked.push(Worked {
+                operator: kind.operator,
+                width: kind.width,
+                left: kind.left,
+                right: kind.right,
+                home: homes.works[number],
+            })?;
+        }
+    }
+    Ok(worked)
 }
 
 // Where the needed values of a place stand.

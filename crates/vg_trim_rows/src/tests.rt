@@ -1,8 +1,8 @@
 use std::alloc::Global;
 use vg_base::{NoMemory, Row};
-use vg_lin::{Comparison, Instr, Operand, Plain, Test};
+use vg_lin::{Comparison, Computation, Instr, Operand, Operator, Plain, Test};
 use vg_trim::looks_right;
-use vg_trimming::{Facts, Twin};
+use vg_trimming::{Facts, Twin, Worked};
 
 // A branch over a stop, which is taken where the first local is not 0.
 fn check(to: u16) -> Instr {
@@ -64,6 +64,7 @@ fn facts_of(alloc: Global, known: Known) -> Result<Facts, NoMemory> {
         reached,
         twins,
         filled: locals,
+        worked: Row::new(alloc),
     })
 }
 
@@ -83,16 +84,20 @@ fn stands(
     known: &[Known],
 ) -> Result<bool, NoMemory> {
     let facts = all_facts(alloc, known)?;
+    Ok(stands_by(older, newer, facts.as_slice()))
+}
+
+fn stands_by(older: &[Instr], newer: &[Instr], facts: &[Facts]) -> bool {
     let widths: [u8; 3] = [2, 2, 2];
-    Ok(looks_right(
+    looks_right(
         1,
         2,
         widths.as_slice(),
         widths.as_slice(),
-        facts.as_slice(),
+        facts,
         older,
         newer,
-    ))
+    )
 }
 
 // The first local is checked, copied to the second, and checked again. The copy and the second check are left out, with this local in their place. This is
@@ -177,4 +182,115 @@ fn waiting_values_stay(rt: HostRuntime) {
     let pushed = never_pushed(alloc, other);
     let left_out = never_pushed(alloc, copy(2, Operand::Known(0)));
     assert!(rt; pushed == Ok(true) && left_out == Ok(false));
+}
+
+// The first local times a number goes to a local.
+fn times(to: u8, factor: u32) -> Instr {
+    Instr::Plain(Plain::Compute(Computation {
+        operator: Operator::Times,
+        width: 2,
+        to,
+        left: Operand::Local(0),
+        right: Operand::Known(factor),
+    }))
+}
+
+// The first local stands where it stood, and perhaps the second one too; and perhaps this local has the first one times a number.
+fn facts_with(
+    alloc: Global,
+    is_second: bool,
+    product: Option<(u8, u32)>,
+) -> Result<Facts, NoMemory> {
+    let mut twins = Row::new(alloc);
+    twins.push(Twin {
+        local: 0,
+        home: Operand::Local(0),
+    })?;
+    if is_second {
+        twins.push(Twin {
+            local: 1,
+            home: Operand::Local(1),
+        })?;
+    }
+    let mut worked = Row::new(alloc);
+    if let Some((home, factor)) = product {
+        worked.push(Worked {
+            operator: Operator::Times,
+            width: 2,
+            left: Operand::Local(0),
+            right: Operand::Known(factor),
+            home,
+        })?;
+    }
+    Ok(Facts {
+        reached: true,
+        twins,
+        filled: Row::new(alloc),
+        worked,
+    })
+}
+
+// The first local times 4 goes to the second one; then comes this instruction; and then the first one times a number goes to the second one again, which is
+// left out, with this local in its place. It is known before and behind the instruction that this local has the product by this number.
+fn multiplied_twice(
+    alloc: Global,
+    between: Instr,
+    factor: u32,
+    spoiled: u8,
+    product: (u8, u32),
+) -> Result<bool, NoMemory> {
+    let older = [times(1, 4), between, times(1, factor), give(1)];
+    let newer = [
+        times(1, 4),
+        between,
+        copy(spoiled, Operand::Known(0)),
+        give(1),
+    ];
+    let mut facts = Row::new(alloc);
+    facts.push(facts_with(alloc, false, None)?)?;
+    facts.push(facts_with(alloc, false, Some(product))?)?;
+    facts.push(facts_with(alloc, false, Some(product))?)?;
+    facts.push(facts_with(alloc, true, None)?)?;
+    Ok(stands_by(older.as_slice(), newer.as_slice(), facts.as_slice()))
+}
+
+// A return, or a jump to that place, stands before a return of the local. It is the first local's value that the older code gives back.
+fn returned_twice(alloc: Global, to: u16, last: u8) -> Result<bool, NoMemory> {
+    let older = [check(2), give(0), give(last)];
+    let newer = [check(2), Instr::Jump(to), give(last)];
+    let mut facts = Row::new(alloc);
+    for _place in 0..3u8 {
+        facts.push(facts_with(alloc, last == 1, None)?)?;
+    }
+    Ok(stands_by(older.as_slice(), newer.as_slice(), facts.as_slice()))
+}
+
+// What was computed before is not computed again, but another product is, and one of a local that got another value.
+#[test]
+fn products_are_used_again(rt: HostRuntime) {
+    let alloc = rt.alloc();
+    let device = Instr::Plain(Plain::WriteDevice(0x38, Operand::Local(0)));
+    let again = multiplied_twice(alloc, device, 4, 2, (1, 4));
+    let other = multiplied_twice(alloc, device, 2, 2, (1, 4));
+    let claimed = multiplied_twice(alloc, device, 2, 2, (1, 2));
+    let elsewhere = multiplied_twice(alloc, device, 4, 1, (2, 4));
+    let spoiled = multiplied_twice(alloc, device, 4, 1, (1, 4));
+    assert!(rt; again == Ok(true) && other == Ok(false) && claimed == Ok(false));
+    assert!(rt; elsewhere == Ok(false) && spoiled == Ok(false));
+    let changed = copy(0, Operand::Known(7));
+    let stale = multiplied_twice(alloc, changed, 4, 2, (1, 4));
+    assert!(rt; stale == Ok(false));
+}
+
+// In place of a return may stand a jump to a later one that gives the same back; none to an earlier place, and none to a return of another local.
+#[test]
+fn returns_are_shared(rt: HostRuntime) {
+    let alloc = rt.alloc();
+    let shared = returned_twice(alloc, 2, 0);
+    let back = returned_twice(alloc, 0, 0);
+    let itself = returned_twice(alloc, 1, 0);
+    let other = returned_twice(alloc, 2, 1);
+    assert!(rt;
+        shared == Ok(true) && back == Ok(false) && itself == Ok(false) && other == Ok(false)
+    );
 }

@@ -23,11 +23,12 @@ use Rattle.vg_lin.specs.Meaning.{with_result, resume}
 use Rattle.vg_expand.proofs.Holding.{begun_holds, resume_holds}
 use Rattle.vg_trimming.specs.declared.facts.Twin.{Twin}
 use Rattle.vg_trimming.specs.declared.facts.Facts.{Facts}
-use Rattle.vg_trimming.specs.Facts.{same_home, is_twin, stands_for, is_filled, leads_in, begins_so, is_none_filled, begins_with}
+use Rattle.vg_trimming.specs.declared.facts.Worked.{Worked}
+use Rattle.vg_trimming.specs.Facts.{same_home, is_twin, stands_for, is_filled, leads_in, begins_so, is_none_filled, is_none_worked, begins_with}
 use Rattle.vg_trimming.specs.Trimming.{gain_in, same_callee, same_passed, same_registers, same_target, local_of, call_change, same_call}
 use Rattle.vg_trimming.specs.Trimmed.{Trims, IsTrimmedTo}
 use Rattle.vg_trimming.specs.Runs.{AreBytes}
-use Rattle.vg_trimming.proofs.Homes.{no, same_number, same_home_is, local, other_local, Twinned, Steady, Agree, stands, Changed, behind}
+use Rattle.vg_trimming.proofs.Homes.{no, same_number, same_home_is, local, other_local, Twinned, AreThere, Steady, Agree, stands, Changed, behind}
 use Rattle.vg_trimming.proofs.Places.{none_changed, both_changed}
 
 -- ---- at a place
@@ -58,6 +59,7 @@ with_ram old now pc s u r r' e h (trimmed fs trim a f g) =
       reached = g.reached;
       twins = twins;
       filled = g.filled;
+      worked = worked a.worked g.worked;
       waiting = g.waiting;
       ram = e;
       steady = record { held = g.steady.held; held_too = g.steady.held_too; bytes = h };
@@ -69,6 +71,15 @@ with_ram old now pc s u r r' e h (trimmed fs trim a f g) =
 
     twins : Twinned a.twins (record s { ram = r }) (record u { ram = r' })
     twins x h v k q = same_value h ∙ g.twins x h v k q
+
+    worked : (ws : List Worked) → AreThere ws s u → AreThere ws (record s { ram = r }) (record u { ram = r' })
+    worked [] k = tt {0}
+    worked (w ∷ ws) (f, k) =
+        (record { has = λ x y v el er q. f.has x y v (sym (old_value w.left) ∙ el) (sym (old_value w.right) ∙ er) q }, worked ws k)
+      where
+        old_value : (h : Operand) → value h (record s { ram = r }) ≡ value h s
+        old_value (Local i) = refl
+        old_value (Known v) = refl
 
 -- ---- where procedures begin
 
@@ -143,6 +154,10 @@ alike m n is = by_how is.how
         }
     by_how (inr (fs, trim)) = record { method = trim.method; params = trim.params; result = trim.result; widths = trim.widths }
 
+none_worked : (ws : List Worked) (s u : State) → is_none_worked ws ≡ true → AreThere ws s u
+none_worked [] s u e = tt {0}
+none_worked (w ∷ ws) s u e = no e
+
 -- the state in which a procedure begins
 abbrev pub fresh : Procedure → (xs ram : List ℕ) → State
 fresh m xs r = record { locals = begun m.widths xs; waiting = []; ram = r }
@@ -158,17 +173,21 @@ begins_at m n is xs r r' e h le = by_how is.how
         (record {
           reached = z1.0;
           twins = twins;
-          filled = λ x v q w. none_filled a.filled x z0.1 q;
+          filled = λ x v q w. none_filled a.filled x z2.1 q;
+          worked = none_worked a.worked (fresh m xs r) (fresh n xs r') z0.1;
           waiting = refl;
           ram = e;
           steady = record { held = begun_holds m.widths xs; held_too = begun_holds n.widths xs; bytes = h };
         })
       where
-        z0 : ((a.reached && begins_so m.params a.twins) ≡ true) × (is_none_filled a.filled ≡ true)
-        z0 = and_parts (a.reached && begins_so m.params a.twins) _ k
+        z0 : ((a.reached && begins_so m.params a.twins && is_none_filled a.filled) ≡ true) × (is_none_worked a.worked ≡ true)
+        z0 = and_parts (a.reached && begins_so m.params a.twins && is_none_filled a.filled) _ k
+
+        z2 : ((a.reached && begins_so m.params a.twins) ≡ true) × (is_none_filled a.filled ≡ true)
+        z2 = and_parts (a.reached && begins_so m.params a.twins) _ z0.0
 
         z1 : (a.reached ≡ true) × (begins_so m.params a.twins ≡ true)
-        z1 = and_parts a.reached _ z0.0
+        z1 = and_parts a.reached _ z2.0
 
         twins : Twinned a.twins (fresh m xs r) (fresh n xs r')
         twins x g v q w =
@@ -321,7 +340,7 @@ module _ (p : Program) (tables : AreBytes p.tables) (old now : Procedure) (sound
 
   given_back : (x y : Option Target) (ws ws' : List Waiting) (r r' : List ℕ) (v : ℕ) → same_target x y ≡ true → IsTo now y → ws' ≡ ws → r' ≡ r
       → Changed now.widths a
-      (record { old = local_of x; new = local_of y; gain = gain_in old.widths now.widths (local_of x) (local_of y) 5; filled = None })
+      (record { old = local_of x; new = local_of y; gain = gain_in old.widths now.widths (local_of x) (local_of y) 5; filled = None; worked = None })
       s u (with_result x v (record s { waiting = ws; ram = r })) (with_result y v (record u { waiting = ws'; ram = r' }))
   given_back None None ws ws' r r' v e h ew er = none_changed p tables old now sound a s u g None _ _ refl refl ew er (λ y v e. no e)
   given_back None (Some t') ws ws' r r' v e h ew er = no e
@@ -331,6 +350,7 @@ module _ (p : Program) (tables : AreBytes p.tables) (old now : Procedure) (sound
         new_kept = new_kept;
         gained = λ y k w e q f. no q;
         filled = λ y w e q. no e;
+        worked = λ w e. absurd (none-some w e);
         waiting = ew;
         ram = er;
       }

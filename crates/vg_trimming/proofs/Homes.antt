@@ -1,6 +1,6 @@
 -- What is known at a place holds of a state of the older code and one of the newer code, and what lasts of it where both change.
 use Rattle.std.specs.Prelude.{◌≢◌, ℕ, zero, suc, ◌<◌, ◌≤◌, ◌^◌, Bool, true, false, ◌==◌, ◌&&◌, not, nat_lt, nat_le, List, [], ◌∷◌, length}
-use Rattle.std.specs.Prelude.{Option, Some, slice_get, get_or, if◌then◌else◌}
+use Rattle.std.specs.Prelude.{Option, Some, None, slice_get, get_or, if◌then◌else◌}
 use Rattle.std.specs.List.{AllByRecursion}
 use Rattle.std.proofs.Common.{◌≡◌, refl, sym, ap, ◌∙◌, subst, arith}
 use Rattle.std.proofs.Math.Nat.{mod-eq_of_lt, pow-le-pow_right}
@@ -8,15 +8,20 @@ use Rattle.std.proofs.lemmas.Bool.{and_parts, not-true}
 use Rattle.std.proofs.lemmas.Option.{same_Some, none-some}
 use Rattle.vg_lin.specs.declared.instr.Operand.{Operand}
 use Rattle.vg_lin.specs.declared.instr.Operand.TheVariants.{Local, Known}
-use Rattle.vg_lin.specs.Values.{low}
+use Rattle.vg_lin.specs.declared.instr.Operator.{Operator}
+use Rattle.vg_lin.specs.declared.instr.Operator.TheVariants.{Plus, Minus, Times, Divide, Remainder, And, Or, Xor, ShiftLeft, ShiftRight}
+use Rattle.vg_lin.specs.declared.instr.Computation.{Computation}
+use Rattle.vg_lin.specs.Values.{low, computed}
 use Rattle.vg_lin.specs.Sound.{IsWidth}
 use Rattle.vg_lin.specs.State.{LocalState, State, value_in, value, with_local}
 use Rattle.vg_expand.specs.Expansion.{IsHeld, Holds}
 use Rattle.vg_trimming.specs.declared.facts.Twin.{Twin}
+use Rattle.vg_trimming.specs.declared.facts.Worked.{Worked}
 use Rattle.vg_trimming.specs.declared.facts.Facts.{Facts}
 use Rattle.vg_trimming.specs.declared.facts.Change.{Change}
 use Rattle.vg_trimming.specs.Facts.{same_home, is_twin, stands_for, is_filled, bytes_of, is_it, overwrites, gains, twin_lasts, twins_last}
-use Rattle.vg_trimming.specs.Facts.{stays_filled, all_stay_filled, leads}
+use Rattle.vg_trimming.specs.Facts.{stays_filled, all_stay_filled, same_operator, is_of, found_for, same_worked, is_worked, is_new}
+use Rattle.vg_trimming.specs.Facts.{stays_worked, all_stay_worked, leads}
 use Rattle.vg_trimming.specs.Runs.{AreBytes}
 
 -- ---- tests
@@ -35,6 +40,19 @@ same_home_is (Local i) (Local j) e = ap Local (same_number i j e)
 same_home_is (Local i) (Known w) e = no e
 same_home_is (Known v) (Local j) e = no e
 same_home_is (Known v) (Known w) e = ap Known (same_number v w e)
+
+pub same_operator_is : (a b : Operator) → same_operator a b ≡ true → a ≡ b
+same_operator_is Plus Plus e = refl
+same_operator_is Minus Minus e = refl
+same_operator_is Times Times e = refl
+same_operator_is Divide Divide e = refl
+same_operator_is Remainder Remainder e = refl
+same_operator_is And And e = refl
+same_operator_is Or Or e = refl
+same_operator_is Xor Xor e = refl
+same_operator_is ShiftLeft ShiftLeft e = refl
+same_operator_is ShiftRight ShiftRight e = refl
+same_operator_is _ _ e = no e
 
 -- ---- locals
 
@@ -117,6 +135,60 @@ Twinned ts s u = (x : ℕ) (h : Operand) (v : ℕ) → is_twin ts x h ≡ true �
 abbrev pub Filled : List ℕ → State → Type 0
 Filled xs s = (x v : ℕ) → is_filled xs x ≡ true → value (Local x) s ≡ Some v → v ≢ 0
 
+-- the newer code has what the older code would compute
+pub record IsThere (w : Worked) (s u : State) : Type 0 where
+  pub has : (x y v : ℕ) → value w.left s ≡ Some x → value w.right s ≡ Some y → computed w.operator w.width x y ≡ Some v → value (Local w.home) u ≡ Some v
+
+abbrev pub AreThere : List Worked → (older newer : State) → Type 0
+AreThere ws s u = AllByRecursion (λ w. IsThere w s u) ws
+
+there_as : (op op' : Operator) (k k' : ℕ) (l l' r r' : Operand) (h h' : ℕ) (s u : State) → op ≡ op' → k ≡ k' → l ≡ l' → r ≡ r' → h ≡ h'
+    → IsThere (record { operator = op; width = k; left = l; right = r; home = h }) s u
+    → IsThere (record { operator = op'; width = k'; left = l'; right = r'; home = h' }) s u
+there_as op op' k k' l l' r r' h h' s u eo ek el er eh t =
+    subst (λ z. IsThere (record { operator = op'; width = k'; left = l'; right = r'; home = z }) s u) eh
+    (subst (λ z. IsThere (record { operator = op'; width = k'; left = l'; right = z; home = h }) s u) er
+    (subst (λ z. IsThere (record { operator = op'; width = k'; left = z; right = r; home = h }) s u) el
+    (subst (λ z. IsThere (record { operator = op'; width = z; left = l; right = r; home = h }) s u) ek
+    (subst (λ z. IsThere (record { operator = z; width = k; left = l; right = r; home = h }) s u) eo t))))
+
+pub same_there : (x w : Worked) (s u : State) → same_worked x w ≡ true → IsThere x s u → IsThere w s u
+same_there x w s u e t =
+    let z0 = and_parts (same_operator x.operator w.operator && (x.width == w.width) && same_home x.left w.left && same_home x.right w.right) (x.home == w.home) e in
+    let z1 = and_parts (same_operator x.operator w.operator && (x.width == w.width) && same_home x.left w.left) (same_home x.right w.right) z0.0 in
+    let z2 = and_parts (same_operator x.operator w.operator && (x.width == w.width)) (same_home x.left w.left) z1.0 in
+    let z3 = and_parts (same_operator x.operator w.operator) (x.width == w.width) z2.0 in
+    there_as x.operator w.operator x.width w.width x.left w.left x.right w.right x.home w.home s u (same_operator_is x.operator w.operator z3.0)
+    (same_number x.width w.width z3.1) (same_home_is x.left w.left z2.1) (same_home_is x.right w.right z1.1) (same_number x.home w.home z0.1) t
+
+pub there_for : (ws : List Worked) (w : Worked) (s u : State) → AreThere ws s u → is_worked ws w ≡ true → IsThere w s u
+there_for [] w s u h e = no e
+there_for (x ∷ xs) w s u (g, h) e = by_first (same_worked x w) refl e (λ f. there_for xs w s u h f)
+  where
+    by_first : (b : Bool) → same_worked x w ≡ b → (if b then true else is_worked xs w) ≡ true → (is_worked xs w ≡ true → IsThere w s u) → IsThere w s u
+    by_first true f e more = same_there x w s u f g
+    by_first false f e more = more e
+
+-- what was found for a computation is its result
+pub found_there : (ws : List Worked) (c : Computation) (w : Worked) (s u : State) (x y v : ℕ) → AreThere ws s u → found_for ws c ≡ Some w
+    → value c.left s ≡ Some x → value c.right s ≡ Some y → computed c.operator c.width x y ≡ Some v → value (Local w.home) u ≡ Some v
+found_there [] c w s u x y v h e f k q = absurd (none-some w e)
+found_there (a ∷ ws) c w s u x y v (g, h) e f k q = by_first (is_of a c) refl e (λ i. found_there ws c w s u x y v h i f k q)
+  where
+    here : is_of a c ≡ true → value (Local a.home) u ≡ Some v
+    here i =
+        let z0 = and_parts (same_operator a.operator c.operator && (a.width == c.width) && same_home a.left c.left) (same_home a.right c.right) i in
+        let z1 = and_parts (same_operator a.operator c.operator && (a.width == c.width)) (same_home a.left c.left) z0.0 in
+        let z2 = and_parts (same_operator a.operator c.operator) (a.width == c.width) z1.0 in
+        g.has x y v (ap (λ z. value z s) (same_home_is a.left c.left z1.1) ∙ f) (ap (λ z. value z s) (same_home_is a.right c.right z0.1) ∙ k)
+        (ap (λ z. computed z a.width x y) (same_operator_is a.operator c.operator z2.0)
+        ∙ (ap (λ z. computed c.operator z x y) (same_number a.width c.width z2.1) ∙ q))
+
+    by_first : (b : Bool) → is_of a c ≡ b → (if b then Some a else found_for ws c) ≡ Some w
+        → (found_for ws c ≡ Some w → value (Local w.home) u ≡ Some v) → value (Local w.home) u ≡ Some v
+    by_first true i e more = subst (λ z. value (Local z.home) u ≡ Some v) (same_Some a w e) (here i)
+    by_first false i e more = more e
+
 -- what every step keeps
 pub record Steady (o n : List ℕ) (s u : State) : Type 0 where
   pub held : Holds o s.locals
@@ -128,6 +200,7 @@ pub record Agree (o n : List ℕ) (a : Facts) (s u : State) : Type 0 where
   pub reached : a.reached ≡ true
   pub twins : Twinned a.twins s u
   pub filled : Filled a.filled s
+  pub worked : AreThere a.worked s u
   pub waiting : u.waiting ≡ s.waiting
   pub ram : u.ram ≡ s.ram
   pub steady : Steady o n s u
@@ -144,6 +217,7 @@ pub record Changed (n : List ℕ) (a : Facts) (c : Change) (s u s1 u1 : State) :
   pub gained : (x : ℕ) (h : Operand) (v : ℕ) → is_it c.old x ≡ true → gains n a.twins c.new c.gain h ≡ true → value (Local x) s1 ≡ Some v
       → value h u1 ≡ Some v
   pub filled : (x v : ℕ) → is_it c.filled x ≡ true → value (Local x) s1 ≡ Some v → v ≢ 0
+  pub worked : (w : Worked) → c.worked ≡ Some w → IsThere w s1 u1
   pub waiting : u1.waiting ≡ s1.waiting
   pub ram : u1.ram ≡ s1.ram
 
@@ -174,6 +248,39 @@ filled_behind bs c (y ∷ xs) x e f =
     by_first true g f more = subst (λ k. stays_filled bs c k ≡ true) (same_number y x g) (and_parts (stays_filled bs c y) (all_stay_filled bs c xs) e).0
     by_first false g f more = more f
 
+worked_kept : (n : List ℕ) (a : Facts) (c : Change) (s u s1 u1 : State) (ws : List Worked) → Changed n a c s u s1 u1 → AreThere a.worked s u
+    → all_stay_worked a.worked c ws ≡ true → AreThere ws s1 u1
+worked_kept n a c s u s1 u1 [] ch h e = tt {0}
+worked_kept n a c s u s1 u1 (w ∷ ws) ch h e =
+    let z = and_parts (stays_worked a.worked c w) (all_stay_worked a.worked c ws) e in
+    (by_new c.worked refl (is_new c.worked w) refl z.0, worked_kept n a c s u s1 u1 ws ch h z.1)
+  where
+    new_there : (o : Option Worked) → c.worked ≡ o → is_new o w ≡ true → IsThere w s1 u1
+    new_there (Some x) q f = same_there x w s1 u1 f (ch.worked x q)
+    new_there None q f = no f
+
+    operand_kept : (x : Operand) → not (overwrites c.old x) ≡ true → value x s1 ≡ value x s
+    operand_kept (Local i) f = ch.old_kept i (other c.old i f)
+      where
+        other : (o : Option ℕ) (i : ℕ) → not (overwrites o (Local i)) ≡ true → is_it o i ≡ false
+        other (Some y) i f = not-true (y == i) f
+        other None i f = refl
+    operand_kept (Known k) f = refl
+
+    by_new : (o : Option Worked) → c.worked ≡ o → (b : Bool) → is_new c.worked w ≡ b
+        → (if b then true else is_worked a.worked w && not (overwrites c.old w.left) && not (overwrites c.old w.right) && not (overwrites c.new (Local w.home)))
+        ≡ true → IsThere w s1 u1
+    by_new o q true k f = new_there c.worked refl k
+    by_new o q false k f =
+        let z0 = and_parts (is_worked a.worked w && not (overwrites c.old w.left) && not (overwrites c.old w.right)) (not (overwrites c.new (Local w.home))) f in
+        let z1 = and_parts (is_worked a.worked w && not (overwrites c.old w.left)) (not (overwrites c.old w.right)) z0.0 in
+        let z2 = and_parts (is_worked a.worked w) (not (overwrites c.old w.left)) z1.0 in
+        record {
+          has =
+              λ x y v el er q. ch.new_kept (Local w.home) (not-true (overwrites c.new (Local w.home)) z0.1)
+              ∙ (there_for a.worked w s u h z2.0).has x y v (sym (operand_kept w.left z2.1) ∙ el) (sym (operand_kept w.right z1.1) ∙ er) q;
+        }
+
 -- what is known behind an instruction holds of both states behind it
 pub behind : (o n : List ℕ) (a b : Facts) (c : Change) (s u s1 u1 : State) → leads n a c b ≡ true → Agree o n a s u → Changed n a c s u s1 u1
     → Steady o n s1 u1 → Agree o n b s1 u1
@@ -182,13 +289,17 @@ behind o n a b c s u s1 u1 e g ch st =
       reached = (and_parts b.reached (twins_last n a.twins c b.twins) both).0;
       twins = twins;
       filled = filled;
+      worked = worked_kept n a c s u s1 u1 b.worked ch g.worked parts.1;
       waiting = ch.waiting;
       ram = ch.ram;
       steady = st;
     }
   where
+    parts : ((b.reached && twins_last n a.twins c b.twins && all_stay_filled a.filled c b.filled) ≡ true) × (all_stay_worked a.worked c b.worked ≡ true)
+    parts = and_parts (b.reached && twins_last n a.twins c b.twins && all_stay_filled a.filled c b.filled) (all_stay_worked a.worked c b.worked) e
+
     both : (b.reached && twins_last n a.twins c b.twins) ≡ true
-    both = (and_parts (b.reached && twins_last n a.twins c b.twins) (all_stay_filled a.filled c b.filled) e).0
+    both = (and_parts (b.reached && twins_last n a.twins c b.twins) (all_stay_filled a.filled c b.filled) parts.0).0
 
     by_old : (x : ℕ) (h : Operand) (v : ℕ) (z : Bool) → is_it c.old x ≡ z
         → (if z then gains n a.twins c.new c.gain h else is_twin a.twins x h && not (overwrites c.new h)) ≡ true
@@ -213,4 +324,4 @@ behind o n a b c s u s1 u1 e g ch st =
     filled : Filled b.filled s1
     filled x v f q =
         by_filled x v (is_it c.filled x) refl
-        (filled_behind a.filled c b.filled x (and_parts (b.reached && twins_last n a.twins c b.twins) (all_stay_filled a.filled c b.filled) e).1 f) q
+        (filled_behind a.filled c b.filled x (and_parts (b.reached && twins_last n a.twins c b.twins) (all_stay_filled a.filled c b.filled) parts.0).1 f) q

@@ -5,6 +5,7 @@ use Rattle.std.proofs.Common.{◌≡◌, refl, sym, ap, ◌∙◌, subst, arith,
 use Rattle.std.proofs.Common.{pow-add}
 use Rattle.std.proofs.Math.Nat.{pow-suc, pow-le-pow_right}
 use Rattle.std.proofs.lemmas.Bool.{and_parts, or_cases, not-true}
+use Rattle.std.proofs.lemmas.Option.{same_Some, none-some}
 use Rattle.std.proofs.lemmas.Nat.{and_le_l, and_le_r, or_lt, xor_lt}
 use Rattle.vg_meaning.specs.declared.event.Event.TheVariants.{Write}
 use Rattle.vg_meaning.specs.Outside.{Outside, AreReads, with_event}
@@ -29,12 +30,14 @@ use Rattle.vg_lin.specs.State.{reads_from, plain}
 use Rattle.vg_trimming.specs.declared.facts.Facts.{Facts}
 use Rattle.vg_trimming.specs.declared.facts.Gain.{Gain}
 use Rattle.vg_trimming.specs.declared.facts.Gain.TheVariants.{Nothing, In, Copied}
-use Rattle.vg_trimming.specs.Facts.{bytes_of, stands_for, is_it, overwrites, gains, filling, spoiling}
-use Rattle.vg_trimming.specs.Trimming.{same_operator, same_memory, same_plain, is_paired, gain_in, both_change, is_pure, left_out, is_stop}
-use Rattle.vg_trimming.specs.Trimming.{same_comparison, fits_result, narrower}
+use Rattle.vg_trimming.specs.declared.facts.Worked.{Worked}
+use Rattle.vg_trimming.specs.declared.facts.Change.{Change}
+use Rattle.vg_trimming.specs.Facts.{same_operator, found_for, bytes_of, stands_for, is_it, overwrites, gains, filling, spoiling}
+use Rattle.vg_trimming.specs.Trimming.{same_memory, same_plain, is_paired, gain_in, keeps_operands, worked_in, both_change, is_pure, left_out, is_stop}
+use Rattle.vg_trimming.specs.Trimming.{same_comparison, fits_result, narrower, target_of, result_bytes, found_in, reused}
 use Rattle.vg_trimming.specs.Runs.{AreBytes}
-use Rattle.vg_trimming.proofs.Homes.{no, same_number, at_most, local, own_value, gets_value, other_local, same_default, few_bytes}
-use Rattle.vg_trimming.proofs.Homes.{low_small, fits_bytes, Agree, stands, same_home_is, Changed}
+use Rattle.vg_trimming.proofs.Homes.{no, same_number, at_most, same_operator_is, local, own_value, gets_value, other_local, same_default, few_bytes}
+use Rattle.vg_trimming.proofs.Homes.{low_small, fits_bytes, IsThere, found_there, Agree, stands, same_home_is, Changed}
 use Rattle.vg_trimming.proofs.Values.{computed_below, loaded_below}
 
 -- ---- what two instructions do
@@ -55,19 +58,6 @@ using_alone : (C : State → State → Outside → Type 0) (x : Option ℕ) (go 
     → ((v : ℕ) → x ≡ Some v → SameWent C (go v) z) → SameWent C (using x go) z
 using_alone C (Some v) go z g = g v refl
 using_alone C None go z g = wrong z
-
-same_operator_is : (a b : Operator) → same_operator a b ≡ true → a ≡ b
-same_operator_is Plus Plus e = refl
-same_operator_is Minus Minus e = refl
-same_operator_is Times Times e = refl
-same_operator_is Divide Divide e = refl
-same_operator_is Remainder Remainder e = refl
-same_operator_is And And e = refl
-same_operator_is Or Or e = refl
-same_operator_is Xor Xor e = refl
-same_operator_is ShiftLeft ShiftLeft e = refl
-same_operator_is ShiftRight ShiftRight e = refl
-same_operator_is _ _ e = no e
 
 same_memory_is : (a b : Memory) → same_memory a b ≡ true → a ≡ b
 same_memory_is Ram Ram e = refl
@@ -107,6 +97,7 @@ module _ (p : Program) (tables : AreBytes p.tables) (old now : Procedure) (sound
         new_kept = new_kept;
         gained = λ y h v e k q. no e;
         filled = λ y v e q. f y v e (sym (ap (λ k. local k y) es) ∙ q);
+        worked = λ w e. absurd (none-some w e);
         waiting = ew;
         ram = er;
       }
@@ -118,7 +109,7 @@ module _ (p : Program) (tables : AreBytes p.tables) (old now : Procedure) (sound
   -- both give a local the same value
   pub both_changed : (x y b z : ℕ) (s1 u1 : State) → y < length n → (b ≤ 4 → z < 256 ^ b) → s1.locals ≡ with_local s.locals x z
       → u1.locals ≡ with_local u.locals y z → u1.waiting ≡ s1.waiting → u1.ram ≡ s1.ram
-      → Changed n a (record { old = Some x; new = Some y; gain = gain_in o n (Some x) (Some y) b; filled = None }) s u s1 u1
+      → Changed n a (record { old = Some x; new = Some y; gain = gain_in o n (Some x) (Some y) b; filled = None; worked = None }) s u s1 u1
   both_changed x y b z s1 u1 lt small es eu ew er =
       record {
         old_kept = λ k e. ap (λ ls. local ls k) es ∙ other_local s.locals x k z e;
@@ -126,6 +117,7 @@ module _ (p : Program) (tables : AreBytes p.tables) (old now : Procedure) (sound
         gained = λ k h v e f q. by_pair h v (is_paired o n x y b) refl f
             (sym (ap (λ ls. local ls x) es) ∙ (ap (λ i. local s1.locals i) (same_number x k e) ∙ q));
         filled = λ k v e q. no e;
+        worked = λ w e. absurd (none-some w e);
         waiting = ew;
         ram = er;
       }
@@ -150,6 +142,55 @@ module _ (p : Program) (tables : AreBytes p.tables) (old now : Procedure) (sound
           (ap (λ ls. local ls y) eu ∙ (gets_value n u.locals y z 6 g.steady.held_too lt
           ∙ ap Some (of_width v q (or_cases (get_or o x 5 == get_or n y 6) (nat_le b (get_or o x 0) && nat_le b (get_or n y 0)) e))))
       by_pair h v false e f q = no f
+
+  -- both give a local the same result of a computation, and the newer code may have all of it
+  with_worked : (ch : Change) (k : Option Worked) (s1 u1 : State)
+      → Changed n a (record { old = ch.old; new = ch.new; gain = ch.gain; filled = ch.filled; worked = None }) s u s1 u1
+      → ((w : Worked) → k ≡ Some w → IsThere w s1 u1)
+      → Changed n a (record { old = ch.old; new = ch.new; gain = ch.gain; filled = ch.filled; worked = k }) s u s1 u1
+  with_worked ch k s1 u1 c f =
+      record {
+        old_kept = c.old_kept;
+        new_kept = c.new_kept;
+        gained = c.gained;
+        filled = c.filled;
+        worked = f;
+        waiting = c.waiting;
+        ram = c.ram;
+      }
+
+  both_computed : (c d : Computation) (x y v : ℕ) → d.to < length n → value c.left s ≡ Some x → value c.right s ≡ Some y
+      → computed c.operator c.width x y ≡ Some v → computed d.operator d.width x y ≡ Some v
+      → Changed n a (both_change o n (Compute c) (Compute d)) s u (sets c.to v s) (sets d.to v u)
+  both_computed c d x y v lt ex ey q q' =
+      with_worked (both_change o n (Compute c) (Compute d)) (worked_in n (Compute c) (Compute d)) (sets c.to v s) (sets d.to v u)
+      (both_changed c.to d.to d.width v (sets c.to v s) (sets d.to v u) lt (λ small. computed_below d.operator d.width x y v q') refl refl g.waiting g.ram)
+      (λ w e. by_test w ((c.width == d.width) && nat_le d.width (get_or n d.to 0) && keeps_operands c) refl e)
+    where
+      kept : (h : Operand) → not (overwrites (Some c.to) h) ≡ true → value h (sets c.to v s) ≡ value h s
+      kept h e = value_kept c.to v h s (sets c.to v s) refl (not-true (overwrites (Some c.to) h) e)
+
+      there : ((c.width == d.width) && nat_le d.width (get_or n d.to 0) && keeps_operands c) ≡ true
+          → IsThere (record { operator = c.operator; width = c.width; left = c.left; right = c.right; home = d.to }) (sets c.to v s) (sets d.to v u)
+      there e =
+          let z0 = and_parts ((c.width == d.width) && nat_le d.width (get_or n d.to 0)) (keeps_operands c) e in
+          let z1 = and_parts (c.width == d.width) (nat_le d.width (get_or n d.to 0)) z0.0 in
+          let z2 = and_parts (not (overwrites (Some c.to) c.left)) (not (overwrites (Some c.to) c.right)) z0.1 in
+          record {
+            has =
+                λ x' y' v' el er q2.
+                let same_x = same_Some x x' (sym ex ∙ (sym (kept c.left z2.0) ∙ el)) in
+                let same_y = same_Some y y' (sym ey ∙ (sym (kept c.right z2.1) ∙ er)) in
+                let same_v = same_Some v v' (sym q ∙ (ap (λ k. computed c.operator c.width k y) same_x ∙ (ap (λ k. computed c.operator c.width x' k) same_y ∙ q2))) in
+                gets_value n u.locals d.to v 0 g.steady.held_too lt
+                ∙ ap Some (low_small (get_or n d.to 0) v d.width (computed_below d.operator d.width x y v q') (at_most d.width (get_or n d.to 0) z1.1) ∙ same_v);
+          }
+
+      by_test : (w : Worked) (b : Bool) → ((c.width == d.width) && nat_le d.width (get_or n d.to 0) && keeps_operands c) ≡ b
+          → (if b then Some (record { operator = c.operator; width = c.width; left = c.left; right = c.right; home = d.to }) else None) ≡ Some w
+          → IsThere w (sets c.to v s) (sets d.to v u)
+      by_test w true i e = subst (λ z. IsThere z (sets c.to v s) (sets d.to v u)) (same_Some _ w e) (there i)
+      by_test w false i e = absurd (none-some w e)
 
   -- ---- plain instructions
 
@@ -242,11 +283,7 @@ module _ (p : Program) (tables : AreBytes p.tables) (old now : Procedure) (sound
       using_same C (value c.left s) (value d.left u) _ _ (λ v. operand c.left d.left v z1.1) (λ x f f'.
       using_same C (value c.right s) (value d.right u) _ _ (λ v. operand c.right d.right v z0.1) (λ y k k'.
       using_same C (computed c.operator c.width x y) (computed d.operator d.width x y) _ _ (λ v q. sym (same x y) ∙ q) (λ v q q'.
-      both_go (sets c.to v s) (sets d.to v u) o1 (
-        refl,
-        both_changed c.to d.to d.width v (sets c.to v s) (sets d.to v u) h.1
-            (λ small. computed_below d.operator d.width x y v q') refl refl g.waiting g.ram,
-      ))))
+      both_go (sets c.to v s) (sets d.to v u) o1 (refl, both_computed c d x y v h.1 f k q q'))))
     where
       C : State → State → Outside → Type 0
       C = BothGo (Compute c) (Compute d)
@@ -334,13 +371,14 @@ module _ (p : Program) (tables : AreBytes p.tables) (old now : Procedure) (sound
   -- the older code gives a local a value, the newer one another local one that nobody needs
   alone_changed : (x z v k : ℕ) (gain : Gain)
       → ((h : Operand) (r : ℕ) → gains n a.twins (Some z) gain h ≡ true → local (with_local s.locals x k) x ≡ Some r → value h (sets z v u) ≡ Some r)
-      → Changed n a (record { old = Some x; new = Some z; gain = gain; filled = None }) s u (sets x k s) (sets z v u)
+      → Changed n a (record { old = Some x; new = Some z; gain = gain; filled = None; worked = None }) s u (sets x k s) (sets z v u)
   alone_changed x z v k gain f =
       record {
         old_kept = λ y e. other_local s.locals x y k e;
         new_kept = λ h e. value_kept z v h u (sets z v u) refl e;
         gained = λ y h r e q w. f h r q (ap (λ i. local (with_local s.locals x k) i) (same_number x y e) ∙ w);
         filled = λ y r e q. no e;
+        worked = λ w e. absurd (none-some w e);
         waiting = g.waiting;
         ram = g.ram;
       }
@@ -394,11 +432,7 @@ module _ (p : Program) (tables : AreBytes p.tables) (old now : Procedure) (sound
       using_same C (value c.left s) (value d.left u) _ _ (λ v. operand c.left d.left v z2.1) (λ x f f'.
       using_same C (value c.right s) (value d.right u) _ _ (λ v. operand c.right d.right v z1.1) (λ y k k'.
       using_same C (computed c.operator c.width x y) (computed d.operator d.width x y) _ _ (λ v q. sym (same x y f' k') ∙ q) (λ v q q'.
-      both_go (sets c.to v s) (sets d.to v u) o1 (
-        refl,
-        both_changed c.to d.to d.width v (sets c.to v s) (sets d.to v u) h.1
-            (λ small. computed_below d.operator d.width x y v q') refl refl g.waiting g.ram,
-      ))))
+      both_go (sets c.to v s) (sets d.to v u) o1 (refl, both_computed c d x y v h.1 f k q q'))))
     where
       C : State → State → Outside → Type 0
       C = BothGo (Compute c) (Compute d)
@@ -467,6 +501,38 @@ module _ (p : Program) (tables : AreBytes p.tables) (old now : Procedure) (sound
   left_follows (CodeOf q x) z v o1 e = both_go _ (sets z v u) o1 (alone_changed x z v (p.codes.code q) Nothing (λ h r k. no k))
   left_follows _ z v o1 e = no e
 
+  -- what is computed is there already
+  pub reused_follows : (c : Computation) (z v h : ℕ) (o1 : Outside) → found_in o c z (found_for a.worked c) ≡ Some h
+      → SameWent (λ s1 u1 o2. Changed n a (reused z c h) s u s1 u1) (plain p (Compute c) s o1) (Goes (sets z v u) o1)
+  reused_follows c z v h o1 e =
+      using_alone C (value c.left s) _ _ (λ x f. using_alone C (value c.right s) _ _ (λ y k. using_alone C (computed c.operator c.width x y) _ _
+      (λ r q. both_go (sets c.to r s) (sets z v u) o1 (alone_changed c.to z v r (In h) (gains_it x y r f k q (found_for a.worked c) refl e)))))
+    where
+      C : State → State → Outside → Type 0
+      C s1 u1 o2 = Changed n a (reused z c h) s u s1 u1
+
+      gains_it : (x y r : ℕ) → value c.left s ≡ Some x → value c.right s ≡ Some y → computed c.operator c.width x y ≡ Some r
+          → (k : Option Worked) → found_for a.worked c ≡ k → found_in o c z k ≡ Some h
+          → (i : Operand) (r' : ℕ) → gains n a.twins (Some z) (In h) i ≡ true → local (with_local s.locals c.to r) c.to ≡ Some r' → value i (sets z v u) ≡ Some r'
+      gains_it x y r f k q None i e i' r' j l = absurd (none-some h e)
+      gains_it x y r f k q (Some w) i e i' r' j l = by_test (nat_le c.width (get_or o c.to 0) && not (w.home == z)) refl e
+        where
+          by_test : (b : Bool) → (nat_le c.width (get_or o c.to 0) && not (w.home == z)) ≡ b → (if b then Some w.home else None) ≡ Some h
+              → value i' (sets z v u) ≡ Some r'
+          by_test false m e = absurd (none-some h e)
+          by_test true m e =
+              let z0 = and_parts (nat_le c.width (get_or o c.to 0)) (not (w.home == z)) m in
+              let is = same_Some w.home h e in
+              let stood = found_there a.worked c w s u x y r g.worked i f k q in
+              let small = low_small (get_or o c.to 0) r c.width (computed_below c.operator c.width x y r q) (at_most c.width (get_or o c.to 0) z0.0) in
+              subst (λ t. value t (sets z v u) ≡ Some r') (same_home_is (Local h) i' j)
+              (subst (λ t. value (Local t) (sets z v u) ≡ Some r') is
+              (value_kept z v (Local w.home) u (sets z v u) refl (apart w.home (not-true (w.home == z) z0.1))
+              ∙ (stood ∙ ap Some (sym small ∙ sym (own_value o s.locals c.to r r' 0 g.steady.held l)))))
+            where
+              apart : (y : ℕ) → (y == z) ≡ false → overwrites (Some z) (Local y) ≡ false
+              apart y e = grind arith
+
   -- the newer code alone gives one local two values, one after the other
   pub spoiled : (z v v' : ℕ) → Changed n a (spoiling z) s u s (sets z v' (sets z v u))
   spoiled z v v' =
@@ -476,6 +542,7 @@ module _ (p : Program) (tables : AreBytes p.tables) (old now : Procedure) (sound
             ∙ value_kept z v h u (sets z v u) refl e;
         gained = λ y h r e q w. no e;
         filled = λ y r e q. no e;
+        worked = λ w e. absurd (none-some w e);
         waiting = g.waiting;
         ram = g.ram;
       }

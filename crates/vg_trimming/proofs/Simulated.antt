@@ -33,7 +33,7 @@ use Rattle.vg_trimming.specs.Runs.{AreBytes}
 use Rattle.vg_trimming.proofs.Homes.{no}
 use Rattle.vg_trimming.proofs.Places.{SameWent, both_go, both_raise, both_lack, wrong}
 use Rattle.vg_trimming.proofs.Calls.{AtPlace, same, trimmed, with_ram, alike, fresh, begins_at, BothEnter, entered, no_entry, SameCall, entries}
-use Rattle.vg_trimming.proofs.Standing.{Onward, Does, plainly, when_so, unless_so, jumps, calls_so, returns_so, idles, passes_by, does_at}
+use Rattle.vg_trimming.proofs.Standing.{Onward, Does, plainly, when_so, unless_so, jumps, calls_so, returns_so, returns_later, idles, passes_by, does_at}
 
 -- ---- procedures, one for one
 
@@ -271,11 +271,12 @@ module _ (p : Program) (ms : List Procedure) (all : AreAllTrimmed p.procedures m
             (subst (λ k. To d (calls (language new) d j (entry_at new k j u))) (called_same j.callee u ∙ h.callee r e) t)
         by_callee None e = fails refl
 
-    return_step : (w : ℕ) (x y : Operand) → ((v : ℕ) → result w x s ≡ Some v → result w y u ≡ Some v) → u.ram ≡ s.ram → AreBytes s.ram
-        → To d (returns (language new) d (result w y u)) → Stepped d (returns (language p) c (result w x s))
-    return_step w x y h er bytes t = by_value (result w x s) refl
+    -- a return, of the newer code at this place or another one
+    return_step : (w : ℕ) (x y : Operand) (at : ℕ) → ((v : ℕ) → result w x s ≡ Some v → result w y u ≡ Some v) → u.ram ≡ s.ram → AreBytes s.ram
+        → To d (returns (language new) (going q at u gs None o opens) (result w y u)) → Stepped d (returns (language p) c (result w x s))
+    return_step w x y at h er bytes t = by_value (result w x s) refl
       where
-        to_caller : (v : ℕ) (hs ks : List (Frame State)) → FramesStand hs ks → To d (goes_back (language new) d ks v)
+        to_caller : (v : ℕ) (hs ks : List (Frame State)) → FramesStand hs ks → To d (goes_back (language new) (going q at u gs None o opens) ks v)
             → Stepped d (goes_back (language p) c hs v)
         to_caller v [] [] h t = fails refl
         to_caller v [] (k ∷ ks) h t = absurd h
@@ -287,8 +288,22 @@ module _ (p : Program) (ms : List Procedure) (all : AreAllTrimmed p.procedures m
             (at_place f.proc (suc f.pc) (resume f.awaits f.kept s v) (resume k.awaits k.kept u v) hs ks o opens (st.onward v s u er bytes) h reads)
 
         by_value : (k : Option ℕ) → result w x s ≡ k → Stepped d (returns (language p) c k)
-        by_value (Some v) e = to_caller v fs gs frames (subst (λ k. To d (returns (language new) d k)) (h v e) t)
+        by_value (Some v) e = to_caller v fs gs frames (subst (λ k. To d (returns (language new) (going q at u gs None o opens) k)) (h v e) t)
         by_value None e = fails refl
+
+    -- a jump, and the instruction there
+    two_steps : (to : ℕ) (j : Instr) → slice_get now.code pc ≡ Some (Jump to) → slice_get now.code to ≡ Some j
+        → To d (performed (language new) (going q to u gs None o opens) (Some j))
+    two_steps to j e f =
+        record {
+          by = λ k. (
+            suc (suc k),
+            omega arith,
+            ap (steps (language new) (codes_in ms) k)
+                (ap (step (language new) (codes_in ms)) (ap (performed (language new) d) (fetch_of ms q now has_now pc ∙ e))
+                ∙ ap (performed (language new) (going q to u gs None o opens)) (fetch_of ms q now has_now to ∙ f)),
+          );
+        }
 
     idle_step : AtPlace old now (suc pc) s u → (vs : List ℕ) → To d (takes d vs) → Stepped d (takes c vs)
     idle_step h [] t = stops _ Done t refl refl refl refl
@@ -302,7 +317,8 @@ module _ (p : Program) (ms : List Procedure) (all : AreAllTrimmed p.procedures m
     by_does _ _ (unless_so t t' to h f g) e = unless_step t t' to h f g (one (Unless t' to) e)
     by_does _ _ (jumps to h) e = goes_to to s u o h reads (one (Jump to) e)
     by_does _ _ (calls_so i j h) e = call_step i j h (one (Call j) e)
-    by_does _ _ (returns_so w x y h er bytes) e = return_step w x y h er bytes (one (Return w y) e)
+    by_does _ _ (returns_so w x y h er bytes) e = return_step w x y pc h er bytes (one (Return w y) e)
+    by_does _ _ (returns_later w x y to f h er bytes) e = return_step w x y to h er bytes (two_steps to (Return w y) e f)
     by_does _ _ (idles h) e = idle_step h o.interrupts (one Idle e)
     by_does _ _ (passes_by t to z v v' never et f h) e = left_step t to z v v' never et f h e
 

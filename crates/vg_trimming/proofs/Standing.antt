@@ -1,5 +1,5 @@
 -- What the instructions of both procedures do at a place where both are: the same, or what leads to the same.
-use Rattle.std.specs.Prelude.{◌≢◌, ℕ, zero, suc, ◌<◌, Bool, true, false, ◌==◌, ◌&&◌, ◌||◌, List, [], ◌∷◌, length, drop}
+use Rattle.std.specs.Prelude.{◌≢◌, ℕ, zero, suc, ◌<◌, nat_lt, Bool, true, false, ◌==◌, ◌&&◌, ◌||◌, List, [], ◌∷◌, length, drop}
 use Rattle.std.specs.Prelude.{Option, Some, None, slice_get, if◌then◌else◌}
 use Rattle.std.proofs.Common.{◌≡◌, refl, sym, ap, ◌∙◌, subst, arith, inl, inr, ◌⊎◌}
 use Rattle.std.proofs.lemmas.Bool.{and_parts, or_cases, both_ways}
@@ -9,7 +9,7 @@ use Rattle.vg_lin.specs.declared.instr.Operand.{Operand}
 use Rattle.vg_lin.specs.declared.instr.Operand.TheVariants.{Local, Known}
 use Rattle.vg_lin.specs.declared.instr.Test.{Test}
 use Rattle.vg_lin.specs.declared.instr.Plain.{Plain as PlainInstr}
-use Rattle.vg_lin.specs.declared.instr.Plain.TheVariants.{Copy}
+use Rattle.vg_lin.specs.declared.instr.Plain.TheVariants.{Copy, Compute}
 use Rattle.vg_lin.specs.declared.instr.Target.{Target}
 use Rattle.vg_lin.specs.declared.instr.Call.{Call as Calling}
 use Rattle.vg_lin.specs.declared.instr.Instr.{Instr}
@@ -21,15 +21,16 @@ use Rattle.vg_lin.specs.Steps.{Went, Goes, Raises, Lacks, Fails}
 use Rattle.vg_lin.specs.Meaning.{result_of, result, cut_to, with_result}
 use Rattle.vg_expand.proofs.Holding.{sets_holds, Keeps, plain_keeps}
 use Rattle.vg_trimming.specs.declared.facts.Facts.{Facts}
-use Rattle.vg_trimming.specs.Facts.{is_it, stands_for, leads_at, no_change, filling, spoiling}
+use Rattle.vg_trimming.specs.Facts.{is_it, stands_for, found_for, leads_at, no_change, filling, spoiling}
 use Rattle.vg_trimming.specs.Trimming.{same_plain, both_change, is_pure, left_out, is_stop, plain_stands, left_out_stands, same_test, checked, never_holds}
-use Rattle.vg_trimming.specs.Trimming.{narrower, narrower_stands}
+use Rattle.vg_trimming.specs.Trimming.{narrower, narrower_stands, found_in, reused, reuses, reused_stands, gives_same}
 use Rattle.vg_trimming.specs.Trimming.{is_unreached, fills, is_same_local, check_left_out, call_change, same_call, instr_stands, may_stand, stands_at}
 use Rattle.vg_trimming.specs.Trimmed.{Trims, IsTrimmedTo}
 use Rattle.vg_trimming.specs.Runs.{AreBytes}
 use Rattle.vg_trimming.proofs.Homes.{no, same_number, Steady, Agree, stands, Changed}
 use Rattle.vg_trimming.proofs.Values.{KeepsBytes, bytes_kept}
-use Rattle.vg_trimming.proofs.Places.{SameWent, both_go, both_raise, both_lack, wrong, none_changed, BothGo, plain_follows, left_follows, narrower_follows, spoiled}
+use Rattle.vg_trimming.proofs.Places.{SameWent, both_go, both_raise, both_lack, wrong, none_changed, BothGo, plain_follows, left_follows, narrower_follows}
+use Rattle.vg_trimming.proofs.Places.{reused_follows, spoiled}
 use Rattle.vg_trimming.proofs.Branches.{test_follows, checks, never}
 use Rattle.vg_trimming.proofs.Calls.{AtPlace, same, trimmed, led, SameCall, calls_same}
 
@@ -47,6 +48,8 @@ pub data Does (p : Program) (old now : Procedure) (pc : ℕ) (s u : State) (o : 
   calls_so : (c d : Calling) → SameCall p old now pc c d s u → Does p old now pc s u o (Call c) (Call d)
   returns_so : (w : ℕ) (b c : Operand) → ((v : ℕ) → result w b s ≡ Some v → result w c u ≡ Some v) → u.ram ≡ s.ram → AreBytes s.ram
       → Does p old now pc s u o (Return w b) (Return w c)
+  returns_later : (w : ℕ) (b c : Operand) (to : ℕ) → slice_get now.code to ≡ Some (Return w c)
+      → ((v : ℕ) → result w b s ≡ Some v → result w c u ≡ Some v) → u.ram ≡ s.ram → AreBytes s.ram → Does p old now pc s u o (Return w b) (Jump to)
   idles : AtPlace old now (suc pc) s u → Does p old now pc s u o Idle Idle
   passes_by : (t : Test) (to z v v' : ℕ) → ((b : Bool) → holds t s ≡ Some b → b ≡ false) → to ≡ suc (suc pc)
       → slice_get now.code (suc pc) ≡ Some (Plain (Copy z (Known v'))) → AtPlace old now to s (sets z v' (sets z v u))
@@ -146,13 +149,35 @@ module _ (p : Program) (tables : AreBytes p.tables) (old now : Procedure) (is : 
       (λ s1 u1 o1 c st. led fs old now trim a (suc pc) s u s1 u1 (left_out old.widths i z) g c st k.1))
   left_does i _ e = no e
 
-  shorter_does : (i j : PlainInstr) → IsPlain now j → (narrower_stands old.widths n fs a pc i j ≡ true) ⊎ (left_out_stands old.widths n fs a pc i j ≡ true)
+  reused_does : (i j : PlainInstr) → reused_stands old.widths n fs a pc i j ≡ true → Does p old now pc s u o (Plain i) (Plain j)
+  reused_does (Compute c) (Copy z (Known v)) e = by_found (found_in old.widths c z (found_for a.worked c)) refl e
+    where
+      by_found : (k : Option ℕ) → found_in old.widths c z (found_for a.worked c) ≡ k → reuses n fs a pc c z k ≡ true
+          → Does p old now pc s u o (Plain (Compute c)) (Plain (Copy z (Known v)))
+      by_found (Some h) f q =
+          plainly (Compute c) (Copy z (Known v))
+          (onto (λ s1 u1 o1. Changed n a (reused z c h) s u s1 u1) (plain p (Compute c) s o) (Goes (sets z v u) o)
+          (reused_follows p tables old now is.sound a s u g c z v h o f) (plain_keeps p (Compute c) old.widths s o g.steady.held)
+          (sets_holds now.widths u.locals z v g.steady.held_too) (bytes_kept p (Compute c) s o g.steady.bytes reads)
+          (λ s1 u1 o1 k st. led fs old now trim a (suc pc) s u s1 u1 (reused z c h) g k st q))
+      by_found None f q = no q
+  reused_does _ _ e = no e
+
+  out_does : (i j : PlainInstr) → (left_out_stands old.widths n fs a pc i j ≡ true) ⊎ (reused_stands old.widths n fs a pc i j ≡ true)
+      → Does p old now pc s u o (Plain i) (Plain j)
+  out_does i j (inl e) = left_does i j e
+  out_does i j (inr e) = reused_does i j e
+
+  shorter_does : (i j : PlainInstr) → IsPlain now j
+      → (narrower_stands old.widths n fs a pc i j ≡ true)
+      ⊎ ((left_out_stands old.widths n fs a pc i j || reused_stands old.widths n fs a pc i j) ≡ true)
       → Does p old now pc s u o (Plain i) (Plain j)
   shorter_does i j h (inl e) = narrower_does i j h e
-  shorter_does i j h (inr e) = left_does i j e
+  shorter_does i j h (inr e) = out_does i j (or_cases (left_out_stands old.widths n fs a pc i j) _ e)
 
   either_does : (i j : PlainInstr) → IsPlain now j
-      → (plain_stands old.widths n fs a pc i j ≡ true) ⊎ ((narrower_stands old.widths n fs a pc i j || left_out_stands old.widths n fs a pc i j) ≡ true)
+      → (plain_stands old.widths n fs a pc i j ≡ true)
+      ⊎ ((narrower_stands old.widths n fs a pc i j || (left_out_stands old.widths n fs a pc i j || reused_stands old.widths n fs a pc i j)) ≡ true)
       → Does p old now pc s u o (Plain i) (Plain j)
   either_does i j h (inl e) = plain_does i j h e
   either_does i j h (inr e) = shorter_does i j h (or_cases (narrower_stands old.widths n fs a pc i j) _ e)
@@ -212,9 +237,8 @@ module _ (p : Program) (tables : AreBytes p.tables) (old now : Procedure) (is : 
           }) z0.1)
   by_does t to _ e = no e
 
-  return_does : (w w' : ℕ) (b c : Operand) → (w == w') ≡ true → stands_for a.twins b c ≡ true → Does p old now pc s u o (Return w b) (Return w' c)
-  return_does w w' b c e f =
-      subst (λ k. Does p old now pc s u o (Return w b) (Return k c)) (same_number w w' e) (returns_so w b c gives g.ram g.steady.bytes)
+  gives : (w : ℕ) (b c : Operand) → stands_for a.twins b c ≡ true → (v : ℕ) → result w b s ≡ Some v → result w c u ≡ Some v
+  gives w b c f v q = ap (result_of w c u) g.waiting ∙ by_waiting s.waiting v q
     where
       cut : (x y : Option ℕ) (v : ℕ) → ((v : ℕ) → x ≡ Some v → y ≡ Some v) → cut_to w x ≡ Some v → cut_to w y ≡ Some v
       cut (Some x) y v h q = ap (cut_to w) (h x refl) ∙ q
@@ -224,8 +248,16 @@ module _ (p : Program) (tables : AreBytes p.tables) (old now : Procedure) (is : 
       by_waiting [] v q = cut (value b s) (value c u) v (λ v. stands a.twins s u g.twins b c v f) q
       by_waiting (x ∷ ws) v q = absurd (none-some v q)
 
-      gives : (v : ℕ) → result w b s ≡ Some v → result w c u ≡ Some v
-      gives v q = ap (result_of w c u) g.waiting ∙ by_waiting s.waiting v q
+  return_does : (w w' : ℕ) (b c : Operand) → (w == w') ≡ true → stands_for a.twins b c ≡ true → Does p old now pc s u o (Return w b) (Return w' c)
+  return_does w w' b c e f =
+      subst (λ k. Does p old now pc s u o (Return w b) (Return k c)) (same_number w w' e) (returns_so w b c (gives w b c f) g.ram g.steady.bytes)
+
+  later_does : (w : ℕ) (b : Operand) (to : ℕ) (k : Option Instr) → slice_get now.code to ≡ k → gives_same a.twins w b k ≡ true
+      → Does p old now pc s u o (Return w b) (Jump to)
+  later_does w b to (Some (Return w' c)) f e =
+      let z = and_parts (w == w') (stands_for a.twins b c) e in
+      returns_later w b c to (f ∙ ap (λ k. Some (Return k c)) (sym (same_number w w' z.0))) (gives w b c z.1) g.ram g.steady.bytes
+  later_does w b to _ f e = no e
 
   pub instr_does : (i j : Instr) → AreOperands now j → instr_stands old.widths n fs now.code a pc i j ≡ true → Does p old now pc s u o i j
   instr_does (Plain i) (Plain j) h e = either_does i j h (or_cases (plain_stands old.widths n fs a pc i j) _ e)
@@ -240,6 +272,8 @@ module _ (p : Program) (tables : AreBytes p.tables) (old now : Procedure) (is : 
       calls_so c d (calls_same p tables old now is.sound a s u g fs trim pc c d z.0 h.2 z.1)
   instr_does (Return w b) (Return w' c) h e =
       let z = and_parts (w == w') (stands_for a.twins b c) e in return_does w w' b c z.0 z.1
+  instr_does (Return w b) (Jump to) h e =
+      let z = and_parts (nat_lt pc to) (gives_same a.twins w b (slice_get now.code to)) e in later_does w b to (slice_get now.code to) refl z.1
   instr_does Idle Idle h e = idles (stays_so (suc pc) e)
   instr_does _ _ h e = no e
 

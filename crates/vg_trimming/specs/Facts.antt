@@ -2,7 +2,11 @@
 use Rattle.std.specs.Prelude.{ℕ, Bool, true, false, ◌==◌, ◌&&◌, not, nat_lt, nat_le, List, [], ◌∷◌, Option, Some, None, slice_get, get_or, if◌then◌else◌}
 use Rattle.vg_lin.specs.declared.instr.Operand.{Operand}
 use Rattle.vg_lin.specs.declared.instr.Operand.TheVariants.{Local, Known}
+use Rattle.vg_lin.specs.declared.instr.Operator.{Operator}
+use Rattle.vg_lin.specs.declared.instr.Operator.TheVariants.{Plus, Minus, Times, Divide, Remainder, And, Or, Xor, ShiftLeft, ShiftRight}
+use Rattle.vg_lin.specs.declared.instr.Computation.{Computation}
 use Rattle.vg_trimming.specs.declared.facts.Twin.{Twin}
+use Rattle.vg_trimming.specs.declared.facts.Worked.{Worked}
 use Rattle.vg_trimming.specs.declared.facts.Facts.{Facts}
 use Rattle.vg_trimming.specs.declared.facts.Gain.{Gain}
 use Rattle.vg_trimming.specs.declared.facts.Gain.TheVariants.{Nothing, In, Copied}
@@ -29,6 +33,39 @@ stands_for ts (Known v) h = same_home (Known v) h
 abbrev pub is_filled : List ℕ → (local : ℕ) → Bool
 is_filled [] x = false
 is_filled (y ∷ ys) x = if y == x then true else is_filled ys x
+
+-- ---- computations
+
+abbrev pub same_operator : Operator → Operator → Bool
+same_operator Plus Plus = true
+same_operator Minus Minus = true
+same_operator Times Times = true
+same_operator Divide Divide = true
+same_operator Remainder Remainder = true
+same_operator And And = true
+same_operator Or Or = true
+same_operator Xor Xor = true
+same_operator ShiftLeft ShiftLeft = true
+same_operator ShiftRight ShiftRight = true
+same_operator _ _ = false
+
+-- What is known of a computation with these operands.
+abbrev pub is_of : Worked → Computation → Bool
+is_of w c = same_operator w.operator c.operator && (w.width == c.width) && same_home w.left c.left && same_home w.right c.right
+
+abbrev pub found_for : List Worked → Computation → Option Worked
+found_for [] c = None
+found_for (w ∷ ws) c = if is_of w c then Some w else found_for ws c
+
+abbrev pub same_worked : Worked → Worked → Bool
+same_worked x w =
+    same_operator x.operator w.operator && (x.width == w.width) && same_home x.left w.left && same_home x.right w.right && (x.home == w.home)
+
+abbrev pub is_worked : List Worked → Worked → Bool
+is_worked [] w = false
+is_worked (x ∷ xs) w = if same_worked x w then true else is_worked xs w
+
+-- ---- bytes
 
 -- How many bytes hold the value of an operand, of locals with these widths; more than any local has, where that is not told.
 abbrev pub bytes_of : (widths : List ℕ) → Operand → ℕ
@@ -66,9 +103,24 @@ abbrev pub all_stay_filled : (before : List ℕ) → Change → (behind : List �
 all_stay_filled xs c [] = true
 all_stay_filled xs c (x ∷ more) = stays_filled xs c x && all_stay_filled xs c more
 
+abbrev pub is_new : Option Worked → Worked → Bool
+is_new None w = false
+is_new (Some x) w = same_worked x w
+
+-- Neither an operand of the computation nor the local with its result gets another value.
+abbrev pub stays_worked : (before : List Worked) → Change → Worked → Bool
+stays_worked ws c w =
+    if is_new c.worked w then true
+    else is_worked ws w && not (overwrites c.old w.left) && not (overwrites c.old w.right) && not (overwrites c.new (Local w.home))
+
+abbrev pub all_stay_worked : (before : List Worked) → Change → (behind : List Worked) → Bool
+all_stay_worked ws c [] = true
+all_stay_worked ws c (w ∷ more) = stays_worked ws c w && all_stay_worked ws c more
+
 -- What is known behind an instruction follows from what is known before it.
 abbrev pub leads : (widths : List ℕ) → (before : Facts) → Change → (behind : Facts) → Bool
-leads ws a c b = b.reached && twins_last ws a.twins c b.twins && all_stay_filled a.filled c b.filled
+leads ws a c b =
+    b.reached && twins_last ws a.twins c b.twins && all_stay_filled a.filled c b.filled && all_stay_worked a.worked c b.worked
 
 abbrev pub leads_in : (widths : List ℕ) → (before : Facts) → Change → Option Facts → Bool
 leads_in ws a c (Some b) = leads ws a c b
@@ -81,15 +133,15 @@ leads_at ws fs a c to = leads_in ws a c (slice_get fs to)
 -- ---- changes
 
 abbrev pub no_change : Change
-no_change = record { old = None; new = None; gain = Nothing; filled = None }
+no_change = record { old = None; new = None; gain = Nothing; filled = None; worked = None }
 
 -- A test that a local is not 0 came out so.
 abbrev pub filling : Option ℕ → Change
-filling x = record { old = None; new = None; gain = Nothing; filled = x }
+filling x = record { old = None; new = None; gain = Nothing; filled = x; worked = None }
 
 -- The newer code alone gives a local a value that nobody needs.
 abbrev pub spoiling : (local : ℕ) → Change
-spoiling z = record { old = None; new = Some z; gain = Nothing; filled = None }
+spoiling z = record { old = None; new = Some z; gain = Nothing; filled = None; worked = None }
 
 -- ---- where a procedure begins
 
@@ -102,6 +154,10 @@ abbrev pub is_none_filled : List ℕ → Bool
 is_none_filled [] = true
 is_none_filled (x ∷ xs) = false
 
+abbrev pub is_none_worked : List Worked → Bool
+is_none_worked [] = true
+is_none_worked (w ∷ ws) = false
+
 abbrev pub begins_with : (params : ℕ) → Option Facts → Bool
-begins_with params (Some a) = a.reached && begins_so params a.twins && is_none_filled a.filled
+begins_with params (Some a) = a.reached && begins_so params a.twins && is_none_filled a.filled && is_none_worked a.worked
 begins_with params None = false

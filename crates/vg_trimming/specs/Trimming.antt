@@ -4,7 +4,8 @@ use Rattle.std.specs.Prelude.{length, Option, Some, None, slice_get, get_or, if�
 use Rattle.vg_lin.specs.declared.instr.Operand.{Operand}
 use Rattle.vg_lin.specs.declared.instr.Operand.TheVariants.{Local, Known}
 use Rattle.vg_lin.specs.declared.instr.Operator.{Operator}
-use Rattle.vg_lin.specs.declared.instr.Operator.TheVariants.{Plus, Minus, Times, Divide, Remainder, And, Or, Xor, ShiftLeft, ShiftRight}
+use Rattle.vg_lin.specs.declared.instr.Operator.TheVariants.{And, Or, Xor}
+use Rattle.vg_lin.specs.declared.instr.Computation.{Computation}
 use Rattle.vg_lin.specs.declared.instr.Comparison.{Comparison}
 use Rattle.vg_lin.specs.declared.instr.Comparison.TheVariants.{Below, Less, Same}
 use Rattle.vg_lin.specs.declared.instr.Test.{Test}
@@ -26,22 +27,10 @@ use Rattle.vg_trimming.specs.declared.facts.Facts.{Facts}
 use Rattle.vg_trimming.specs.declared.facts.Gain.{Gain}
 use Rattle.vg_trimming.specs.declared.facts.Gain.TheVariants.{Nothing, In, Copied}
 use Rattle.vg_trimming.specs.declared.facts.Change.{Change}
-use Rattle.vg_trimming.specs.Facts.{stands_for, bytes_of, is_filled, leads_at, no_change, filling, spoiling}
+use Rattle.vg_trimming.specs.declared.facts.Worked.{Worked}
+use Rattle.vg_trimming.specs.Facts.{same_operator, overwrites, stands_for, bytes_of, is_filled, found_for, leads_at, no_change, filling, spoiling}
 
 -- ---- plain instructions
-
-abbrev pub same_operator : Operator → Operator → Bool
-same_operator Plus Plus = true
-same_operator Minus Minus = true
-same_operator Times Times = true
-same_operator Divide Divide = true
-same_operator Remainder Remainder = true
-same_operator And And = true
-same_operator Or Or = true
-same_operator Xor Xor = true
-same_operator ShiftLeft ShiftLeft = true
-same_operator ShiftRight ShiftRight = true
-same_operator _ _ = false
 
 abbrev pub same_memory : Memory → Memory → Bool
 same_memory Ram Ram = true
@@ -91,9 +80,26 @@ abbrev pub gain_in : (old new : List ℕ) → (x y : Option ℕ) → (bytes : �
 gain_in o n (Some x) (Some y) b = if is_paired o n x y b then In y else Nothing
 gain_in o n _ _ b = Nothing
 
+-- The result goes to none of the operands.
+abbrev pub keeps_operands : Computation → Bool
+keeps_operands c = not (overwrites (Some c.to) c.left) && not (overwrites (Some c.to) c.right)
+
+-- Both compute the same, and the newer code keeps all of it.
+abbrev pub worked_in : (new : List ℕ) → PlainInstr → PlainInstr → Option Worked
+worked_in n (Compute c) (Compute d) =
+    if (c.width == d.width) && nat_le d.width (get_or n d.to 0) && keeps_operands c
+    then Some (record { operator = c.operator; width = c.width; left = c.left; right = c.right; home = d.to }) else None
+worked_in n _ _ = None
+
 abbrev pub both_change : (old new : List ℕ) → PlainInstr → PlainInstr → Change
 both_change o n p q =
-    record { old = target_of p; new = target_of q; gain = gain_in o n (target_of p) (target_of q) (result_bytes n q); filled = None }
+    record {
+      old = target_of p;
+      new = target_of q;
+      gain = gain_in o n (target_of p) (target_of q) (result_bytes n q);
+      filled = None;
+      worked = worked_in n p q;
+    }
 
 -- An instruction that gives a local a value and does nothing else.
 abbrev pub is_pure : PlainInstr → Bool
@@ -110,7 +116,7 @@ copied o _ = Nothing
 
 -- In its place a local gets a value that nobody needs.
 abbrev pub left_out : (old : List ℕ) → PlainInstr → (z : ℕ) → Change
-left_out o p z = record { old = target_of p; new = Some z; gain = copied o p; filled = None }
+left_out o p z = record { old = target_of p; new = Some z; gain = copied o p; filled = None; worked = None }
 
 abbrev pub is_stop : PlainInstr → Bool
 is_stop (Stop c) = true
@@ -139,6 +145,27 @@ narrower_stands o n fs a at p q = narrower n a.twins p q && leads_at n fs a (bot
 abbrev pub left_out_stands : (old new : List ℕ) → List Facts → Facts → (at : ℕ) → PlainInstr → PlainInstr → Bool
 left_out_stands o n fs a at p (Copy z (Known v)) = is_pure p && leads_at n fs a (left_out o p z) (suc at)
 left_out_stands o n fs a at p _ = false
+
+-- The local in which the newer code has the result of a computation, where the older code's local holds all of it and no other value comes there.
+abbrev pub found_in : (old : List ℕ) → Computation → (z : ℕ) → Option Worked → Option ℕ
+found_in o c z (Some w) = if nat_le c.width (get_or o c.to 0) && not (w.home == z) then Some w.home else None
+found_in o c z None = None
+
+abbrev pub reused : (z : ℕ) → Computation → (home : ℕ) → Change
+reused z c h = record { old = Some c.to; new = Some z; gain = In h; filled = None; worked = None }
+
+abbrev pub reuses : (new : List ℕ) → List Facts → Facts → (at : ℕ) → Computation → (z : ℕ) → Option ℕ → Bool
+reuses n fs a at c z (Some h) = leads_at n fs a (reused z c h) (suc at)
+reuses n fs a at c z None = false
+
+-- What is computed is there already: in place of the computation a local gets a value that nobody needs.
+abbrev pub reused_stands : (old new : List ℕ) → List Facts → Facts → (at : ℕ) → PlainInstr → PlainInstr → Bool
+reused_stands o n fs a at (Compute c) (Copy z (Known v)) = reuses n fs a at c z (found_in o c z (found_for a.worked c))
+reused_stands o n fs a at _ _ = false
+
+-- It does with less.
+abbrev pub shorter_stands : (old new : List ℕ) → List Facts → Facts → (at : ℕ) → PlainInstr → PlainInstr → Bool
+shorter_stands o n fs a at p q = narrower_stands o n fs a at p q || (left_out_stands o n fs a at p q || reused_stands o n fs a at p q)
 
 -- ---- branches
 
@@ -231,16 +258,27 @@ local_of (Some t) = Some t.local
 local_of None = None
 
 abbrev pub call_change : (old new : List ℕ) → Calling → Calling → Change
-call_change o n c d = record { old = local_of c.to; new = local_of d.to; gain = gain_in o n (local_of c.to) (local_of d.to) 5; filled = None }
+call_change o n c d =
+    record { old = local_of c.to; new = local_of d.to; gain = gain_in o n (local_of c.to) (local_of d.to) 5; filled = None; worked = None }
 
 abbrev pub same_call : List Twin → Calling → Calling → Bool
 same_call ts c d = same_callee ts c.callee d.callee && (c.pushed == d.pushed) && same_registers ts c.registers d.registers && same_target c.to d.to
+
+-- ---- returns
+
+-- At a later place the newer code gives the same back.
+abbrev pub gives_same : List Twin → (width : ℕ) → Operand → Option Instr → Bool
+gives_same ts w u (Some (Return v z)) = (w == v) && stands_for ts u z
+gives_same ts w u _ = false
+
+abbrev pub returns_there : List Twin → List Instr → (at width : ℕ) → Operand → (to : ℕ) → Bool
+returns_there ts js at w u to = nat_lt at to && gives_same ts w u (slice_get js to)
 
 -- ---- instructions
 
 abbrev pub instr_stands : (old new : List ℕ) → List Facts → (newer : List Instr) → Facts → (at : ℕ) → Instr → Instr → Bool
 instr_stands o n fs js a at (Plain p) (Plain q) =
-    plain_stands o n fs a at p q || (narrower_stands o n fs a at p q || left_out_stands o n fs a at p q)
+    plain_stands o n fs a at p q || shorter_stands o n fs a at p q
 instr_stands o n fs js a at (When t to) (When u to') =
     (to == to') && same_test n a.twins t u && leads_at n fs a no_change to && leads_at n fs a (filling (checked t)) (suc at)
 instr_stands o n fs js a at (Unless t to) (Unless u to') =
@@ -249,6 +287,7 @@ instr_stands o n fs js a at (Unless t to) (Plain q) = check_left_out o n fs js a
 instr_stands o n fs js a at (Jump to) (Jump to') = (to == to') && leads_at n fs a no_change to
 instr_stands o n fs js a at (Call c) (Call d) = same_call a.twins c d && leads_at n fs a (call_change o n c d) (suc at)
 instr_stands o n fs js a at (Return w u) (Return v z) = (w == v) && stands_for a.twins u z
+instr_stands o n fs js a at (Return w u) (Jump to) = returns_there a.twins js at w u to
 instr_stands o n fs js a at Idle Idle = leads_at n fs a no_change (suc at)
 instr_stands o n fs js a at _ _ = false
 

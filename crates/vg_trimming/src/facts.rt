@@ -1,6 +1,6 @@
 // What is known at a place of code.
 use vg_base::Row;
-use vg_lin::Operand;
+use vg_lin::{Operand, Operator};
 
 /// A local of the older code, and where its value stands in the newer code.
 #[derive(Clone, Copy)]
@@ -9,6 +9,19 @@ pub struct Twin {
     pub local: u8,
     /// The local of the newer code that has the same value, or the value itself.
     pub home: Operand,
+}
+
+/// A computation of the older code, and where the newer code has what it gives.
+#[derive(Clone, Copy)]
+pub struct Worked {
+    pub operator: Operator,
+    /// How many bytes it sees of its operands and gives.
+    pub width: u8,
+    /// Its operands, in the older code.
+    pub left: Operand,
+    pub right: Operand,
+    /// The local of the newer code that has all of the result.
+    pub home: u8,
 }
 
 /// What is known at a place, whenever a run comes there.
@@ -20,6 +33,8 @@ pub struct Facts {
     pub twins: Row<Twin>,
     /// Locals of the older code that are not 0.
     pub filled: Row<u8>,
+    /// What the newer code has of computations, of the values that the older code's locals have.
+    pub worked: Row<Worked>,
 }
 
 /// Where the newer code has the new value of a local of the older code.
@@ -44,4 +59,6 @@ pub struct Change {
     pub gain: Gain,
     /// A local of the older code that is not 0 then.
     pub filled: Option<u8>,
+    /// A computation of which the newer code then has the result.
+    pub worked: Option<Worked>,
 }

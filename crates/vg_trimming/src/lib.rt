@@ -5,4 +5,4 @@
 pub mod facts;
 pub mod laws;
 
-pub use facts::{Change, Facts, Gain, Twin};
+pub use facts::{Change, Facts, Gain, Twin, Worked};

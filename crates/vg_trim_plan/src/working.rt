@@ -1,0 +1,244 @@
+// Computations that are done more than once, and where their results are there already.
+use crate::flow::{Next, target_of};
+use crate::grid::Grid;
+use crate::homes::is_same;
+use crate::joining::{Ways, is_at, next_in};
+use crate::living::{Life, is_behind, is_crossing_behind};
+use crate::sizes::width_of;
+use std::alloc::Global;
+use vg_base::NoMemory;
+use vg_lin::{Computation, Instr, Operand, Operator, Plain};
+
+/// Computations whose results are kept, each in a local of its own.
+#[derive(Drop)]
+pub struct Works {
+    /// The computations; the locals that get their results do not count.
+    pub kinds: Vec<Computation>,
+    /// For each place the computations whose results are there whenever a run comes to it.
+    pub there: Grid,
+}
+
+impl Works {
+    /// None.
+    pub fn none(alloc: Global) -> Result<Self, NoMemory> {
+        Ok(Works {
+            kinds: Vec::new(alloc),
+            there: Grid::new(alloc, 0, 0, false)?,
+        })
+    }
+}
+
+fn kind_in(kinds: &[Computation], c: Computation) -> Option<usize> {
+    let mut number = 0usize;
+    for kind in kinds {
+        if is_alike(*kind, c) {
+            return Some(number);
+        }
+        number = number.saturating_add(1);
+    }
+    None
+}
+
+// Whether two computations give the same where their operands have the same values.
+fn is_alike(a: Computation, b: Computation) -> bool {
+    is_operator(a.operator, b.operator)
+        && a.width == b.width
+        && is_same(a.left, b.left)
+        && is_same(a.right, b.right)
+}
+
+// Whether two operators are the same, of those whose results need all bytes.
+fn is_operator(a: Operator, b: Operator) -> bool {
+    match (a, b) {
+        (Operator::Plus, Operator::Plus) => true,
+        (Operator::Minus, Operator::Minus) => true,
+        (Operator::Times, Operator::Times) => true,
+        (Operator::ShiftLeft, Operator::ShiftLeft) => true,
+        (Operator::ShiftRight, Operator::ShiftRight) => true,
+        _ => false,
+    }
+}
+
+/// What is known of a procedure.
+#[derive(Drop)]
+pub struct Seen<'a> {
+    pub code: &'a [Instr],
+    pub widths: &'a [u8],
+    pub ways: &'a Ways,
+    pub life: &'a Life,
+}
+
+impl Seen<'_> {
+    // The computation of an instruction whose result may stand where it is kept: it is needed, but not where ways meet, and a local holds all of it.
+    fn work_of(&self, instr: Instr, place: usize) -> Option<Computation> {
+        let Instr::Plain(Plain::Compute(c)) = instr else {
+            return None;
+        };
+        let next = next_in(self.ways.needless.as_slice(), instr, place);
+        let local = usize::from(c.to);
+        let is_kept = is_operator(c.operator, c.operator)
+            && !is_known(c)
+            && !is_operand(c, c.to)
+            && c.width <= width_of(self.widths, c.to)
+            && is_behind(&self.life.live, next, local)
+            && !is_crossing_behind(&self.life.live, &self.life.crossing, self.ways, next, local);
+        if is_kept { Some(c) } else { None }
+    }
+
+    /// The number of the kept computation that an instruction does, where its result may stand where it is kept.
+    pub fn work_in(&self, works: &Works, instr: Instr, place: usize) -> Option<usize> {
+        match self.work_of(instr, place) {
+            Some(c) => kind_in(works.kinds.as_slice(), c),
+            None => None,
+        }
+    }
+}
+
+fn is_known(c: Computation) -> bool {
+    match (c.left, c.right) {
+        (Operand::Known(_), Operand::Known(_)) => true,
+        _ => false,
+    }
+}
+
+fn is_operand(c: Computation, local: u8) -> bool {
+    is_same(c.left, Operand::Local(local)) || is_same(c.right, Operand::Local(local))
+}
+
+/// The computations of a procedure whose results are there again where they are computed another time; at most eight.
+pub fn find_works(alloc: Global, seen: &Seen<'_>) -> Result<Works, NoMemory> {
+    let mut works = Works {
+        kinds: Vec::new(alloc),
+        there: Grid::new(alloc, 0, 0, false)?,
+    };
+    collect(seen, &mut works)?;
+    works.there = where_there(alloc, seen, &works)?;
+    let mut useful = Works {
+        kinds: Vec::new(alloc),
+        there: Grid::new(alloc, 0, 0, false)?,
+    };
+    for number in 0..works.kinds.len() {
+        if is_useful(seen, &works, number) {
+            useful.kinds.push(works.kinds[number])?;
+        }
+    }
+    useful.there = where_there(alloc, seen, &useful)?;
+    Ok(useful)
+}
+
+fn collect(seen: &Seen<'_>, works: &mut Works) -> Result<(), NoMemory> {
+    let mut place = 0usize;
+    for instr in seen.code {
+        if is_at(seen.ways.reached.as_slice(), place) && works.kinds.len() < 8 {
+            if let Some(c) = seen.work_of(*instr, place) {
+                if kind_in(works.kinds.as_slice(), c).is_none() && is_done_again(seen, c, place) {
+                    works.kinds.push(c)?;
+                }
+            }
+        }
+        place = place.saturating_add(1);
+    }
+    Ok(())
+}
+
+// Whether a computation is done at a later place too.
+fn is_done_again(seen: &Seen<'_>, c: Computation, first: usize) -> bool {
+    let mut place = 0usize;
+    for instr in seen.code {
+        if place > first && is_at(seen.ways.reached.as_slice(), place) {
+            if let Some(other) = seen.work_of(*instr, place) {
+                if is_alike(c, other) {
+                    return true;
+                }
+            }
+        }
+        place = place.saturating_add(1);
+    }
+    false
+}
+
+// Whether there is a place where a computation is done whose result is there.
+fn is_useful(seen: &Seen<'_>, works: &Works, number: usize) -> bool {
+    let mut place = 0usize;
+    for instr in seen.code {
+        let is_done = match seen.work_in(works, *instr, place) {
+            Some(kind) => kind == number,
+            None => false,
+        };
+        if is_done && works.there.has(place, number) {
+            return true;
+        }
+        place = place.saturating_add(1);
+    }
+    false
+}
+
+// For each place the computations whose results are there whenever a run comes to it.
+fn where_there(alloc: Global, seen: &Seen<'_>, works: &Works) -> Result<Grid, NoMemory> {
+    let count = works.kinds.len();
+    let mut there = Grid::new(alloc, seen.code.len(), count, true)?;
+    for number in 0..count {
+        there.put(0, number, false);
+    }
+    for _pass in seen.code {
+        if !spread(&mut there, seen, works) {
+            return Ok(there);
+        }
+    }
+    Ok(there)
+}
+
+// Takes from the sets behind each instruction what is not sure, and says whether that changed one.
+fn spread(there: &mut Grid, seen: &Seen<'_>, works: &Works) -> bool {
+    let mut is_changed = false;
+    let mut place = 0usize;
+    for instr in seen.code {
+        if is_at(seen.ways.reached.as_slice(), place)
+            && spread_at(there, seen, works, *instr, place)
+        {
+            is_changed = true;
+        }
+        place = place.saturating_add(1);
+    }
+    is_changed
+}
+
+fn spread_at(there: &mut Grid, seen: &Seen<'_>, works: &Works, instr: Instr, place: usize) -> bool {
+    match next_in(seen.ways.needless.as_slice(), instr, place) {
+        Next::Nowhere => false,
+        Next::One(to) => narrow(there, seen, works, instr, place, to),
+        Next::Two(to, behind) => {
+            let first = narrow(there, seen, works, instr, place, to);
+            let second = narrow(there, seen, works, instr, place, behind);
+            first || second
+        }
+    }
+}
+
+// Takes from the set of a place what is not there behind an instruction that leads to it.
+fn narrow(
+    there: &mut Grid,
+    seen: &Seen<'_>,
+    works: &Works,
+    instr: Instr,
+    place: usize,
+    to: usize,
+) -> bool {
+    let done = seen.work_in(works, instr, place);
+    let mut is_changed = false;
+    for number in 0..works.kinds.len() {
+        let is_done = match done {
+            Some(kind) => kind == number,
+            None => false,
+        };
+        let is_lost = match target_of(instr) {
+            Some(local) => is_operand(works.kinds[number], local),
+            None => false,
+        };
+        let is_sure = (is_done || there.has(place, number)) && !is_lost;
+        if !is_sure && there.put(to, number, false) {
+            is_changed = true;
+        }
+    }
+    is_changed
+}
