@@ -22,7 +22,7 @@ use Rattle.vg_compile.specs.declared.compiled.Compiled.{Compiled}
 use Rattle.vg_layout.specs.declared.stack_bound.StackBound.{StackBound}
 use Rattle.vg_layout.specs.declared.stack_bound.StackBound.TheVariants.{Bytes, Cycle}
 
-lower : (floor bytes enough : ℕ) → 4 + enough ≤ bytes → floor + bytes ≤ 0x1100 → floor + (4 + enough) ≤ 0x1100
+lower : (floor bytes enough : ℕ) → bytes ≡ 4 + enough → floor + bytes ≤ 0x1100 → floor + (4 + enough) ≤ 0x1100
 lower floor bytes enough h k = omega (arith, h, k)
 
 module _ (p : Program) (h : Heap) (s : LiveSet) (n : Numbers) (c : Columns) (f : FirmProgram) (costs : List ℕ) (compiled : Compiled)
@@ -41,13 +41,13 @@ module _ (p : Program) (h : Heap) (s : LiveSet) (n : Numbers) (c : Columns) (f :
 
   bound_by : (need : Need) (bound : StackBound) → IsBoundOf need bound → HasNeed f image.linear need → HoldsBound compiled.linked c p h bound
   bound_by (need.Bytes bytes) (Bytes same) e has =
-      let (enough, low, is_enough) = has.is_need in
+      let (enough, exact, is_enough, spent) = has.is_need in
       subst (λ z. HoldsBound compiled.linked c p h (Bytes z)) (sym e) (
         has.frames,
         does_by has.frames has.fit,
         λ floor fits.
             peaks_hold p h s n c f image.linear image.unlinked compiled.linked given ready packed image.is_linear image.is_unlinked image.can_be_linked
-            image.is_linked has.frames enough is_enough floor (lower floor bytes enough low fits),
+            image.is_linked has.frames enough is_enough floor (lower floor bytes enough exact fits),
       )
   bound_by (need.Bytes bytes) (Cycle methods) e has = tt
   bound_by (need.Cycle procedures) (Bytes bytes) e has = absurd e

@@ -16,6 +16,7 @@ use Rattle.vg_packed.specs.declared.program.FirmProgram.{FirmProgram}
 use Rattle.vg_walks.specs.Walks.{IsCallOf, IsEntry, LiesOn}
 use Rattle.vg_stack_bound.specs.Covered.{AreCovered, Covers, IsBoundBy}
 use Rattle.vg_stack_bound.specs.Enough.{IsEnough, IsNeed}
+use Rattle.vg_stack_bound.specs.Ways.{IsSpent}
 use Rattle.vg_stack_bound.specs.declared.need.Need.TheVariants.{Bytes}
 
 pub bounded : (f : FirmProgram) (costs noted : List ℕ) (bytes : ℕ) → AreCovered f.procedures costs noted f.procedures noted
@@ -115,8 +116,8 @@ enough f costs noted bytes is k = enough_of k f costs noted bytes is
 
 -- and four more are a need
 pub need_of : (f : FirmProgram) (costs : List ℕ) (bytes need : ℕ) → need ≡ bytes + 4 → ((k : Codes) → IsEnough (program_of k f) costs bytes)
-    → IsNeed f costs (Bytes need)
-need_of f costs bytes need e enough = (bytes, four_more bytes need e, enough)
+    → IsSpent f costs bytes → IsNeed f costs (Bytes need)
+need_of f costs bytes need e enough spent = (bytes, four_more bytes need e, enough, spent)
   where
-    four_more : (a b : ℕ) → b ≡ a + 4 → 4 + a ≤ b
+    four_more : (a b : ℕ) → b ≡ a + 4 → b ≡ 4 + a
     four_more a b h = omega (arith, h)

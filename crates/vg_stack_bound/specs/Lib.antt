@@ -1,3 +1,4 @@
 pub mod Turns
+pub mod Ways
 pub mod Enough
 pub mod Covered

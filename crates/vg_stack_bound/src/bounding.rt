@@ -5,19 +5,22 @@ ghost use Rattle.vg_codes.specs.Codes.{Codes};
 ghost use Rattle.vg_packed.specs.Programs.{program_of};
 ghost use Rattle.vg_packed.specs.declared.program.Entrance.{Entrance as TheEntrance};
 ghost use Rattle.vg_stack_bound.specs.Enough.{IsEnough, IsNeed};
+ghost use Rattle.vg_stack_bound.specs.Ways.{IsCycleIn, IsSpent};
 ghost use Rattle.vg_stack_bound.specs.Covered.{AreCovered, Covers, IsBoundBy};
 
 use crate::need::Need;
 use crate::spreading::note_all;
 use crate::turning::{cycle_of, is_cycle};
+use crate::ways::{callers_of, is_reached, is_spent, way_by};
 use std::alloc::Global;
 use vg_base::NoMemory;
 use vg_firm::Procedure;
 use vg_frame_costs::counting::cost_of;
 use vg_packed::{Entrance, FirmProgram};
 
-/// How much stack the active calls of a packed program need at most, by costs of methods in bytes, where its procedures do not idle: a number of bytes, or
-/// procedures that call one another in turn. There is no answer where neither was found, and where the bytes do not fit into 32 bits.
+/// How much stack the active calls of a packed program need at most, by costs of methods in bytes, where its procedures do not idle: a number of bytes,
+/// which is four more than what calls cost that lead from main or a handler on; or procedures that call one another in turn, to which calls lead from there.
+/// There is no answer where neither was found, and where the bytes do not fit into 32 bits.
 pub fn stack_need(
     alloc: Global,
     firm: &FirmProgram,
@@ -26,20 +29,65 @@ pub fn stack_need(
     ensures { IfOk result (λ need. IfSome need (IsNeed firm.now costs.now)) }
 {
     let noted = note_all(alloc, firm, costs)?;
-    let bytes = largest(noted.bytes.as_slice());
+    let last = largest(noted.bytes.as_slice());
+    let bytes = noted_at(noted.bytes.as_slice(), last);
+    let way = way_by(alloc, noted.callers.as_slice(), last)?;
     match bytes.checked_add(4) {
         Some(need) => {
-            if is_enough(firm, costs, noted.bytes.as_slice(), bytes) {
+            if is_exactly(
+                firm,
+                costs,
+                noted.bytes.as_slice(),
+                way.as_slice(),
+                last,
+                bytes,
+            ) {
                 return Ok(Some(Need::Bytes(need)));
             }
         }
         None => {}
     }
     let cycle = cycle_of(alloc, &noted)?;
-    if is_cycle(firm.procedures.as_slice(), cycle.as_slice()) {
+    let callers = callers_of(alloc, firm)?;
+    let way = way_by(alloc, callers.as_slice(), first_of(cycle.as_slice()))?;
+    if is_cycle_in(firm, cycle.as_slice(), way.as_slice()) {
         Ok(Some(Need::Cycle(cycle)))
     } else {
         Ok(None)
+    }
+}
+
+// Whether so many bytes are enough, for what is noted, and the calls of a way cost them.
+fn is_exactly(
+    firm: &FirmProgram,
+    costs: &[u32],
+    noted: &[u32],
+    way: &[u16],
+    last: u16,
+    bytes: u32,
+) -> bool
+    ensures enough { IsTrue result → (k : Codes) → IsEnough (program_of k firm.now) costs.now bytes }
+    ensures spent { IsTrue result → IsSpent firm.now costs.now bytes }
+{
+    is_enough(firm, costs, noted, bytes) && is_spent(firm, costs, way, last, bytes)
+}
+
+// Whether procedures call one another in turn, and this is a way to the first of them.
+fn is_cycle_in(firm: &FirmProgram, cycle: &[u16], way: &[u16]) -> bool
+    ensures { IsTrue result → IsCycleIn firm.now cycle.now }
+{
+    match cycle {
+        [] => false,
+        [first, ..] => {
+            is_cycle(firm.procedures.as_slice(), cycle) && is_reached(firm, way, *first)
+        }
+    }
+}
+
+fn first_of(procedures: &[u16]) -> u16 {
+    match procedures.get(0) {
+        Some(first) => *first,
+        None => 0,
     }
 }
 
@@ -51,14 +99,26 @@ fn is_enough(firm: &FirmProgram, costs: &[u32], noted: &[u32], bytes: u32) -> bo
     is_bound(firm, costs, noted, bytes)
 }
 
-fn largest(noted: &[u32]) -> u32 {
+// The procedure of which most is noted.
+fn largest(noted: &[u32]) -> u16 {
     let mut most = 0;
+    let mut found = 0u16;
+    let mut procedure = 0u16;
     for bytes in noted {
         if most < *bytes {
             most = *bytes;
+            found = procedure;
         }
+        procedure = procedure.wrapping_add(1);
     }
-    most
+    found
+}
+
+fn noted_at(noted: &[u32], procedure: u16) -> u32 {
+    match noted.get(usize::from(procedure)) {
+        Some(bytes) => *bytes,
+        None => 0,
+    }
 }
 
 // Whether what is noted of procedures bounds what calls of them cost, with all calls below.

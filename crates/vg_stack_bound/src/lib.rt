@@ -6,6 +6,7 @@ pub mod laws;
 pub mod need;
 pub mod spreading;
 pub mod turning;
+pub mod ways;
 
 pub use bounding::stack_need;
 pub use need::Need;

@@ -69,8 +69,8 @@ fn are_in_turn(all: &[Procedure], procedure: u16, others: &[u16], end: u16) -> b
     }
 }
 
-// Whether a procedure names another among those that it may call.
-fn calls(all: &[Procedure], procedure: u16, other: u16) -> bool
+/// Whether a procedure names another among those that it may call.
+pub fn calls(all: &[Procedure], procedure: u16, other: u16) -> bool
     ensures { IsTrue result → Calls all.now procedure other }
 {
     match all.get(usize::from(procedure)) {
