@@ -9,7 +9,7 @@ use Rattle.vg_core.specs.HeldProgram.{program_at}
 use Rattle.vg_live.specs.Sets.{IsLiveSet}
 use Rattle.vg_faults.specs.declared.fault.Fault.{Fault}
 use Rattle.vg_faults.specs.Living.{IsFirm, HasLiveFault}
-use Rattle.vg_front.specs.declared.starting.Start.{Start}
+pub use Rattle.vg_front.specs.declared.starting.Start.{Start}
 use Rattle.vg_front.specs.Answer.{IsStartOf}
 use Rattle.vg_alive.specs.declared.finding.Alive.{Alive}
 

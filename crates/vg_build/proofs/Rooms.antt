@@ -9,7 +9,7 @@ use Rattle.vg_first_text.specs.declared.device_write.DeviceWrite.{DeviceWrite}
 use Rattle.vg_first_text.specs.FirstText.{IsFirst}
 use Rattle.vg_build.specs.Answer.{IsOverStack}
 use Rattle.vg_build.specs.Stated.{stated}
-use Rattle.vg_alive.specs.Answer.{named_start_heap}
+use Rattle.vg_fits.specs.Answer.{named_start_heap}
 use Rattle.vg_fits.specs.declared.fitting.Fitted.{Fitted}
 use Rattle.vg_fits.specs.Answer.{IsFittedOf}
 use Rattle.vg_fits.proofs.Answering.{static_is}

@@ -44,7 +44,7 @@ use Rattle.vg_table_bytes.specs.Bytes.{columns_bytes, ram_widths, rows_bytes, ta
 use Rattle.vg_table_bytes.specs.Rows.{HasRows}
 use Rattle.vg_started_bytes.specs.Started.{bytes_in, ram_places, table_addresses}
 use Rattle.vg_started_bytes.proofs.Ends.{copy_length, columns_stand, tables_stand}
-use Rattle.vg_started_stands.proofs.Stands as started_stands
+use Rattle.vg_started_bytes.proofs.Stands as started_stands
 use Rattle.vg_flatten_shapes.specs.declared.layout.Layout.{Layout as LinLayout}
 use Rattle.vg_flatten.specs.Columns.{RamStands, TableStands}
 use Rattle.vg_flatten.specs.Flattened.{AreFlat}
@@ -55,14 +55,14 @@ use Rattle.vg_followed.specs.Runs.{Begins}
 use Rattle.vg_frame_costs.specs.Fitting.{FramesFit}
 use Rattle.vg_deep_costs.specs.Fit.{HasFitFrames}
 use Rattle.vg_peaks.proofs.Joining.{within_peak}
-use Rattle.vg_agrees.specs.Does.{DoesAsProgram}
+use Rattle.vg_memory.specs.Does.{DoesAsProgram}
 use Rattle.vg_linear.specs.declared.whole.Linear.{Linear}
 use Rattle.vg_linear.specs.Standing.{StandIn}
 use Rattle.vg_linear.specs.Whole.{IsLinear, linear_program, packed_of}
 use Rattle.vg_linear.proofs.Following as linear_follows
 use Rattle.vg_link.specs.declared.linked.Linked.{Linked}
 use Rattle.vg_link.specs.declared.unlinked.Unlinked.{Unlinked}
-use Rattle.vg_laid.specs.Laid.{codes_by}
+use Rattle.vg_link.specs.Linking.{codes_by}
 use Rattle.vg_link.specs.Linking as linking
 use Rattle.vg_link.specs.Linking.{kept_before, codes_before, CanBeLinked, IsLinked}
 use Rattle.vg_link.proofs.Before.{kept_low, kept_there, same_bytes}

@@ -12,8 +12,8 @@ use Rattle.vg_lin.specs.declared.instr.Instr.TheVariants.{Plain, When, Unless, J
 use Rattle.vg_lin.specs.Program.{Procedure}
 use Rattle.vg_followed.specs.Tables.{AreCases, IsCase}
 use Rattle.vg_covered.specs.Fitting.{IsFit, IsPlainFit}
-use Rattle.vg_select.specs.Selected.{with_codes}
-use Rattle.vg_laid.specs.Laid.{AreSound}
+use Rattle.vg_link.specs.Linking.{with_codes}
+use Rattle.vg_link.specs.Linking.{AreSound}
 use Rattle.vg_link.specs.declared.unlinked.Handler.{Handler}
 use Rattle.vg_link.specs.declared.unlinked.Unlinked.{Unlinked}
 use Rattle.vg_link.specs.Linking.{handler_in, CanBeLinked, IsAlone}

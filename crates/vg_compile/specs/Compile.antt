@@ -8,7 +8,7 @@ use Rattle.vg_packed.specs.declared.program.Entrance.{Entrance}
 use Rattle.vg_packed.specs.declared.program.FirmProgram.{FirmProgram}
 use Rattle.vg_linear.specs.declared.whole.Linear.{Linear}
 use Rattle.vg_linear.specs.Whole.{IsLinear}
-use Rattle.vg_link.specs.declared.linked.Linked.{Linked}
+pub use Rattle.vg_link.specs.declared.linked.Linked.{Linked}
 use Rattle.vg_link.specs.declared.unlinked.Handler.{Handler}
 use Rattle.vg_link.specs.declared.unlinked.Unlinked.{Unlinked}
 use Rattle.vg_link.specs.Linking.{CanBeLinked, IsLinked}

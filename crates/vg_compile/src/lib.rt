@@ -17,3 +17,4 @@ pub use compiled::Compiled;
 pub use compiling::compile;
 pub use linkable::can_be_linked;
 pub use no_image::NoImage;
+pub use vg_link::Linked;

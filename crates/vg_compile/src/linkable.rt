@@ -1,7 +1,7 @@
 // Whether a program can be linked.
 ghost use Rattle.std.specs.Prelude.{IsTrue};
 ghost use Rattle.vg_link.specs.Linking.{CanBeLinked, IsAlone};
-ghost use Rattle.vg_laid.specs.Laid.{AreSound};
+ghost use Rattle.vg_link.specs.Linking.{AreSound};
 ghost use Rattle.vg_compile.specs.Linkable.{AreHandlers, HasEntries, HasFewBytes, IsHandler};
 
 use crate::cases::all_are_small;

@@ -12,7 +12,8 @@ use Rattle.vg_place.specs.Placing.{ArePlaced}
 use Rattle.vg_faults.specs.declared.fault.Fault.{Fault}
 use Rattle.vg_faults.specs.Fitting.{IsFitting, HasFitFault}
 use Rattle.vg_alive.specs.declared.finding.Alive.{Alive}
-use Rattle.vg_alive.specs.Answer.{IsAliveOf, named_start_heap}
+use Rattle.vg_alive.specs.Answer.{IsAliveOf}
+pub use Rattle.vg_alive.specs.Answer.{named_start_heap, Start}
 use Rattle.vg_fits.specs.declared.fitting.Fitted.{Fitted}
 
 -- the columns of what is live, not yet placed

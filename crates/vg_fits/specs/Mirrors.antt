@@ -10,7 +10,7 @@ use Rattle.vg_placement.specs.Columns.{home_bytes}
 use Rattle.vg_place.specs.Placing.{AreOwned, ArePlaced}
 use Rattle.vg_faults.specs.declared.fault.Fault.{Fault}
 use Rattle.vg_faults.specs.declared.fault.Fault.TheVariants.{StaticFull, TableFull}
-use Rattle.vg_front.specs.declared.starting.Start.{Start}
+use Rattle.vg_alive.specs.Answer.{Start}
 use Rattle.vg_alive.specs.declared.finding.Alive.{Alive}
 use Rattle.vg_fits.specs.Answer.{columns_of}
 use Rattle.vg_fits.specs.declared.fitting.Placed.{Placed}

@@ -15,8 +15,8 @@ use Rattle.vg_packed.specs.Ready.{IsReady}
 use Rattle.vg_packed.specs.Ranges.{HaveRanges}
 use Rattle.vg_packed.proofs.Ready.{elements, is_ready}
 use Rattle.vg_text_beside.proofs.Beside.{few_methods, few_parameters, few_arguments, ranges}
-use Rattle.vg_front.specs.declared.starting.Start.{Start}
-use Rattle.vg_alive.specs.Answer.{named_start_heap}
+use Rattle.vg_fits.specs.Answer.{Start}
+use Rattle.vg_fits.specs.Answer.{named_start_heap}
 use Rattle.vg_fits.specs.declared.fitting.Fitted.{Fitted}
 use Rattle.vg_fits.specs.Answer.{IsFittedOf}
 use Rattle.vg_fits.specs.Mirrors.{CanPlace}

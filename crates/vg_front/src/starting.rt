@@ -4,7 +4,7 @@ ghost use Rattle.vg_base.specs.Limits.{text_limit};
 ghost use Rattle.vg_rules.specs.Refusal.{refusal_of};
 ghost use Rattle.vg_tree_walks.specs.Whole.{tree_at, node_count};
 ghost use Rattle.vg_core.specs.HeldProgram.{program_at};
-ghost use Rattle.vg_types.specs.Programs.{IsProgramOf};
+ghost use Rattle.vg_types_named.specs.Programs.{IsProgramOf};
 ghost use Rattle.vg_types.specs.Checks.{refused_view};
 ghost use Rattle.vg_session.specs.Initialises.{why_of};
 ghost use Rattle.vg_faults.specs.Judged.{fault_of, place_in};

@@ -17,7 +17,9 @@ use Rattle.vg_tables.specs.declared.datum.Datum.{Datum}
 use Rattle.vg_tables.specs.Bytes.{byte_of}
 use Rattle.vg_put_programs.specs.declared.placed.Placed.{Placed}
 use Rattle.vg_put_programs.specs.Programs.{emission, entries_upto, pieces_upto, placed_upto}
-use Rattle.vg_laid.specs.Laid.{idle_from, index_in, stub_at, codes_by, AreSound}
+pub use Rattle.vg_laid.specs.Laid.{codes_by, AreSound}
+use Rattle.vg_laid.specs.Laid.{idle_from, index_in, stub_at}
+pub use Rattle.vg_select.specs.Selected.{with_codes}
 use Rattle.vg_link.specs.declared.linked.CodeFull.{CodeFull}
 use Rattle.vg_link.specs.declared.linked.Linked.{Linked}
 use Rattle.vg_link.specs.declared.unlinked.Handler.{Handler}

@@ -1,3 +1,4 @@
+pub mod SessionsAgree
 pub mod Outcomes
 pub mod Keeping
 pub mod Never

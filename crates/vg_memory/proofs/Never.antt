@@ -20,8 +20,8 @@ use Rattle.vg_core.specs.Program.{Program}
 use Rattle.vg_core.specs.Typing.{WellTyped}
 use Rattle.vg_sound.specs.Good.{HasTypedHeap}
 use Rattle.vg_renamed.specs.IsNamed.{IsNamed}
-use Rattle.vg_agrees.specs.Does.{DoesAsProgram}
-use Rattle.vg_agrees.specs.Whole.{with_whole}
+use Rattle.vg_memory.specs.Does.{DoesAsProgram}
+use Rattle.vg_memory.specs.Whole.{with_whole}
 use Rattle.vg_memory.specs.Holds.{HoldsPeaks}
 use Rattle.vg_memory.proofs.Outcomes.{IsOver, Outcome, outcome}
 

@@ -33,9 +33,9 @@ use Rattle.vg_renamed.specs.IsNamed.{IsNamed}
 use Rattle.vg_renamed.proofs.Calls.{alike_running}
 use Rattle.vg_endings.proofs.Sessions.{typed_session_ends, typed_session_is_not_deep}
 use Rattle.vg_peaks.specs.Peaks.{DoesWithinPeak, PassesPeak}
-use Rattle.vg_agrees.specs.Does.{DoesAsProgram}
-use Rattle.vg_agrees.specs.Whole.{with_whole}
-use Rattle.vg_agrees.proofs.Agreeing.{all_spent, alike_end, spent_all}
+use Rattle.vg_memory.specs.Does.{DoesAsProgram}
+use Rattle.vg_memory.specs.Whole.{with_whole}
+use Rattle.vg_memory.proofs.SessionsAgree.{all_spent, alike_end, spent_all}
 
 -- the run of the program is over for this legal reason in this world
 pub record IsOver (p : Program) (h : Heap) (reads interrupts : List ℕ) (clock : ℕ) (why : End) (w : World History) : Type 0 where

@@ -1,2 +1,4 @@
+pub mod Does
+pub mod Whole
 pub mod Memory
 pub mod Holds

@@ -11,8 +11,8 @@ ghost use Rattle.vg_core.specs.Program.{Program};
 ghost use Rattle.vg_core.specs.Typing.{WellTyped};
 ghost use Rattle.vg_sound.specs.Good.{HasTypedHeap};
 ghost use Rattle.vg_renamed.specs.IsNamed.{IsNamed};
-ghost use Rattle.vg_agrees.specs.Does.{DoesAsProgram};
-ghost use Rattle.vg_agrees.specs.Whole.{with_whole};
+ghost use Rattle.vg_memory.specs.Does.{DoesAsProgram};
+ghost use Rattle.vg_memory.specs.Whole.{with_whole};
 ghost use Rattle.vg_memory.specs.Holds.{HoldsPeaks};
 ghost use Rattle.vg_memory.specs.Memory.{KeepsMemory};
 

@@ -1,5 +1,5 @@
-//! That an image writes to SRAM only in its static area and on its stack, and lets interrupts in only where it idles, where the machine does in it what a
-//! typed program does.
+//! That images of packed programs agree with the texts that these are made of, keep memory, and never reach below a stack that is enough.
 #![tactic(auto)]
 
+pub mod agreeing;
 pub mod laws;

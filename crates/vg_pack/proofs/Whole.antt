@@ -48,11 +48,11 @@ use Rattle.vg_plan_laws.proofs.Filled.{values_stand}
 use Rattle.vg_plan_laws.proofs.Items.{items_length}
 use Rattle.vg_plan_laws.proofs.Listed.{few_columns}
 use Rattle.vg_plan_laws.proofs.Planned.{stands_in, fits, are_tabled}
-use Rattle.vg_packed_rows.specs.Made.{IsMade}
-use Rattle.vg_packed_rows.proofs.Whole.{has_rows}
+use Rattle.vg_plan_laws.specs.Made.{IsMade}
+use Rattle.vg_plan_laws.proofs.WholeRows.{has_rows}
 use Rattle.vg_pack.specs.Entrances.{entrance}
 use Rattle.vg_pack.specs.Rows.{IsPackedWhole}
-use Rattle.vg_plan_whole.proofs.Whole.{is_plan, dispatches_planned}
+use Rattle.vg_plan_laws.proofs.Whole.{is_plan, dispatches_planned}
 
 module _ (p : Program) (h : Heap) (s : LiveSet) (n : Numbers) (c : Columns) (g : IsGiven p h s n c) where
   pub all_listed : AreListed p.tables (kinds_of h)

@@ -8,3 +8,17 @@ pub mod Values
 pub mod Filled
 pub mod Among
 pub mod Entered
+pub mod Found
+pub mod MostNamed
+pub mod Only
+pub mod Bounded
+pub mod Joined
+pub mod All
+pub mod Whole
+mod Sizes
+mod Rams
+mod Entries
+mod Told
+mod Written
+mod Arrays
+pub mod WholeRows

@@ -1,4 +1,8 @@
-//! Laws: what is planned is the plan of the live set, and its columns and tables are those of the layout.
+//! Laws of plans: that a plan which was made is one of its typed program, that it names all that is live and no more, and that the packed program of it has
+//! its rows.
 #![tactic(auto)]
 
+pub mod bound;
 pub mod laws;
+pub mod packed_rows;
+pub mod whole_plans;

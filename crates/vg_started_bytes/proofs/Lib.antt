@@ -2,3 +2,4 @@ mod Rows
 mod Placed
 mod Whole
 pub mod Ends
+pub mod Stands

@@ -1,4 +1,5 @@
-//! The bytes of tables hold what a packed program begins with: the values of its columns, and where its arrays stand.
+//! That the bytes of the columns of a packed program are those with which its linear code starts, and that what starts there stands.
 #![tactic(auto)]
 
 pub mod laws;
+pub mod standing;

@@ -33,7 +33,7 @@ use Rattle.vg_text_limits.proofs.Parameters as parameters
 use Rattle.vg_text_limits.proofs.FieldTypes.{fields_fit}
 use Rattle.vg_text_limits.proofs.Calling.{calls_are_short}
 use Rattle.vg_types_declared.specs.Apart.{have_members}
-use Rattle.vg_types.specs.Programs.{IsProgramOf}
+use Rattle.vg_types_named.specs.Programs.{IsProgramOf}
 use Rattle.vg_packed.specs.Ranges.{HaveRanges}
 use Rattle.vg_text_ranges.specs.Beside.{IsSafeBeside}
 use Rattle.vg_text_ranges.proofs.Named.{declarations_only, small_type, wide_type, have_ranges}

@@ -7,7 +7,7 @@ ghost use Rattle.vg_rules.specs.Refusal.{refusal_of};
 ghost use Rattle.vg_core.specs.Program.{Program};
 ghost use Rattle.vg_pack_bodies.specs.Procedures.{HaveFewParameters};
 ghost use Rattle.vg_packed.specs.Few.{HaveFewArguments};
-ghost use Rattle.vg_types.specs.Programs.{IsProgramOf};
+ghost use Rattle.vg_types_named.specs.Programs.{IsProgramOf};
 ghost use Rattle.vg_packed.specs.Ranges.{HaveRanges};
 
 /// The typed program of a text of less than 2^31 bytes that is refused for nothing has all in the ranges that packing needs. The body is empty: its

@@ -24,17 +24,17 @@ use Rattle.vg_renamed.specs.IsNamed.{IsNamed}
 use Rattle.vg_renamed.proofs.Named.{is_named}
 use Rattle.vg_packed.specs.Ready.{IsReady}
 use Rattle.vg_written.specs.Written.{parts_of}
-use Rattle.vg_alive.specs.Answer.{named_start_heap}
-use Rattle.vg_front.specs.declared.starting.Start.{Start}
+use Rattle.vg_fits.specs.Answer.{named_start_heap}
+use Rattle.vg_fits.specs.Answer.{Start}
 use Rattle.vg_fits.specs.declared.fitting.Fitted.{Fitted}
 use Rattle.vg_fits.specs.Answer.{IsFittedOf}
 use Rattle.vg_fits_given.proofs.Given.{given, ready}
 use Rattle.vg_costs.proofs.Bounded.{small}
 use Rattle.vg_costs.proofs.Limited.{not_too_many}
-use Rattle.vg_link.specs.declared.linked.Linked.{Linked}
-use Rattle.vg_agrees.proofs.Agreeing.{agrees}
-use Rattle.vg_agrees.specs.Does.{DoesAsProgram}
-use Rattle.vg_agrees.specs.Whole.{with_whole}
+use Rattle.vg_compile.specs.Compile.{Linked}
+use Rattle.vg_memory.proofs.SessionsAgree.{agrees}
+use Rattle.vg_memory.specs.Does.{DoesAsProgram}
+use Rattle.vg_memory.specs.Whole.{with_whole}
 use Rattle.vg_memory.specs.Memory.{KeepsMemory}
 use Rattle.vg_memory.proofs.Keeping.{keeps}
 use Rattle.vg_memory.proofs.Never.{never}

@@ -14,7 +14,7 @@ use Rattle.vg_core.specs.HeldProgram.{program_at}
 use Rattle.vg_packed.specs.Given.{IsGiven}
 use Rattle.vg_packed.specs.Ready.{IsReady}
 use Rattle.vg_fits.specs.declared.fitting.Fitted.{Fitted}
-use Rattle.vg_link.specs.declared.linked.Linked.{Linked}
+use Rattle.vg_compile.specs.Compile.{Linked}
 use Rattle.vg_costs.specs.Small.{AreSmall}
 use Rattle.vg_compile.specs.Bounds.{HoldsBound}
 use Rattle.vg_compile.specs.Runs.{DoesInImage}

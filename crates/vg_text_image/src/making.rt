@@ -10,11 +10,10 @@ use crate::unmade::Unmade;
 use avr_isa::Image;
 use std::alloc::Global;
 use vg_base::{NoMemory, Refusal, Row};
-use vg_compile::{Compiled, NoImage, compile};
+use vg_compile::{Compiled, Linked, NoImage, compile};
 use vg_costs::method_costs;
 use vg_fits::Fitted;
 use vg_layout::{CodePiece, StackBound};
-use vg_link::Linked;
 
 /// The flash of the image of a text, and what its layout tells.
 #[derive(Drop)]

@@ -9,7 +9,7 @@ ghost use Rattle.vg_core.specs.Program.{Program, Body, Signature, signature_of, 
 ghost use Rattle.vg_firm_sizes.specs.Sizes.{code_size};
 ghost use Rattle.vg_packing.specs.Layout.{Layout};
 ghost use Rattle.vg_packing.specs.Pass.{packed};
-ghost use Rattle.vg_types.specs.Programs.{IsProgramOf};
+ghost use Rattle.vg_types_named.specs.Programs.{IsProgramOf};
 
 use vg_block_arms::arms_have_blocks;
 use vg_packed_nodes::procedures_within_nodes;

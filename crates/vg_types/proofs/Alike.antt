@@ -15,7 +15,7 @@ use Rattle.vg_renamed.specs.Stands.{named_start}
 use Rattle.vg_renamed.proofs.Named.{is_named}
 use Rattle.vg_renamed.proofs.Calls.{same_started, same_session}
 use Rattle.vg_endings.proofs.Sessions.{session_ends, session_is_not_deep}
-use Rattle.vg_types.specs.Programs.{IsProgramOf}
+use Rattle.vg_types_named.specs.Programs.{IsProgramOf}
 
 module _ (texts : List (List ℕ)) (tree : Node) (p : Program) (is : IsProgramOf texts tree p) where
   abbrev names : Naming

@@ -1,3 +1,4 @@
 pub mod Alike
+mod Assembling
 mod Counted
 mod Together

@@ -31,8 +31,8 @@ use Rattle.vg_types_entries.specs.declared.program.ProgramEntries.{ProgramEntrie
 use Rattle.vg_types_entries.specs.Entries.{AreEntriesOf}
 use Rattle.vg_types_routines.specs.declared.pass.Bodies.{Bodies}
 use Rattle.vg_types_routines.specs.Bodies.{AllBodies}
-use Rattle.vg_types_assembled.specs.Assembled.{IsOf}
-use Rattle.vg_types_assembled.proofs.Assembling.{all_typed, program_named, names_told}
+use Rattle.vg_types.specs.Assembled.{IsOf}
+use Rattle.vg_types.proofs.Assembling.{all_typed, program_named, names_told}
 use Rattle.vg_types.specs.Passes.{IsMovedFrom, IsProgramFor}
 use Rattle.vg_types.proofs.Counted.{all_called}
 

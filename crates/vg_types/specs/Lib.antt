@@ -1,3 +1,3 @@
-pub mod Programs
+pub mod Assembled
 pub mod Checks
 pub mod Passes

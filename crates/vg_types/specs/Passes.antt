@@ -14,7 +14,7 @@ use Rattle.vg_types_signatures.specs.Parts.{declared_part}
 use Rattle.vg_types_tables.specs.declared.declared.Declared.{Declared}
 use Rattle.vg_types_entries.specs.declared.program.ProgramEntries.{ProgramEntries}
 use Rattle.vg_types_routines.specs.declared.pass.Bodies.{Bodies}
-use Rattle.vg_types.specs.Programs.{IsProgramOf}
+use Rattle.vg_types_named.specs.Programs.{IsProgramOf}
 
 -- on what is inherited, on the entries of the program, and on what is written in members
 abbrev pub members_breach : Node → Option Breach

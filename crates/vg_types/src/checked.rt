@@ -4,7 +4,7 @@ ghost use Rattle.vg_rules.specs.Legal.{breach_of};
 ghost use Rattle.vg_core.specs.HeldProgram.{program_at};
 ghost use Rattle.vg_tree_walks.specs.Whole.{tree_at, node_count};
 ghost use Rattle.vg_types_views.specs.Judges.{Judges};
-ghost use Rattle.vg_types.specs.Programs.{IsProgramOf};
+ghost use Rattle.vg_types_named.specs.Programs.{IsProgramOf};
 ghost use Rattle.vg_types.specs.Checks.{Checks};
 
 use crate::passes::passed;

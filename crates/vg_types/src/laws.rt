@@ -11,7 +11,7 @@ ghost use Rattle.vg_core.specs.Program.{Program};
 ghost use Rattle.vg_core.specs.Session.{started, session};
 ghost use Rattle.vg_sound.specs.Good.{HasTypedHeap};
 ghost use Rattle.vg_renamed.specs.Stands.{named_start};
-ghost use Rattle.vg_types.specs.Programs.{IsProgramOf};
+ghost use Rattle.vg_types_named.specs.Programs.{IsProgramOf};
 
 /// A typed program of a tree is initialised as the tree is: to the same heap, with names in place of numbers, or not, for the same reason.
 pub fn initialised_alike()

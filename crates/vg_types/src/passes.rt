@@ -12,7 +12,7 @@ ghost use Rattle.vg_types_names.specs.Declarations.{are_declarations, names_part
 ghost use Rattle.vg_types_signatures.specs.Parts.{declared_part};
 ghost use Rattle.vg_types_tables.specs.Views.{declarations_at};
 ghost use Rattle.vg_types_declared.specs.Named.{Keeps};
-ghost use Rattle.vg_types.specs.Programs.{IsProgramOf};
+ghost use Rattle.vg_types_named.specs.Programs.{IsProgramOf};
 ghost use Rattle.vg_types.specs.Passes.{asked_part, members_part, members_breach, IsProgramFor, IsMovedFrom};
 
 use std::alloc::Global;

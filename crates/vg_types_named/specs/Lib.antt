@@ -1,3 +1,4 @@
 pub mod Left
 pub mod Targets
 pub mod Routines
+pub mod Programs

@@ -1,7 +1,0 @@
-mod Sizes
-mod Rams
-mod Entries
-mod Told
-mod Written
-mod Arrays
-pub mod Whole

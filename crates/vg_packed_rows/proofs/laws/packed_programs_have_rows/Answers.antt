@@ -1,5 +1,0 @@
-use Rattle.vg_packed_rows.proofs.Whole.{has_rows}
-use Rattle.vg_packed_rows.proofs.laws.packed_programs_have_rows.Goals as goal
-
-pub returns : goal.returns
-returns c p h s n cs f given ready from made k are = has_rows p h s n cs f given ready from made k are

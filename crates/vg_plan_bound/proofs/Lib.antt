@@ -1,4 +1,0 @@
-pub mod Found
-pub mod Bound
-pub mod Only
-pub mod Planned

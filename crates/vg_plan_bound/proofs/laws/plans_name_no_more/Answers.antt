@@ -1,8 +1,0 @@
-use Rattle.vg_plan_bound.proofs.Planned.{has_delegates, has_calls}
-use Rattle.vg_plan_bound.proofs.laws.plans_name_no_more.Goals as goal
-
-pub returns-clause-delegates : goal.returns-clause-delegates
-returns-clause-delegates c = has_delegates
-
-pub returns-clause-calls : goal.returns-clause-calls
-returns-clause-calls c = has_calls

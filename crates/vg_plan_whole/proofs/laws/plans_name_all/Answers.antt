@@ -1,8 +1,0 @@
-use Rattle.vg_plan_whole.proofs.Whole.{names_delegates, names_calls}
-use Rattle.vg_plan_whole.proofs.laws.plans_name_all.Goals as goal
-
-pub returns-clause-delegates : goal.returns-clause-delegates
-returns-clause-delegates c = names_delegates
-
-pub returns-clause-calls : goal.returns-clause-calls
-returns-clause-calls c = names_calls
