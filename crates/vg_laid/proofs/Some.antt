@@ -33,6 +33,7 @@ use Rattle.vg_templates.specs.Operands.{least, padded, known_registers, finds, s
 use Rattle.vg_templates.specs.Plain.{bytes_in, copies_low, copies, computes, works, writes_register, reads_register, first_of}
 use Rattle.vg_templates.specs.Accesses.{points_x, loads_x, stores_x}
 use Rattle.vg_templates.specs.Shifts.{doubles, halves, repeats, shifts_left, shifts_right}
+use Rattle.vg_templates.specs.Choices.{usual, unusual}
 use Rattle.vg_templates.specs.Lookups.{points_z, loads_z, tries_cases}
 use Rattle.vg_templates.specs.Flow.{jump_code, branch_code, way_of, Turn, Direct, Past, Hop, Near, Far}
 use Rattle.vg_templates.specs.Plains.{computation_code, pops_from, plain_template}
@@ -98,9 +99,9 @@ pops_some : (d n : ℕ) → 1 ≤ n → 1 ≤ length (pops_from d n)
 pops_some d zero h = absurd (omega (arith, h))
 pops_some d (suc n) h = omega arith
 
-stores_x_some : (r n : ℕ) → 1 ≤ n → 1 ≤ length (stores_x r n)
-stores_x_some r zero h = absurd (omega (arith, h))
-stores_x_some r (suc n) h = omega arith
+stores_x_some : (rs : List ℕ) → 1 ≤ length rs → 1 ≤ length (stores_x rs)
+stores_x_some [] h = absurd (omega (arith, h))
+stores_x_some (r ∷ rs) h = omega arith
 
 writes_some : (b : Bool) (x y : Avr) → 1 ≤ length (if b then x ∷ [] else y ∷ [])
 writes_some true x y = omega arith
@@ -196,14 +197,16 @@ module _ (m : Procedure) (s : IsSound m) where
   plain_some p (Load Flash w to a) h =
       back (points_z l a.base a.index) (loads_z 22 w ++ gives l to 22 w) (back (loads_z 22 w) (gives l to 22 w) (gives_some to 22 w h.1))
   plain_some p (Store w a from) h =
-      back (points_x l a.base a.index) (brings l from 22 w ++ stores_x 22 w) (back (brings l from 22 w) (stores_x 22 w) (stores_x_some 22 w h.0.0))
+      let rs = found_in l from 22 w in
+      back (points_x l a.base a.index) (finds l from 22 w ++ stores_x rs) (back (finds l from 22 w) (stores_x rs) (stores_x_some rs (found_some from 22 w h.0.0)))
   plain_some p (ReadDevice to address) h = back (reads_register 22 address) (gives l to 22 1) (gives_some to 22 1 h)
   plain_some p (WriteDevice address a) h =
       back (finds l a 22 1) (writes_register address (first_of (found_in l a 22 1))) (writes_some (nat_le 0x20 address && nat_lt address 0x60) _ _)
   plain_some p (Push w a) h = back (finds l a 22 w) (pushes (found_in l a 22 w)) (pushes_some (found_in l a 22 w) (found_some a 22 w h.0.0))
   plain_some p (Pop w to) h = front (pops_from 22 w) (gives l to 22 w) (pops_some 22 w h.0.0)
   plain_some p (Find place to a) h =
-      let cases = tries_cases p.codes.code (cases_of (slice_get p.dispatches place)) in
+      let all = cases_of (slice_get p.dispatches place) in
+      let cases = tries_cases p.codes.code (usual all) (unusual (usual all) all) in
       back (brings l a 24 2) (cases ++ gives l to 22 2) (back cases (gives l to 22 2) (gives_some to 22 2 h.0))
   plain_some p (CodeOf q to) h = copies_low_some to (Known (p.codes.code q)) (width_of l to) h
   plain_some p (Stop code) h = omega arith
