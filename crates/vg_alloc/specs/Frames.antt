@@ -1,7 +1,7 @@
--- The spots of locals in registers or in a frame, one behind the other.
-use Rattle.std.specs.Prelude.{ℕ, ◌+◌, Bool, true, false, List, [], ◌∷◌, ◌++◌, take, drop}
+-- The spots of locals in registers and in a frame, one behind the other.
+use Rattle.std.specs.Prelude.{ℕ, ◌+◌, List, [], ◌∷◌, ◌++◌, length, nat_lt, take, drop}
 use Rattle.vg_templates.specs.Calls.{sum_of}
-use Rattle.vg_templates.specs.Framed.{has_registers, registers_from}
+use Rattle.vg_templates.specs.Framed.{fitting, register_bytes, slot_bytes, saved_for}
 use Rattle.vg_alloc.specs.declared.spot.Spot.{Spot}
 use Rattle.vg_alloc.specs.declared.spot.Spot.TheVariants.{Frame, Registers}
 use Rattle.vg_alloc.specs.Locations.{Located}
@@ -21,37 +21,23 @@ abbrev pub register_spots : (first : ℕ) → (widths : List ℕ) → List Spot
 register_spots r [] = []
 register_spots r (w ∷ ws) = Registers r ∷ register_spots (r + w) ws
 
--- The locations with all locals in the frame: behind the slots of those that are no parameters lie the saved Y and the return address, and then
--- the parameters.
-abbrev pub frame_spots : (ws : List ℕ) (p : ℕ) → List Spot
-frame_spots ws p = pushed_spots (sum_of (drop p ws) + 4) (take p ws) ++ slot_spots 0 (drop p ws)
+-- Of the locals that are no parameters, so many are in registers. Behind the slots of the rest lie the saved registers, the saved Y and the return address,
+-- and then the parameters.
+abbrev pub spots_of : (kept : ℕ) (ws : List ℕ) (p : ℕ) → List Spot
+spots_of n ws p =
+    pushed_spots (slot_bytes n ws p + register_bytes n ws p + 4) (take p ws)
+    ++ (register_spots 2 (take n (drop p ws)) ++ slot_spots 0 (drop n (drop p ws)))
 
-abbrev pub frame_located : (ws : List ℕ) (p : ℕ) → Located
-frame_located ws p =
+abbrev pub located_with : (kept : ℕ) (ws : List ℕ) (p : ℕ) → Located
+located_with n ws p =
     record {
       widths = ws;
-      spots = frame_spots ws p;
-      slots = sum_of (drop p ws);
-      saved = 28 ∷ 29 ∷ [];
-      pointed = true;
+      spots = spots_of n ws p;
+      slots = slot_bytes n ws p;
+      saved = saved_for (nat_lt n (length ws)) (register_bytes n ws p);
+      pointed = nat_lt n (length ws);
       pushed = sum_of (take p ws);
     }
 
--- The locations with all locals in registers, which the procedure saves: it makes no frame of slots.
-abbrev pub register_located : (ws : List ℕ) → Located
-register_located ws =
-    record {
-      widths = ws;
-      spots = register_spots 2 ws;
-      slots = 0;
-      saved = registers_from 2 (sum_of ws);
-      pointed = false;
-      pushed = 0;
-    }
-
-abbrev pub located_by : (registers : Bool) (ws : List ℕ) (p : ℕ) → Located
-located_by true ws p = register_located ws
-located_by false ws p = frame_located ws p
-
 abbrev pub all_located : (ws : List ℕ) (p : ℕ) → Located
-all_located ws p = located_by (has_registers ws p) ws p
+all_located ws p = located_with (fitting 16 (drop p ws)) ws p

@@ -1,5 +1,5 @@
 -- Locations, and the layout that they stand for.
-use Rattle.std.specs.Prelude.{ℕ, ◌+◌, ◌≤◌, Bool, true, false, List, length, nat_lt, Option, Some, None, slice_get}
+use Rattle.std.specs.Prelude.{ℕ, ◌+◌, ◌≤◌, Bool, List, length, nat_lt, Option, Some, None, slice_get}
 use Rattle.vg_templates.specs.Spots.{Spot as Place, InFrame, InRegisters}
 use Rattle.vg_templates.specs.Layouts.{Layout}
 use Rattle.vg_alloc.specs.declared.spot.Spot.{Spot}
@@ -23,21 +23,17 @@ abbrev pub place : Spot → Place
 place (Frame at) = InFrame at
 place (Registers first) = InRegisters first
 
--- behind the last local there is none: the byte behind the slots stands for its place, or the register behind those that are saved, from r2 on
-abbrev pub last_place : (pointed : Bool) (slots saved : ℕ) → Place
-last_place true slots n = InFrame slots
-last_place false slots n = InRegisters (2 + n)
-
-abbrev pub place_in : (last : Place) → Option Spot → Place
-place_in last (Some s) = place s
-place_in last None = last
+-- behind the last local there is none: the byte behind the slots stands for its place
+abbrev pub place_in : (slots : ℕ) → Option Spot → Place
+place_in slots (Some s) = place s
+place_in slots None = InFrame slots
 
 -- Each local counts as live everywhere.
 abbrev pub layout : Located → Layout
 layout l =
     record {
       widths = l.widths;
-      spots = λ k. place_in (last_place l.pointed l.slots (length l.saved)) (slice_get l.spots k);
+      spots = λ k. place_in l.slots (slice_get l.spots k);
       slots = l.slots;
       saved = l.saved;
       pointed = l.pointed;

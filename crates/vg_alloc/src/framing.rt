@@ -1,9 +1,9 @@
-// All locals in registers, or all of them in the frame.
-ghost use Rattle.std.specs.Prelude.{◌≡◌, ◌+◌, ◌<◌, ◌≤◌, [], ◌∷◌, ◌++◌, IfOk, OnOk, drop, length, take};
+// The first locals behind the parameters in registers, and all others in the frame.
+ghost use Rattle.std.specs.Prelude.{◌≡◌, ◌+◌, ◌<◌, ◌≤◌, ◌++◌, IfOk, OnOk, drop, length, take};
 ghost use Rattle.vg_templates.specs.Calls.{sum_of};
 ghost use Rattle.vg_templates.specs.Layouts.{IsLayout};
-ghost use Rattle.vg_templates.specs.Framed.{has_registers, registers_from, framed};
-ghost use Rattle.vg_alloc.specs.Frames.{pushed_spots, slot_spots, register_spots, frame_located, register_located, all_located};
+ghost use Rattle.vg_templates.specs.Framed.{fitting, registers_from, register_bytes, slot_bytes, saved_for, framed};
+ghost use Rattle.vg_alloc.specs.Frames.{pushed_spots, slot_spots, register_spots, located_with, all_located};
 ghost use Rattle.vg_alloc.specs.Locations.{layout};
 
 use crate::locations::Locations;
@@ -13,9 +13,9 @@ use std::alloc::Global;
 use vg_base::{NoMemory, Row};
 use vg_lin::LinProc;
 
-/// The locations that keep each local of a procedure in bytes that it shares with no other one. A procedure without parameters, whose locals have at most
-/// twelve bytes together, keeps them in registers, one behind the other from r2 on. Each other one keeps them in its frame: its parameters where they were
-/// pushed, and the others in slots, one behind the other. The error is want of memory.
+/// The locations that keep each local of a procedure in bytes that it shares with no other one. Behind the parameters, the locals from the first on that have
+/// at most sixteen bytes together lie in registers, one behind the other from r2 on. All others lie in the frame: parameters where they were pushed, and the
+/// rest in slots, one behind the other. The error is want of memory.
 pub fn frames(alloc: Global, procedure: &LinProc) -> Result<Locations, NoMemory>
     ensures layout { IfOk result (λ l. layout l ≡ framed procedure.now.widths procedure.now.params) }
     ensures widths { IfOk result (λ l. l.widths ≡ procedure.now.widths) }
@@ -27,72 +27,94 @@ pub fn frames(alloc: Global, procedure: &LinProc) -> Result<Locations, NoMemory>
 fn located(alloc: Global, widths: &[u8], params: usize) -> Result<Locations, NoMemory>
     requires params { params ≤ length widths.now }
     requires all { sum_of widths.now < 0x1000 }
-    requires slots { sum_of (drop params widths.now) < 0x1000 }
-    requires pushed { sum_of (take params widths.now) < 0x1000 }
     requires sound { IsLayout (layout (all_located widths.now params)) }
     ensures { IfOk result (λ l. l ≡ all_located widths.now params) }
 {
-    if has_registers(widths, params) {
-        in_registers(alloc, widths)
-    } else {
-        in_frame(alloc, widths, params)
+    let kept = fitting(&widths[params..], 16);
+    located_with(alloc, widths, params, kept)
+}
+
+// How many locals, from the first on, have at most so many bytes together.
+fn fitting(widths: &[u8], room: u8) -> usize
+    ensures count { result ≡ fitting room widths.now }
+    ensures within { result ≤ length widths.now }
+{
+    match widths {
+        [] => 0,
+        [width, rest @ ..] => {
+            if room < *width {
+                0
+            } else {
+                fitting(rest, room - *width) + 1
+            }
+        }
     }
 }
 
-// Whether all locals go in registers.
-fn has_registers(widths: &[u8], params: usize) -> bool
-    requires { sum_of widths.now < 0x1000 }
-    ensures { result ≡ has_registers widths.now params }
+// The locations with so many locals in registers.
+fn located_with(
+    alloc: Global,
+    widths: &[u8],
+    params: usize,
+    kept: usize,
+) -> Result<Locations, NoMemory>
+    requires params { params ≤ length widths.now }
+    requires kept { kept ≤ length (drop params widths.now) }
+    requires few { register_bytes kept widths.now params < 17 }
+    requires slots { slot_bytes kept widths.now params < 0x1000 }
+    requires pushed { sum_of (take params widths.now) < 0x1000 }
+    requires sound { IsLayout (layout (located_with kept widths.now params)) }
+    ensures { IfOk result (λ l. l ≡ located_with kept widths.now params) }
 {
-    params == 0 && bytes_of(widths) < 13
-}
-
-fn in_registers(alloc: Global, widths: &[u8]) -> Result<Locations, NoMemory>
-    requires few { sum_of widths.now < 13 }
-    requires sound { IsLayout (layout (register_located widths.now)) }
-    ensures { IfOk result (λ l. l ≡ register_located widths.now) }
-{
-    let spots = register_spots(alloc, widths)?;
-    let saved = registers(alloc, bytes_of(widths))?;
+    let others = &widths[params..];
+    let in_registers = &others[..kept];
+    let in_slots = &others[kept..];
+    let parameters = &widths[..params];
+    let spots = all_spots(alloc, parameters, in_registers, in_slots)?;
+    let pointed = kept < widths.len();
+    let saved = saved_registers(alloc, pointed, bytes_of(in_registers))?;
     let copy = Row::from_slice(alloc, widths)?;
-    Ok(Locations::new(copy, spots, 0, saved, false, 0))
+    let slots = bytes_of(in_slots);
+    let pushed = bytes_of(parameters);
+    Ok(Locations::new(copy, spots, slots, saved, pointed, pushed))
 }
 
-// The spots of all locals in registers.
-fn register_spots(alloc: Global, widths: &[u8]) -> Result<Row<Spot>, NoMemory>
-    requires { sum_of widths.now < 13 }
-    ensures { IfOk result (λ spots. spots ≡ register_spots 2 widths.now) }
+// The spots of all locals: those that were pushed, those in registers, and those in slots.
+fn all_spots(
+    alloc: Global,
+    parameters: &[u8],
+    in_registers: &[u8],
+    in_slots: &[u8],
+) -> Result<Row<Spot>, NoMemory>
+    requires pushed { sum_of parameters.now < 0x1000 }
+    requires few { sum_of in_registers.now < 17 }
+    requires slots { sum_of in_slots.now < 0x1000 }
+    ensures { IfOk result (λ spots. spots ≡ pushed_spots (sum_of in_slots.now + sum_of in_registers.now + 4) parameters.now
+        ++ (register_spots 2 in_registers.now ++ slot_spots 0 in_slots.now)) }
 {
     let mut spots = Row::new(alloc);
-    put_register_spots(&mut spots, 2, widths)?;
+    put_parameters(
+        &mut spots,
+        bytes_of(in_slots) + bytes_of(in_registers) + 4,
+        parameters,
+    )?;
+    put_register_spots(&mut spots, 2, in_registers)?;
+    put_slots(&mut spots, 0, in_slots)?;
     Ok(spots)
 }
 
-// The saved registers: those of the locals, so many.
-fn registers(alloc: Global, count: u16) -> Result<Row<Register>, NoMemory>
-    requires { count < 13 }
-    ensures { IfOk result (λ saved. saved ≡ registers_from 2 count) }
+// The saved registers: those of Y, where it is the frame pointer, and those of the locals, so many.
+fn saved_registers(alloc: Global, pointed: bool, count: u16) -> Result<Row<Register>, NoMemory>
+    requires { count < 17 }
+    ensures { IfOk result (λ saved. saved ≡ saved_for pointed count) }
 {
     let mut saved = Row::new(alloc);
+    if pointed {
+        saved.push(Register::new(28))?;
+        saved.push(Register::new(29))?;
+    }
     put_registers(&mut saved, 2, count)?;
     Ok(saved)
-}
-
-fn in_frame(alloc: Global, widths: &[u8], params: usize) -> Result<Locations, NoMemory>
-    requires params { params ≤ length widths.now }
-    requires slots { sum_of (drop params widths.now) < 0x1000 }
-    requires pushed { sum_of (take params widths.now) < 0x1000 }
-    requires sound { IsLayout (layout (frame_located widths.now params)) }
-    ensures { IfOk result (λ l. l ≡ frame_located widths.now params) }
-{
-    let parameters = &widths[..params];
-    let others = &widths[params..];
-    let spots = frame_spots(alloc, parameters, others)?;
-    let saved = frame_pointer(alloc)?;
-    let copy = Row::from_slice(alloc, widths)?;
-    let slots = bytes_of(others);
-    let pushed = bytes_of(parameters);
-    Ok(Locations::new(copy, spots, slots, saved, true, pushed))
 }
 
 // The spots of locals in registers, from this one on.
@@ -119,28 +141,6 @@ fn put_registers(registers: &mut Row<Register>, first: u8, count: u16) -> Result
     }
     registers.push(Register::new(first))?;
     put_registers(registers, first + 1, count - 1)
-}
-
-// The spots of all locals in a frame.
-fn frame_spots(alloc: Global, parameters: &[u8], others: &[u8]) -> Result<Row<Spot>, NoMemory>
-    requires slots { sum_of others.now < 0x1000 }
-    requires pushed { sum_of parameters.now < 0x1000 }
-    ensures { IfOk result (λ spots. spots ≡ pushed_spots (sum_of others.now + 4) parameters.now ++ slot_spots 0 others.now) }
-{
-    let mut spots = Row::new(alloc);
-    put_parameters(&mut spots, bytes_of(others) + 4, parameters)?;
-    put_slots(&mut spots, 0, others)?;
-    Ok(spots)
-}
-
-// The saved registers: those of Y, the frame pointer.
-fn frame_pointer(alloc: Global) -> Result<Row<Register>, NoMemory>
-    ensures { IfOk result (λ saved. saved ≡ 28 ∷ 29 ∷ []) }
-{
-    let mut saved = Row::new(alloc);
-    saved.push(Register::new(28))?;
-    saved.push(Register::new(29))?;
-    Ok(saved)
 }
 
 // The bytes of locals with these widths.

@@ -21,8 +21,8 @@ pub fn frames_serve_templates()
     ensures kept { (p : Procedure) (place next : ℕ) → IsKept ((framed p.widths p.params).live place) ((framed p.widths p.params).live next) }
 {}
 
-/// Laws of its bytes: a frame has at most those of its locals and four more, for the saved Y and the return address; where locals are in registers, these are
-/// saved in it, and Y is not. So it has at most 1,012.
+/// Laws of its bytes: a frame has at most those of its locals and four more, for the saved Y and the return address; for each register that holds a byte of a
+/// local it has the byte that the procedure saved. So it has at most 1,012.
 pub fn frames_are_counted()
     ensures bytes { (p : Procedure) → frame_size (framed p.widths p.params) ≤ sum_of p.widths + 4 }
     ensures few { (p : Procedure) → IsSound p → frame_size (framed p.widths p.params) ≤ 4 * length p.widths + 4 }

@@ -70,7 +70,7 @@ same_pushed (Stop code) = refl
 
 -- ---- what stands in a configuration
 
--- Where locals are in registers, a procedure takes two bytes less than with a frame; so each of these numbers is at most what the program's procedures take.
+-- Where all locals are in registers, a procedure takes two bytes less than with a frame; so each of these numbers is at most what the program's procedures take.
 module _ (x : Links) (p : Program) (cs : List ℕ) (ready : IsReady p) (has : HasFitFrames x p cs) where
   few_frame : (m : ℕ) (procedure : Procedure) → slice_get p.procedures m ≡ Some procedure → frame_size (x.places.layouts m) ≤ frame_of p m
   few_frame m procedure e =

@@ -1,6 +1,6 @@
 use Rattle.std.proofs.Common.{◌∙◌}
 use Rattle.std.proofs.lemmas.Result.{IfOk-weaker}
-use Rattle.vg_alloc.proofs.Spotting.{all_fit, slots_fit, pushed_fit, layout_fits, params_fit, locations_are, widths_are}
+use Rattle.vg_alloc.proofs.Spotting.{all_fit, layout_fits, params_fit, locations_are, widths_are}
 use Rattle.vg_alloc.proofs.framing.frames.Goals as goal
 
 pub located-requires-clause-params : goal.located-requires-clause-params
@@ -8,12 +8,6 @@ located-requires-clause-params c = params_fit c.args.procedure.now c.keeps.ensur
 
 pub located-requires-clause-all : goal.located-requires-clause-all
 located-requires-clause-all c = all_fit c.args.procedure.now c.keeps.ensures _ _ c.widths.ensures (c.from.ensures ∙ c.params.ensures)
-
-pub located-requires-clause-slots : goal.located-requires-clause-slots
-located-requires-clause-slots c = slots_fit c.args.procedure.now c.keeps.ensures _ _ c.widths.ensures (c.from.ensures ∙ c.params.ensures)
-
-pub located-requires-clause-pushed : goal.located-requires-clause-pushed
-located-requires-clause-pushed c = pushed_fit c.args.procedure.now c.keeps.ensures _ _ c.widths.ensures (c.from.ensures ∙ c.params.ensures)
 
 pub located-requires-clause-sound : goal.located-requires-clause-sound
 located-requires-clause-sound c = layout_fits c.args.procedure.now c.keeps.ensures _ _ c.widths.ensures (c.from.ensures ∙ c.params.ensures)
