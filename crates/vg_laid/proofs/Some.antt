@@ -98,9 +98,9 @@ pops_some : (d n : ℕ) → 1 ≤ n → 1 ≤ length (pops_from d n)
 pops_some d zero h = absurd (omega (arith, h))
 pops_some d (suc n) h = omega arith
 
-stores_x_some : (r n : ℕ) → 1 ≤ n → 1 ≤ length (stores_x r n)
-stores_x_some r zero h = absurd (omega (arith, h))
-stores_x_some r (suc n) h = omega arith
+stores_x_some : (rs : List ℕ) → 1 ≤ length rs → 1 ≤ length (stores_x rs)
+stores_x_some [] h = absurd (omega (arith, h))
+stores_x_some (r ∷ rs) h = omega arith
 
 writes_some : (b : Bool) (x y : Avr) → 1 ≤ length (if b then x ∷ [] else y ∷ [])
 writes_some true x y = omega arith
@@ -196,7 +196,8 @@ module _ (m : Procedure) (s : IsSound m) where
   plain_some p (Load Flash w to a) h =
       back (points_z l a.base a.index) (loads_z 22 w ++ gives l to 22 w) (back (loads_z 22 w) (gives l to 22 w) (gives_some to 22 w h.1))
   plain_some p (Store w a from) h =
-      back (points_x l a.base a.index) (brings l from 22 w ++ stores_x 22 w) (back (brings l from 22 w) (stores_x 22 w) (stores_x_some 22 w h.0.0))
+      let rs = found_in l from 22 w in
+      back (points_x l a.base a.index) (finds l from 22 w ++ stores_x rs) (back (finds l from 22 w) (stores_x rs) (stores_x_some rs (found_some from 22 w h.0.0)))
   plain_some p (ReadDevice to address) h = back (reads_register 22 address) (gives l to 22 1) (gives_some to 22 1 h)
   plain_some p (WriteDevice address a) h =
       back (finds l a 22 1) (writes_register address (first_of (found_in l a 22 1))) (writes_some (nat_le 0x20 address && nat_lt address 0x60) _ _)

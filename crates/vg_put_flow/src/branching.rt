@@ -1,22 +1,101 @@
 // Tests with their branches, and jumps.
-ghost use Rattle.std.specs.Prelude.{◌≡◌, ◌≤◌, ◌<◌, ◌++◌, OnOk};
+ghost use Rattle.std.specs.Prelude.{◌≡◌, ◌≤◌, ◌<◌, ◌++◌, OnOk, length, false};
 ghost use Rattle.avr_isa.specs.Standing.{widths};
-ghost use Rattle.vg_templates.specs.Branches.{tests, told_by, near_branch};
+ghost use Rattle.vg_templates.specs.Branches.{joins, joins_behind, are_free, is_zero, is_same, is_joined, compares_found, tests, told_by, near_branch};
 ghost use Rattle.vg_templates.specs.Flow.{jump_code, branch_code};
 ghost use Rattle.vg_alloc.specs.Locations.{layout};
 ghost use Rattle.vg_put_values.specs.Within.{IsThere};
 ghost use Rattle.vg_put_flow.specs.Ways.{hop_of, turn_of};
 
 use crate::ways::{Hop, Turn};
-use avr_instr::{FlagBit, Instr, NearOffset};
+use avr_instr::{FlagBit, Instr, NearOffset, Register};
 use std::alloc::Global;
 use vg_alloc::Locations;
 use vg_base::{NoMemory, Row};
-use vg_lin::{Comparison, Test};
+use vg_lin::{Comparison, Operand, Test};
 use vg_put_chains::put_compares;
 use vg_put_values::{found_in, put_finds};
 
-/// Both operands of a test are found, and compared.
+// Bytes are joined with the one in r22.
+fn put_joins(code: &mut Row<Instr>, registers: &[Register]) -> Result<(), NoMemory>
+    ensures { OnOk result (code.new ≡ code.old ++ joins registers.now) }
+{
+    match registers {
+        [] => Ok(()),
+        [first, rest @ ..] => {
+            code.push(Instr::Or(Register::new(22), *first))?;
+            put_joins(code, rest)
+        }
+    }
+}
+
+// All of several bytes are joined with the first one, which came into r22.
+fn put_joins_behind(code: &mut Row<Instr>, registers: &[Register]) -> Result<(), NoMemory>
+    ensures { OnOk result (code.new ≡ code.old ++ joins_behind registers.now) }
+{
+    match registers {
+        [] => Ok(()),
+        [_, rest @ ..] => put_joins(code, rest),
+    }
+}
+
+// Whether there are several bytes, of which the first one came into r22.
+fn are_free(registers: &[Register]) -> bool
+    ensures { result ≡ are_free registers.now }
+{
+    match registers {
+        [] => false,
+        [_] => false,
+        [first, _, ..] => first.number() == 22,
+    }
+}
+
+// Whether an operand is the number zero.
+fn is_zero(operand: Operand) -> bool
+    ensures { result ≡ is_zero operand }
+{
+    match operand {
+        Operand::Local(_) => false,
+        Operand::Known(x) => x == 0,
+    }
+}
+
+fn is_same(comparison: Comparison) -> bool
+    ensures { result ≡ is_same comparison }
+{
+    match comparison {
+        Comparison::Same => true,
+        Comparison::Below | Comparison::Less => false,
+    }
+}
+
+// Whether a test asks for zero, and its left number can be joined.
+fn is_joined(test: Test, left: &[Register]) -> bool
+    ensures { result ≡ is_joined test left.now }
+{
+    is_same(test.comparison) && (is_zero(test.right) && are_free(left))
+}
+
+// The right operand is found, and compared with the left one.
+fn put_compares_found(
+    alloc: Global,
+    code: &mut Row<Instr>,
+    locations: &Locations,
+    test: Test,
+    left: &[Register],
+) -> Result<(), NoMemory>
+    requires narrow { test.width ≤ 4 }
+    requires right { IsThere (layout locations.now) test.right }
+    requires left { length left.now ≡ test.width }
+    ensures { OnOk result (code.new ≡ code.old ++ compares_found false (layout locations.now) test left.now) }
+{
+    put_finds(code, locations, test.right, 18, test.width)?;
+    let right = found_in(alloc, locations, test.right, 18, test.width)?;
+    put_compares(code, left, right.as_slice())
+}
+
+/// Both operands of a test are found, and compared. A number of several bytes that is not in the registers of its local is compared with zero by what
+/// all its bytes are together.
 pub fn put_tests(
     alloc: Global,
     code: &mut Row<Instr>,
@@ -29,10 +108,11 @@ pub fn put_tests(
     ensures { OnOk result (code.new ≡ code.old ++ tests (layout locations.now) test) }
 {
     put_finds(code, locations, test.left, 22, test.width)?;
-    put_finds(code, locations, test.right, 18, test.width)?;
     let left = found_in(alloc, locations, test.left, 22, test.width)?;
-    let right = found_in(alloc, locations, test.right, 18, test.width)?;
-    put_compares(code, left.as_slice(), right.as_slice())
+    if is_joined(test, left.as_slice()) {
+        return put_joins_behind(code, left.as_slice());
+    }
+    put_compares_found(alloc, code, locations, test, left.as_slice())
 }
 
 /// The flag by which a comparison tells: C, S or Z.

@@ -1,15 +1,17 @@
 // Loads and stores of columns in RAM.
 ghost use Rattle.std.specs.Prelude.{◌≡◌, ◌≤◌, ◌<◌, ◌+◌, ◌++◌, OnOk, length};
+ghost use Rattle.vg_templates.specs.Numbers.{AreBeside};
 ghost use Rattle.vg_templates.specs.Accesses.{plus_base, points_x, loads_x, stores_x, loads_column, stores_column};
 ghost use Rattle.vg_alloc.specs.Locations.{layout};
 ghost use Rattle.vg_put_values.specs.Within.{IsThere};
 
-use avr_instr::{Instr, RegisterBesideX, UpperRegister};
+use avr_instr::{Instr, Register, RegisterBesideX, UpperRegister};
+use std::alloc::Global;
 use vg_alloc::Locations;
 use vg_base::{NoMemory, Row};
 use vg_lin::{Address, Operand};
 use vg_put_chains::put_known;
-use vg_put_values::{put_brings, put_gives};
+use vg_put_values::{found_in, put_brings, put_finds, put_gives};
 
 /// Adds a base to a pair of upper registers: 65,536 less it is taken away. The base 0 costs no instruction.
 pub fn put_plus_base(code: &mut Row<Instr>, d: u8, base: u16) -> Result<(), NoMemory>
@@ -54,15 +56,17 @@ fn put_loads_x(code: &mut Row<Instr>, d: u8, count: u8) -> Result<(), NoMemory>
     put_loads_x(code, d + 1, count - 1)
 }
 
-fn put_stores_x(code: &mut Row<Instr>, r: u8, count: u8) -> Result<(), NoMemory>
-    requires { r + count ≤ 26 }
-    ensures { OnOk result (code.new ≡ code.old ++ stores_x r count) }
+fn put_stores_x(code: &mut Row<Instr>, registers: &[Register]) -> Result<(), NoMemory>
+    requires { AreBeside 26 28 registers.now }
+    ensures { OnOk result (code.new ≡ code.old ++ stores_x registers.now) }
 {
-    if count == 0 {
-        return Ok(());
+    match registers {
+        [] => Ok(()),
+        [first, rest @ ..] => {
+            code.push(Instr::StXPlus(RegisterBesideX::new(first.number())))?;
+            put_stores_x(code, rest)
+        }
     }
-    code.push(Instr::StXPlus(RegisterBesideX::new(r)))?;
-    put_stores_x(code, r + 1, count - 1)
 }
 
 /// So many bytes of a column go to a local.
@@ -83,8 +87,10 @@ pub fn put_loads_column(
     put_gives(code, locations, to, 22, width)
 }
 
-/// So many low bytes of a value go to a column.
+/// So many low bytes of a value go to a column, from the registers in which they are: zero bytes of a known number from r1.
+#[tactic(auto, using(crate::proofs::Beside::found_beside_x))]
 pub fn put_stores_column(
+    alloc: Global,
     code: &mut Row<Instr>,
     locations: &Locations,
     width: u8,
@@ -96,7 +102,9 @@ pub fn put_stores_column(
     requires value { IsThere (layout locations.now) from }
     ensures { OnOk result (code.new ≡ code.old ++ stores_column (layout locations.now) width address.base address.index from) }
 {
+    locations.keeps();
     put_points_x(code, locations, address)?;
-    put_brings(code, locations, from, 22, width)?;
-    put_stores_x(code, 22, width)
+    put_finds(code, locations, from, 22, width)?;
+    let registers = found_in(alloc, locations, from, 22, width)?;
+    put_stores_x(code, registers.as_slice())
 }

@@ -60,7 +60,7 @@ pub fn put_plain(
             put_loads_table(code, locations, width, to, address)
         }
         Plain::Store(width, address, from) => {
-            put_stores_column(code, locations, width, address, from)
+            put_stores_column(alloc, code, locations, width, address, from)
         }
         Plain::ReadDevice(to, address) => put_reads_device(code, locations, to, address),
         Plain::WriteDevice(address, from) => {

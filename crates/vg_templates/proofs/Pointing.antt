@@ -27,7 +27,10 @@ use Rattle.vg_templates.proofs.Composing.{takes_none, takes_then, takes_next, ta
 use Rattle.vg_templates.proofs.Holding.{held_scratch, takes_brings, takes_gives}
 use Rattle.vg_templates.proofs.Accessing.{written_digits}
 use Rattle.vg_templates.proofs.Spotting.{takes_known}
-use Rattle.vg_templates.specs.Outcomes.{Lies, IsKept}
+use Rattle.vg_templates.specs.Numbers.{number_in, AreBeside}
+use Rattle.vg_templates.specs.Operands.{finds, found_in}
+use Rattle.vg_templates.specs.Outcomes.{Found, Lies, IsKept}
+use Rattle.vg_templates.proofs.Finding.{found-length, found-beside, takes_finds}
 use Rattle.vg_templates.proofs.Storing.{held_fewer}
 use Rattle.vg_templates.specs.Accesses.{plus_base, points_x, loads_x, stores_x, loads_column, stores_column}
 
@@ -57,9 +60,9 @@ next_pointer g d b p h e low =
     ap (λ v. v % 256 + 256 * (v / 256)) value ∙ parts
 
 -- bytes of the static area hold what was in registers
-record Stored (r n j : ℕ) (old new : View) : Type 0 where
+record Stored (rs : List ℕ) (j : ℕ) (old new : View) : Type 0 where
   pub others : (x : ℕ) → (x < 26) ⊎ (28 ≤ x) → new.regs.of x ≡ old.regs.of x
-  pub same : new ≡ record old { regs = new.regs; static = written old.static j n (number old.regs r n) }
+  pub same : new ≡ record old { regs = new.regs; static = written old.static j (length rs) (number_in old.regs rs) }
 
 next_past : (g : Regs) (x : ℕ) → (x < 26) ⊎ (28 ≤ x) → (put_next g 26).of x ≡ g.of x
 next_past g x (inl h) = put_other (put g 26 _) 27 _ x (let ne : x ≢ 27 = omega arith in ne) ∙ put_other g 26 _ x (let ne : x ≢ 26 = omega arith in ne)
@@ -71,10 +74,9 @@ moved_pointer g p e low =
     let parts : (p + 1) % 256 + 256 * ((p + 1) / 256) ≡ p + 1 = omega arith in
     ap (λ v. v % 256 + 256 * (v / 256)) value ∙ parts
 
-number_below : (g : Regs) (r n : ℕ) → r + n ≤ 26 → number (put_next g 26) r n ≡ number g r n
-number_below g r zero h = refl
-number_below g r (suc n) h =
-    let one = next_past g r (inl (omega arith)) in let rest = number_below g (suc r) n (omega arith) in omega (arith, one, rest)
+number_still : (g : Regs) (rs : List ℕ) → AreBeside 26 28 rs → number_in (put_next g 26) rs ≡ number_in g rs
+number_still g [] k = refl
+number_still g (r ∷ rs) (here, more) = let one = next_past g r here.0 in let rest = number_still g rs more in omega (arith, one, rest)
 
 -- a number is cut where it is written
 written_cut : (l : List ℕ) (at w y : ℕ) → written l at w (y % 256 ^ w) ≡ written l at w y
@@ -125,30 +127,31 @@ module _ (e : Run) (deep : Type 0) where
       not_x x (inr h) = (let ne : x ≢ 26 = omega arith in ne, let ne : x ≢ 27 = omega arith in ne)
 
   -- bytes go to the static area
-  takes_stores_x : (r n j : ℕ) (v : View) → r + n ≤ 26 → pair v.regs 26 ≡ 0x100 + j → j + n ≤ length v.static → length v.static ≤ 4096
-      → Takes e deep v (stores_x r n) (Stored r n j v)
-  takes_stores_x r zero j v top at inside size = takes_none e deep v (Stored r 0 j v) (record { others = λ x h. refl; same = refl })
-  takes_stores_x r (suc n) j v top at inside size =
+  takes_stores_x : (rs : List ℕ) (j : ℕ) (v : View) → AreBeside 26 28 rs → pair v.regs 26 ≡ 0x100 + j → j + length rs ≤ length v.static
+      → length v.static ≤ 4096 → Takes e deep v (stores_x rs) (Stored rs j v)
+  takes_stores_x [] j v beside at inside size = takes_none e deep v (Stored [] j v) (record { others = λ x h. refl; same = refl })
+  takes_stores_x (r ∷ rs) j v (here, more) at inside size =
       let b = v.regs.of r in
       let u : View = record v { regs = put_next v.regs 26; static = slice_set v.static j b } in
-      let rest = stores_x (suc r) n in
-      let value = number v.regs (suc r) n in
-      let goal = Stored r (suc n) j v in
+      let rest = stores_x rs in
+      let n = length rs in
+      let value = number_in v.regs rs in
+      let goal = Stored (r ∷ rs) j v in
       let long = length-set v.static j b in
       let pointer : pair u.regs 26 ≡ 0x100 + suc j = moved_pointer v.regs (0x100 + j) at (omega arith) ∙ (let e1 : 0x100 + j + 1 ≡ 0x100 + suc j = omega arith in e1) in
-      let still : number u.regs (suc r) n ≡ value = number_below v.regs (suc r) n (omega arith) in
+      let still : number_in u.regs rs ≡ value = number_still v.regs rs more in
       takes_bytes e deep v (StXPlus r ∷ rest) goal
       (λ bytes. takes_next e deep v u (StXPlus r) rest goal
       (λ pc s stand room a. goes_stx_after e deep pc v s a r (InStatic j) stand room (omega arith, at))
-      (takes_wider e deep u rest (Stored (suc r) n (suc j) u) goal
+      (takes_wider e deep u rest (Stored rs (suc j) u) goal
       (λ t k. record {
         others = λ x h. k.others x h ∙ next_past v.regs x h;
         same =
             k.same
             ∙ ap (λ z. record v { regs = t.regs; static = written (slice_set v.static j b) (suc j) n z }) still
-            ∙ ap (λ z. record v { regs = t.regs; static = z }) (written_digits v.static j n b value (bytes r (omega arith)));
+            ∙ ap (λ z. record v { regs = t.regs; static = z }) (written_digits v.static j n b value (bytes r here.1));
       })
-      (takes_stores_x (suc r) n (suc j) u (omega arith) pointer (omega (arith, long)) (omega (arith, long)))))
+      (takes_stores_x rs (suc j) u more pointer (omega (arith, long)) (omega (arith, long)))))
 
 -- what linear code reads of the columns is there
 some_same : (x y : ℕ) → Some x ≡ Some y → x ≡ y
@@ -337,7 +340,10 @@ module _ (i : Places) (ok : (m : ℕ) → IsLayout (i.layouts m)) (m : ℕ) (fra
   takes_stores_column live behind s w base index from x y v small high inside ready ready' kept got got' k =
       let l = i.layouts m in
       let is = points_x l base index in
-      let js = brings l from 22 w ++ stores_x 22 w in
+      let rs = found_in l from 22 w in
+      let js = finds l from 22 w ++ stores_x rs in
+      let long = found-length l from 22 w in
+      let beside = found-beside l (ok m) live from 22 w 26 28 ready' (omega arith) (omega (arith, small)) (omega arith) in
       let at = base + x - 0x100 in
       let ram' = with_number s.ram w at y in
       let goal = Lies i m behind (record s { ram = ram' }) frames v.out in
@@ -346,18 +352,19 @@ module _ (i : Places) (ok : (m : ℕ) → IsLayout (i.layouts m)) (m : ℕ) (fra
       let length_is : length v.static ≡ length s.ram = ap length k.ram in
       takes_then e deep v is js (Pointed i m live s frames (base + x) v) goal
       (takes_points live s base x index v (omega (arith, size, length_is, inside)) ready got k)
-      (λ u p. takes_then e deep u (brings l from 22 w) (stores_x 22 w) (Brought i m live s frames 22 w y u) goal
-      (takes_brings i ok m frames e deep live s from 22 w y u ready' got' (omega arith) (omega arith) p.held)
+      (λ u p. takes_then e deep u (finds l from 22 w) (stores_x rs) (Found i m live s frames 22 w y rs u) goal
+      (takes_finds i ok m frames e deep live s from 22 w y u ready' got' (omega arith) (omega arith) p.held)
       (λ t b.
       let ram_is : t.static ≡ s.ram = b.held.ram in
       let same_length : length t.static ≡ length s.ram = ap length ram_is in
       let pointer = p.pointer in
-      let x_low = b.fetched.others 26 (omega arith) (inr (omega arith)) in
-      let x_high = b.fetched.others 27 (omega arith) (inr (omega arith)) in
-      takes_wider e deep t (stores_x 22 w) (Stored 22 w at t) goal
+      let x_low = b.others 26 (omega arith) (inr (omega arith)) in
+      let x_high = b.others 27 (omega arith) (inr (omega arith)) in
+      takes_wider e deep t (stores_x rs) (Stored rs at t) goal
       (λ q d.
-      let static_is : written t.static at w (number t.regs 22 w) ≡ ram' =
-      ap (λ z. written z at w (number t.regs 22 w)) ram_is ∙ ap (written s.ram at w) b.fetched.holds ∙ written_cut s.ram at w y ∙ same_writing s.ram w at y in
+      let static_is : written t.static at (length rs) (number_in t.regs rs) ≡ ram' =
+      ap (λ z. written z at (length rs) (number_in t.regs rs)) ram_is ∙ ap (λ n. written s.ram at n (number_in t.regs rs)) long
+      ∙ ap (written s.ram at w) b.holds ∙ written_cut s.ram at w y ∙ same_writing s.ram w at y in
       let first : Held i m live s frames (record t { regs = q.regs }) =
       by_x live s t (record t { regs = q.regs }) (λ r low. d.others r (inl (omega arith))) (λ r low top. d.others r (inr low)) refl b.held in
       let made : Held i m live (record s { ram = ram' }) frames (record t { regs = q.regs; static = ram' }) =
@@ -365,7 +372,7 @@ module _ (i : Places) (ok : (m : ℕ) → IsLayout (i.layouts m)) (m : ℕ) (fra
       let shape : q ≡ record t { regs = q.regs; static = ram' } = d.same ∙ ap (λ z. record t { regs = q.regs; static = z }) static_is in
       record {
         held = held_fewer i m live behind (record s { ram = ram' }) frames q kept (subst (Held i m live (record s { ram = ram' }) frames) (sym shape) made);
-        out = ap (λ (z : View). z.out) shape ∙ ap (λ (z : View). z.out) b.fetched.same ∙ ap (λ (z : View). z.out) p.same;
+        out = ap (λ (z : View). z.out) shape ∙ ap (λ (z : View). z.out) b.same ∙ ap (λ (z : View). z.out) p.same;
       })
-      (takes_stores_x e deep 22 w at t (omega arith) (omega (arith, pointer, high, x_low, x_high)) (omega (arith, same_length, inside))
+      (takes_stores_x e deep rs at t beside (omega (arith, pointer, high, x_low, x_high)) (omega (arith, same_length, inside, long))
       (omega (arith, same_length, size, length_is))))))

@@ -19,7 +19,7 @@ use Rattle.vg_templates.specs.Layouts.{Layout, IsLayout, IsSpot, width_of}
 use Rattle.vg_templates.specs.Linkage.{pushes}
 use Rattle.vg_templates.specs.Transfers.{clears, known, moves_two, moves, loads, stores, reach, reach_by, fetch, keep}
 use Rattle.vg_templates.specs.Held.{IsReady, IsSet, brings, gives}
-use Rattle.vg_templates.specs.Numbers.{AreRegisters}
+use Rattle.vg_templates.specs.Numbers.{AreBeside, AreRegisters}
 use Rattle.vg_templates.specs.Chains.{adds_on, adds, subtracts_on, subtracts, takes_known_on, takes_known, ands, ors, eors}
 use Rattle.vg_templates.specs.Operands.{least, known_bytes, finds_spot, finds, found_in}
 use Rattle.vg_templates.specs.Plain.{copies_low, copies_whole, bytes_in, copies, first_of, operates, works}
@@ -189,9 +189,10 @@ loads_x-fine : (d n : ℕ) → d + n ≤ 26 → Fine (loads_x d n)
 loads_x-fine d zero h = tt
 loads_x-fine d (suc n) h = ((omega arith, omega arith, omega arith), loads_x-fine (suc d) n (omega arith))
 
-stores_x-fine : (r n : ℕ) → r + n ≤ 26 → Fine (stores_x r n)
-stores_x-fine r zero h = tt
-stores_x-fine r (suc n) h = ((omega arith, omega arith, omega arith), stores_x-fine (suc r) n (omega arith))
+stores_x-fine : (rs : List ℕ) → AreBeside 26 28 rs → Fine (stores_x rs)
+stores_x-fine [] k = tt
+stores_x-fine (r ∷ rs) ((inl low, chip), more) = ((chip, omega (arith, low), omega (arith, low)), stores_x-fine rs more)
+stores_x-fine (r ∷ rs) ((inr high, chip), more) = ((chip, omega (arith, high), omega (arith, high)), stores_x-fine rs more)
 
 device_word : (address : ℕ) → IsDeviceAddress address → address < 65536
 device_word address d = let small = d.below in omega arith
@@ -278,9 +279,10 @@ module _ (l : Layout) (ok : IsLayout l) (live behind : ℕ → Bool) where
       (fine_append (loads_x 22 w) (gives l to 22 w) (loads_x-fine 22 w (omega (arith, small))) (gives-fine l ok live behind to 22 w can.1.1 (omega (arith, small))))
   plain_code-fine codes (Store w a from) can =
       let small = can.0.1 in
-      fine_append (points_x l a.base a.index) (brings l from 22 w ++ stores_x 22 w) (points-fine a.base a.index can.1.0.0)
-      (fine_append (brings l from 22 w) (stores_x 22 w) (brings-fine l ok live from 22 w can.1.0.1 (omega arith) (omega (arith, small)))
-      (stores_x-fine 22 w (omega (arith, small))))
+      let rs = found_in l from 22 w in
+      fine_append (points_x l a.base a.index) (finds l from 22 w ++ stores_x rs) (points-fine a.base a.index can.1.0.0)
+      (fine_append (finds l from 22 w) (stores_x rs) (finds-fine l ok live from 22 w can.1.0.1 (omega arith) (omega (arith, small)))
+      (stores_x-fine rs (found-beside l ok live from 22 w 26 28 can.1.0.1 (omega arith) (omega (arith, small)) (omega arith))))
   plain_code-fine codes (ReadDevice to address) can =
       fine_append (if nat_le 0x20 address && nat_lt address 0x60 then In 22 (address - 0x20) ∷ [] else Lds 22 address ∷ []) (gives l to 22 1)
       (reads-fine (nat_le 0x20 address && nat_lt address 0x60) address 22 refl (device_word address can.0) (omega arith))

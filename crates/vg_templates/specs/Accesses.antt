@@ -7,6 +7,7 @@ use Rattle.vg_lin.specs.declared.instr.Operand.TheVariants.{Local, Known}
 use Rattle.vg_templates.specs.Layouts.{Layout}
 use Rattle.vg_templates.specs.Transfers.{known}
 use Rattle.vg_templates.specs.Held.{brings, gives}
+use Rattle.vg_templates.specs.Operands.{finds, found_in}
 
 -- a base is added to a pair of registers, as 65,536 less it is taken away; the base 0 costs nothing
 abbrev pub plus_base : (d base : ℕ) → List Instr
@@ -21,14 +22,14 @@ abbrev pub loads_x : (d count : ℕ) → List Instr
 loads_x d zero = []
 loads_x d (suc n) = LdXPlus d ∷ loads_x (suc d) n
 
-abbrev pub stores_x : (r count : ℕ) → List Instr
-stores_x r zero = []
-stores_x r (suc n) = StXPlus r ∷ stores_x (suc r) n
+abbrev pub stores_x : List ℕ → List Instr
+stores_x [] = []
+stores_x (r ∷ rs) = StXPlus r ∷ stores_x rs
 
 -- so many bytes of a column go to a local
 abbrev pub loads_column : Layout → (width to base : ℕ) → (index : Operand) → List Instr
 loads_column l w to base index = points_x l base index ++ (loads_x 22 w ++ gives l to 22 w)
 
--- so many low bytes of a value go to a column
+-- so many low bytes of a value go to a column, from the registers in which they are found
 abbrev pub stores_column : Layout → (width base : ℕ) → (index from : Operand) → List Instr
-stores_column l w base index from = points_x l base index ++ (brings l from 22 w ++ stores_x 22 w)
+stores_column l w base index from = points_x l base index ++ (finds l from 22 w ++ stores_x (found_in l from 22 w))

@@ -1,12 +1,14 @@
 -- The code for branches of linear code: a comparison, and a branch by what it tells. No flag lives on behind it.
-use Rattle.std.specs.Prelude.{ℕ, ◌≡◌, Bool, true, false, not, if◌then◌else◌, List, [], ◌∷◌, ◌++◌}
+use Rattle.std.specs.Prelude.{ℕ, ◌≡◌, ◌==◌, ◌&&◌, Bool, true, false, not, if◌then◌else◌, List, [], ◌∷◌, ◌++◌}
 use Rattle.vg_meaning.specs.Outside.{Outside}
 use Rattle.avr_instr.specs.declared.instr.Instr.{Instr}
-use Rattle.avr_instr.specs.declared.instr.Instr.TheVariants.{Brbc, Brbs, Jmp}
+use Rattle.avr_instr.specs.declared.instr.Instr.TheVariants.{Brbc, Brbs, Jmp, Or}
 use Rattle.avr_isa.specs.Flags.{is_set, with_flags}
 use Rattle.avr_isa.specs.Machine.{State as MachineState}
 use Rattle.vg_lin.specs.declared.instr.Comparison.{Comparison}
 use Rattle.vg_lin.specs.declared.instr.Comparison.TheVariants.{Below, Less, Same}
+use Rattle.vg_lin.specs.declared.instr.Operand.{Operand}
+use Rattle.vg_lin.specs.declared.instr.Operand.TheVariants.{Local, Known}
 use Rattle.vg_lin.specs.declared.instr.Test.{Test}
 use Rattle.vg_lin.specs.Steps.{Frame}
 use Rattle.vg_lin.specs.State.{State}
@@ -19,11 +21,44 @@ use Rattle.vg_templates.specs.Chains.{compares}
 use Rattle.vg_templates.specs.Operands.{finds, found_in}
 use Rattle.vg_templates.specs.Outcomes.{Lies}
 
+-- bytes are joined with the one in r22
+abbrev pub joins : List ℕ → List Instr
+joins [] = []
+joins (r ∷ rs) = Or 22 r ∷ joins rs
+
+-- all of several bytes are joined with the first one, which came into r22
+abbrev pub joins_behind : List ℕ → List Instr
+joins_behind [] = []
+joins_behind (r ∷ rs) = joins rs
+
+-- several bytes, of which the first one came into r22, where it is free
+abbrev pub are_free : List ℕ → Bool
+are_free [] = false
+are_free (r ∷ []) = false
+are_free (r ∷ (s ∷ rs)) = r == 22
+
+-- whether a number is tested for zero
+abbrev pub is_zero : Operand → Bool
+is_zero (Local k) = false
+is_zero (Known x) = x == 0
+
+abbrev pub is_same : Comparison → Bool
+is_same Same = true
+is_same _ = false
+
+-- the left operand is in registers: it is tested for zero by what all its bytes are together, or the right one is found and they are compared
+abbrev pub compares_found : (joined : Bool) → Layout → Test → (left : List ℕ) → List Instr
+compares_found true l t left = joins_behind left
+compares_found false l t left = finds l t.right 18 t.width ++ compares left (found_in l t.right 18 t.width)
+
+abbrev pub is_joined : Test → (left : List ℕ) → Bool
+is_joined t left = is_same t.comparison && (is_zero t.right && are_free left)
+
 -- both operands are found, and compared
 abbrev pub tests : Layout → Test → List Instr
 tests l t =
-    finds l t.left 22 t.width
-    ++ (finds l t.right 18 t.width ++ compares (found_in l t.left 22 t.width) (found_in l t.right 18 t.width))
+    let left = found_in l t.left 22 t.width in
+    finds l t.left 22 t.width ++ compares_found (is_joined t left) l t left
 
 -- the bit of SREG that a comparison tells by: C, S and Z
 abbrev pub told_by : Comparison → ℕ
