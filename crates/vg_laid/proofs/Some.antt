@@ -27,6 +27,7 @@ use Rattle.vg_templates.specs.Layouts.{Layout, width_of}
 use Rattle.vg_templates.specs.Linkage.{pushes, pops, drops_slots, epilogue}
 use Rattle.vg_templates.specs.Transfers.{clears, moves_two, moves, reach, stores, keep}
 use Rattle.vg_templates.specs.Held.{brings, gives}
+use Rattle.vg_templates.specs.Homes.{home_of, made_in, settles}
 use Rattle.vg_templates.specs.Branches.{tests, told_by, near_branch}
 use Rattle.vg_templates.specs.Calls.{call_code}
 use Rattle.vg_templates.specs.Operands.{least, padded, known_registers, finds, spot_found, found_in}
@@ -101,6 +102,14 @@ pops_some d (suc n) h = omega arith
 stores_x_some : (rs : List ℕ) → 1 ≤ length rs → 1 ≤ length (stores_x rs)
 stores_x_some [] h = absurd (omega (arith, h))
 stores_x_some (r ∷ rs) h = omega arith
+
+loads_x_some : (d n : ℕ) → 1 ≤ n → 1 ≤ length (loads_x d n)
+loads_x_some d zero h = absurd (omega (arith, h))
+loads_x_some d (suc n) h = omega arith
+
+loads_z_some : (d n : ℕ) → 1 ≤ n → 1 ≤ length (loads_z d n)
+loads_z_some d zero h = absurd (omega (arith, h))
+loads_z_some d (suc n) h = omega arith
 
 writes_some : (b : Bool) (x y : Avr) → 1 ≤ length (if b then x ∷ [] else y ∷ [])
 writes_some true x y = omega arith
@@ -192,13 +201,19 @@ module _ (m : Procedure) (s : IsSound m) where
       back (finds l a 18 1) (finds l b 22 1 ++ _) (back (finds l b 22 1) (_ ∷ _) (omega arith))
   plain_some p (DivideSteps r d a) h = omega arith
   plain_some p (Load Ram w to a) h =
-      back (points_x l a.base a.index) (loads_x 22 w ++ gives l to 22 w) (back (loads_x 22 w) (gives l to 22 w) (gives_some to 22 w h.1))
+      let home = home_of l to w in
+      back (points_x l a.base a.index) (loads_x (made_in home) w ++ settles l to home w)
+      (front (loads_x (made_in home) w) (settles l to home w) (loads_x_some (made_in home) w h.0.0))
   plain_some p (Load Flash w to a) h =
-      back (points_z l a.base a.index) (loads_z 22 w ++ gives l to 22 w) (back (loads_z 22 w) (gives l to 22 w) (gives_some to 22 w h.1))
+      let home = home_of l to w in
+      back (points_z l a.base a.index) (loads_z (made_in home) w ++ settles l to home w)
+      (front (loads_z (made_in home) w) (settles l to home w) (loads_z_some (made_in home) w h.0.0))
   plain_some p (Store w a from) h =
       let rs = found_in l from 22 w in
       back (points_x l a.base a.index) (finds l from 22 w ++ stores_x rs) (back (finds l from 22 w) (stores_x rs) (stores_x_some rs (found_some from 22 w h.0.0)))
-  plain_some p (ReadDevice to address) h = back (reads_register 22 address) (gives l to 22 1) (gives_some to 22 1 h)
+  plain_some p (ReadDevice to address) h =
+      let home = home_of l to 1 in
+      front (reads_register (made_in home) address) (settles l to home 1) (writes_some (nat_le 0x20 address && nat_lt address 0x60) _ _)
   plain_some p (WriteDevice address a) h =
       back (finds l a 22 1) (writes_register address (first_of (found_in l a 22 1))) (writes_some (nat_le 0x20 address && nat_lt address 0x60) _ _)
   plain_some p (Push w a) h = back (finds l a 22 w) (pushes (found_in l a 22 w)) (pushes_some (found_in l a 22 w) (found_some a 22 w h.0.0))

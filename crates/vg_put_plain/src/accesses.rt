@@ -11,7 +11,7 @@ use vg_alloc::Locations;
 use vg_base::{NoMemory, Row};
 use vg_lin::{Address, Operand};
 use vg_put_chains::put_known;
-use vg_put_values::{found_in, put_brings, put_finds, put_gives};
+use vg_put_values::{found_in, home_of, made_in, put_brings, put_finds, put_settles};
 
 /// Adds a base to a pair of upper registers: 65,536 less it is taken away. The base 0 costs no instruction.
 pub fn put_plus_base(code: &mut Row<Instr>, d: u8, base: u16) -> Result<(), NoMemory>
@@ -83,8 +83,9 @@ pub fn put_loads_column(
     ensures { OnOk result (code.new ≡ code.old ++ loads_column (layout locations.now) width to address.base address.index) }
 {
     put_points_x(code, locations, address)?;
-    put_loads_x(code, 22, width)?;
-    put_gives(code, locations, to, 22, width)
+    let home = home_of(locations, to, width);
+    put_loads_x(code, made_in(home), width)?;
+    put_settles(code, locations, to, home, width)
 }
 
 /// So many low bytes of a value go to a column, from the registers in which they are: zero bytes of a known number from r1.

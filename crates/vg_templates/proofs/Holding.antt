@@ -63,6 +63,37 @@ module _ (i : Places) (ok : (m : ℕ) → IsLayout (i.layouts m)) (m : ℕ) (fra
       agree r (inl h) = let top' = h.1 in f.others r (omega arith) (inl (omega arith))
       agree r (inr h) = let low' = h.0 in let top' = h.1 in f.others r (omega arith) (inr (omega arith))
 
+  -- a local has got a value at its spot
+  pub held_set : (live behind : ℕ → Bool) (s : State) (to x : ℕ) (v u : View) → IsSet (i.layouts m) live behind to → (k : Held i m live s frames v)
+      → Agree (registers_with ((i.layouts m).spots to) (width_of (i.layouts m) to) v.regs x) u.regs → u.regs.of 1 ≡ 0 → u.static ≡ v.static
+      → u.stack ≡ k.stacked.wait ++ (frame_with ((i.layouts m).spots to) (width_of (i.layouts m) to) k.stacked.own x ++ k.stacked.under)
+      → Held i m behind (sets to x s) frames u
+  held_set live behind s to x v u can k agree one static here =
+      let l = i.layouts m in
+      let t = k.stacked in
+      let w = width_of l to in
+      let spot = (ok m).spot to can.there in
+      let own' = frame_with (l.spots to) w t.own x in
+      let put = registers_with (l.spots to) w v.regs x in
+      let set : Stacked i m behind (sets to x s) frames (t.wait ++ (own' ++ t.under)) put =
+      record {
+        wait = t.wait;
+        own = own';
+        under = t.under;
+        cut = refl;
+        points = points_set l t.own t.under v.regs (l.spots to) w x spot t.points;
+        waits = t.waits;
+        fits = fits_set l live behind s.locals t.own v.regs to x (ok m) can.there can.others t.fits;
+        callers = callers_set i ok frames m t.own t.under v.regs (l.spots to) w x spot t.fits.long t.callers;
+      } in
+      record {
+        stacked =
+            subst (λ y. Stacked i m behind (sets to x s) frames y u.regs) (sym here)
+            (stacked_agree behind (sets to x s) (t.wait ++ (own' ++ t.under)) put u.regs agree set);
+        r1 = one;
+        ram = static ∙ k.ram;
+      }
+
   module _ (e : Run) (deep : Type 0) where
     -- an operand is read
     pub takes_brings : (live : ℕ → Bool) (s : State) (a : Operand) (d n x : ℕ) (v : View) → IsReady (i.layouts m) live a → value a s ≡ Some x
@@ -109,30 +140,11 @@ module _ (i : Places) (ok : (m : ℕ) → IsLayout (i.layouts m)) (m : ℕ) (fra
             let w = width_of l to in
             let spot = (ok m).spot to can.there in
             let x = number v.regs r n in
-            let own' = frame_with (l.spots to) w t.own x in
-            let put = registers_with (l.spots to) w v.regs x in
-            let set : Stacked i m behind (sets to x s) frames (t.wait ++ (own' ++ t.under)) put =
-            record {
-              wait = t.wait;
-              own = own';
-              under = t.under;
-              cut = refl;
-              points = points_set l t.own t.under v.regs (l.spots to) w x spot t.points;
-              waits = t.waits;
-              fits = fits_set l live behind s.locals t.own v.regs to x (ok m) can.there can.others t.fits;
-              callers = callers_set i ok frames m t.own t.under v.regs (l.spots to) w x spot t.fits.long t.callers;
-            } in
-            let here : u.stack ≡ t.wait ++ (own' ++ t.under) = ap (λ (y : View). y.stack) kept.same in
-            let agree : Agree put u.regs = λ d reliable. kept.registers d (below d reliable) in
             record {
               held =
-                  record {
-                    stacked =
-                        subst (λ y. Stacked i m behind (sets to x s) frames y u.regs) (sym here)
-                        (stacked_agree behind (sets to x s) (t.wait ++ (own' ++ t.under)) put u.regs agree set);
-                    r1 = kept.registers 1 (omega arith) ∙ one (l.spots to) w x spot ∙ k.r1;
-                    ram = ap (λ (y : View). y.static) kept.same ∙ k.ram;
-                  };
+                  held_set live behind s to x v u can k (λ d reliable. kept.registers d (below d reliable))
+                  (kept.registers 1 (omega arith) ∙ one (l.spots to) w x spot ∙ k.r1) (ap (λ (y : View). y.static) kept.same)
+                  (ap (λ (y : View). y.stack) kept.same);
               scratch = λ d from below'. kept.registers d (omega arith) ∙ past (l.spots to) w x spot d from;
               out = ap (λ (y : View). y.out) kept.same;
             }

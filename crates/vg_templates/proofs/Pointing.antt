@@ -22,9 +22,11 @@ use Rattle.vg_templates.proofs.Numbers.{cut, put_other, put_same}
 use Rattle.vg_templates.specs.Pieces.{Takes}
 use Rattle.vg_templates.specs.Transfers.{known}
 use Rattle.vg_templates.specs.Transferred.{Fetched}
-use Rattle.vg_templates.specs.Held.{Held, IsReady, IsSet, brings, gives, Brought, Given}
+use Rattle.vg_templates.specs.Held.{Held, IsReady, IsSet, brings, Brought}
+use Rattle.vg_templates.specs.Homes.{home_of, made_in, settles}
 use Rattle.vg_templates.proofs.Composing.{takes_none, takes_then, takes_next, takes_wider, takes_bytes, takes_plain}
-use Rattle.vg_templates.proofs.Holding.{held_scratch, takes_brings, takes_gives}
+use Rattle.vg_templates.proofs.Holding.{held_scratch, takes_brings}
+use Rattle.vg_templates.proofs.Settling.{made_low, takes_settles}
 use Rattle.vg_templates.proofs.Accessing.{written_digits}
 use Rattle.vg_templates.proofs.Spotting.{takes_known}
 use Rattle.vg_templates.specs.Numbers.{number_in, AreBeside}
@@ -302,10 +304,13 @@ module _ (i : Places) (ok : (m : ℕ) → IsLayout (i.layouts m)) (m : ℕ) (fra
   takes_loads_column live behind s w to base index x z v wide small high ready can got loaded k =
       let l = i.layouts m in
       let is = points_x l base index in
-      let js = loads_x 22 w ++ gives l to 22 w in
+      let h = home_of l to w in
+      let d = made_in h in
+      let js = loads_x d w ++ settles l to h w in
       let at = base + x - 0x100 in
       let there = some_there s.ram w at z wide loaded in
       let inside = there.inside in
+      let low = made_low l (ok m) to w can.there small in
       let goal = Lies i m behind (sets to z s) frames v.out in
       takes_size v (is ++ js) goal
       (λ size.
@@ -316,18 +321,22 @@ module _ (i : Places) (ok : (m : ℕ) → IsLayout (i.layouts m)) (m : ℕ) (fra
       let ram_is : u.static ≡ s.ram = p.held.ram in
       let same_length : length u.static ≡ length s.ram = ap length ram_is in
       let pointer = p.pointer in
-      takes_then e deep u (loads_x 22 w) (gives l to 22 w) (Loaded 22 w (read u.static at w) u) goal
-      (takes_loads_x e deep 22 w at u (omega arith) (omega (arith, pointer, high)) (omega (arith, same_length, inside)) (omega (arith, same_length, size, length_is)))
-      (λ t d.
-      let held : Held i m live s frames t =
-      by_x live s u t (λ r low. d.others r (inl (omega arith), inl (omega arith))) (λ r low top. d.others r (inr low, inr (omega arith))) d.same p.held in
-      let number_is : number t.regs 22 w ≡ z = d.holds ∙ ap (λ q. read q at w) ram_is ∙ there.value in
-      takes_wider e deep t (gives l to 22 w) (Given i m behind (sets to (number t.regs 22 w) s) frames t) goal
-      (λ q g. record {
-        held = subst (λ y. Held i m behind (sets to y s) frames q) number_is g.held;
-        out = g.out ∙ ap (λ (y : View). y.out) d.same ∙ ap (λ (y : View). y.out) p.same;
-      })
-      (takes_gives i ok m frames e deep live behind s to 22 w t can (omega arith) (omega arith) held))))
+      takes_then e deep u (loads_x d w) (settles l to h w) (Loaded d w (read u.static at w) u) goal
+      (takes_loads_x e deep d w at u low (omega (arith, pointer, high)) (omega (arith, same_length, inside)) (omega (arith, same_length, size, length_is)))
+      (λ t loaded'. takes_wider e deep t (settles l to h w) (Lies i m behind (sets to z s) frames t.out) goal
+      (λ q g. record { held = g.held; out = g.out ∙ ap (λ (y : View). y.out) loaded'.same ∙ ap (λ (y : View). y.out) p.same })
+      (takes_settles i ok m frames e deep live behind s to w z h u t can refl small p.held
+      (record {
+        others = λ r kind beside. loaded'.others r (beside_x r kind, beside);
+        holds = loaded'.holds ∙ ap (λ q. read q at w) ram_is ∙ there.value;
+        stack = ap (λ (y : View). y.stack) loaded'.same;
+        static = ap (λ (y : View). y.static) loaded'.same;
+      })))))
+    where
+      beside_x : (r : ℕ) → (r ≡ 1) ⊎ IsReliable r → (r < 26) ⊎ (28 ≤ r)
+      beside_x r (inl one) = inl (omega arith)
+      beside_x r (inr (inl k')) = let up = k'.1 in inl (omega arith)
+      beside_x r (inr (inr k')) = inr k'.0
 
   -- ---- a store
 

@@ -1,6 +1,6 @@
 -- Each instruction of a template has its operands in range.
 use Rattle.std.proofs.Common.{◌≡◌, ℕ, zero, suc, ◌+◌, ◌-◌, ◌/◌, ◌%◌, ◌<◌, ◌≤◌, inl, inr, Bool, true, false, ◌&&◌, ◌==◌, nat_le, nat_lt}
-use Rattle.std.proofs.Common.{List, [], ◌∷◌, ◌++◌, length, refl, arith, if◌then◌else◌}
+use Rattle.std.proofs.Common.{List, [], ◌∷◌, ◌++◌, length, refl, subst, arith, if◌then◌else◌, Option, Some, None}
 use Rattle.std.specs.List.{AllByRecursion}
 use Rattle.avr_instr.specs.declared.instr.Instr.{Instr}
 use Rattle.avr_instr.specs.declared.instr.Instr.TheVariants.{In, Ldi, Lds, Mov, Movw, Out, Push, Sbci, Sts, Subi}
@@ -19,6 +19,8 @@ use Rattle.vg_templates.specs.Layouts.{Layout, IsLayout, IsSpot, width_of}
 use Rattle.vg_templates.specs.Linkage.{pushes}
 use Rattle.vg_templates.specs.Transfers.{clears, known, moves_two, moves, loads, stores, reach, reach_by, fetch, keep}
 use Rattle.vg_templates.specs.Held.{IsReady, IsSet, brings, gives}
+use Rattle.vg_templates.specs.Homes.{home_of, made_in, settles}
+use Rattle.vg_templates.proofs.Settling.{own_home, made_low}
 use Rattle.vg_templates.specs.Numbers.{AreBeside, AreRegisters}
 use Rattle.vg_templates.specs.Chains.{adds_on, adds, subtracts_on, subtracts, takes_known_on, takes_known, ands, ors, eors}
 use Rattle.vg_templates.specs.Operands.{least, known_bytes, finds_spot, finds, found_in}
@@ -105,6 +107,14 @@ module _ (l : Layout) (ok : IsLayout l) where
 
   gives-fine : (live behind : ℕ → Bool) (to r n : ℕ) → IsSet l live behind to → r + n ≤ 32 → Fine (gives l to r n)
   gives-fine live behind to r n can h = keep-fine (l.spots to) (width_of l to) r n (ok.spot to can.there) (ok.narrow to can.there) h
+
+  settles-fine : (live behind : ℕ → Bool) (to n : ℕ) (h : Option ℕ) → IsSet l live behind to → home_of l to n ≡ h → n ≤ 4 → Fine (settles l to h n)
+  settles-fine live behind to n None can is few = gives-fine live behind to 22 n can (omega arith)
+  settles-fine live behind to n (Some r) can is few =
+      let own = own_home (l.spots to) (width_of l to) n r is in
+      let inside = (subst (λ p. IsSpot l p (width_of l to)) own.spot (ok.spot to can.there)).1 in
+      let less = own.few in
+      clears-fine (r + n) (width_of l to - n) (omega arith)
 
   bytes_fine : (b : Bool) (d x : ℕ) (is : List Instr) → 16 ≤ d → d < 32 → x < 256 → Fine is → Fine ((if b then [] else Ldi d x ∷ []) ++ is)
   bytes_fine true d x is p q h k = k
@@ -275,8 +285,11 @@ module _ (l : Layout) (ok : IsLayout l) (live behind : ℕ → Bool) where
       (gives-fine l ok live behind c.to 22 n can.1.1 (omega (arith, small))))
   plain_code-fine codes (Load Ram w to a) can =
       let small = can.0.1 in
-      fine_append (points_x l a.base a.index) (loads_x 22 w ++ gives l to 22 w) (points-fine a.base a.index can.1.0)
-      (fine_append (loads_x 22 w) (gives l to 22 w) (loads_x-fine 22 w (omega (arith, small))) (gives-fine l ok live behind to 22 w can.1.1 (omega (arith, small))))
+      let h = home_of l to w in
+      let d = made_in h in
+      fine_append (points_x l a.base a.index) (loads_x d w ++ settles l to h w) (points-fine a.base a.index can.1.0)
+      (fine_append (loads_x d w) (settles l to h w) (loads_x-fine d w (made_low l ok to w can.1.1.there small))
+      (settles-fine l ok live behind to w h can.1.1 refl small))
   plain_code-fine codes (Store w a from) can =
       let small = can.0.1 in
       let rs = found_in l from 22 w in
@@ -284,9 +297,12 @@ module _ (l : Layout) (ok : IsLayout l) (live behind : ℕ → Bool) where
       (fine_append (finds l from 22 w) (stores_x rs) (finds-fine l ok live from 22 w can.1.0.1 (omega arith) (omega (arith, small)))
       (stores_x-fine rs (found-beside l ok live from 22 w 26 28 can.1.0.1 (omega arith) (omega (arith, small)) (omega arith))))
   plain_code-fine codes (ReadDevice to address) can =
-      fine_append (if nat_le 0x20 address && nat_lt address 0x60 then In 22 (address - 0x20) ∷ [] else Lds 22 address ∷ []) (gives l to 22 1)
-      (reads-fine (nat_le 0x20 address && nat_lt address 0x60) address 22 refl (device_word address can.0) (omega arith))
-      (gives-fine l ok live behind to 22 1 can.1 (omega arith))
+      let h = home_of l to 1 in
+      let d = made_in h in
+      let low = made_low l ok to 1 can.1.there (omega arith) in
+      fine_append (if nat_le 0x20 address && nat_lt address 0x60 then In d (address - 0x20) ∷ [] else Lds d address ∷ []) (settles l to h 1)
+      (reads-fine (nat_le 0x20 address && nat_lt address 0x60) address d refl (device_word address can.0) (omega (arith, low)))
+      (settles-fine l ok live behind to 1 h can.1 refl (omega arith))
   plain_code-fine codes (WriteDevice address a) can =
       let rs = found_in l a 22 1 in
       fine_append (finds l a 22 1) (if nat_le 0x20 address && nat_lt address 0x60 then Out (address - 0x20) (first_of rs) ∷ [] else Sts address (first_of rs) ∷ [])

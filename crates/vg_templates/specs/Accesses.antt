@@ -6,7 +6,8 @@ use Rattle.vg_lin.specs.declared.instr.Operand.{Operand}
 use Rattle.vg_lin.specs.declared.instr.Operand.TheVariants.{Local, Known}
 use Rattle.vg_templates.specs.Layouts.{Layout}
 use Rattle.vg_templates.specs.Transfers.{known}
-use Rattle.vg_templates.specs.Held.{brings, gives}
+use Rattle.vg_templates.specs.Held.{brings}
+use Rattle.vg_templates.specs.Homes.{home_of, made_in, settles}
 use Rattle.vg_templates.specs.Operands.{finds, found_in}
 
 -- a base is added to a pair of registers, as 65,536 less it is taken away; the base 0 costs nothing
@@ -28,7 +29,9 @@ stores_x (r ∷ rs) = StXPlus r ∷ stores_x rs
 
 -- so many bytes of a column go to a local
 abbrev pub loads_column : Layout → (width to base : ℕ) → (index : Operand) → List Instr
-loads_column l w to base index = points_x l base index ++ (loads_x 22 w ++ gives l to 22 w)
+loads_column l w to base index =
+    let h = home_of l to w in
+    points_x l base index ++ (loads_x (made_in h) w ++ settles l to h w)
 
 -- so many low bytes of a value go to a column, from the registers in which they are found
 abbrev pub stores_column : Layout → (width base : ℕ) → (index from : Operand) → List Instr

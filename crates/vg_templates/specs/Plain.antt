@@ -10,6 +10,7 @@ use Rattle.vg_lin.specs.declared.instr.Computation.{Computation}
 use Rattle.vg_templates.specs.Layouts.{Layout, width_of}
 use Rattle.vg_templates.specs.Linkage.{pushes}
 use Rattle.vg_templates.specs.Held.{brings, gives}
+use Rattle.vg_templates.specs.Homes.{home_of, made_in, settles}
 use Rattle.vg_templates.specs.Chains.{adds, subtracts, takes_known, ands, ors, eors}
 use Rattle.vg_templates.specs.Operands.{least, finds, found_in}
 
@@ -51,7 +52,9 @@ abbrev pub writes_device : Layout → (address : ℕ) → Operand → List Instr
 writes_device l address a = finds l a 22 1 ++ writes_register address (first_of (found_in l a 22 1))
 
 abbrev pub reads_device : Layout → (to address : ℕ) → List Instr
-reads_device l to address = reads_register 22 address ++ gives l to 22 1
+reads_device l to address =
+    let h = home_of l to 1 in
+    reads_register (made_in h) address ++ settles l to h 1
 
 -- operators that work byte by byte
 abbrev pub IsBytewise : Operator → Type 0
