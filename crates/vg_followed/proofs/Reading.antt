@@ -24,7 +24,7 @@ use Rattle.vg_templates.specs.Held.{Held, IsReady, IsSet, brings, Brought}
 use Rattle.vg_templates.specs.Homes.{home_of, made_in, settles}
 use Rattle.vg_templates.proofs.Composing.{takes_then, takes_wider, takes_bytes, takes_plain}
 use Rattle.vg_templates.proofs.Holding.{held_scratch, takes_brings}
-use Rattle.vg_templates.proofs.Settling.{Made, made_low, takes_settles}
+use Rattle.vg_templates.proofs.Settling.{Made, home_is, made_low, takes_settles}
 use Rattle.vg_templates.proofs.Spotting.{takes_known}
 use Rattle.vg_templates.specs.Outcomes.{Lies}
 use Rattle.vg_templates.specs.Accesses.{plus_base}
@@ -206,7 +206,7 @@ module _ (i : Places) (ok : (m : ℕ) → IsLayout (i.layouts m)) (m : ℕ) (fra
       let h = home_of l to w in
       let d = made_in h in
       let is = loads_z d w in
-      let low = made_low l (ok m) to w can.there small in
+      let low = made_low l (ok m) to w h can.there small (home_is l to w) in
       let last = settles l to h w in
       let goal = Lies i m behind (sets to z s) frames v.out in
       takes_then e deep v (points_z l base index) (is ++ last) (Pointed i m live s frames (base + x) v) goal
@@ -218,7 +218,7 @@ module _ (i : Places) (ok : (m : ℕ) → IsLayout (i.layouts m)) (m : ℕ) (fra
       takes_then e deep u is last (λ t. t ≡ y) goal (takes_plain e deep u is (loads_z-plain d w))
       (λ t put. subst (λ q. Takes e deep q last goal) (sym put)
       (takes_wider e deep y last (Lies i m behind (sets to z s) frames u.out) goal (λ q g. record { held = g.held; out = g.out ∙ p.out })
-      (takes_settles i ok m frames e deep live behind s to w z h u y can refl small p.held
+      (takes_settles i ok m frames e deep live behind s to w z h u y can (home_is l to w) small p.held
       (record {
         others = λ r kind beside. f.others r (below r kind) beside;
         holds = f.holds ∙ there.value;

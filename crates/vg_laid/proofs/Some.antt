@@ -25,13 +25,13 @@ use Rattle.vg_lin.specs.Sound.{IsWidth, IsPlain, AreOperands, IsSound}
 use Rattle.vg_templates.specs.Spots.{Spot, InFrame, InRegisters}
 use Rattle.vg_templates.specs.Layouts.{Layout, width_of}
 use Rattle.vg_templates.specs.Linkage.{pushes, pops, drops_slots, epilogue}
-use Rattle.vg_templates.specs.Transfers.{clears, moves_two, moves, reach, stores, keep}
+use Rattle.vg_templates.specs.Transfers.{clears, moves_two, moves, reach, loads, stores, fetch, keep}
 use Rattle.vg_templates.specs.Held.{brings, gives}
-use Rattle.vg_templates.specs.Homes.{home_of, made_in, settles}
+use Rattle.vg_templates.specs.Homes.{home_of, made_in, settles, clear_home}
 use Rattle.vg_templates.specs.Branches.{tests, told_by, near_branch}
 use Rattle.vg_templates.specs.Calls.{call_code}
 use Rattle.vg_templates.specs.Operands.{least, padded, known_registers, finds, spot_found, found_in}
-use Rattle.vg_templates.specs.Plain.{bytes_in, copies_low, copies, computes, works, writes_register, reads_register, first_of}
+use Rattle.vg_templates.specs.Plain.{bytes_in, copies_low, copies_through, copies_local, copies, computes, works, writes_register, reads_register, first_of}
 use Rattle.vg_templates.specs.Accesses.{points_x, loads_x, stores_x}
 use Rattle.vg_templates.specs.Shifts.{doubles, halves, repeats, shifts_left, shifts_right}
 use Rattle.vg_templates.specs.Lookups.{points_z, loads_z, tries_cases}
@@ -67,6 +67,11 @@ stores_some b q r (suc w) (suc n) h = omega arith
 clears_some : (d n : ℕ) → 1 ≤ n → 1 ≤ length (clears d n)
 clears_some d zero h = absurd (omega (arith, h))
 clears_some d (suc n) h = omega arith
+
+loads_some : (b : Base) (q d w n : ℕ) → 1 ≤ n → 1 ≤ length (loads b q d w n)
+loads_some b q d zero n h = clears_some d n h
+loads_some b q d (suc w) zero h = absurd (omega (arith, h))
+loads_some b q d (suc w) (suc n) h = omega arith
 
 two_some : (r d : ℕ) → 1 ≤ length (moves_two r d)
 two_some r d = by_test ((r % 2 == 0) && (d % 2 == 0))
@@ -139,6 +144,11 @@ keep_some (InFrame at) w r n h =
     let k = reach at w in back k.code (stores k.base k.displacement r w n) (stores_some k.base k.displacement r w n h)
 keep_some (InRegisters d) w r n h = moves_some r d n w h
 
+fetch_some : (z : Spot) (w d n : ℕ) → 1 ≤ n → 1 ≤ length (fetch z w d n)
+fetch_some (InFrame at) w d n h =
+    let k = reach at w in back k.code (loads k.base k.displacement d w n) (loads_some k.base k.displacement d w n h)
+fetch_some (InRegisters r) w d n h = moves_some r d w n h
+
 spot_some : (z : Spot) (w d n : ℕ) → 1 ≤ n → 1 ≤ length (spot_found z w d n)
 spot_some (InFrame at) w d n h = padded_some d w n h
 spot_some (InRegisters r) w d n h = padded_some r w n h
@@ -190,8 +200,20 @@ module _ (m : Procedure) (s : IsSound m) where
   copies_low_some : (to : ℕ) (a : Operand) (n : ℕ) → to < length m.widths → 1 ≤ length (copies_low l to a n)
   copies_low_some to a n h = back (brings l a 22 n) (gives l to 22 n) (gives_some to 22 n h)
 
+  copies_through_some : (to k : ℕ) → to < length m.widths → 1 ≤ length (copies_through l to k)
+  copies_through_some to k h =
+      let w = width_of l to in
+      let home = clear_home (l.spots k) (width_of l k) w (home_of l to w) in
+      front (brings l (Local k) (made_in home) w) (settles l to home w)
+      (fetch_some (l.spots k) (width_of l k) (made_in home) w (wide_at m.widths to s.widths h))
+
+  copies_local_some : (to k : ℕ) (z y : Spot) → to < length m.widths → 1 ≤ length (copies_local z y l to k)
+  copies_local_some to k (InFrame at) (InRegisters f) h = gives_some to f (width_of l k) h
+  copies_local_some to k (InFrame at) (InFrame p) h = copies_through_some to k h
+  copies_local_some to k (InRegisters r) y h = copies_through_some to k h
+
   copies_some : (to : ℕ) (a : Operand) → to < length m.widths → 1 ≤ length (copies l to a)
-  copies_some to (Local k) h = copies_low_some to (Local k) (width_of l to) h
+  copies_some to (Local k) h = copies_local_some to k (l.spots to) (l.spots k) h
   copies_some to (Known v) h = copies_low_some to (Known v) (bytes_in (width_of l to) v) h
 
   plain_some : (p : Program) (i : PlainInstr) → IsPlain m i → 1 ≤ length (plain_template l p i)

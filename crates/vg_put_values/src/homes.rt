@@ -1,7 +1,7 @@
 // Where values that go to locals are made: in the registers of the local, or in scratch ones.
 ghost use Rattle.std.specs.Prelude.{◌≡◌, ◌≤◌, ◌<◌, ◌+◌, ◌++◌, OnOk, length};
 ghost use Rattle.vg_templates.specs.Layouts.{width_of};
-ghost use Rattle.vg_templates.specs.Homes.{home, home_of, made_in, settles};
+ghost use Rattle.vg_templates.specs.Homes.{clear_home, home, home_of, is_clear, made_in, settles};
 ghost use Rattle.vg_alloc.specs.Locations.{layout, place, IsWithin};
 ghost use Rattle.vg_put_values.specs.Within.{IsHome};
 
@@ -34,6 +34,45 @@ pub fn home_of(locations: &Locations, to: u8, count: u8) -> Option<u8>
     ensures low { made_in result + count ≤ 26 }
 {
     home(locations.spot(to), locations.width(to), count)
+}
+
+fn is_clear(spot: Spot, width: u8, first: u8, count: u8) -> bool
+    requires within { IsWithin spot width }
+    requires low { first + count ≤ 26 }
+    ensures { result ≡ is_clear (place spot) width first count }
+{
+    match spot {
+        Spot::Frame(_) => true,
+        Spot::Registers(r) => r + width <= first || first + count <= r,
+    }
+}
+
+fn clear_home(home: Option<u8>, most: u8, count: u8, spot: Spot, width: u8) -> Option<u8>
+    requires few { count ≤ 4 }
+    requires within { IsWithin spot width }
+    requires home { IsHome home most count }
+    ensures home { result ≡ clear_home (place spot) width count home }
+    ensures within { IsHome result most count }
+    ensures low { made_in result + count ≤ 26 }
+{
+    match home {
+        None => None,
+        Some(first) if is_clear(spot, width, first, count) => Some(first),
+        Some(_) => None,
+    }
+}
+
+/// The first register of a local in registers that takes so many bytes, where these are none of a spot of some width.
+pub fn clear_home_of(locations: &Locations, to: u8, count: u8, spot: Spot, width: u8) -> Option<u8>
+    requires there { to < length locations.now.widths }
+    requires few { count ≤ 4 }
+    requires within { IsWithin spot width }
+    ensures home { result ≡ clear_home (place spot) width count (home_of (layout locations.now) to count) }
+    ensures within { IsHome result (width_of (layout locations.now) to) count }
+    ensures low { made_in result + count ≤ 26 }
+{
+    let home = home_of(locations, to, count);
+    clear_home(home, locations.width(to), count, spot, width)
 }
 
 /// The first register in which a value is made.

@@ -26,7 +26,7 @@ use Rattle.vg_templates.specs.Held.{Held, IsReady, IsSet, brings, Brought}
 use Rattle.vg_templates.specs.Homes.{home_of, made_in, settles}
 use Rattle.vg_templates.proofs.Composing.{takes_none, takes_then, takes_next, takes_wider, takes_bytes, takes_plain}
 use Rattle.vg_templates.proofs.Holding.{held_scratch, takes_brings}
-use Rattle.vg_templates.proofs.Settling.{made_low, takes_settles}
+use Rattle.vg_templates.proofs.Settling.{home_is, made_low, takes_settles}
 use Rattle.vg_templates.proofs.Accessing.{written_digits}
 use Rattle.vg_templates.proofs.Spotting.{takes_known}
 use Rattle.vg_templates.specs.Numbers.{number_in, AreBeside}
@@ -310,7 +310,7 @@ module _ (i : Places) (ok : (m : ℕ) → IsLayout (i.layouts m)) (m : ℕ) (fra
       let at = base + x - 0x100 in
       let there = some_there s.ram w at z wide loaded in
       let inside = there.inside in
-      let low = made_low l (ok m) to w can.there small in
+      let low = made_low l (ok m) to w h can.there small (home_is l to w) in
       let goal = Lies i m behind (sets to z s) frames v.out in
       takes_size v (is ++ js) goal
       (λ size.
@@ -325,7 +325,7 @@ module _ (i : Places) (ok : (m : ℕ) → IsLayout (i.layouts m)) (m : ℕ) (fra
       (takes_loads_x e deep d w at u low (omega (arith, pointer, high)) (omega (arith, same_length, inside)) (omega (arith, same_length, size, length_is)))
       (λ t loaded'. takes_wider e deep t (settles l to h w) (Lies i m behind (sets to z s) frames t.out) goal
       (λ q g. record { held = g.held; out = g.out ∙ ap (λ (y : View). y.out) loaded'.same ∙ ap (λ (y : View). y.out) p.same })
-      (takes_settles i ok m frames e deep live behind s to w z h u t can refl small p.held
+      (takes_settles i ok m frames e deep live behind s to w z h u t can (home_is l to w) small p.held
       (record {
         others = λ r kind beside. loaded'.others r (beside_x r kind, beside);
         holds = loaded'.holds ∙ ap (λ q. read q at w) ram_is ∙ there.value;

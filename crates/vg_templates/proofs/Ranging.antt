@@ -19,12 +19,12 @@ use Rattle.vg_templates.specs.Layouts.{Layout, IsLayout, IsSpot, width_of}
 use Rattle.vg_templates.specs.Linkage.{pushes}
 use Rattle.vg_templates.specs.Transfers.{clears, known, moves_two, moves, loads, stores, reach, reach_by, fetch, keep}
 use Rattle.vg_templates.specs.Held.{IsReady, IsSet, brings, gives}
-use Rattle.vg_templates.specs.Homes.{home_of, made_in, settles}
-use Rattle.vg_templates.proofs.Settling.{own_home, made_low}
+use Rattle.vg_templates.specs.Homes.{home_of, made_in, settles, IsHome, clear_home}
+use Rattle.vg_templates.proofs.Settling.{home_is, clear_is, made_low}
 use Rattle.vg_templates.specs.Numbers.{AreBeside, AreRegisters}
 use Rattle.vg_templates.specs.Chains.{adds_on, adds, subtracts_on, subtracts, takes_known_on, takes_known, ands, ors, eors}
 use Rattle.vg_templates.specs.Operands.{least, known_bytes, finds_spot, finds, found_in}
-use Rattle.vg_templates.specs.Plain.{copies_low, copies_whole, bytes_in, copies, first_of, operates, works}
+use Rattle.vg_templates.specs.Plain.{copies_low, copies_whole, bytes_in, copies_through, copies_local, copies, first_of, operates, works}
 use Rattle.vg_templates.proofs.Bytes.{least_is, bytes_in_few}
 use Rattle.vg_templates.proofs.Finding.{beside_registers, found-length, found-beside}
 use Rattle.vg_templates.specs.Accesses.{plus_base, points_x, loads_x, stores_x}
@@ -108,12 +108,11 @@ module _ (l : Layout) (ok : IsLayout l) where
   gives-fine : (live behind : ℕ → Bool) (to r n : ℕ) → IsSet l live behind to → r + n ≤ 32 → Fine (gives l to r n)
   gives-fine live behind to r n can h = keep-fine (l.spots to) (width_of l to) r n (ok.spot to can.there) (ok.narrow to can.there) h
 
-  settles-fine : (live behind : ℕ → Bool) (to n : ℕ) (h : Option ℕ) → IsSet l live behind to → home_of l to n ≡ h → n ≤ 4 → Fine (settles l to h n)
+  settles-fine : (live behind : ℕ → Bool) (to n : ℕ) (h : Option ℕ) → IsSet l live behind to → IsHome l to n h → n ≤ 4 → Fine (settles l to h n)
   settles-fine live behind to n None can is few = gives-fine live behind to 22 n can (omega arith)
   settles-fine live behind to n (Some r) can is few =
-      let own = own_home (l.spots to) (width_of l to) n r is in
-      let inside = (subst (λ p. IsSpot l p (width_of l to)) own.spot (ok.spot to can.there)).1 in
-      let less = own.few in
+      let inside = (subst (λ p. IsSpot l p (width_of l to)) is.0 (ok.spot to can.there)).1 in
+      let less = is.1 in
       clears-fine (r + n) (width_of l to - n) (omega arith)
 
   bytes_fine : (b : Bool) (d x : ℕ) (is : List Instr) → 16 ≤ d → d < 32 → x < 256 → Fine is → Fine ((if b then [] else Ldi d x ∷ []) ++ is)
@@ -251,8 +250,26 @@ module _ (l : Layout) (ok : IsLayout l) (live behind : ℕ → Bool) where
   copies_whole-fine : (to : ℕ) (a : Operand) → IsReady l live a → IsSet l live behind to → Fine (copies_whole l to a)
   copies_whole-fine to a ready can = copies_low-fine to a (width_of l to) ready can (ok.narrow to can.there)
 
+  copies_through-fine : (to k : ℕ) → IsReady l live (Local k) → IsSet l live behind to → Fine (copies_through l to k)
+  copies_through-fine to k ready can =
+      let w = width_of l to in
+      let small = ok.narrow to can.there in
+      let h = clear_home (l.spots k) (width_of l k) w (home_of l to w) in
+      let is = clear_is l to w (l.spots k) (width_of l k) w (home_of l to w) (home_is l to w) in
+      let low = made_low l ok to w h can.there small is in
+      fine_append (brings l (Local k) (made_in h) w) (settles l to h w)
+      (fetch-fine l ok (l.spots k) (width_of l k) (made_in h) w (ok.spot k ready.0) (ok.narrow k ready.0) (omega (arith, low)))
+      (settles-fine l ok live behind to w h can is small)
+
+  copies_local-fine : (to k : ℕ) (s t : Spot) → IsSpot l t (width_of l k) → IsReady l live (Local k) → IsSet l live behind to
+      → Fine (copies_local s t l to k)
+  copies_local-fine to k (InFrame at) (InRegisters f) spot ready can =
+      let inside = spot.1 in gives-fine l ok live behind to f (width_of l k) can (omega arith)
+  copies_local-fine to k (InFrame at) (InFrame p) spot ready can = copies_through-fine to k ready can
+  copies_local-fine to k (InRegisters r) t spot ready can = copies_through-fine to k ready can
+
   copies-fine : (to : ℕ) (a : Operand) → IsReady l live a → IsSet l live behind to → Fine (copies l to a)
-  copies-fine to (Local k) ready can = copies_whole-fine to (Local k) ready can
+  copies-fine to (Local k) ready can = copies_local-fine to k (l.spots to) (l.spots k) (ok.spot k ready.0) ready can
   copies-fine to (Known v) ready can =
       let small = ok.narrow to can.there in
       let few = bytes_in_few (width_of l to) v in
@@ -288,8 +305,8 @@ module _ (l : Layout) (ok : IsLayout l) (live behind : ℕ → Bool) where
       let h = home_of l to w in
       let d = made_in h in
       fine_append (points_x l a.base a.index) (loads_x d w ++ settles l to h w) (points-fine a.base a.index can.1.0)
-      (fine_append (loads_x d w) (settles l to h w) (loads_x-fine d w (made_low l ok to w can.1.1.there small))
-      (settles-fine l ok live behind to w h can.1.1 refl small))
+      (fine_append (loads_x d w) (settles l to h w) (loads_x-fine d w (made_low l ok to w h can.1.1.there small (home_is l to w)))
+      (settles-fine l ok live behind to w h can.1.1 (home_is l to w) small))
   plain_code-fine codes (Store w a from) can =
       let small = can.0.1 in
       let rs = found_in l from 22 w in
@@ -299,10 +316,10 @@ module _ (l : Layout) (ok : IsLayout l) (live behind : ℕ → Bool) where
   plain_code-fine codes (ReadDevice to address) can =
       let h = home_of l to 1 in
       let d = made_in h in
-      let low = made_low l ok to 1 can.1.there (omega arith) in
+      let low = made_low l ok to 1 h can.1.there (omega arith) (home_is l to 1) in
       fine_append (if nat_le 0x20 address && nat_lt address 0x60 then In d (address - 0x20) ∷ [] else Lds d address ∷ []) (settles l to h 1)
       (reads-fine (nat_le 0x20 address && nat_lt address 0x60) address d refl (device_word address can.0) (omega (arith, low)))
-      (settles-fine l ok live behind to 1 h can.1 refl (omega arith))
+      (settles-fine l ok live behind to 1 h can.1 (home_is l to 1) (omega arith))
   plain_code-fine codes (WriteDevice address a) can =
       let rs = found_in l a 22 1 in
       fine_append (finds l a 22 1) (if nat_le 0x20 address && nat_lt address 0x60 then Out (address - 0x20) (first_of rs) ∷ [] else Sts address (first_of rs) ∷ [])

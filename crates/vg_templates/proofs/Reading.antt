@@ -25,7 +25,7 @@ use Rattle.vg_templates.specs.Pieces.{Takes}
 use Rattle.vg_templates.specs.Held.{Held, IsSet}
 use Rattle.vg_templates.specs.Homes.{home_of, made_in, settles}
 use Rattle.vg_templates.proofs.Composing.{takes_none, takes_then, takes_next}
-use Rattle.vg_templates.proofs.Settling.{takes_settles}
+use Rattle.vg_templates.proofs.Settling.{home_is, takes_settles}
 use Rattle.vg_templates.specs.Outcomes.{Lies}
 use Rattle.vg_templates.specs.Plain.{reads_register, reads_device}
 use Rattle.vg_templates.specs.Straight.{stops}
@@ -68,7 +68,7 @@ module _ (i : Places) (ok : (m : ℕ) → IsLayout (i.layouts m)) (m : ℕ) (fra
       takes_then e deep v (reads_register d address) (settles l to h 1) (λ t. t ≡ u) goal
       (takes_reads (nat_le 0x20 address && nat_lt address 0x60) address d x xs v (near_is address) device left front)
       (λ t is. subst (λ y. Takes e deep y (settles l to h 1) goal) (sym is)
-      (takes_settles i ok m frames e deep live behind s to 1 x h v u can refl (omega arith) k
+      (takes_settles i ok m frames e deep live behind s to 1 x h v u can (home_is l to 1) (omega arith) k
       (record {
         others = λ r kind beside. put_other v.regs d x r (not_d d r beside);
         holds = let byte = put_same v.regs d x in omega (arith, byte);

@@ -16,9 +16,10 @@ use Rattle.vg_templates.proofs.Moving.{clears-plain, clears-put}
 use Rattle.vg_templates.specs.Pieces.{Takes}
 use Rattle.vg_templates.specs.Transfers.{clears}
 use Rattle.vg_templates.specs.Held.{Held, IsSet, gives, Given}
-use Rattle.vg_templates.specs.Homes.{home, home_of, made_in, settles}
+use Rattle.vg_templates.specs.Homes.{home, home_of, made_in, settles, IsHome, is_clear, clear_home}
 use Rattle.vg_templates.specs.Outcomes.{Lies}
 use Rattle.vg_templates.proofs.Composing.{takes_wider, takes_bytes, takes_plain}
+use Rattle.vg_templates.proofs.Spotting.{IsClear}
 use Rattle.vg_templates.proofs.Holding.{stacked_agree, held_set, takes_gives}
 
 -- ---- numbers
@@ -69,33 +70,59 @@ digits_same g h r (suc w) z x is bytes from below =
 
 -- ---- homes
 
-pub record Own (s : Spot) (w n r : ℕ) : Type 0 where
-  pub spot : s ≡ InRegisters r
-  pub few : n ≤ w
-
-pub own_home : (s : Spot) (w n r : ℕ) → home s w n ≡ Some r → Own s w n r
-own_home (InFrame at) w n r e = absurd (let clash : None ≡ Some r = e in cc)
-own_home (InRegisters f) w n r e = by_test (nat_le n w) refl e
+pub home_is : (l : Layout) (to n : ℕ) → IsHome l to n (home_of l to n)
+home_is l to n = at (l.spots to) refl
   where
-    some_same : (a b : ℕ) → Some a ≡ Some b → a ≡ b
-    some_same a b e1 = cc
+    by_test : (f : ℕ) → l.spots to ≡ InRegisters f → (b : Bool) → nat_le n (width_of l to) ≡ b → IsHome l to n (if b then Some f else None)
+    by_test f e true q = (e, grind (arith, q))
+    by_test f e false q = tt
 
-    by_test : (b : Bool) → nat_le n w ≡ b → (if b then Some f else None) ≡ Some r → Own (InRegisters f) w n r
-    by_test true q e1 = record { spot = ap InRegisters (some_same f r e1); few = grind (arith, q) }
-    by_test false q e1 = absurd (let clash : None ≡ Some r = e1 in cc)
+    at : (s : Spot) → l.spots to ≡ s → IsHome l to n (home s (width_of l to) n)
+    at (InFrame p) e = tt
+    at (InRegisters f) e = by_test f e (nat_le n (width_of l to)) refl
+
+pub clear_is : (l : Layout) (to n : ℕ) (s : Spot) (w k : ℕ) (h : Option ℕ) → IsHome l to n h → IsHome l to n (clear_home s w k h)
+clear_is l to n s w k None is = tt
+clear_is l to n s w k (Some r) is = by_test (is_clear s w r k)
+  where
+    by_test : (b : Bool) → IsHome l to n (if b then Some r else None)
+    by_test true = is
+    by_test false = tt
 
 -- a value is made below X
-pub made_low : (l : Layout) → IsLayout l → (to n : ℕ) → to < length l.widths → n ≤ 4 → made_in (home_of l to n) + n ≤ 26
-made_low l ok to n there few = by_home (home_of l to n) refl
+pub made_low : (l : Layout) → IsLayout l → (to n : ℕ) (h : Option ℕ) → to < length l.widths → n ≤ 4 → IsHome l to n h → made_in h + n ≤ 26
+made_low l ok to n None there few is = omega arith
+made_low l ok to n (Some r) there few is =
+    let inside = (subst (λ p. IsSpot l p (width_of l to)) is.0 (ok.spot to there)).1 in let less = is.1 in omega arith
+
+pub made_above : (l : Layout) → IsLayout l → (to n : ℕ) (h : Option ℕ) → to < length l.widths → IsHome l to n h → 2 ≤ made_in h
+made_above l ok to n None there is = omega arith
+made_above l ok to n (Some r) there is = (subst (λ p. IsSpot l p (width_of l to)) is.0 (ok.spot to there)).0
+
+-- where this is tested, a spot has no byte there; nor has it any among scratch registers
+tested_clear : (s : Spot) (w r n : ℕ) → is_clear s w r n ≡ true → IsClear s w r n
+tested_clear (InFrame at) w r n e = tt
+tested_clear (InRegisters f) w r n e = by_test (nat_le (f + w) r) refl
   where
-    by_home : (h : Option ℕ) → home_of l to n ≡ h → made_in h + n ≤ 26
-    by_home None e = omega arith
-    by_home (Some r) e =
-        let own = own_home (l.spots to) (width_of l to) n r e in
-        let spot = subst (λ p. IsSpot l p (width_of l to)) own.spot (ok.spot to there) in
-        let inside = spot.1 in
-        let few' = own.few in
-        omega arith
+    by_test : (b : Bool) → nat_le (f + w) r ≡ b → (f + w ≤ r) ⊎ (r + n ≤ f)
+    by_test true q = inl (grind (arith, q))
+    by_test false q = inr (grind (arith, q, e))
+
+pub home_clear : (l : Layout) (s : Spot) (w n : ℕ) (h : Option ℕ) → IsSpot l s w → IsClear s w (made_in (clear_home s w n h)) n
+home_clear l s w n None spot = scratch s spot
+  where
+    scratch : (s : Spot) → IsSpot l s w → IsClear s w 22 n
+    scratch (InFrame at) spot = tt
+    scratch (InRegisters f) spot = let inside = spot.1 in inl (omega arith)
+home_clear l s w n (Some r) spot = by_test (is_clear s w r n) refl
+  where
+    scratch : (s : Spot) → IsSpot l s w → IsClear s w 22 n
+    scratch (InFrame at) spot = tt
+    scratch (InRegisters f) spot = let inside = spot.1 in inl (omega arith)
+
+    by_test : (b : Bool) → is_clear s w r n ≡ b → IsClear s w (made_in (if b then Some r else None)) n
+    by_test true e = tested_clear s w r n e
+    by_test false e = scratch s spot
 
 -- code has made a number in registers from d on: of those that outlive calls no others have changed, nor has r1
 pub record Made (d n z : ℕ) (old new : View) : Type 0 where
@@ -107,7 +134,7 @@ pub record Made (d n z : ℕ) (old new : View) : Type 0 where
 module _ (i : Places) (ok : (m : ℕ) → IsLayout (i.layouts m)) (m : ℕ) (frames : List (Frame State)) (e : Run) (deep : Type 0) where
   -- the local has got it then
   pub takes_settles : (live behind : ℕ → Bool) (s : State) (to n z : ℕ) (h : Option ℕ) (v u : View) → IsSet (i.layouts m) live behind to
-      → home_of (i.layouts m) to n ≡ h → n ≤ 4 → Held i m live s frames v → Made (made_in h) n z v u
+      → IsHome (i.layouts m) to n h → n ≤ 4 → Held i m live s frames v → Made (made_in h) n z v u
       → Takes e deep u (settles (i.layouts m) to h n) (Lies i m behind (sets to z s) frames u.out)
   takes_settles live behind s to n z None v u can is few k made =
       let l = i.layouts m in
@@ -127,10 +154,9 @@ module _ (i : Places) (ok : (m : ℕ) → IsLayout (i.layouts m)) (m : ℕ) (fra
   takes_settles live behind s to n z (Some r) v u can is few k made =
       let l = i.layouts m in
       let w = width_of l to in
-      let own = own_home (l.spots to) w n r is in
       let code = clears (r + n) (w - n) in
       let goal = Lies i m behind (sets to z s) frames u.out in
-      let spot = subst (λ p. IsSpot l p w) own.spot ((ok m).spot to can.there) in
+      let spot = subst (λ p. IsSpot l p w) is.0 ((ok m).spot to can.there) in
       let up = spot.0 in
       let inside = spot.1 in
       let zero' : u.regs.of 1 ≡ 0 = made.others 1 (inl refl) (inl (omega arith)) ∙ k.r1 in
@@ -139,15 +165,15 @@ module _ (i : Places) (ok : (m : ℕ) → IsLayout (i.layouts m)) (m : ℕ) (fra
       (λ t put.
       let last : View = record u { regs = put_number u.regs (r + n) (w - n) 0 } in
       let there : t ≡ last = put ∙ ap (λ g. record u { regs = g }) (clears-put e.flash (r + n) (w - n) u.regs zero' (omega arith)) in
-      let whole : n + (w - n) ≡ w = let few' = own.few in omega arith in
+      let whole : n + (w - n) ≡ w = let few' = is.1 in omega arith in
       let number_is : number last.regs r w ≡ z =
       ap (number last.regs r) (sym whole) ∙ cleared-number u.regs r n (w - n) ∙ made.holds in
       let still : u.stack ≡ k.stacked.wait ++ (frame_with (l.spots to) w k.stacked.own z ++ k.stacked.under) =
       made.stack ∙ k.stacked.cut
-      ∙ ap (λ p. k.stacked.wait ++ (frame_with p w k.stacked.own z ++ k.stacked.under)) (sym own.spot) in
+      ∙ ap (λ p. k.stacked.wait ++ (frame_with p w k.stacked.own z ++ k.stacked.under)) (sym is.0) in
       let agree : Agree (registers_with (l.spots to) w v.regs z) last.regs =
-      subst (λ p. Agree (registers_with p w v.regs z) last.regs) (sym own.spot)
-      (settled w own.few number_is
+      subst (λ p. Agree (registers_with p w v.regs z) last.regs) (sym is.0)
+      (settled w is.1 number_is
       (λ y lo hi. put_number-byte u.regs (r + n) (w - n) 0 y (bytes y (omega arith)))) in
       record {
         held =
