@@ -38,7 +38,9 @@ use Rattle.vg_templates.proofs.Registers.{put_bytes}
 use Rattle.vg_templates.proofs.Sums.{difference_below, takes_known-takes}
 use Rattle.vg_templates.specs.Outcomes.{Lies}
 use Rattle.vg_templates.proofs.Bytes.{number_small}
+use Rattle.vg_templates.specs.Choices.{count_of, most_in, usual, is_alone, unusual, chosen}
 use Rattle.vg_templates.specs.Lookups.{tries_case, tries_cases, finds_procedure}
+use Rattle.vg_templates.proofs.Choosing.{chosen_is}
 use Rattle.vg_followed.specs.Tables.{IsCase, AreCases}
 
 -- ---- one test
@@ -111,12 +113,12 @@ tested flash codes c n g is b at =
 
 -- ---- all cases
 
--- r24 and r25 hold the number, and r22 and r23 the code number that the cases have for it, where they have one
-record Tried (i : Places) (m : ℕ) (live : ℕ → Bool) (s : State) (frames : List (Frame State)) (codes : ℕ → ℕ) (cases : List Case) (n : ℕ)
+-- r24 and r25 hold the number, and r22 and r23 the code number of the procedure that the cases choose for it
+record Tried (i : Places) (m : ℕ) (live : ℕ → Bool) (s : State) (frames : List (Frame State)) (codes : ℕ → ℕ) (p : ℕ) (cases : List Case) (n : ℕ)
     (old new : View) : Type 0 where
   pub held : Held i m live s frames new
   pub index : number new.regs 24 2 ≡ n
-  pub found : (q : ℕ) → procedure_for cases n ≡ Some q → number new.regs 22 2 ≡ codes q
+  pub found : number new.regs 22 2 ≡ codes (chosen p cases n)
   pub out : new.out ≡ old.out
 
 some_same : (x y : ℕ) → Some x ≡ Some y → x ≡ y
@@ -150,14 +152,12 @@ module _ (i : Places) (ok : (m : ℕ) → IsLayout (i.layouts m)) (m : ℕ) (fra
       agree r (inl h) = let up = h.1 in others r (inl (omega arith)) (omega arith)
       agree r (inr h) = others r (inr h.0) h.1
 
-  -- the code number of a case comes in
-  takes_code : (live : ℕ → Bool) (s : State) (codes : ℕ → ℕ) (c : Case) (cs : List Case) (n : ℕ) (old v : View) → IsCase codes c
-      → ((q : ℕ) → procedure_for (c ∷ cs) n ≡ Some q → q ≡ c.procedure) → number v.regs 24 2 ≡ n → v.out ≡ old.out → Held i m live s frames v
-      → Takes e deep v (known 22 2 (codes c.procedure)) (Tried i m live s frames codes (c ∷ cs) n old)
-  takes_code live s codes c cs n old v is here at out k =
-      let x = codes c.procedure in
-      let small = is.code in
-      takes_wider e deep v (known 22 2 x) (Fetched 22 2 x v) (Tried i m live s frames codes (c ∷ cs) n old)
+  -- a code number comes in
+  takes_code : (live : ℕ → Bool) (s : State) (codes : ℕ → ℕ) (x p : ℕ) (cs : List Case) (n : ℕ) (old v : View) → x < 65536
+      → x ≡ codes (chosen p cs n) → number v.regs 24 2 ≡ n → v.out ≡ old.out → Held i m live s frames v
+      → Takes e deep v (known 22 2 x) (Tried i m live s frames codes p cs n old)
+  takes_code live s codes x p cs n old v small here at out k =
+      takes_wider e deep v (known 22 2 x) (Fetched 22 2 x v) (Tried i m live s frames codes p cs n old)
       (λ u f.
       let holds = f.holds in
       let low = f.others 24 (omega arith) (inr (omega arith)) in
@@ -165,7 +165,7 @@ module _ (i : Places) (ok : (m : ℕ) → IsLayout (i.layouts m)) (m : ℕ) (fra
       record {
         held = by_scratch live s v u (λ r beside small'. f.others r small' (apart r beside)) f.same k;
         index = omega (arith, low, high, at);
-        found = λ q e1. (let value : number u.regs 22 2 ≡ x = omega (arith, holds, small) in value) ∙ ap codes (sym (here q e1));
+        found = (let value : number u.regs 22 2 ≡ x = omega (arith, holds, small) in value) ∙ here;
         out = ap (λ (z : View). z.out) f.same ∙ out;
       })
       (takes_known e deep 22 2 x v)
@@ -175,9 +175,9 @@ module _ (i : Places) (ok : (m : ℕ) → IsLayout (i.layouts m)) (m : ℕ) (fra
       apart r (inr h) = inr (omega arith)
 
   -- one more case is tried
-  passes_case : (live : ℕ → Bool) (s : State) (codes : ℕ → ℕ) (c : Case) (cs : List Case) (n : ℕ) (old v : View) → IsCase codes c
-      → Tried i m live s frames codes cs n old v → Passes e deep v (tries_case codes c) (Tried i m live s frames codes (c ∷ cs) n old)
-  passes_case live s codes c cs n old v is tried pc t stand room a =
+  passes_case : (live : ℕ → Bool) (s : State) (codes : ℕ → ℕ) (p : ℕ) (c : Case) (cs : List Case) (n : ℕ) (old v : View) → IsCase codes c
+      → Tried i m live s frames codes p cs n old v → Passes e deep v (tries_case codes c) (Tried i m live s frames codes p (c ∷ cs) n old)
+  passes_case live s codes p c cs n old v is tried pc t stand room a =
       let js = known 22 2 (codes c.procedure) in
       let u : View = record v { regs = does_all e.flash (test_case c) v.regs } in
       let told = tested e.flash codes c n v.regs is (register_below e pc v t a) tried.index in
@@ -186,7 +186,7 @@ module _ (i : Places) (ok : (m : ℕ) → IsLayout (i.layouts m)) (m : ℕ) (fra
       let high = told.others 25 (inl (omega arith)) in
       let before = tried.index in
       let at : number u.regs 24 2 ≡ n = omega (arith, low, high, before) in
-      let goal = Sees e (Tried i m live s frames codes (c ∷ cs) n old) (pc + widths (tries_case codes c)) in
+      let goal = Sees e (Tried i m live s frames codes p (c ∷ cs) n old) (pc + widths (tries_case codes c)) in
       goes_fewer e deep 5 0 t goal (omega arith)
       (goes_then e deep 5 0 t (Sees e (λ x. x ≡ u) (pc + 5)) goal
       (takes_plain e deep v (test_case c) (tt, (tt, (tt, (tt, (tt, tt))))) pc t (front_stands e.flash pc (test_case c) (Brbc 0 2 ∷ js) stand) (omega (arith, room)) a)
@@ -203,66 +203,50 @@ module _ (i : Places) (ok : (m : ℕ) → IsLayout (i.layouts m)) (m : ℕ) (fra
           (flag : Bool) → is_within c.first c.count n ≡ flag → u.regs.flags.carry ≡ is_within c.first c.count n → Held i m live s frames u
           → number u.regs 24 2 ≡ n → u.regs.of 24 ≡ v.regs.of 24 → u.regs.of 25 ≡ v.regs.of 25 → (q : MachineState) → At e (pc + 5) u q
           → AllStandAt e.flash (pc + 5) (Brbc 0 2 ∷ known 22 2 (codes c.procedure))
-          → Goes e deep 0 q (Sees e (Tried i m live s frames codes (c ∷ cs) n old) (pc + widths (tries_case codes c))))
+          → Goes e deep 0 q (Sees e (Tried i m live s frames codes p (c ∷ cs) n old) (pc + widths (tries_case codes c))))
       branch true inside tells held_u at low high q b back =
           let u : View = record v { regs = does_all e.flash (test_case c) v.regs } in
           let js = known 22 2 (codes c.procedure) in
-          let K = Tried i m live s frames codes (c ∷ cs) n old in
+          let K = Tried i m live s frames codes p (c ∷ cs) n old in
           let goal = Sees e K (pc + widths (tries_case codes c)) in
           let to : pc + 5 + 1 + widths js ≡ pc + widths (tries_case codes c) = omega arith in
           goes_fewer e deep (1 + length js) 0 q goal (omega arith)
           (goes_then e deep 1 (length js) q (At e (pc + 5 + 1) u) goal
           (goes_brbc e deep (pc + 5) u q b 0 2 true back.0 (carry_set u.regs.flags ∙ tells ∙ inside) (omega (arith, room)))
           (λ t d. subst (λ y. Goes e deep (length js) t (Sees e K y)) to
-          (takes_code live s codes c cs n old u is (λ p e1. chosen p e1) at tried.out held_u (pc + 5 + 1) t back.1 (omega (arith, room)) d)))
-        where
-          chosen : (p : ℕ) → (if is_within c.first c.count n then Some c.procedure else procedure_for cs n) ≡ Some p → p ≡ c.procedure
-          chosen p e1 = sym (some_same c.procedure p (sym (ap (λ (k : Bool). if k then Some c.procedure else procedure_for cs n) inside) ∙ e1))
+          (takes_code live s codes (codes c.procedure) p (c ∷ cs) n old u is.code
+          (sym (ap (λ (k : Bool). codes (if k then c.procedure else chosen p cs n)) inside)) at tried.out held_u (pc + 5 + 1) t back.1 (omega (arith, room)) d)))
       branch false outside tells held_u at low high q b back =
           let u : View = record v { regs = does_all e.flash (test_case c) v.regs } in
-          let K = Tried i m live s frames codes (c ∷ cs) n old in
+          let K = Tried i m live s frames codes p (c ∷ cs) n old in
           let goal = Sees e K (pc + widths (tries_case codes c)) in
           let to : near_from (pc + 5) 2 ≡ pc + widths (tries_case codes c) = omega (arith, room) in
           goes_fewer e deep 1 0 q goal (omega arith)
           (goes_wider e deep 1 q (At e (near_from (pc + 5) 2) u) goal
           (λ t d. record {
             view = u;
-            kind = record { held = held_u; index = at; found = λ p e1. passed p e1; out = tried.out };
+            kind = record { held = held_u; index = at; found = passed; out = tried.out };
             at = subst (λ y. At e y u t) to d;
           })
           (goes_brbc e deep (pc + 5) u q b 0 2 false back.0 (carry_set u.regs.flags ∙ tells ∙ outside) (omega (arith, room))))
         where
-          passed : (p : ℕ) → (if is_within c.first c.count n then Some c.procedure else procedure_for cs n) ≡ Some p
-              → number (does_all e.flash (test_case c) v.regs) 22 2 ≡ codes p
-          passed p e1 =
-              let rest = tried.found p (sym (ap (λ (k : Bool). if k then Some c.procedure else procedure_for cs n) outside) ∙ e1) in
+          passed : number (does_all e.flash (test_case c) v.regs) 22 2 ≡ codes (chosen p (c ∷ cs) n)
+          passed =
+              let rest = tried.found ∙ sym (ap (λ (k : Bool). codes (if k then c.procedure else chosen p cs n)) outside) in
               let told = tested e.flash codes c n v.regs is (register_below e pc v t a) tried.index in
               let low' = told.others 22 (inl (omega arith)) in
               let high' = told.others 23 (inl (omega arith)) in
               omega (arith, rest, low', high')
 
-  passes_cases : (live : ℕ → Bool) (s : State) (codes : ℕ → ℕ) (cases : List Case) (n : ℕ) (v : View) → AreCases codes cases
-      → number v.regs 24 2 ≡ n → Held i m live s frames v → Passes e deep v (tries_cases codes cases) (Tried i m live s frames codes cases n v)
-  passes_cases live s codes [] n v are at k = λ pc t stand room a.
-      let same : pc ≡ pc + 0 = omega arith in
-      goes_wider e deep 0 t (At e pc v) (Sees e (Tried i m live s frames codes [] n v) (pc + 0))
-      (λ q b. record {
-        view = v;
-        kind = record { held = k; index = at; found = λ q e1. absurd (let clash : None ≡ Some q = e1 in cc); out = refl };
-        at = subst (λ y. At e y v q) same b;
-      })
-      (inl (record { after = 0; least = omega arith; tidy = λ j h. absurd (omega arith); there = a }))
-  passes_cases live s codes (c ∷ []) n v are at k =
-      passes_takes e deep v (known 22 2 (codes c.procedure)) (Tried i m live s frames codes (c ∷ []) n v)
-      (takes_code live s codes c [] n v v are.0 (λ q e1. only (is_within c.first c.count n) q e1) at refl k)
-    where
-      only : (b : Bool) (q : ℕ) → (if b then Some c.procedure else None) ≡ Some q → q ≡ c.procedure
-      only true q e1 = sym (some_same c.procedure q e1)
-      only false q e1 = absurd (let clash : None ≡ Some q = e1 in cc)
-  passes_cases live s codes (c ∷ (d ∷ ds)) n v are at k =
-      passes_then e deep v (tries_cases codes (d ∷ ds)) (tries_case codes c) (Tried i m live s frames codes (d ∷ ds) n v)
-      (Tried i m live s frames codes (c ∷ (d ∷ ds)) n v) (passes_cases live s codes (d ∷ ds) n v are.1 at k)
-      (λ u tried. passes_case live s codes c (d ∷ ds) n v u are.0 tried)
+  passes_cases : (live : ℕ → Bool) (s : State) (codes : ℕ → ℕ) (p : ℕ) (cases : List Case) (n : ℕ) (v : View) → codes p < 65536 → AreCases codes cases
+      → number v.regs 24 2 ≡ n → Held i m live s frames v → Passes e deep v (tries_cases codes p cases) (Tried i m live s frames codes p cases n v)
+  passes_cases live s codes p [] n v small are at k =
+      passes_takes e deep v (known 22 2 (codes p)) (Tried i m live s frames codes p [] n v)
+      (takes_code live s codes (codes p) p [] n v v small refl at refl k)
+  passes_cases live s codes p (c ∷ cs) n v small are at k =
+      passes_then e deep v (tries_cases codes p cs) (tries_case codes c) (Tried i m live s frames codes p cs n v)
+      (Tried i m live s frames codes p (c ∷ cs) n v) (passes_cases live s codes p cs n v small are.1 at k)
+      (λ u tried. passes_case live s codes p c cs n v u are.0 tried)
 
   -- ---- the template
 
@@ -292,6 +276,29 @@ module _ (i : Places) (ok : (m : ℕ) → IsLayout (i.layouts m)) (m : ℕ) (fra
       by_test rest true t f = let inside : n < c.first + c.count = grind (arith, t) in let last = is.last in omega arith
       by_test rest false t f = rest f
 
+  -- the cases that are tried are some of them, and the procedure that stands for the others is that of one
+  are_unusual : (codes : ℕ → ℕ) (p : ℕ) (cases : List Case) → AreCases codes cases → AreCases codes (unusual p cases)
+  are_unusual codes p [] are = tt
+  are_unusual codes p (c ∷ cs) (is, are) = by_alone (are_unusual codes p cs are) ((c.procedure == p) && is_alone p c cs)
+    where
+      by_alone : AreCases codes (unusual p cs) → (b : Bool) → AreCases codes (if b then unusual p cs else c ∷ unusual p cs)
+      by_alone rest true = rest
+      by_alone rest false = (is, rest)
+
+  most_low : (codes : ℕ → ℕ) (all : List Case) (p : ℕ) (cases : List Case) → codes p < 65536 → AreCases codes cases → codes (most_in all p cases) < 65536
+  most_low codes all p [] low are = low
+  most_low codes all p (c ∷ cs) low (is, are) =
+      most_low codes all (if nat_lt (count_of p all) (count_of c.procedure all) then c.procedure else p) cs
+      (either (nat_lt (count_of p all) (count_of c.procedure all))) are
+    where
+      either : (b : Bool) → codes (if b then c.procedure else p) < 65536
+      either true = is.code
+      either false = low
+
+  usual_low : (codes : ℕ → ℕ) (cases : List Case) (n q : ℕ) → AreCases codes cases → procedure_for cases n ≡ Some q → codes (usual cases) < 65536
+  usual_low codes [] n q are e1 = absurd (let clash : None ≡ Some q = e1 in cc)
+  usual_low codes (c ∷ cs) n q (is, are) e1 = most_low codes (c ∷ cs) c.procedure cs is.code are
+
   pub goes_finds_procedure : (codes : ℕ → ℕ) (cases : List Case) (live behind : ℕ → Bool) (s : State) (to : ℕ) (a : Operand) (n q pc : ℕ) (v : View)
       (t : MachineState) → AreCases codes cases → IsReady (i.layouts m) live a → IsSet (i.layouts m) live behind to → value a s ≡ Some n
       → procedure_for cases n ≡ Some q → Held i m live s frames v → AllStandAt e.flash pc (finds_procedure (i.layouts m) codes cases to a)
@@ -300,7 +307,8 @@ module _ (i : Places) (ok : (m : ℕ) → IsLayout (i.layouts m)) (m : ℕ) (fra
   goes_finds_procedure codes cases live behind s to a n q pc v t are ready can got found k stand room at =
       let l = i.layouts m in
       let is = brings l a 24 2 in
-      let js = tries_cases codes cases in
+      let p = usual cases in
+      let js = tries_cases codes p (unusual p cases) in
       let ks = gives l to 22 2 in
       let K = Lies i m behind (sets to (codes q) s) frames v.out in
       let goal = Sees e K (pc + widths (is ++ (js ++ ks))) in
@@ -313,12 +321,12 @@ module _ (i : Places) (ok : (m : ℕ) → IsLayout (i.layouts m)) (m : ℕ) (fra
       (takes_brings i ok m frames e deep live s a 24 2 n v ready got (omega arith) (omega arith) k pc t (front_stands e.flash pc is (js ++ ks) stand)
       (omega (arith, room, wide)) at)
       (λ y b. subst (λ z. Goes e deep 0 y (Sees e K z)) there
-      (passes_then e deep b.view js ks (Tried i m live s frames codes cases n b.view) K
-      (passes_cases live s codes cases n b.view are (let holds = b.kind.fetched.holds in omega (arith, holds, low)) b.kind.held)
+      (passes_then e deep b.view js ks (Tried i m live s frames codes p (unusual p cases) n b.view) K
+      (passes_cases live s codes p (unusual p cases) n b.view (usual_low codes cases n q are found) (are_unusual codes p cases are) (let holds = b.kind.fetched.holds in omega (arith, holds, low)) b.kind.held)
       (λ u tried. passes_takes e deep u ks K
       (takes_wider e deep u ks (Given i m behind (sets to (number u.regs 22 2) s) frames u) K
       (λ o given. record {
-        held = subst (λ z. Held i m behind (sets to z s) frames o) (tried.found q found) given.held;
+        held = subst (λ z. Held i m behind (sets to z s) frames o) (tried.found ∙ ap codes (chosen_is p n q cases found)) given.held;
         out = given.out ∙ tried.out ∙ ap (λ (z : View). z.out) b.kind.fetched.same;
       })
       (takes_gives i ok m frames e deep live behind s to 22 2 u can (omega arith) (omega arith) tried.held)))

@@ -24,6 +24,7 @@ use Rattle.vg_templates.specs.Held.{brings, gives}
 use Rattle.vg_templates.specs.Branches.{tests, told_by}
 use Rattle.vg_templates.specs.Calls.{call_code}
 use Rattle.vg_templates.specs.Plain.{copies_whole}
+use Rattle.vg_templates.specs.Choices.{usual, unusual}
 use Rattle.vg_templates.specs.Lookups.{tries_case, tries_cases, finds_procedure}
 use Rattle.vg_templates.specs.Flow.{jump_code, branch_code, way_of}
 use Rattle.vg_templates.specs.Plains.{plain_template}
@@ -62,17 +63,18 @@ copies_size : (l : Layout) (to x y : ℕ) → widths (copies_whole l to (Known x
 copies_size l to x y =
     let w = width_of l to in both_same (known 22 w x) (gives l to 22 w) (known 22 w y) (gives l to 22 w) (known_size 22 w x y) refl
 
-tries_size : (f g : ℕ → ℕ) (cs : List Case) → widths (tries_cases f cs) ≡ widths (tries_cases g cs)
-tries_size f g [] = refl
-tries_size f g (c ∷ []) = known_size 22 2 (f c.procedure) (g c.procedure)
-tries_size f g (c ∷ (d ∷ ds)) = both_same (tries_cases f (d ∷ ds)) (tries_case f c) (tries_cases g (d ∷ ds)) (tries_case g c) (tries_size f g (d ∷ ds)) refl
+tries_size : (f g : ℕ → ℕ) (p : ℕ) (cs : List Case) → widths (tries_cases f p cs) ≡ widths (tries_cases g p cs)
+tries_size f g p [] = known_size 22 2 (f p) (g p)
+tries_size f g p (c ∷ cs) = both_same (tries_cases f p cs) (tries_case f c) (tries_cases g p cs) (tries_case g c) (tries_size f g p cs) refl
 
 finds_size : (l : Layout) (f g : ℕ → ℕ) (cs es : List Case) (to : ℕ) (a : Operand) → cs ≡ es
     → widths (finds_procedure l f cs to a) ≡ widths (finds_procedure l g es to a)
 finds_size l f g cs es to a e =
-    both_same (brings l a 24 2) (tries_cases f cs ++ gives l to 22 2) (brings l a 24 2) (tries_cases g es ++ gives l to 22 2) refl
-    (both_same (tries_cases f cs) (gives l to 22 2) (tries_cases g es) (gives l to 22 2)
-    (tries_size f g cs ∙ ap (λ z. widths (tries_cases g z)) e) refl)
+    let is = tries_cases f (usual cs) (unusual (usual cs) cs) in
+    let js = tries_cases g (usual es) (unusual (usual es) es) in
+    both_same (brings l a 24 2) (is ++ gives l to 22 2) (brings l a 24 2) (js ++ gives l to 22 2) refl
+    (both_same is (gives l to 22 2) js (gives l to 22 2)
+    (tries_size f g (usual cs) (unusual (usual cs) cs) ∙ ap (λ z. widths (tries_cases g (usual z) (unusual (usual z) z))) e) refl)
 
 hop_size : (r : Reach) (b a b' a' : ℕ) → widths (jump_code (hop_by r b a)) ≡ widths (jump_code (hop_by r b' a'))
 hop_size Within7 b a b' a' = refl

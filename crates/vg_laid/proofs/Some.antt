@@ -34,6 +34,7 @@ use Rattle.vg_templates.specs.Operands.{least, padded, known_registers, finds, s
 use Rattle.vg_templates.specs.Plain.{bytes_in, copies_low, copies_through, copies_local, copies, computes, works, writes_register, reads_register, first_of}
 use Rattle.vg_templates.specs.Accesses.{points_x, loads_x, stores_x}
 use Rattle.vg_templates.specs.Shifts.{doubles, halves, repeats, shifts_left, shifts_right}
+use Rattle.vg_templates.specs.Choices.{usual, unusual}
 use Rattle.vg_templates.specs.Lookups.{points_z, loads_z, tries_cases}
 use Rattle.vg_templates.specs.Flow.{jump_code, branch_code, way_of, Turn, Direct, Past, Hop, Near, Far}
 use Rattle.vg_templates.specs.Plains.{computation_code, pops_from, plain_template}
@@ -241,7 +242,8 @@ module _ (m : Procedure) (s : IsSound m) where
   plain_some p (Push w a) h = back (finds l a 22 w) (pushes (found_in l a 22 w)) (pushes_some (found_in l a 22 w) (found_some a 22 w h.0.0))
   plain_some p (Pop w to) h = front (pops_from 22 w) (gives l to 22 w) (pops_some 22 w h.0.0)
   plain_some p (Find place to a) h =
-      let cases = tries_cases p.codes.code (cases_of (slice_get p.dispatches place)) in
+      let all = cases_of (slice_get p.dispatches place) in
+      let cases = tries_cases p.codes.code (usual all) (unusual (usual all) all) in
       back (brings l a 24 2) (cases ++ gives l to 22 2) (back cases (gives l to 22 2) (gives_some to 22 2 h.0))
   plain_some p (CodeOf q to) h = copies_low_some to (Known (p.codes.code q)) (width_of l to) h
   plain_some p (Stop code) h = omega arith

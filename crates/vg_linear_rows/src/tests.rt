@@ -157,21 +157,21 @@ fn is_main(code: &[Instr]) -> bool {
     }
 }
 
-// Division is called, and its result is cut to a byte in the local that it came to. No run comes behind the return.
+// Division is called, and its result is cut to a byte in the local that it came to. No run comes behind the return: what stands there jumps back to it.
 fn is_tenth(code: &[Instr]) -> bool {
     match code {
         [
             Instr::Call(call),
             Instr::Plain(Plain::Compute(cut)),
             Instr::Return(width, value),
-            Instr::Plain(Plain::Stop(end)),
+            Instr::Jump(back),
         ] => {
             is_call_of(*call, 4)
                 && is_division(*call)
                 && is_cut(*cut)
                 && *width == 1
                 && is_local(*value, 1)
-                && *end == 0
+                && *back == 2
         }
         _ => false,
     }

@@ -2,6 +2,7 @@
 //! the code so far.
 #![tactic(auto)]
 
+pub mod choices;
 pub mod lookups;
 pub mod products;
 pub mod shifts;

@@ -1,10 +1,12 @@
 // Reads of tables in flash, and dispatches.
 ghost use Rattle.std.specs.Prelude.{◌≡◌, ◌≤◌, ◌<◌, ◌+◌, ◌++◌, OnOk, length};
+ghost use Rattle.vg_templates.specs.Choices.{usual, unusual, is_alone};
 ghost use Rattle.vg_templates.specs.Lookups.{points_z, loads_z, loads_table, tries_case, tries_cases, finds_procedure};
 ghost use Rattle.vg_alloc.specs.Locations.{layout};
 ghost use Rattle.vg_put_values.specs.Within.{IsThere};
 ghost use Rattle.vg_put_operations.specs.Coded.{code_from};
 
+use crate::choices::{is_alone, usual};
 use avr_instr::{FlagBit, Instr, NearOffset, RegisterBesideZ, RegisterPair};
 use vg_alloc::Locations;
 use vg_base::{NoMemory, Row};
@@ -81,14 +83,22 @@ fn put_tries_case(code: &mut Row<Instr>, codes: &[u16], case: Case) -> Result<()
     put_known(code, 22, 2, u64::from(code_of(codes, case.procedure)))
 }
 
-fn put_tries_cases(code: &mut Row<Instr>, codes: &[u16], cases: &[Case]) -> Result<(), NoMemory>
-    ensures { OnOk result (code.new ≡ code.old ++ tries_cases (code_from codes.now) cases.now) }
+// The procedure that stands for all others comes in first, and the cases that are tried overwrite it.
+fn put_tries_unusual(
+    code: &mut Row<Instr>,
+    codes: &[u16],
+    procedure: u16,
+    cases: &[Case],
+) -> Result<(), NoMemory>
+    ensures { OnOk result (code.new ≡ code.old ++ tries_cases (code_from codes.now) procedure (unusual procedure cases.now)) }
 {
     match cases {
-        [] => Ok(()),
-        [last] => put_known(code, 22, 2, u64::from(code_of(codes, last.procedure))),
+        [] => put_known(code, 22, 2, u64::from(code_of(codes, procedure))),
         [first, rest @ ..] => {
-            put_tries_cases(code, codes, rest)?;
+            put_tries_unusual(code, codes, procedure, rest)?;
+            if first.procedure == procedure && is_alone(procedure, *first, rest) {
+                return Ok(());
+            }
             put_tries_case(code, codes, *first)
         }
     }
@@ -108,6 +118,6 @@ pub fn put_finds_procedure(
     ensures { OnOk result (code.new ≡ code.old ++ finds_procedure (layout locations.now) (code_from codes.now) cases.now to operand) }
 {
     put_brings(code, locations, operand, 24, 2)?;
-    put_tries_cases(code, codes, cases)?;
+    put_tries_unusual(code, codes, usual(cases), cases)?;
     put_gives(code, locations, to, 22, 2)
 }

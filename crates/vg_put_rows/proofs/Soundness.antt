@@ -1,39 +1,57 @@
--- That the small procedure keeps what every procedure keeps.
-use Rattle.std.specs.Prelude.{ℕ, zero, suc, ◌≤◌, [], ◌∷◌, List, Some, None, slice_get}
+-- That the small procedures keep what every procedure keeps.
+use Rattle.std.specs.Prelude.{ℕ, zero, suc, ◌≤◌, [], ◌∷◌, List, Some, None, slice_get, length}
+use Rattle.std.specs.List.{AllByRecursion}
 use Rattle.std.proofs.Common.{◌≡◌, refl, sym, subst, arith}
 use Rattle.vg_lin.specs.declared.instr.Instr.{Instr}
 use Rattle.vg_lin.specs.declared.instr.Instr.TheVariants.{Idle, Jump}
-use Rattle.vg_lin.specs.Sound.{AreOperands, Waits, IsSound, waits_of}
-use Rattle.vg_put_rows.specs.Sample.{sample}
+use Rattle.vg_lin.specs.Sound.{IsWidth, AreOperands, Waits, IsSound, waits_of}
+use Rattle.vg_put_rows.specs.Sample.{idling, sample, wide}
 
 same : (x y : Instr) → Some x ≡ Some y → x ≡ y
 same x y e = cc
 
-module _ (n : ℕ) (low : n ≤ 2) where
-  operands : (at : ℕ) (i : Instr) → slice_get (sample n).code at ≡ Some i → AreOperands (sample n) i
-  operands zero i e = subst (AreOperands (sample n)) (same Idle i e) (tt {0})
-  operands (suc zero) i e = subst (AreOperands (sample n)) (same (Jump 0) i e) (tt {0})
+module _ (n : ℕ) (ws : List ℕ) (low : n ≤ length ws) (few : length ws ≤ 6) (all : AllByRecursion IsWidth ws) where
+  operands : (at : ℕ) (i : Instr) → slice_get (idling n ws).code at ≡ Some i → AreOperands (idling n ws) i
+  operands zero i e = subst (AreOperands (idling n ws)) (same Idle i e) (tt {0})
+  operands (suc zero) i e = subst (AreOperands (idling n ws)) (same (Jump 0) i e) (tt {0})
   operands (suc (suc at)) i e = grind arith
 
-  goes_on : (at : ℕ) (i : Instr) → slice_get (sample n).code at ≡ Some i → Waits (sample n) (waits_of (sample n)) at i
-  goes_on zero i e = subst (Waits (sample n) (waits_of (sample n)) 0) (same Idle i e) (omega arith, refl)
-  goes_on (suc zero) i e = subst (Waits (sample n) (waits_of (sample n)) 1) (same (Jump 0) i e) (omega arith, (omega arith, refl))
+  goes_on : (at : ℕ) (i : Instr) → slice_get (idling n ws).code at ≡ Some i → Waits (idling n ws) (waits_of (idling n ws)) at i
+  goes_on zero i e = subst (Waits (idling n ws) (waits_of (idling n ws)) 0) (same Idle i e) (omega arith, refl)
+  goes_on (suc zero) i e = subst (Waits (idling n ws) (waits_of (idling n ws)) 1) (same (Jump 0) i e) (omega arith, (omega arith, refl))
   goes_on (suc (suc at)) i e = grind arith
 
-  sample_sound : IsSound (sample n)
-  sample_sound =
+  idling_sound : IsSound (idling n ws)
+  idling_sound =
       record {
-        few = omega arith;
-        params = omega (arith, low);
+        few = omega (arith, few);
+        params = low;
         result = omega arith;
-        widths = ((omega arith, omega arith), ((omega arith, omega arith), tt {0}));
+        widths = all;
         operands = operands;
         begins = (omega arith, refl);
         goes_on = goes_on;
       }
 
+  sound_of : (vs : List ℕ) (code : List Instr) → vs ≡ ws → code ≡ (idling n ws).code
+      → IsSound (record { method = None; params = n; result = 0; widths = vs; code = code })
+  sound_of vs code e h =
+      subst (λ z. IsSound (record { method = None; params = n; result = 0; widths = z; code = code })) (sym e)
+      (subst (λ z. IsSound (record { method = None; params = n; result = 0; widths = ws; code = z })) (sym h) idling_sound)
+
 pub sound_as : (n : ℕ) → n ≤ 2 → (ws : List ℕ) (code : List Instr) → ws ≡ (sample 0).widths → code ≡ (sample 0).code
     → IsSound (record { method = None; params = n; result = 0; widths = ws; code = code })
-sound_as n low ws code e h =
-    subst (λ z. IsSound (record { method = None; params = n; result = 0; widths = z; code = code })) (sym e)
-    (subst (λ z. IsSound (record { method = None; params = n; result = 0; widths = (sample 0).widths; code = z })) (sym h) (sample_sound n low))
+sound_as n low = sound_of n (2 ∷ 1 ∷ []) low (omega arith) ((omega arith, omega arith), ((omega arith, omega arith), tt {0}))
+
+pub sound_wide : (ws : List ℕ) (code : List Instr) → ws ≡ wide.widths → code ≡ (sample 0).code
+    → IsSound (record { method = None; params = 1; result = 0; widths = ws; code = code })
+sound_wide = sound_of 1 wide.widths (omega arith) (omega arith) (one, (four, (four, (four, (four, (two, tt {0}))))))
+  where
+    one : IsWidth 1
+    one = (omega arith, omega arith)
+
+    two : IsWidth 2
+    two = (omega arith, omega arith)
+
+    four : IsWidth 4
+    four = (omega arith, omega arith)

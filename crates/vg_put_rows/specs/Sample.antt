@@ -1,8 +1,16 @@
--- A small procedure.
-use Rattle.std.specs.Prelude.{ℕ, [], ◌∷◌, None}
+-- Small procedures.
+use Rattle.std.specs.Prelude.{ℕ, List, [], ◌∷◌, None}
 use Rattle.vg_lin.specs.declared.instr.Instr.TheVariants.{Idle, Jump}
 use Rattle.vg_lin.specs.Program.{Procedure}
 
--- It has a local of two bytes and another one of one byte, of which so many are parameters, and idles for ever.
+-- One has locals of these widths, of which so many are parameters, and idles for ever.
+abbrev pub idling : (params : ℕ) (widths : List ℕ) → Procedure
+idling n ws = record { method = None; params = n; result = 0; widths = ws; code = Idle ∷ Jump 0 ∷ [] }
+
+-- a local of two bytes, and another one of one byte
 abbrev pub sample : (params : ℕ) → Procedure
-sample n = record { method = None; params = n; result = 0; widths = 2 ∷ 1 ∷ []; code = Idle ∷ Jump 0 ∷ [] }
+sample n = idling n (2 ∷ 1 ∷ [])
+
+-- a parameter, sixteen bytes of locals, and a local of two bytes behind them
+abbrev pub wide : Procedure
+wide = idling 1 (1 ∷ 4 ∷ 4 ∷ 4 ∷ 4 ∷ 2 ∷ [])

@@ -1,6 +1,6 @@
-// A small procedure and its locations.
+// Small procedures and their locations.
 ghost use Rattle.std.specs.Prelude.{◌≡◌, ◌≤◌, IfOk};
-ghost use Rattle.vg_put_rows.specs.Sample.{sample};
+ghost use Rattle.vg_put_rows.specs.Sample.{sample, wide};
 
 use std::alloc::Global;
 use vg_alloc::{Locations, frames};
@@ -35,12 +35,44 @@ fn sample_code(alloc: Global) -> Result<Row<Instr>, NoMemory>
     Ok(code)
 }
 
-/// Its locations. Where the first local is a parameter, the byte of the other one is the newest one of the frame; behind it lie the saved Y and the return
-/// address, and then the parameter. Where there are no parameters, the first local is in r2 and r3, and the other one in r4.
+/// Its locations. Where the first local is a parameter, the other one is in r2; the frame has the saved Y, the saved r2 and the return address, and then the
+/// parameter. Where both are parameters, behind Y and the return address lies the byte of the other one, and then the first. Where there are no parameters,
+/// the first local is in r2 and r3, and the other one in r4.
 pub fn sample_locations(alloc: Global, params: u8) -> Result<Locations, NoMemory>
     requires { params ≤ 2 }
     ensures { IfOk result (λ l. l.widths ≡ (sample params).widths) }
 {
     let procedure = sample_procedure(alloc, params)?;
+    frames(alloc, &procedure)
+}
+
+/// A procedure with more locals than there are registers for.
+pub fn wide_procedure(alloc: Global) -> Result<LinProc, NoMemory>
+    ensures { IfOk result (λ p. p ≡ wide) }
+{
+    let widths = wide_widths(alloc)?;
+    let code = sample_code(alloc)?;
+    Ok(LinProc::new(None, 1, 0, widths, code))
+}
+
+fn wide_widths(alloc: Global) -> Result<Row<u8>, NoMemory>
+    ensures { IfOk result (λ widths. widths ≡ wide.widths) }
+{
+    let mut widths = Row::new(alloc);
+    widths.push(1)?;
+    widths.push(4)?;
+    widths.push(4)?;
+    widths.push(4)?;
+    widths.push(4)?;
+    widths.push(2)?;
+    Ok(widths)
+}
+
+/// Its locations. The sixteen bytes behind the parameter are in r2 to r17, and the last local has the two newest bytes of the frame; behind it lie the saved Y,
+/// what was saved of r2 to r17 and the return address, and then the parameter.
+pub fn wide_locations(alloc: Global) -> Result<Locations, NoMemory>
+    ensures { IfOk result (λ l. l.widths ≡ wide.widths) }
+{
+    let procedure = wide_procedure(alloc)?;
     frames(alloc, &procedure)
 }

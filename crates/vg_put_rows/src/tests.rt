@@ -1,6 +1,6 @@
 ghost use Rattle.std.specs.Prelude.{◌≡◌, ◌≤◌};
 
-use crate::sample::sample_locations;
+use crate::sample::{sample_locations, wide_locations};
 use avr_instr::{FlagBit, Instr, NearOffset, encode};
 use std::alloc::Global;
 use vg_base::{NoMemory, Row};
@@ -49,22 +49,22 @@ fn entered(alloc: Global) -> Result<Row<Instr>, NoMemory> {
     Ok(code)
 }
 
-// Y is saved and becomes the frame pointer; the low byte of the parameter goes to the other local, which is returned.
+// The register of a local is saved, and Y, which becomes the frame pointer; the low byte of the parameter goes to the local, which is returned.
 #[test]
 fn a_procedure_enters_and_returns(rt: HostRuntime) {
     let alloc = rt.alloc();
     let code = entered(alloc);
     let expected = [
-        0x93DF, 0x93CF, 0xB7CD, 0xB7DE, 0x9721, 0xBFDE, 0xBFCD, // prologue
-        0x816E, 0x8369, // LDD r22, Y+6; STD Y+1, r22
-        0x8169, 0x9621, 0xBFDE, 0xBFCD, 0x91CF, 0x91DF, 0x9508, // LDD r22, Y+1; epilogue
+        0x922F, 0x93DF, 0x93CF, 0xB7CD, 0xB7DE, // PUSH r2; PUSH r29; PUSH r28; IN r28, SPL; IN r29, SPH
+        0x816E, 0x2E26, // LDD r22, Y+6; MOV r2, r22
+        0x2D62, 0x91CF, 0x91DF, 0x902F, 0x9508, // MOV r22, r2; POP r28; POP r29; POP r2; RET
     ];
     let holds = is_spelled(alloc, &code, &expected);
     assert!(rt; holds);
 }
 
 fn computed(alloc: Global) -> Result<Row<Instr>, NoMemory> {
-    let locations = sample_locations(alloc, 1)?;
+    let locations = sample_locations(alloc, 2)?;
     let mut code = Row::new(alloc);
     let sum = Computation {
         operator: Operator::Plus,
@@ -86,9 +86,9 @@ fn plain_instructions_are_put(rt: HostRuntime) {
     let alloc = rt.alloc();
     let code = computed(alloc);
     let expected = [
-        0x8169, 0x5F6D, 0x8369, // LDD r22, Y+1; SUBI r22, 0xFD; STD Y+1, r22
+        0x816D, 0x5F6D, 0x836D, // LDD r22, Y+5; SUBI r22, 0xFD; STD Y+5, r22
         0x816E, 0x817F, 0x937F, 0x936F, // LDD r22, Y+6; LDD r23, Y+7; PUSH r23; PUSH r22
-        0x8169, 0xBB68, // LDD r22, Y+1; OUT 0x18, r22
+        0x816D, 0xBB68, // LDD r22, Y+5; OUT 0x18, r22
         0xE082, 0xCFFF, // LDI r24, 2; RJMP to itself
     ];
     let holds = is_spelled(alloc, &code, &expected);
@@ -96,7 +96,7 @@ fn plain_instructions_are_put(rt: HostRuntime) {
 }
 
 fn reached(alloc: Global) -> Result<Row<Instr>, NoMemory> {
-    let locations = sample_locations(alloc, 1)?;
+    let locations = sample_locations(alloc, 2)?;
     let mut code = Row::new(alloc);
     let column = Address {
         base: 0x100,
@@ -118,7 +118,7 @@ fn columns_and_tables_are_reached(rt: HostRuntime) {
     let code = reached(alloc);
     let expected = [
         0x81AE, 0x81BF, 0x50A0, 0x4FBF, // LDD r26, Y+6; LDD r27, Y+7; SUBI r26, 0; SBCI r27, 0xFF
-        0x916D, 0x8369, // LD r22, X+; STD Y+1, r22
+        0x916D, 0x836D, // LD r22, X+; STD Y+5, r22
         0xE9E0, 0xE0F0, 0x9165, 0x9175, // LDI r30, 0x90; LDI r31, 0; LPM r22, Z+; LPM r23, Z+
         0x836E, 0x837F, // STD Y+6, r22; STD Y+7, r23
     ];
@@ -127,7 +127,7 @@ fn columns_and_tables_are_reached(rt: HostRuntime) {
 }
 
 fn at_addresses(alloc: Global) -> Result<Row<Instr>, NoMemory> {
-    let locations = sample_locations(alloc, 1)?;
+    let locations = sample_locations(alloc, 2)?;
     let mut code = Row::new(alloc);
     let element = Address {
         base: 0,
@@ -144,9 +144,9 @@ fn addresses_in_locals_are_reached(rt: HostRuntime) {
     let alloc = rt.alloc();
     let code = at_addresses(alloc);
     let expected = [
-        0x81AE, 0x81BF, 0x916D, 0x8369, // LDD r26, Y+6; LDD r27, Y+7; LD r22, X+; STD Y+1, r22
+        0x81AE, 0x81BF, 0x916D, 0x836D, // LDD r26, Y+6; LDD r27, Y+7; LD r22, X+; STD Y+5, r22
         0x81AE, 0x81BF, 0x01FD, // LDD r26, Y+6; LDD r27, Y+7; MOVW r30, r26
-        0x9165, 0x8369, // LPM r22, Z+; STD Y+1, r22
+        0x9165, 0x836D, // LPM r22, Z+; STD Y+5, r22
     ];
     let holds = is_spelled(alloc, &code, &expected);
     assert!(rt; holds);
@@ -192,7 +192,7 @@ fn branches_are_put(rt: HostRuntime) {
 }
 
 fn operated(alloc: Global) -> Result<Row<Instr>, NoMemory> {
-    let locations = sample_locations(alloc, 1)?;
+    let locations = sample_locations(alloc, 2)?;
     let mut code = Row::new(alloc);
     put_shifts_left(&mut code, &locations, 1, 1, Operand::Local(1), 3)?;
     put_multiplies(
@@ -212,8 +212,8 @@ fn shifts_and_products_are_put(rt: HostRuntime) {
     let alloc = rt.alloc();
     let code = operated(alloc);
     let expected = [
-        0x8169, 0x0F66, 0x0F66, 0x0F66, 0x8369, // LDD r22, Y+1; ADD r22, r22, three times; STD Y+1, r22
-        0x8129, 0xE065, 0x9F26, 0x01B0, 0x2411, // LDD r18, Y+1; LDI r22, 5; MUL r18, r22; MOVW r22, r0; EOR r1, r1
+        0x816D, 0x0F66, 0x0F66, 0x0F66, 0x836D, // LDD r22, Y+5; ADD r22, r22, three times; STD Y+5, r22
+        0x812D, 0xE065, 0x9F26, 0x01B0, 0x2411, // LDD r18, Y+5; LDI r22, 5; MUL r18, r22; MOVW r22, r0; EOR r1, r1
         0x836E, 0x837F, // STD Y+6, r22; STD Y+7, r23
     ];
     let holds = is_spelled(alloc, &code, &expected);
@@ -221,7 +221,7 @@ fn shifts_and_products_are_put(rt: HostRuntime) {
 }
 
 fn divided(alloc: Global) -> Result<Row<Instr>, NoMemory> {
-    let locations = sample_locations(alloc, 1)?;
+    let locations = sample_locations(alloc, 2)?;
     let mut code = Row::new(alloc);
     put_divides_steps(&mut code, &locations, 1, 0, Operand::Known(5))?;
     Ok(code)
@@ -236,12 +236,12 @@ fn divisions_are_put(rt: HostRuntime) {
         0xE2B0, // LDI r27, 32
         0x816E, 0x817F, 0x2D81, 0x2D91, // LDD r22, Y+6; LDD r23, Y+7; MOV r24, r1; MOV r25, r1
         0x0F99, 0x2DA1, 0x1FAA, // ADD r25, r25; MOV r26, r1; ADC r26, r26
-        0x8169, 0x2D71, 0x2D81, 0x2D91, // LDD r22, Y+1; MOV r23, r1; MOV r24, r1; MOV r25, r1
+        0x816D, 0x2D71, 0x2D81, 0x2D91, // LDD r22, Y+5; MOV r23, r1; MOV r24, r1; MOV r25, r1
         0x95A6, 0x1F66, 0x1F77, 0x1F88, 0x1F99, // LSR r26; ADC r22, r22; and so to r25
         0xE025, 0xE030, 0xE040, 0xE050, // LDI r18, 5; LDI r19, 0; LDI r20, 0; LDI r21, 0
         0x1B62, 0x0B73, 0x0B84, 0x0B95, 0x0BAA, // SUB r22, r18; SBC r23, r19; and so to r25; SBC r26, r26
         0x232A, 0x233A, 0x234A, 0x235A, // AND r18, r26; and so to r21
-        0x0F62, 0x1F73, 0x1F84, 0x1F95, 0x8369, // ADD r22, r18; ADC r23, r19; and so to r25; STD Y+1, r22
+        0x0F62, 0x1F73, 0x1F84, 0x1F95, 0x836D, // ADD r22, r18; ADC r23, r19; and so to r25; STD Y+5, r22
         0x816E, 0x817F, 0x2D81, 0x2D91, // LDD r22, Y+6; LDD r23, Y+7; MOV r24, r1; MOV r25, r1
         0x3FAF, 0x1F66, 0x1F77, 0x1F88, 0x1F99, // CPI r26, 0xFF; ADC r22, r22; and so to r25
         0x836E, 0x837F, // STD Y+6, r22; STD Y+7, r23
@@ -317,6 +317,38 @@ fn locals_are_in_registers(rt: HostRuntime) {
     assert!(rt; holds);
 }
 
+fn entered_wide(alloc: Global) -> Result<Row<Instr>, NoMemory> {
+    let locations = wide_locations(alloc)?;
+    let mut code = Row::new(alloc);
+    put_prologue(&mut code, &locations)?;
+    put_copies(&mut code, &locations, 5, Operand::Local(0))?;
+    put_copies(&mut code, &locations, 2, Operand::Local(1))?;
+    put_returns_value(&mut code, &locations, Operand::Local(5), 1)?;
+    Ok(code)
+}
+
+// What locals have beyond sixteen bytes is in slots, which SP leaves below it.
+#[test]
+fn other_locals_are_in_slots(rt: HostRuntime) {
+    let alloc = rt.alloc();
+    let code = entered_wide(alloc);
+    let expected = [
+        0x931F, 0x930F, 0x92FF, 0x92EF, 0x92DF, 0x92CF, 0x92BF, 0x92AF, // PUSH r17; and so to r10
+        0x929F, 0x928F, 0x927F, 0x926F, 0x925F, 0x924F, 0x923F, 0x922F, // PUSH r9; and so to r2
+        0x93DF, 0x93CF, 0xB7CD, 0xB7DE, // PUSH r29; PUSH r28; IN r28, SPL; IN r29, SPH
+        0x9722, 0xBFDE, 0xBFCD, // SBIW r28, 2; OUT SPH, r29; OUT SPL, r28
+        0x896F, 0x2D71, 0x8369, 0x837A, // LDD r22, Y+23; MOV r23, r1; STD Y+1, r22; STD Y+2, r23
+        0x01B1, 0x01C2, 0x013B, 0x014C, // MOVW r22, r2; MOVW r24, r4; MOVW r6, r22; MOVW r8, r24
+        0x8169, 0x9622, 0xBFDE, 0xBFCD, // LDD r22, Y+1; ADIW r28, 2; OUT SPH, r29; OUT SPL, r28
+        0x91CF, 0x91DF, // POP r28; POP r29
+        0x902F, 0x903F, 0x904F, 0x905F, 0x906F, 0x907F, 0x908F, 0x909F, // POP r2; and so to r9
+        0x90AF, 0x90BF, 0x90CF, 0x90DF, 0x90EF, 0x90FF, 0x910F, 0x911F, // POP r10; and so to r17
+        0x9508, // RET
+    ];
+    let holds = is_spelled(alloc, &code, &expected);
+    assert!(rt; holds);
+}
+
 fn copied(alloc: Global, params: u8) -> Result<Row<Instr>, NoMemory>
     requires { params ≤ 2 }
 {
@@ -332,9 +364,9 @@ fn copied(alloc: Global, params: u8) -> Result<Row<Instr>, NoMemory>
 #[test]
 fn zeros_are_not_loaded(rt: HostRuntime) {
     let alloc = rt.alloc();
-    let in_frame = copied(alloc, 1);
+    let in_frame = copied(alloc, 2);
     let expected_in_frame = [
-        0x8219, // STD Y+1, r1
+        0x821D, // STD Y+5, r1
         0xE065, 0x836E, 0x821F, // LDI r22, 5; STD Y+6, r22; STD Y+7, r1
         0xE065, 0xE070, 0x836E, 0x837F, // LDI r22, 5; LDI r23, 0; STD Y+6, r22; STD Y+7, r23
     ];

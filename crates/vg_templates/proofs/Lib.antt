@@ -32,3 +32,4 @@ pub mod Testing
 pub mod Framing
 pub mod Returning
 pub mod Entering
+pub mod Choosing

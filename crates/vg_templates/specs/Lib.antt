@@ -25,6 +25,7 @@ pub mod Returns
 pub mod Calls
 pub mod Shifts
 pub mod Products
+pub mod Choices
 pub mod Lookups
 pub mod Plains
 pub mod Flow

@@ -11,6 +11,7 @@ use Rattle.vg_templates.specs.Held.{brings, gives}
 use Rattle.vg_templates.specs.Homes.{home_of, made_in, settles}
 use Rattle.vg_templates.specs.Chains.{takes_known}
 use Rattle.vg_templates.specs.Accesses.{plus_base}
+use Rattle.vg_templates.specs.Choices.{usual, unusual}
 
 -- Z is the address of a base with an index added
 abbrev pub points_z : Layout → (base : ℕ) → Operand → List Instr
@@ -27,17 +28,18 @@ loads_table l w to base index =
     let h = home_of l to w in
     points_z l base index ++ (loads_z (made_in h) w ++ settles l to h w)
 
--- The code number of the first case that has the number in r24 and r25 comes into r22 and r23. The last case stands first, and the others overwrite it:
--- a branch leads past the two instructions that do, where the number is not one of so many from the first one of the case on.
+-- The code number of the first case that has the number in r24 and r25 comes into r22 and r23. That of the procedure that stands for all others comes
+-- first, and the cases overwrite it, the last one first: a branch leads past the two instructions that do, where the number is not one of so many from the
+-- first one of the case on.
 abbrev pub tries_case : (codes : ℕ → ℕ) → Case → List Instr
 tries_case codes c =
     Movw 26 24 ∷ takes_known 26 2 c.first ++ (takes_known 26 2 c.count ++ Brbc 0 2 ∷ known 22 2 (codes c.procedure))
 
-abbrev pub tries_cases : (codes : ℕ → ℕ) → List Case → List Instr
-tries_cases codes [] = []
-tries_cases codes (c ∷ []) = known 22 2 (codes c.procedure)
-tries_cases codes (c ∷ (d ∷ ds)) = tries_cases codes (d ∷ ds) ++ tries_case codes c
+abbrev pub tries_cases : (codes : ℕ → ℕ) → (procedure : ℕ) → List Case → List Instr
+tries_cases codes p [] = known 22 2 (codes p)
+tries_cases codes p (c ∷ cs) = tries_cases codes p cs ++ tries_case codes c
 
 -- the code number of the procedure that a dispatch has for the number of an object goes to a local
 abbrev pub finds_procedure : Layout → (codes : ℕ → ℕ) → List Case → (to : ℕ) → Operand → List Instr
-finds_procedure l codes cases to a = brings l a 24 2 ++ (tries_cases codes cases ++ gives l to 22 2)
+finds_procedure l codes cases to a =
+    brings l a 24 2 ++ (tries_cases codes (usual cases) (unusual (usual cases) cases) ++ gives l to 22 2)

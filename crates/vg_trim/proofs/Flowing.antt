@@ -1,5 +1,5 @@
 -- Where a newer instruction flows as an older one, what waits is what waited, and a procedure that kept what every one keeps still does.
-use Rattle.std.specs.Prelude.{ℕ, suc, ◌<◌, ◌≤◌, true, List, [], ◌∷◌, length, drop, Some}
+use Rattle.std.specs.Prelude.{ℕ, zero, suc, ◌<◌, ◌≤◌, true, false, List, [], ◌∷◌, length, drop, Some}
 use Rattle.std.proofs.Common.{◌≡◌, refl, sym, ap, ◌∙◌, subst, arith}
 use Rattle.std.proofs.lemmas.Option.{same_Some, none-some}
 use Rattle.vg_lin.specs.declared.instr.Plain.{Plain as PlainInstr}
@@ -11,7 +11,7 @@ use Rattle.vg_lin.specs.Program.{Procedure}
 use Rattle.vg_lin.specs.Sound.{behind_plain, behind, GoesOn, Jumps, PlainWaits, Waits}
 use Rattle.vg_trim.specs.declared.flow.Effect.{Effect}
 use Rattle.vg_trim.specs.declared.flow.Effect.TheVariants.{Nothing, Pushes, Pops, Takes}
-use Rattle.vg_trim.specs.Flow.{effect_of_plain, effect_of, led_to, is_return, goes_next, LeadsAlong}
+use Rattle.vg_trim.specs.Flow.{effect_of_plain, effect_of, led_to, is_return, goes_next, LeadsAlong, pushes}
 
 -- ---- what waits
 
@@ -47,6 +47,20 @@ left Idle held = refl
 
 pub same_behind : (i j : Instr) (held : List ℕ) → effect_of i ≡ effect_of j → behind i held ≡ behind j held
 same_behind i j held e = left i held ∙ ap (λ f. left_by f held) e ∙ sym (left j held)
+
+none_left : (n : ℕ) → drop {A = ℕ} n [] ≡ []
+none_left zero = refl
+none_left (suc n) = refl
+
+-- an instruction that pushes nothing leaves nothing where nothing waits
+pub none_pushed : (j : Instr) → pushes (effect_of j) ≡ false → behind j [] ≡ []
+none_pushed j e = left j [] ∙ by_effect (effect_of j) e
+  where
+    by_effect : (f : Effect) → pushes f ≡ false → left_by f [] ≡ []
+    by_effect Nothing e = refl
+    by_effect (Pushes w) e = absurd (grind arith)
+    by_effect (Pops w) e = refl
+    by_effect (Takes n) e = none_left n
 
 -- ---- what the older instruction keeps
 

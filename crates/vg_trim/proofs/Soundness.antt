@@ -9,9 +9,9 @@ use Rattle.vg_lin.specs.Sound.{behind, waits_of, Waits, IsSound}
 use Rattle.vg_lin.proofs.Scanned.{sound_by, waits_marked}
 use Rattle.vg_trimming.specs.declared.facts.Facts.{Facts}
 use Rattle.vg_trimming.specs.Trimmed.{Trims, IsTrimmedTo}
-use Rattle.vg_trim.specs.Flow.{led_to, is_return, LeadsAlong, ReturnsThere, ReturnsLater}
+use Rattle.vg_trim.specs.Flow.{led_to, is_return, LeadsAlong, ReturnsThere, ReturnsLater, JumpsFreely}
 use Rattle.vg_trim.specs.Looked.{IsInOrder, IsLookedAt}
-use Rattle.vg_trim.proofs.Flowing.{same_behind, returns, waits_too}
+use Rattle.vg_trim.proofs.Flowing.{same_behind, none_pushed, returns, waits_too}
 use Rattle.vg_trim.proofs.Ranged.{ranged}
 
 at_place : {A : Type 0} (xs : List A) (k : ℕ) → k < length xs → (x : A) × (slice_get xs k ≡ Some x)
@@ -29,7 +29,7 @@ module _ (old : Procedure) (widths : List ℕ) (code : List Instr) (fs : List Fa
   record Paired (at : ℕ) (j : Instr) : Type 0 where
     i : Instr
     there : slice_get old.code at ≡ Some i
-    order : IsInOrder widths old.result code at i j
+    order : IsInOrder looked.free widths old.result code at i j
 
   paired : (at : ℕ) (j : Instr) → slice_get code at ≡ Some j → Paired at j
   paired at j e =
@@ -54,14 +54,27 @@ module _ (old : Procedure) (widths : List ℕ) (code : List Instr) (fs : List Fa
       by_there None f r = absurd r
   goes_later at _ p h = absurd h
 
-  goes : (at : ℕ) (j : Instr) → Paired at j → Waits new w at j
-  goes at j p = by_along p.order.flows.along
+  -- where the code is free nothing waits at its places
+  never_waits : looked.free ≡ true → (at : ℕ) → at < length code → w at ≡ []
+  never_waits e zero lt = refl
+  never_waits e (suc at) lt =
+      let (j, f) = at_place code at (omega (arith, lt)) in
+      let q = paired at j f in
+      marked_at at j q ∙ (ap (behind j) (never_waits e at (omega (arith, lt))) ∙ none_pushed j (q.order.flows.none_waits e))
+
+  goes_freely : (at : ℕ) (j : Instr) → at < length code → JumpsFreely looked.free code at j → Waits new w at j
+  goes_freely at (Jump to) lt (e, other, there) = (other, (there, never_waits e to there ∙ sym (never_waits e at lt)))
+  goes_freely at _ lt h = absurd h
+
+  goes : (at : ℕ) (j : Instr) → at < length code → Paired at j → Waits new w at j
+  goes at j lt p = by_along p.order.flows.along
     where
-      by_along : LeadsAlong (led_to p.i) (led_to j) ⊎ ReturnsLater code at p.i j → Waits new w at j
+      by_along : LeadsAlong (led_to p.i) (led_to j) ⊎ (ReturnsLater code at p.i j ⊎ JumpsFreely looked.free code at j) → Waits new w at j
       by_along (inl l) =
           waits_too old new w at looked.long p.i (sound.goes_on at p.i p.there) j p.order.flows.effect l p.order.flows.returns
           (λ n. (p.order.flows.next n, marked_at at j p))
-      by_along (inr r) = goes_later at j p r
+      by_along (inr (inl r)) = goes_later at j p r
+      by_along (inr (inr f)) = goes_freely at j lt f
 
   pub sound_new : IsSound new
   sound_new =
@@ -73,7 +86,7 @@ module _ (old : Procedure) (widths : List ℕ) (code : List Instr) (fs : List Fa
         widths = looked.locals.widths;
         operands = λ at j e. ranged old.method old.params old.result widths code j (paired at j e).order.operands;
         begins = (subst (λ k. 0 < k) (sym looked.long) sound.begins.0, refl);
-        goes_on = λ at j e. goes at j (paired at j e);
+        goes_on = λ at j e. goes at j (slice_get_within code at j e) (paired at j e);
         marked = λ at j e. marked_at at j (paired at j e);
       })
 

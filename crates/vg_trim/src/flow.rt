@@ -1,6 +1,6 @@
 // Where instructions lead, and what they change of what waits.
 ghost use Rattle.std.specs.Prelude.{◌≡◌, ◌⊎◌, IsTrue, slice_get};
-ghost use Rattle.vg_trim.specs.Flow.{effect_of_plain, effect_of, led_to, is_return, goes_next, LeadsAlong, ReturnsThere, ReturnsLater, FlowsAs};
+ghost use Rattle.vg_trim.specs.Flow.{effect_of_plain, effect_of, led_to, is_return, goes_next, LeadsAlong, ReturnsThere, ReturnsLater, JumpsFreely, pushes, FlowsAs};
 
 use vg_lin::{Instr, Plain};
 
@@ -113,20 +113,50 @@ fn returns_later(newer: &[Instr], at: u16, i: Instr, j: Instr) -> bool
     }
 }
 
-/// Whether the newer instruction leads where it may.
-fn leads(newer: &[Instr], at: u16, i: Instr, j: Instr) -> bool
-    ensures { IsTrue result → LeadsAlong (led_to i) (led_to j) ⊎ ReturnsLater newer.now at i j }
+/// Whether the newer instruction jumps to another place of code where nothing waits.
+fn jumps_freely(free: bool, newer: &[Instr], at: u16, j: Instr) -> bool
+    ensures { IsTrue result → JumpsFreely free newer.now at j }
 {
-    leads_along(i, j) || returns_later(newer, at, i, j)
+    match j {
+        Instr::Jump(to) => free && to != at && usize::from(to) < newer.len(),
+        _ => false,
+    }
 }
 
-/// Whether the newer instruction leads only where the older one leads, or to a next one that there is, or to a return as the older one is, and both do the
-/// same with what waits.
-pub fn flows_as(newer: &[Instr], at: u16, i: Instr, j: Instr) -> bool
-    ensures { IsTrue result → FlowsAs newer.now at i j }
+/// Whether the newer instruction leads where it may.
+fn leads(free: bool, newer: &[Instr], at: u16, i: Instr, j: Instr) -> bool
+    ensures { IsTrue result → LeadsAlong (led_to i) (led_to j) ⊎ (ReturnsLater newer.now at i j ⊎ JumpsFreely free newer.now at j) }
+{
+    leads_along(i, j) || returns_later(newer, at, i, j) || jumps_freely(free, newer, at, j)
+}
+
+fn pushes(effect: Effect) -> bool
+    ensures { result ≡ pushes effect }
+{
+    match effect {
+        Effect::Pushes(_) => true,
+        _ => false,
+    }
+}
+
+/// Whether no instruction lets a value wait.
+pub fn pushes_nothing(code: &[Instr]) -> bool {
+    for instr in code {
+        if pushes(effect_of(*instr)) {
+            return false;
+        }
+    }
+    true
+}
+
+/// Whether the newer instruction leads only where the older one leads, or to a next one that there is, or to a return as the older one is, or anywhere in free
+/// code, and both do the same with what waits.
+pub fn flows_as(free: bool, newer: &[Instr], at: u16, i: Instr, j: Instr) -> bool
+    ensures { IsTrue result → FlowsAs free newer.now at i j }
 {
     same_effect(effect_of(i), effect_of(j))
-        && leads(newer, at, i, j)
+        && (!free || !pushes(effect_of(j)))
+        && leads(free, newer, at, i, j)
         && (!is_return(j) || is_return(i))
         && (!goes_next(j) || usize::from(at) + 1 < newer.len())
 }

@@ -5,7 +5,7 @@ ghost use Rattle.vg_lin.specs.Sound.{IsWidth};
 ghost use Rattle.vg_trimming.specs.Trimming.{stands_at};
 ghost use Rattle.vg_trim.specs.Looked.{HasLocals, IsInOrder, IsLookedAt, IsLookedAtBy, IsPlaceInOrder};
 
-use crate::flow::flows_as;
+use crate::flow::{flows_as, pushes_nothing};
 use crate::ranges::are_operands;
 use vg_lin::{Instr, LinProc};
 use vg_trim_pairs::{begins_with, place_stands};
@@ -49,7 +49,8 @@ pub fn looks_right(
     if !begins_with(params, facts) {
         return false;
     }
-    all_in_order(old, new, facts, older, newer, result_width)
+    let free = pushes_nothing(newer);
+    all_in_order(free, old, new, facts, older, newer, result_width)
 }
 
 fn has_locals(params: u8, old: &[u8], new: &[u8]) -> bool
@@ -88,6 +89,7 @@ fn same_front(count: usize, first: &[u8], second: &[u8]) -> bool
 }
 
 fn all_in_order(
+    free: bool,
     old: &[u8],
     new: &[u8],
     facts: &[Facts],
@@ -95,14 +97,14 @@ fn all_in_order(
     newer: &[Instr],
     result_width: u8,
 ) -> bool
-    ensures { IsTrue result → (at : ℕ) → at < length newer.now → IsPlaceInOrder old.now new.now facts.now older.now newer.now result_width at }
+    ensures { IsTrue result → (at : ℕ) → at < length newer.now → IsPlaceInOrder free old.now new.now facts.now older.now newer.now result_width at }
 {
     let count = newer.len();
     if count > 65_535 {
         return false;
     }
     for at in 0..count as u16 {
-        if !place_in_order(old, new, facts, older, newer, result_width, at) {
+        if !place_in_order(free, old, new, facts, older, newer, result_width, at) {
             return false;
         }
     }
@@ -111,6 +113,7 @@ fn all_in_order(
 
 // Whether the instruction at a place of the newer code stands for the one at the same place of the older code.
 fn place_in_order(
+    free: bool,
     old: &[u8],
     new: &[u8],
     facts: &[Facts],
@@ -119,20 +122,28 @@ fn place_in_order(
     result_width: u8,
     at: u16,
 ) -> bool
-    ensures { IsTrue result → IsPlaceInOrder old.now new.now facts.now older.now newer.now result_width at }
+    ensures { IsTrue result → IsPlaceInOrder free old.now new.now facts.now older.now newer.now result_width at }
 {
     let place = usize::from(at);
     match (facts.get(place), older.get(place), newer.get(place)) {
         (Some(known), Some(i), Some(j)) => {
             place_stands(old, new, facts, newer, at, known, *i, *j)
-                && in_order(new, result_width, newer, at, *i, *j)
+                && in_order(free, new, result_width, newer, at, *i, *j)
         }
         _ => false,
     }
 }
 
-fn in_order(new: &[u8], result_width: u8, newer: &[Instr], at: u16, i: Instr, j: Instr) -> bool
-    ensures { IsTrue result → IsInOrder new.now result_width newer.now at i j }
+fn in_order(
+    free: bool,
+    new: &[u8],
+    result_width: u8,
+    newer: &[Instr],
+    at: u16,
+    i: Instr,
+    j: Instr,
+) -> bool
+    ensures { IsTrue result → IsInOrder free new.now result_width newer.now at i j }
 {
-    are_operands(new, result_width, j) && flows_as(newer, at, i, j)
+    are_operands(new, result_width, j) && flows_as(free, newer, at, i, j)
 }

@@ -1,7 +1,7 @@
 // What stands at a place of the newer code.
 ghost use Rattle.std.specs.Prelude.{◌≡◌, true, length, IsTrue};
 ghost use Rattle.std.specs.Prelude.{slice_get};
-ghost use Rattle.vg_trimming.specs.Trimming.{gives_same, returns_there, instr_stands, is_quiet, may_stand, place_stands};
+ghost use Rattle.vg_trimming.specs.Trimming.{gives_same, returns_there, stops_so, stops_there, instr_stands, is_quiet, may_stand, place_stands};
 
 use crate::branches::{check_left_out, checked, filling, no_change, same_test};
 use crate::calls::{call_change, same_call};
@@ -44,6 +44,23 @@ fn returns_there(
     at < to && gives_same(twins, width, value, instr_at(newer, to))
 }
 
+// Whether this instruction stops as the older one does.
+fn stops_so(plain: Plain, instr: Option<Instr>) -> bool
+    ensures { IsTrue result → stops_so plain instr ≡ true }
+{
+    match (plain, instr) {
+        (Plain::Stop(c), Some(Instr::Plain(Plain::Stop(d)))) => c == d,
+        _ => false,
+    }
+}
+
+// Whether the newer code stops as the older one does at a later place.
+fn stops_there(newer: &[Instr], at: u16, plain: Plain, to: u16) -> bool
+    ensures { IsTrue result → stops_there newer.now at plain to ≡ true }
+{
+    at < to && stops_so(plain, instr_at(newer, to))
+}
+
 /// Whether an instruction of the newer code may stand for one of the older code, by what is known before it.
 fn instr_stands(
     old: &[u8],
@@ -64,6 +81,7 @@ fn instr_stands(
             plain_stands(old, new, facts, before, at, p, q)
                 || shorter_stands(old, new, facts, before, at, p, q)
         }
+        (Instr::Plain(p), Instr::Jump(to)) => stops_there(newer, at, p, to),
         (Instr::When(t, to), Instr::When(u, place)) => {
             to == place
                 && same_test(new, twins, t, u)
@@ -116,6 +134,7 @@ fn may_stand(count: usize, at: u16, i: Instr, j: Instr) -> bool
         (_, Instr::Plain(Plain::Copy(_, Operand::Known(_)))) => {
             is_quiet(i) && usize::from(at) + 1 < count
         }
+        (_, Instr::Jump(_)) => is_quiet(i),
         _ => false,
     }
 }

@@ -11,6 +11,7 @@ pub mod joining;
 pub mod living;
 pub mod making;
 pub mod mapping;
+pub mod ordering;
 pub mod planning;
 pub mod returning;
 pub mod sizes;

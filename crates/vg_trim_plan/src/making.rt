@@ -24,6 +24,8 @@ pub struct Older<'a> {
     pub is_tight: bool,
     /// The computations whose results are kept.
     pub works: &'a Works,
+    /// Whether no value ever waits.
+    pub is_free: bool,
 }
 
 impl Older<'_> {

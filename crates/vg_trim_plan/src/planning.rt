@@ -8,7 +8,8 @@ use crate::joining::{find_ways, is_at, next_in};
 use crate::living::find_life;
 use crate::making::{Older, is_filled, is_live, made, note_bytes};
 use crate::mapping::{filler, stand_in};
-use crate::returning::shared;
+use crate::ordering::ordered;
+use crate::returning::{Shape, shared};
 use crate::working::{Seen, Works, find_works};
 use std::alloc::Global;
 use vg_base::{NoMemory, Refusal, Row};
@@ -158,8 +159,21 @@ fn planned(alloc: Global, procedure: &LinProc, manner: Manner) -> Result<Plan, R
         bytes: bytes.as_slice(),
         is_tight: manner == Manner::Tight,
         works: &works,
+        is_free: pushes_nothing(code),
     };
-    laid(alloc, &older, &filled, usize::from(procedure.params()))
+    let params = usize::from(procedure.params());
+    let plan = laid(alloc, &older, &filled, params)?;
+    Ok(ordered(alloc, plan, params)?)
+}
+
+// Whether no instruction lets a value wait.
+fn pushes_nothing(code: &[Instr]) -> bool {
+    for instr in code {
+        if let Instr::Plain(Plain::Push(_, _)) = *instr {
+            return false;
+        }
+    }
+    true
 }
 
 fn needless(
@@ -211,7 +225,12 @@ fn laid(
         flows = lay(alloc, older, filled, &mut work, place, flows)?;
     }
     let widths = Row::from_slice(alloc, work.homes.widths.as_slice())?;
-    let code = shared(work.code, params, widths.as_slice());
+    let shape = Shape {
+        has_params: params > 0,
+        bytes: sum_of(widths.as_slice()),
+        is_free: older.is_free,
+    };
+    let code = shared(alloc, work.code, shape)?;
     Ok(Plan {
         widths,
         code,
@@ -251,7 +270,7 @@ fn lay(
         let stands = if is_passed {
             filler(work.homes.spare()?)
         } else {
-            unreached_instr(&mut work.homes, instr)?
+            unreached_instr(older, &mut work.homes, instr, place)?
         };
         work.code.push(stands)?;
         work.facts.push(unreached(alloc))?;
@@ -270,12 +289,17 @@ fn lay(
 }
 
 // What stands where no run comes.
-fn unreached_instr(homes: &mut Homes, instr: Instr) -> Result<Instr, Refusal<NoRoom>> {
+fn unreached_instr(
+    older: &Older<'_>,
+    homes: &mut Homes,
+    instr: Instr,
+    place: usize,
+) -> Result<Instr, Refusal<NoRoom>> {
     let spare = match instr {
         Instr::Plain(Plain::Pop(_, _)) => homes.spare()?,
         _ => 0,
     };
-    Ok(stand_in(instr, spare))
+    Ok(stand_in(instr, spare, place, older.is_free))
 }
 
 fn unreached(alloc: Global) -> Facts {

@@ -1,41 +1,102 @@
-// Returns that others may jump to.
+// Returns and stops in whose place others may jump.
 use crate::homes::is_same;
-use vg_base::Row;
-use vg_lin::{Instr, Operand};
+use std::alloc::Global;
+use vg_base::{NoMemory, Row};
+use vg_lin::{Instr, Operand, Plain};
 
-/// The code in which a return becomes a jump to the last one that gives the same back, where that is shorter: in a procedure with so many parameters, and
-/// locals of these widths.
-pub fn shared(code: Row<Instr>, params: usize, widths: &[u8]) -> Row<Instr> {
+// How code ends.
+#[derive(Clone, Copy)]
+enum Ending {
+    // it gives so many bytes of a value back
+    Gives(u8, Operand),
+    // it stops with this code
+    Stops(u8),
+}
+
+// A place where code ends.
+#[derive(Clone, Copy)]
+struct End {
+    ending: Ending,
+    place: u16,
+}
+
+/// A procedure that is laid, as far as it says how long its endings are.
+#[derive(Clone, Copy)]
+pub struct Shape {
+    /// Whether it has parameters.
+    pub has_params: bool,
+    /// How many bytes its locals have.
+    pub bytes: usize,
+    /// Whether no value ever waits: then code may jump from anywhere to anywhere.
+    pub is_free: bool,
+}
+
+/// The code of a procedure in which a return or a stop becomes a jump to a later one that does the same, where that is shorter. The last ones of 16 kinds
+/// are jumped to.
+pub fn shared(alloc: Global, code: Row<Instr>, shape: Shape) -> Result<Row<Instr>, NoMemory> {
     let mut instrs = code.into_vec();
-    let mut last: Option<(u8, Operand, u16)> = None;
+    let mut ends: Vec<End> = Vec::new(alloc);
     let count = instrs.len();
     for step in 0..count {
         let place = count - 1 - step;
         if place < instrs.len() && place < 65_536 {
-            if let Instr::Return(width, value) = instrs[place] {
-                match last {
-                    Some((bytes, same, to)) => {
-                        if bytes == width
-                            && is_same(same, value)
-                            && is_long(width, params, widths)
-                        {
-                            instrs[place] = Instr::Jump(to);
+            if let Some(ending) = long_ending(instrs[place], shape) {
+                match place_of(ends.as_slice(), ending) {
+                    Some(to) => instrs[place] = Instr::Jump(to),
+                    None => {
+                        if ends.len() < 16 {
+                            let place = place as u16;
+                            ends.push(End { ending, place })?;
                         }
                     }
-                    None => last = Some((width, value, place as u16)),
                 }
             }
         }
     }
-    Row::from_vec(instrs)
+    Ok(Row::from_vec(instrs))
+}
+
+// How an instruction ends code, if it takes more words than a jump and may be one.
+fn long_ending(instr: Instr, shape: Shape) -> Option<Ending> {
+    match instr {
+        Instr::Return(width, value) => {
+            if is_long(width, shape) {
+                Some(Ending::Gives(width, value))
+            } else {
+                None
+            }
+        }
+        Instr::Plain(Plain::Stop(code)) => {
+            if shape.is_free {
+                Some(Ending::Stops(code))
+            } else {
+                None
+            }
+        }
+        _ => None,
+    }
 }
 
 // Whether a return of so many bytes takes more words than a jump: those that load its value, and those that take down the frame or the saved registers.
-fn is_long(width: u8, params: usize, widths: &[u8]) -> bool {
-    let mut bytes = 0usize;
-    for width in widths {
-        bytes = bytes.saturating_add(usize::from(*width));
+fn is_long(width: u8, shape: Shape) -> bool {
+    shape.has_params || usize::from(width).saturating_add(shape.bytes) >= 2
+}
+
+fn place_of(ends: &[End], ending: Ending) -> Option<u16> {
+    for end in ends {
+        if is_ending(end.ending, ending) {
+            return Some(end.place);
+        }
     }
-    let behind = if params > 0 || bytes > 12 { 3 } else { bytes };
-    usize::from(width).saturating_add(behind) >= 2
+    None
+}
+
+fn is_ending(first: Ending, second: Ending) -> bool {
+    match (first, second) {
+        (Ending::Gives(width, value), Ending::Gives(bytes, other)) => {
+            width == bytes && is_same(value, other)
+        }
+        (Ending::Stops(code), Ending::Stops(other)) => code == other,
+        _ => false,
+    }
 }

@@ -111,7 +111,7 @@ pub fn find_works(alloc: Global, seen: &Seen<'_>) -> Result<Works, NoMemory> {
         kinds: Vec::new(alloc),
         there: Grid::new(alloc, 0, 0, false)?,
     };
-    collect(seen, &mut works)?;
+    collect(alloc, seen, &mut works)?;
     works.there = where_there(alloc, seen, &works)?;
     let mut useful = Works {
         kinds: Vec::new(alloc),
@@ -126,12 +126,18 @@ pub fn find_works(alloc: Global, seen: &Seen<'_>) -> Result<Works, NoMemory> {
     Ok(useful)
 }
 
-fn collect(seen: &Seen<'_>, works: &mut Works) -> Result<(), NoMemory> {
+// Collects computations that are done another time while they are among the last 64 different ones.
+fn collect(alloc: Global, seen: &Seen<'_>, works: &mut Works) -> Result<(), NoMemory> {
+    let mut recent = Recent {
+        computations: Vec::new(alloc),
+        oldest: 0,
+    };
     let mut place = 0usize;
     for instr in seen.code {
         if is_at(seen.ways.reached.as_slice(), place) && works.kinds.len() < 8 {
             if let Some(c) = seen.work_of(*instr, place) {
-                if kind_in(works.kinds.as_slice(), c).is_none() && is_done_again(seen, c, place) {
+                let is_again = recent.note(c)?;
+                if is_again && kind_in(works.kinds.as_slice(), c).is_none() {
                     works.kinds.push(c)?;
                 }
             }
@@ -141,20 +147,28 @@ fn collect(seen: &Seen<'_>, works: &mut Works) -> Result<(), NoMemory> {
     Ok(())
 }
 
-// Whether a computation is done at a later place too.
-fn is_done_again(seen: &Seen<'_>, c: Computation, first: usize) -> bool {
-    let mut place = 0usize;
-    for instr in seen.code {
-        if place > first && is_at(seen.ways.reached.as_slice(), place) {
-            if let Some(other) = seen.work_of(*instr, place) {
-                if is_alike(c, other) {
-                    return true;
-                }
-            }
+// The last 64 different computations.
+#[derive(Drop)]
+struct Recent {
+    computations: Vec<Computation>,
+    // the one that is forgotten next
+    oldest: usize,
+}
+
+impl Recent {
+    // Notes a computation, and says whether it was noted before.
+    fn note(&mut self, c: Computation) -> Result<bool, NoMemory> {
+        if kind_in(self.computations.as_slice(), c).is_some() {
+            return Ok(true);
         }
-        place = place.saturating_add(1);
+        if self.computations.len() < 64 {
+            self.computations.push(c)?;
+        } else if self.oldest < self.computations.len() {
+            self.computations[self.oldest] = c;
+            self.oldest = (self.oldest + 1) % 64;
+        }
+        Ok(false)
     }
-    false
 }
 
 // Whether there is a place where a computation is done whose result is there.

@@ -294,3 +294,63 @@ fn returns_are_shared(rt: HostRuntime) {
         shared == Ok(true) && back == Ok(false) && itself == Ok(false) && other == Ok(false)
     );
 }
+
+// A jump to a place stands where the first local is 0 in place of a stop of the code 7, before a stop of the last code. Before all of that perhaps a value
+// waits, until all is over.
+fn stopped_twice(alloc: Global, waits: bool, instead: Instr, last: u8) -> Result<bool, NoMemory> {
+    let push = Instr::Plain(Plain::Push(2, Operand::Local(0)));
+    let pop = Instr::Plain(Plain::Pop(2, 2));
+    let (first, behind) = if waits {
+        (push, pop)
+    } else {
+        (copy(2, Operand::Known(0)), copy(2, Operand::Known(0)))
+    };
+    let end = Instr::Plain(Plain::Stop(last));
+    let older = [first, check(3), stop(), check(5), end, behind, give(0)];
+    let newer = [first, check(3), instead, check(5), end, behind, give(0)];
+    let mut facts = Row::new(alloc);
+    for _place in 0..7u8 {
+        facts.push(facts_with(alloc, false, None)?)?;
+    }
+    Ok(stands_by(older.as_slice(), newer.as_slice(), facts.as_slice()))
+}
+
+// In place of a stop may stand a jump to a later stop of the same code; none to a stop of another one, to another instruction or to itself.
+#[test]
+fn stops_are_shared(rt: HostRuntime) {
+    let alloc = rt.alloc();
+    let shared = stopped_twice(alloc, false, Instr::Jump(4), 7);
+    let other = stopped_twice(alloc, false, Instr::Jump(4), 8);
+    let no_stop = stopped_twice(alloc, false, Instr::Jump(6), 7);
+    let itself = stopped_twice(alloc, false, Instr::Jump(2), 7);
+    assert!(rt;
+        shared == Ok(true) && other == Ok(false) && no_stop == Ok(false) && itself == Ok(false)
+    );
+}
+
+// None where a value may wait.
+#[test]
+fn stops_with_waiting_values_stay(rt: HostRuntime) {
+    let alloc = rt.alloc();
+    let stays = stopped_twice(alloc, true, stop(), 7);
+    let shared = stopped_twice(alloc, true, Instr::Jump(4), 7);
+    assert!(rt; stays == Ok(true) && shared == Ok(false));
+}
+
+// A return to which no run comes, and in its place a jump.
+fn never_returned(alloc: Global, to: u16) -> Result<bool, NoMemory> {
+    let older = [Instr::Jump(2), give(0), give(0)];
+    let newer = [Instr::Jump(2), Instr::Jump(to), give(0)];
+    let known = [Known::First, Known::Unreached, Known::First];
+    stands(alloc, older.as_slice(), newer.as_slice(), known.as_slice())
+}
+
+// Where no run comes may stand a jump to any other place.
+#[test]
+fn jumps_stand_where_no_run_comes(rt: HostRuntime) {
+    let alloc = rt.alloc();
+    let back = never_returned(alloc, 0);
+    let itself = never_returned(alloc, 1);
+    let beyond = never_returned(alloc, 3);
+    assert!(rt; back == Ok(true) && itself == Ok(false) && beyond == Ok(false));
+}

@@ -11,7 +11,7 @@ use Rattle.vg_lin.specs.declared.instr.Operand.{Operand}
 use Rattle.vg_lin.specs.declared.instr.Operand.TheVariants.{Known}
 use Rattle.vg_lin.specs.declared.instr.Test.{Test}
 use Rattle.vg_lin.specs.declared.instr.Plain.{Plain as PlainInstr}
-use Rattle.vg_lin.specs.declared.instr.Plain.TheVariants.{Copy, Load}
+use Rattle.vg_lin.specs.declared.instr.Plain.TheVariants.{Copy, Load, Stop}
 use Rattle.vg_lin.specs.declared.instr.Callee.{Callee}
 use Rattle.vg_lin.specs.declared.instr.Callee.TheVariants.{Procedure as ByNumber, Code as ByCode}
 use Rattle.vg_lin.specs.declared.instr.Memory.TheVariants.{Ram, Flash}
@@ -33,7 +33,7 @@ use Rattle.vg_trimming.specs.Runs.{AreBytes}
 use Rattle.vg_trimming.proofs.Homes.{no}
 use Rattle.vg_trimming.proofs.Places.{SameWent, both_go, both_raise, both_lack, wrong}
 use Rattle.vg_trimming.proofs.Calls.{AtPlace, same, trimmed, with_ram, alike, fresh, begins_at, BothEnter, entered, no_entry, SameCall, entries}
-use Rattle.vg_trimming.proofs.Standing.{Onward, Does, plainly, when_so, unless_so, jumps, calls_so, returns_so, returns_later, idles, passes_by, does_at}
+use Rattle.vg_trimming.proofs.Standing.{Onward, Does, plainly, when_so, unless_so, jumps, calls_so, returns_so, returns_later, stops_later, idles, passes_by, does_at}
 
 -- ---- procedures, one for one
 
@@ -319,6 +319,7 @@ module _ (p : Program) (ms : List Procedure) (all : AreAllTrimmed p.procedures m
     by_does _ _ (calls_so i j h) e = call_step i j h (one (Call j) e)
     by_does _ _ (returns_so w x y h er bytes) e = return_step w x y pc h er bytes (one (Return w y) e)
     by_does _ _ (returns_later w x y to f h er bytes) e = return_step w x y to h er bytes (two_steps to (Return w y) e f)
+    by_does _ _ (stops_later code to f) e = stops _ (Stops code None) (two_steps to (Plain (Stop code)) e f) refl refl refl refl
     by_does _ _ (idles h) e = idle_step h o.interrupts (one Idle e)
     by_does _ _ (passes_by t to z v v' never et f h) e = left_step t to z v v' never et f h e
 

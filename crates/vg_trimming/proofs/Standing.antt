@@ -9,7 +9,7 @@ use Rattle.vg_lin.specs.declared.instr.Operand.{Operand}
 use Rattle.vg_lin.specs.declared.instr.Operand.TheVariants.{Local, Known}
 use Rattle.vg_lin.specs.declared.instr.Test.{Test}
 use Rattle.vg_lin.specs.declared.instr.Plain.{Plain as PlainInstr}
-use Rattle.vg_lin.specs.declared.instr.Plain.TheVariants.{Copy, Compute}
+use Rattle.vg_lin.specs.declared.instr.Plain.TheVariants.{Copy, Compute, Stop}
 use Rattle.vg_lin.specs.declared.instr.Target.{Target}
 use Rattle.vg_lin.specs.declared.instr.Call.{Call as Calling}
 use Rattle.vg_lin.specs.declared.instr.Instr.{Instr}
@@ -23,7 +23,7 @@ use Rattle.vg_expand.proofs.Holding.{sets_holds, Keeps, plain_keeps}
 use Rattle.vg_trimming.specs.declared.facts.Facts.{Facts}
 use Rattle.vg_trimming.specs.Facts.{is_it, stands_for, found_for, leads_at, no_change, filling, spoiling}
 use Rattle.vg_trimming.specs.Trimming.{same_plain, both_change, is_pure, left_out, is_stop, plain_stands, left_out_stands, same_test, checked, never_holds}
-use Rattle.vg_trimming.specs.Trimming.{narrower, narrower_stands, found_in, reused, reuses, reused_stands, gives_same}
+use Rattle.vg_trimming.specs.Trimming.{narrower, narrower_stands, found_in, reused, reuses, reused_stands, gives_same, stops_so}
 use Rattle.vg_trimming.specs.Trimming.{is_unreached, fills, is_same_local, check_left_out, call_change, same_call, instr_stands, may_stand, stands_at}
 use Rattle.vg_trimming.specs.Trimmed.{Trims, IsTrimmedTo}
 use Rattle.vg_trimming.specs.Runs.{AreBytes}
@@ -50,6 +50,7 @@ pub data Does (p : Program) (old now : Procedure) (pc : ℕ) (s u : State) (o : 
       → Does p old now pc s u o (Return w b) (Return w c)
   returns_later : (w : ℕ) (b c : Operand) (to : ℕ) → slice_get now.code to ≡ Some (Return w c)
       → ((v : ℕ) → result w b s ≡ Some v → result w c u ≡ Some v) → u.ram ≡ s.ram → AreBytes s.ram → Does p old now pc s u o (Return w b) (Jump to)
+  stops_later : (code to : ℕ) → slice_get now.code to ≡ Some (Plain (Stop code)) → Does p old now pc s u o (Plain (Stop code)) (Jump to)
   idles : AtPlace old now (suc pc) s u → Does p old now pc s u o Idle Idle
   passes_by : (t : Test) (to z v v' : ℕ) → ((b : Bool) → holds t s ≡ Some b → b ≡ false) → to ≡ suc (suc pc)
       → slice_get now.code (suc pc) ≡ Some (Plain (Copy z (Known v'))) → AtPlace old now to s (sets z v' (sets z v u))
@@ -259,8 +260,14 @@ module _ (p : Program) (tables : AreBytes p.tables) (old now : Procedure) (is : 
       returns_later w b c to (f ∙ ap (λ k. Some (Return k c)) (sym (same_number w w' z.0))) (gives w b c z.1) g.ram g.steady.bytes
   later_does w b to _ f e = no e
 
+  stop_does : (i : PlainInstr) (to : ℕ) (k : Option Instr) → slice_get now.code to ≡ k → stops_so i k ≡ true → Does p old now pc s u o (Plain i) (Jump to)
+  stop_does (Stop c) to (Some (Plain (Stop d))) f e = stops_later c to (f ∙ ap (λ k. Some (Plain (Stop k))) (sym (same_number c d e)))
+  stop_does i to _ f e = no e
+
   pub instr_does : (i j : Instr) → AreOperands now j → instr_stands old.widths n fs now.code a pc i j ≡ true → Does p old now pc s u o i j
   instr_does (Plain i) (Plain j) h e = either_does i j h (or_cases (plain_stands old.widths n fs a pc i j) _ e)
+  instr_does (Plain i) (Jump to) h e =
+      let z = and_parts (nat_lt pc to) (stops_so i (slice_get now.code to)) e in stop_does i to (slice_get now.code to) refl z.1
   instr_does (When t to) (When t' to') h e = when_does t t' to to' h e
   instr_does (Unless t to) (Unless t' to') h e = unless_does t t' to to' h e
   instr_does (Unless t to) (Plain j) h e = by_does t to j e

@@ -274,11 +274,22 @@ gives_same ts w u _ = false
 abbrev pub returns_there : List Twin → List Instr → (at width : ℕ) → Operand → (to : ℕ) → Bool
 returns_there ts js at w u to = nat_lt at to && gives_same ts w u (slice_get js to)
 
+-- ---- stops
+
+abbrev pub stops_so : PlainInstr → Option Instr → Bool
+stops_so (Stop c) (Some (Plain (Stop d))) = c == d
+stops_so p _ = false
+
+-- At a later place the newer code stops as the older one does.
+abbrev pub stops_there : List Instr → (at : ℕ) → PlainInstr → (to : ℕ) → Bool
+stops_there js at p to = nat_lt at to && stops_so p (slice_get js to)
+
 -- ---- instructions
 
 abbrev pub instr_stands : (old new : List ℕ) → List Facts → (newer : List Instr) → Facts → (at : ℕ) → Instr → Instr → Bool
 instr_stands o n fs js a at (Plain p) (Plain q) =
     plain_stands o n fs a at p q || shorter_stands o n fs a at p q
+instr_stands o n fs js a at (Plain p) (Jump to) = stops_there js at p to
 instr_stands o n fs js a at (When t to) (When u to') =
     (to == to') && same_test n a.twins t u && leads_at n fs a no_change to && leads_at n fs a (filling (checked t)) (suc at)
 instr_stands o n fs js a at (Unless t to) (Unless u to') =
@@ -291,7 +302,7 @@ instr_stands o n fs js a at (Return w u) (Jump to) = returns_there a.twins js at
 instr_stands o n fs js a at Idle Idle = leads_at n fs a no_change (suc at)
 instr_stands o n fs js a at _ _ = false
 
--- Where no run comes, the newer code may stop, give a local a value, or do what the older one does with what waits.
+-- Where no run comes, the newer code may stop, jump, give a local a value, or do what the older one does with what waits.
 abbrev pub is_quiet : Instr → Bool
 is_quiet (Plain (Push w u)) = false
 is_quiet (Plain (Pop w x)) = false
@@ -304,6 +315,7 @@ may_stand n at (Plain (Pop w x)) (Plain (Pop v y)) = w == v
 may_stand n at (Call c) (Call d) = c.pushed == d.pushed
 may_stand n at i (Plain (Stop c)) = is_quiet i
 may_stand n at i (Plain (Copy z (Known v))) = is_quiet i && nat_lt (suc at) n
+may_stand n at i (Jump to) = is_quiet i
 may_stand n at _ _ = false
 
 -- What stands at a place of the newer code, by what is known there.
