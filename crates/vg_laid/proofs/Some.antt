@@ -31,7 +31,7 @@ use Rattle.vg_templates.specs.Branches.{tests, told_by, near_branch}
 use Rattle.vg_templates.specs.Calls.{call_code}
 use Rattle.vg_templates.specs.Operands.{least, padded, known_registers, finds, spot_found, found_in}
 use Rattle.vg_templates.specs.Plain.{bytes_in, copies_low, copies, computes, works, writes_register, reads_register, first_of}
-use Rattle.vg_templates.specs.Accesses.{points_x, loads_x, stores_x}
+use Rattle.vg_templates.specs.Accesses.{stores_x, is_near, address_of, points_by, loads_by, stores_by}
 use Rattle.vg_templates.specs.Shifts.{doubles, halves, repeats, shifts_left, shifts_right}
 use Rattle.vg_templates.specs.Choices.{usual, unusual}
 use Rattle.vg_templates.specs.Lookups.{points_z, loads_z, tries_cases}
@@ -102,6 +102,11 @@ pops_some d (suc n) h = omega arith
 stores_x_some : (rs : List ℕ) → 1 ≤ length rs → 1 ≤ length (stores_x rs)
 stores_x_some [] h = absurd (omega (arith, h))
 stores_x_some (r ∷ rs) h = omega arith
+
+stores_some_by : (near : Bool) (rs : List ℕ) (a : ℕ) → 1 ≤ length rs → 1 ≤ length (stores_by near rs a)
+stores_some_by near [] a h = absurd (omega (arith, h))
+stores_some_by true (r ∷ rs) a h = omega arith
+stores_some_by false (r ∷ rs) a h = stores_x_some (r ∷ rs) h
 
 writes_some : (b : Bool) (x y : Avr) → 1 ≤ length (if b then x ∷ [] else y ∷ [])
 writes_some true x y = omega arith
@@ -193,12 +198,17 @@ module _ (m : Procedure) (s : IsSound m) where
       back (finds l a 18 1) (finds l b 22 1 ++ _) (back (finds l b 22 1) (_ ∷ _) (omega arith))
   plain_some p (DivideSteps r d a) h = omega arith
   plain_some p (Load Ram w to a) h =
-      back (points_x l a.base a.index) (loads_x 22 w ++ gives l to 22 w) (back (loads_x 22 w) (gives l to 22 w) (gives_some to 22 w h.1))
+      let near = is_near w a.index in
+      let loaded = loads_by near w (address_of a.base a.index) in
+      back (points_by near l a.base a.index) (loaded ++ gives l to 22 w) (back loaded (gives l to 22 w) (gives_some to 22 w h.1))
   plain_some p (Load Flash w to a) h =
       back (points_z l a.base a.index) (loads_z 22 w ++ gives l to 22 w) (back (loads_z 22 w) (gives l to 22 w) (gives_some to 22 w h.1))
   plain_some p (Store w a from) h =
+      let near = is_near w a.index in
       let rs = found_in l from 22 w in
-      back (points_x l a.base a.index) (finds l from 22 w ++ stores_x rs) (back (finds l from 22 w) (stores_x rs) (stores_x_some rs (found_some from 22 w h.0.0)))
+      let stored = stores_by near rs (address_of a.base a.index) in
+      back (points_by near l a.base a.index) (finds l from 22 w ++ stored)
+      (back (finds l from 22 w) stored (stores_some_by near rs (address_of a.base a.index) (found_some from 22 w h.0.0)))
   plain_some p (ReadDevice to address) h = back (reads_register 22 address) (gives l to 22 1) (gives_some to 22 1 h)
   plain_some p (WriteDevice address a) h =
       back (finds l a 22 1) (writes_register address (first_of (found_in l a 22 1))) (writes_some (nat_le 0x20 address && nat_lt address 0x60) _ _)
