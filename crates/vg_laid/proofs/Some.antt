@@ -32,7 +32,7 @@ use Rattle.vg_templates.specs.Branches.{tests, told_by, near_branch}
 use Rattle.vg_templates.specs.Calls.{call_code}
 use Rattle.vg_templates.specs.Operands.{least, padded, known_registers, finds, spot_found, found_in}
 use Rattle.vg_templates.specs.Plain.{bytes_in, copies_low, copies_through, copies_local, copies, computes, works, writes_register, reads_register, first_of}
-use Rattle.vg_templates.specs.Accesses.{points_x, loads_x, stores_x}
+use Rattle.vg_templates.specs.Accesses.{loads_x, stores_x, is_near, address_of, loads_at, points_by, loads_by, stores_by}
 use Rattle.vg_templates.specs.Shifts.{doubles, halves, repeats, shifts_left, shifts_right}
 use Rattle.vg_templates.specs.Choices.{usual, unusual}
 use Rattle.vg_templates.specs.Lookups.{points_z, loads_z, tries_cases}
@@ -116,6 +116,19 @@ loads_x_some d (suc n) h = omega arith
 loads_z_some : (d n : ℕ) → 1 ≤ n → 1 ≤ length (loads_z d n)
 loads_z_some d zero h = absurd (omega (arith, h))
 loads_z_some d (suc n) h = omega arith
+
+loads_at_some : (d n a : ℕ) → 1 ≤ n → 1 ≤ length (loads_at d n a)
+loads_at_some d zero a h = absurd (omega (arith, h))
+loads_at_some d (suc n) a h = omega arith
+
+loads_some_by : (near : Bool) (d n a : ℕ) → 1 ≤ n → 1 ≤ length (loads_by near d n a)
+loads_some_by true d n a h = loads_at_some d n a h
+loads_some_by false d n a h = loads_x_some d n h
+
+stores_some_by : (near : Bool) (rs : List ℕ) (a : ℕ) → 1 ≤ length rs → 1 ≤ length (stores_by near rs a)
+stores_some_by near [] a h = absurd (omega (arith, h))
+stores_some_by true (r ∷ rs) a h = omega arith
+stores_some_by false (r ∷ rs) a h = stores_x_some (r ∷ rs) h
 
 writes_some : (b : Bool) (x y : Avr) → 1 ≤ length (if b then x ∷ [] else y ∷ [])
 writes_some true x y = omega arith
@@ -224,16 +237,21 @@ module _ (m : Procedure) (s : IsSound m) where
       back (finds l a 18 1) (finds l b 22 1 ++ _) (back (finds l b 22 1) (_ ∷ _) (omega arith))
   plain_some p (DivideSteps r d a) h = omega arith
   plain_some p (Load Ram w to a) h =
+      let near = is_near w a.index in
       let home = home_of l to w in
-      back (points_x l a.base a.index) (loads_x (made_in home) w ++ settles l to home w)
-      (front (loads_x (made_in home) w) (settles l to home w) (loads_x_some (made_in home) w h.0.0))
+      let loaded = loads_by near (made_in home) w (address_of a.base a.index) in
+      back (points_by near l a.base a.index) (loaded ++ settles l to home w)
+      (front loaded (settles l to home w) (loads_some_by near (made_in home) w (address_of a.base a.index) h.0.0))
   plain_some p (Load Flash w to a) h =
       let home = home_of l to w in
       back (points_z l a.base a.index) (loads_z (made_in home) w ++ settles l to home w)
       (front (loads_z (made_in home) w) (settles l to home w) (loads_z_some (made_in home) w h.0.0))
   plain_some p (Store w a from) h =
+      let near = is_near w a.index in
       let rs = found_in l from 22 w in
-      back (points_x l a.base a.index) (finds l from 22 w ++ stores_x rs) (back (finds l from 22 w) (stores_x rs) (stores_x_some rs (found_some from 22 w h.0.0)))
+      let stored = stores_by near rs (address_of a.base a.index) in
+      back (points_by near l a.base a.index) (finds l from 22 w ++ stored)
+      (back (finds l from 22 w) stored (stores_some_by near rs (address_of a.base a.index) (found_some from 22 w h.0.0)))
   plain_some p (ReadDevice to address) h =
       let home = home_of l to 1 in
       front (reads_register (made_in home) address) (settles l to home 1) (writes_some (nat_le 0x20 address && nat_lt address 0x60) _ _)

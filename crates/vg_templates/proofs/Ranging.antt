@@ -27,7 +27,7 @@ use Rattle.vg_templates.specs.Operands.{least, known_bytes, finds_spot, finds, f
 use Rattle.vg_templates.specs.Plain.{copies_low, copies_whole, bytes_in, copies_through, copies_local, copies, first_of, operates, works}
 use Rattle.vg_templates.proofs.Bytes.{least_is, bytes_in_few}
 use Rattle.vg_templates.proofs.Finding.{beside_registers, found-length, found-beside}
-use Rattle.vg_templates.specs.Accesses.{plus_base, points_x, loads_x, stores_x}
+use Rattle.vg_templates.specs.Accesses.{plus_base, points_x, loads_x, stores_x, is_near, address_of, loads_at, stores_at, points_by, loads_by, stores_by}
 use Rattle.vg_templates.specs.Straight.{plain_code, IsCovered}
 
 abbrev Fine : List Instr → Type 0
@@ -203,6 +203,22 @@ stores_x-fine [] k = tt
 stores_x-fine (r ∷ rs) ((inl low, chip), more) = ((chip, omega (arith, low), omega (arith, low)), stores_x-fine rs more)
 stores_x-fine (r ∷ rs) ((inr high, chip), more) = ((chip, omega (arith, high), omega (arith, high)), stores_x-fine rs more)
 
+loads_at-fine : (d n a : ℕ) → d + n ≤ 32 → Fine (loads_at d n a)
+loads_at-fine d zero a h = tt
+loads_at-fine d (suc n) a h = ((omega arith, omega arith), loads_at-fine (suc d) n (suc a) (omega arith))
+
+stores_at-fine : (rs : List ℕ) (a : ℕ) → AreBeside 26 28 rs → Fine (stores_at rs a)
+stores_at-fine [] a k = tt
+stores_at-fine (r ∷ rs) a ((beside, chip), more) = ((omega arith, chip), stores_at-fine rs (suc a) more)
+
+loads_by-fine : (near : Bool) (d n a : ℕ) → d + n ≤ 26 → Fine (loads_by near d n a)
+loads_by-fine true d n a h = loads_at-fine d n a (omega arith)
+loads_by-fine false d n a h = loads_x-fine d n h
+
+stores_by-fine : (near : Bool) (rs : List ℕ) (a : ℕ) → AreBeside 26 28 rs → Fine (stores_by near rs a)
+stores_by-fine true rs a k = stores_at-fine rs a k
+stores_by-fine false rs a k = stores_x-fine rs k
+
 device_word : (address : ℕ) → IsDeviceAddress address → address < 65536
 device_word address d = let small = d.below in omega arith
 
@@ -289,6 +305,10 @@ module _ (l : Layout) (ok : IsLayout l) (live behind : ℕ → Bool) where
   points-fine base (Local j) ready =
       fine_append (brings l (Local j) 26 2) (plus_base 26 base) (brings-fine l ok live (Local j) 26 2 ready (omega arith) (omega arith)) (base-fine base)
 
+  points_by-fine : (near : Bool) (base : ℕ) (a : Operand) → IsReady l live a → Fine (points_by near l base a)
+  points_by-fine true base a ready = tt
+  points_by-fine false base a ready = points-fine base a ready
+
   pub plain_code-fine : (codes : ℕ → ℕ) (q : Plain) → IsCovered l live behind q → Fine (plain_code l codes q)
   plain_code-fine codes (Copy to a) can = copies-fine to a can.0 can.1
   plain_code-fine codes (CodeOf q to) can = copies_whole-fine to (Known (codes q)) tt can
@@ -302,17 +322,23 @@ module _ (l : Layout) (ok : IsLayout l) (live behind : ℕ → Bool) where
       (gives-fine l ok live behind c.to 22 n can.1.1 (omega (arith, small))))
   plain_code-fine codes (Load Ram w to a) can =
       let small = can.0.1 in
+      let near = is_near w a.index in
       let h = home_of l to w in
       let d = made_in h in
-      fine_append (points_x l a.base a.index) (loads_x d w ++ settles l to h w) (points-fine a.base a.index can.1.0)
-      (fine_append (loads_x d w) (settles l to h w) (loads_x-fine d w (made_low l ok to w h can.1.1.there small (home_is l to w)))
+      let loaded = loads_by near d w (address_of a.base a.index) in
+      fine_append (points_by near l a.base a.index) (loaded ++ settles l to h w) (points_by-fine near a.base a.index can.1.0)
+      (fine_append loaded (settles l to h w)
+      (loads_by-fine near d w (address_of a.base a.index) (made_low l ok to w h can.1.1.there small (home_is l to w)))
       (settles-fine l ok live behind to w h can.1.1 (home_is l to w) small))
   plain_code-fine codes (Store w a from) can =
       let small = can.0.1 in
+      let near = is_near w a.index in
       let rs = found_in l from 22 w in
-      fine_append (points_x l a.base a.index) (finds l from 22 w ++ stores_x rs) (points-fine a.base a.index can.1.0.0)
-      (fine_append (finds l from 22 w) (stores_x rs) (finds-fine l ok live from 22 w can.1.0.1 (omega arith) (omega (arith, small)))
-      (stores_x-fine rs (found-beside l ok live from 22 w 26 28 can.1.0.1 (omega arith) (omega (arith, small)) (omega arith))))
+      let stored = stores_by near rs (address_of a.base a.index) in
+      fine_append (points_by near l a.base a.index) (finds l from 22 w ++ stored) (points_by-fine near a.base a.index can.1.0.0)
+      (fine_append (finds l from 22 w) stored (finds-fine l ok live from 22 w can.1.0.1 (omega arith) (omega (arith, small)))
+      (stores_by-fine near rs (address_of a.base a.index)
+      (found-beside l ok live from 22 w 26 28 can.1.0.1 (omega arith) (omega (arith, small)) (omega arith))))
   plain_code-fine codes (ReadDevice to address) can =
       let h = home_of l to 1 in
       let d = made_in h in
