@@ -20,9 +20,11 @@ use Rattle.vg_templates.proofs.Numbers.{put_other, put_same}
 use Rattle.vg_templates.specs.Pieces.{Takes}
 use Rattle.vg_templates.specs.Transfers.{known}
 use Rattle.vg_templates.specs.Transferred.{Fetched}
-use Rattle.vg_templates.specs.Held.{Held, IsReady, IsSet, brings, gives, Brought, Given}
+use Rattle.vg_templates.specs.Held.{Held, IsReady, IsSet, brings, Brought}
+use Rattle.vg_templates.specs.Homes.{home_of, made_in, settles}
 use Rattle.vg_templates.proofs.Composing.{takes_then, takes_wider, takes_bytes, takes_plain}
-use Rattle.vg_templates.proofs.Holding.{held_scratch, takes_brings, takes_gives}
+use Rattle.vg_templates.proofs.Holding.{held_scratch, takes_brings}
+use Rattle.vg_templates.proofs.Settling.{Made, home_is, made_low, takes_settles}
 use Rattle.vg_templates.proofs.Spotting.{takes_known}
 use Rattle.vg_templates.specs.Outcomes.{Lies}
 use Rattle.vg_templates.specs.Accesses.{plus_base}
@@ -201,26 +203,30 @@ module _ (i : Places) (ok : (m : ℕ) → IsLayout (i.layouts m)) (m : ℕ) (fra
       let there = some_there tables w at z wide loaded in
       let inside = there.inside in
       let room = holds_them.inside in
-      let is = loads_z 22 w in
-      let last = gives l to 22 w in
+      let h = home_of l to w in
+      let d = made_in h in
+      let is = loads_z d w in
+      let low = made_low l (ok m) to w h can.there small (home_is l to w) in
+      let last = settles l to h w in
       let goal = Lies i m behind (sets to z s) frames v.out in
       takes_then e deep v (points_z l base index) (is ++ last) (Pointed i m live s frames (base + x) v) goal
       (takes_points live s base x index v (omega (arith, room, inside, wide)) ready got k)
       (λ u p.
       let pointer = p.pointer in
-      let f = loads_z-load e.flash tables holds_them 22 w at u.regs (omega (arith, small)) (λ more. omega (arith, pointer, high)) inside in
+      let f = loads_z-load e.flash tables holds_them d w at u.regs (omega (arith, low)) (λ more. omega (arith, pointer, high)) inside in
       let y : View = record u { regs = does_all e.flash is u.regs } in
-      let held_y : Held i m live s frames y = by_scratch live s u y (λ r low beside. f.others r low (apart w small r beside)) refl p.held in
-      let value_is : number y.regs 22 w ≡ z = f.holds ∙ there.value in
-      takes_then e deep u is last (λ t. t ≡ y) goal (takes_plain e deep u is (loads_z-plain 22 w))
+      takes_then e deep u is last (λ t. t ≡ y) goal (takes_plain e deep u is (loads_z-plain d w))
       (λ t put. subst (λ q. Takes e deep q last goal) (sym put)
-      (takes_wider e deep y last (Given i m behind (sets to (number y.regs 22 w) s) frames y) goal
-      (λ q given. record {
-        held = subst (λ j. Held i m behind (sets to j s) frames q) value_is given.held;
-        out = given.out ∙ p.out;
-      })
-      (takes_gives i ok m frames e deep live behind s to 22 w y can (omega arith) (omega (arith, small)) held_y))))
+      (takes_wider e deep y last (Lies i m behind (sets to z s) frames u.out) goal (λ q g. record { held = g.held; out = g.out ∙ p.out })
+      (takes_settles i ok m frames e deep live behind s to w z h u y can (home_is l to w) small p.held
+      (record {
+        others = λ r kind beside. f.others r (below r kind) beside;
+        holds = f.holds ∙ there.value;
+        stack = refl;
+        static = refl;
+      })))))
     where
-      apart : (w : ℕ) → w ≤ 4 → (r : ℕ) → (r < 18) ⊎ (28 ≤ r) → (r < 22) ⊎ (22 + w ≤ r)
-      apart w h r (inl k) = inl (omega arith)
-      apart w h r (inr k) = inr (omega arith)
+      below : (r : ℕ) → (r ≡ 1) ⊎ IsReliable r → r < 30
+      below r (inl one) = omega arith
+      below r (inr (inl k')) = let up = k'.1 in omega arith
+      below r (inr (inr k')) = k'.1

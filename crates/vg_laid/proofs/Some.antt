@@ -25,13 +25,14 @@ use Rattle.vg_lin.specs.Sound.{IsWidth, IsPlain, AreOperands, IsSound}
 use Rattle.vg_templates.specs.Spots.{Spot, InFrame, InRegisters}
 use Rattle.vg_templates.specs.Layouts.{Layout, width_of}
 use Rattle.vg_templates.specs.Linkage.{pushes, pops, drops_slots, epilogue}
-use Rattle.vg_templates.specs.Transfers.{clears, moves_two, moves, reach, stores, keep}
+use Rattle.vg_templates.specs.Transfers.{clears, moves_two, moves, reach, loads, stores, fetch, keep}
 use Rattle.vg_templates.specs.Held.{brings, gives}
+use Rattle.vg_templates.specs.Homes.{home_of, made_in, settles, clear_home}
 use Rattle.vg_templates.specs.Branches.{tests, told_by, near_branch}
 use Rattle.vg_templates.specs.Calls.{call_code}
 use Rattle.vg_templates.specs.Operands.{least, padded, known_registers, finds, spot_found, found_in}
-use Rattle.vg_templates.specs.Plain.{bytes_in, copies_low, copies, computes, works, writes_register, reads_register, first_of}
-use Rattle.vg_templates.specs.Accesses.{points_x, loads_x, stores_x}
+use Rattle.vg_templates.specs.Plain.{bytes_in, copies_low, copies_through, copies_local, copies, computes, works, writes_register, reads_register, first_of}
+use Rattle.vg_templates.specs.Accesses.{loads_x, stores_x, is_near, address_of, loads_at, points_by, loads_by, stores_by}
 use Rattle.vg_templates.specs.Shifts.{doubles, halves, repeats, shifts_left, shifts_right}
 use Rattle.vg_templates.specs.Choices.{usual, unusual}
 use Rattle.vg_templates.specs.Lookups.{points_z, loads_z, tries_cases}
@@ -68,6 +69,11 @@ clears_some : (d n : ℕ) → 1 ≤ n → 1 ≤ length (clears d n)
 clears_some d zero h = absurd (omega (arith, h))
 clears_some d (suc n) h = omega arith
 
+loads_some : (b : Base) (q d w n : ℕ) → 1 ≤ n → 1 ≤ length (loads b q d w n)
+loads_some b q d zero n h = clears_some d n h
+loads_some b q d (suc w) zero h = absurd (omega (arith, h))
+loads_some b q d (suc w) (suc n) h = omega arith
+
 two_some : (r d : ℕ) → 1 ≤ length (moves_two r d)
 two_some r d = by_test ((r % 2 == 0) && (d % 2 == 0))
   where
@@ -103,6 +109,27 @@ stores_x_some : (rs : List ℕ) → 1 ≤ length rs → 1 ≤ length (stores_x r
 stores_x_some [] h = absurd (omega (arith, h))
 stores_x_some (r ∷ rs) h = omega arith
 
+loads_x_some : (d n : ℕ) → 1 ≤ n → 1 ≤ length (loads_x d n)
+loads_x_some d zero h = absurd (omega (arith, h))
+loads_x_some d (suc n) h = omega arith
+
+loads_z_some : (d n : ℕ) → 1 ≤ n → 1 ≤ length (loads_z d n)
+loads_z_some d zero h = absurd (omega (arith, h))
+loads_z_some d (suc n) h = omega arith
+
+loads_at_some : (d n a : ℕ) → 1 ≤ n → 1 ≤ length (loads_at d n a)
+loads_at_some d zero a h = absurd (omega (arith, h))
+loads_at_some d (suc n) a h = omega arith
+
+loads_some_by : (near : Bool) (d n a : ℕ) → 1 ≤ n → 1 ≤ length (loads_by near d n a)
+loads_some_by true d n a h = loads_at_some d n a h
+loads_some_by false d n a h = loads_x_some d n h
+
+stores_some_by : (near : Bool) (rs : List ℕ) (a : ℕ) → 1 ≤ length rs → 1 ≤ length (stores_by near rs a)
+stores_some_by near [] a h = absurd (omega (arith, h))
+stores_some_by true (r ∷ rs) a h = omega arith
+stores_some_by false (r ∷ rs) a h = stores_x_some (r ∷ rs) h
+
 writes_some : (b : Bool) (x y : Avr) → 1 ≤ length (if b then x ∷ [] else y ∷ [])
 writes_some true x y = omega arith
 writes_some false x y = omega arith
@@ -130,6 +157,11 @@ keep_some : (z : Spot) (w r n : ℕ) → 1 ≤ w → 1 ≤ length (keep z w r n)
 keep_some (InFrame at) w r n h =
     let k = reach at w in back k.code (stores k.base k.displacement r w n) (stores_some k.base k.displacement r w n h)
 keep_some (InRegisters d) w r n h = moves_some r d n w h
+
+fetch_some : (z : Spot) (w d n : ℕ) → 1 ≤ n → 1 ≤ length (fetch z w d n)
+fetch_some (InFrame at) w d n h =
+    let k = reach at w in back k.code (loads k.base k.displacement d w n) (loads_some k.base k.displacement d w n h)
+fetch_some (InRegisters r) w d n h = moves_some r d w n h
 
 spot_some : (z : Spot) (w d n : ℕ) → 1 ≤ n → 1 ≤ length (spot_found z w d n)
 spot_some (InFrame at) w d n h = padded_some d w n h
@@ -182,8 +214,20 @@ module _ (m : Procedure) (s : IsSound m) where
   copies_low_some : (to : ℕ) (a : Operand) (n : ℕ) → to < length m.widths → 1 ≤ length (copies_low l to a n)
   copies_low_some to a n h = back (brings l a 22 n) (gives l to 22 n) (gives_some to 22 n h)
 
+  copies_through_some : (to k : ℕ) → to < length m.widths → 1 ≤ length (copies_through l to k)
+  copies_through_some to k h =
+      let w = width_of l to in
+      let home = clear_home (l.spots k) (width_of l k) w (home_of l to w) in
+      front (brings l (Local k) (made_in home) w) (settles l to home w)
+      (fetch_some (l.spots k) (width_of l k) (made_in home) w (wide_at m.widths to s.widths h))
+
+  copies_local_some : (to k : ℕ) (z y : Spot) → to < length m.widths → 1 ≤ length (copies_local z y l to k)
+  copies_local_some to k (InFrame at) (InRegisters f) h = gives_some to f (width_of l k) h
+  copies_local_some to k (InFrame at) (InFrame p) h = copies_through_some to k h
+  copies_local_some to k (InRegisters r) y h = copies_through_some to k h
+
   copies_some : (to : ℕ) (a : Operand) → to < length m.widths → 1 ≤ length (copies l to a)
-  copies_some to (Local k) h = copies_low_some to (Local k) (width_of l to) h
+  copies_some to (Local k) h = copies_local_some to k (l.spots to) (l.spots k) h
   copies_some to (Known v) h = copies_low_some to (Known v) (bytes_in (width_of l to) v) h
 
   plain_some : (p : Program) (i : PlainInstr) → IsPlain m i → 1 ≤ length (plain_template l p i)
@@ -193,13 +237,24 @@ module _ (m : Procedure) (s : IsSound m) where
       back (finds l a 18 1) (finds l b 22 1 ++ _) (back (finds l b 22 1) (_ ∷ _) (omega arith))
   plain_some p (DivideSteps r d a) h = omega arith
   plain_some p (Load Ram w to a) h =
-      back (points_x l a.base a.index) (loads_x 22 w ++ gives l to 22 w) (back (loads_x 22 w) (gives l to 22 w) (gives_some to 22 w h.1))
+      let near = is_near w a.index in
+      let home = home_of l to w in
+      let loaded = loads_by near (made_in home) w (address_of a.base a.index) in
+      back (points_by near l a.base a.index) (loaded ++ settles l to home w)
+      (front loaded (settles l to home w) (loads_some_by near (made_in home) w (address_of a.base a.index) h.0.0))
   plain_some p (Load Flash w to a) h =
-      back (points_z l a.base a.index) (loads_z 22 w ++ gives l to 22 w) (back (loads_z 22 w) (gives l to 22 w) (gives_some to 22 w h.1))
+      let home = home_of l to w in
+      back (points_z l a.base a.index) (loads_z (made_in home) w ++ settles l to home w)
+      (front (loads_z (made_in home) w) (settles l to home w) (loads_z_some (made_in home) w h.0.0))
   plain_some p (Store w a from) h =
+      let near = is_near w a.index in
       let rs = found_in l from 22 w in
-      back (points_x l a.base a.index) (finds l from 22 w ++ stores_x rs) (back (finds l from 22 w) (stores_x rs) (stores_x_some rs (found_some from 22 w h.0.0)))
-  plain_some p (ReadDevice to address) h = back (reads_register 22 address) (gives l to 22 1) (gives_some to 22 1 h)
+      let stored = stores_by near rs (address_of a.base a.index) in
+      back (points_by near l a.base a.index) (finds l from 22 w ++ stored)
+      (back (finds l from 22 w) stored (stores_some_by near rs (address_of a.base a.index) (found_some from 22 w h.0.0)))
+  plain_some p (ReadDevice to address) h =
+      let home = home_of l to 1 in
+      front (reads_register (made_in home) address) (settles l to home 1) (writes_some (nat_le 0x20 address && nat_lt address 0x60) _ _)
   plain_some p (WriteDevice address a) h =
       back (finds l a 22 1) (writes_register address (first_of (found_in l a 22 1))) (writes_some (nat_le 0x20 address && nat_lt address 0x60) _ _)
   plain_some p (Push w a) h = back (finds l a 22 w) (pushes (found_in l a 22 w)) (pushes_some (found_in l a 22 w) (found_some a 22 w h.0.0))

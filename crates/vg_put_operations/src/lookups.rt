@@ -14,7 +14,7 @@ use vg_codes::Case;
 use vg_lin::{Address, Operand};
 use vg_put_chains::{put_known, put_takes_known};
 use vg_put_plain::put_plus_base;
-use vg_put_values::{put_brings, put_gives};
+use vg_put_values::{home_of, made_in, put_brings, put_gives, put_settles};
 
 // Z becomes the address.
 fn put_points_z(
@@ -60,8 +60,9 @@ pub fn put_loads_table(
     ensures { OnOk result (code.new ≡ code.old ++ loads_table (layout locations.now) width to address.base address.index) }
 {
     put_points_z(code, locations, address)?;
-    put_loads_z(code, 22, width)?;
-    put_gives(code, locations, to, 22, width)
+    let home = home_of(locations, to, width);
+    put_loads_z(code, made_in(home), width)?;
+    put_settles(code, locations, to, home, width)
 }
 
 /// The code number of a procedure, in a list of those of all procedures; 0 for a number that no procedure has.

@@ -1,5 +1,5 @@
 -- The registers in which a value is found are none of X.
-use Rattle.std.proofs.Common.{ℕ, ◌≤◌, ◌+◌, true, refl, arith}
+use Rattle.std.proofs.Common.{ℕ, ◌≤◌, true, refl, arith}
 use Rattle.vg_lin.specs.declared.instr.Operand.{Operand}
 use Rattle.vg_lin.specs.declared.instr.Operand.TheVariants.{Local, Known}
 use Rattle.vg_templates.specs.Layouts.{Layout, IsLayout}

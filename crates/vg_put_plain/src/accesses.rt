@@ -1,7 +1,7 @@
 // Loads and stores of columns in RAM.
-ghost use Rattle.std.specs.Prelude.{◌≡◌, ◌≤◌, ◌<◌, ◌+◌, ◌++◌, OnOk, length};
+ghost use Rattle.std.specs.Prelude.{◌≡◌, ◌≤◌, ◌<◌, ◌+◌, ◌^◌, ◌++◌, OnOk, length};
 ghost use Rattle.vg_templates.specs.Numbers.{AreBeside};
-ghost use Rattle.vg_templates.specs.Accesses.{plus_base, points_x, loads_x, stores_x, loads_column, stores_column};
+ghost use Rattle.vg_templates.specs.Accesses.{plus_base, points_x, loads_x, stores_x, is_near, address_of, loads_at, stores_at, points_by, loads_by, stores_by, loads_column, stores_column};
 ghost use Rattle.vg_alloc.specs.Locations.{layout};
 ghost use Rattle.vg_put_values.specs.Within.{IsThere};
 
@@ -11,7 +11,7 @@ use vg_alloc::Locations;
 use vg_base::{NoMemory, Row};
 use vg_lin::{Address, Operand};
 use vg_put_chains::put_known;
-use vg_put_values::{found_in, put_brings, put_finds, put_gives};
+use vg_put_values::{found_in, home_of, made_in, put_brings, put_finds, put_settles};
 
 /// Adds a base to a pair of upper registers: 65,536 less it is taken away. The base 0 costs no instruction.
 pub fn put_plus_base(code: &mut Row<Instr>, d: u8, base: u16) -> Result<(), NoMemory>
@@ -69,6 +69,104 @@ fn put_stores_x(code: &mut Row<Instr>, registers: &[Register]) -> Result<(), NoM
     }
 }
 
+// Whether bytes at an address are reached by instructions that have it.
+fn is_near(width: u8, address: Address) -> bool
+    ensures { result ≡ is_near width address.index }
+{
+    match address.index {
+        Operand::Known(_) => width <= 2,
+        Operand::Local(_) => false,
+    }
+}
+
+// The address of a known index.
+fn address_of(address: Address) -> u64
+    ensures is { result ≡ address_of address.base address.index }
+    ensures small { result < 2 ^ 33 }
+{
+    match address.index {
+        Operand::Known(x) => u64::from(address.base) + u64::from(x),
+        Operand::Local(_) => u64::from(address.base),
+    }
+}
+
+fn put_loads_at(code: &mut Row<Instr>, d: u8, count: u8, address: u64) -> Result<(), NoMemory>
+    requires registers { d + count ≤ 26 }
+    requires small { address + count < 2 ^ 34 }
+    ensures { OnOk result (code.new ≡ code.old ++ loads_at d count address) }
+{
+    if count == 0 {
+        return Ok(());
+    }
+    code.push(Instr::Lds(Register::new(d), (address % 65536) as u16))?;
+    put_loads_at(code, d + 1, count - 1, address + 1)
+}
+
+fn put_stores_at(
+    code: &mut Row<Instr>,
+    registers: &[Register],
+    address: u64,
+) -> Result<(), NoMemory>
+    requires { address + length registers.now < 2 ^ 34 }
+    ensures { OnOk result (code.new ≡ code.old ++ stores_at registers.now address) }
+{
+    match registers {
+        [] => Ok(()),
+        [first, rest @ ..] => {
+            code.push(Instr::Sts((address % 65536) as u16, *first))?;
+            put_stores_at(code, rest, address + 1)
+        }
+    }
+}
+
+// X becomes the address, unless it is near.
+fn put_points(
+    code: &mut Row<Instr>,
+    locations: &Locations,
+    near: bool,
+    address: Address,
+) -> Result<(), NoMemory>
+    requires index { IsThere (layout locations.now) address.index }
+    ensures { OnOk result (code.new ≡ code.old ++ points_by near (layout locations.now) address.base address.index) }
+{
+    if near {
+        return Ok(());
+    }
+    put_points_x(code, locations, address)
+}
+
+fn put_loads(
+    code: &mut Row<Instr>,
+    near: bool,
+    d: u8,
+    count: u8,
+    address: Address,
+) -> Result<(), NoMemory>
+    requires registers { d + count ≤ 26 }
+    ensures { OnOk result (code.new ≡ code.old ++ loads_by near d count (address_of address.base address.index)) }
+{
+    if near {
+        return put_loads_at(code, d, count, address_of(address));
+    }
+    put_loads_x(code, d, count)
+}
+
+fn put_stores(
+    code: &mut Row<Instr>,
+    near: bool,
+    registers: &[Register],
+    address: Address,
+) -> Result<(), NoMemory>
+    requires few { length registers.now ≤ 4 }
+    requires beside { AreBeside 26 28 registers.now }
+    ensures { OnOk result (code.new ≡ code.old ++ stores_by near registers.now (address_of address.base address.index)) }
+{
+    if near {
+        return put_stores_at(code, registers, address_of(address));
+    }
+    put_stores_x(code, registers)
+}
+
 /// So many bytes of a column go to a local.
 pub fn put_loads_column(
     code: &mut Row<Instr>,
@@ -82,9 +180,11 @@ pub fn put_loads_column(
     requires index { IsThere (layout locations.now) address.index }
     ensures { OnOk result (code.new ≡ code.old ++ loads_column (layout locations.now) width to address.base address.index) }
 {
-    put_points_x(code, locations, address)?;
-    put_loads_x(code, 22, width)?;
-    put_gives(code, locations, to, 22, width)
+    let near = is_near(width, address);
+    let home = home_of(locations, to, width);
+    put_points(code, locations, near, address)?;
+    put_loads(code, near, made_in(home), width, address)?;
+    put_settles(code, locations, to, home, width)
 }
 
 /// So many low bytes of a value go to a column, from the registers in which they are: zero bytes of a known number from r1.
@@ -103,8 +203,9 @@ pub fn put_stores_column(
     ensures { OnOk result (code.new ≡ code.old ++ stores_column (layout locations.now) width address.base address.index from) }
 {
     locations.keeps();
-    put_points_x(code, locations, address)?;
+    let near = is_near(width, address);
+    put_points(code, locations, near, address)?;
     put_finds(code, locations, from, 22, width)?;
     let registers = found_in(alloc, locations, from, 22, width)?;
-    put_stores_x(code, registers.as_slice())
+    put_stores(code, near, registers.as_slice(), address)
 }

@@ -11,7 +11,7 @@ use std::alloc::Global;
 use vg_alloc::Locations;
 use vg_base::{NoMemory, Row};
 use vg_lin::Operand;
-use vg_put_values::{found_in, put_finds, put_gives};
+use vg_put_values::{found_in, home_of, made_in, put_finds, put_settles};
 
 /// The first of some registers; r1 where there is none.
 pub fn first_of(registers: &[Register]) -> Register
@@ -75,8 +75,9 @@ pub fn put_reads_device(
     requires there { to < length locations.now.widths }
     ensures { OnOk result (code.new ≡ code.old ++ reads_device (layout locations.now) to address) }
 {
-    put_reads_register(code, Register::new(22), address)?;
-    put_gives(code, locations, to, 22, 1)
+    let home = home_of(locations, to, 1);
+    put_reads_register(code, Register::new(made_in(home)), address)?;
+    put_settles(code, locations, to, home, 1)
 }
 
 /// The run ends with this code: it goes to r24, and the jump behind it leads to itself.

@@ -11,8 +11,8 @@ use vg_put_operations::{
     put_divides_steps, put_finds_procedure, put_loads_table, put_multiplies, put_shifts_left,
 };
 use vg_put_plain::{
-    put_computes, put_copies, put_copies_whole, put_loads_column, put_pushes_value, put_stops,
-    put_writes_device,
+    put_computes, put_copies, put_copies_whole, put_loads_column, put_pushes_value,
+    put_reads_device, put_stops, put_stores_column, put_writes_device,
 };
 
 // The words that spell instructions, one behind the other.
@@ -56,7 +56,7 @@ fn a_procedure_enters_and_returns(rt: HostRuntime) {
     let code = entered(alloc);
     let expected = [
         0x922F, 0x93DF, 0x93CF, 0xB7CD, 0xB7DE, // PUSH r2; PUSH r29; PUSH r28; IN r28, SPL; IN r29, SPH
-        0x816E, 0x2E26, // LDD r22, Y+6; MOV r2, r22
+        0x802E, // LDD r2, Y+6
         0x2D62, 0x91CF, 0x91DF, 0x902F, 0x9508, // MOV r22, r2; POP r28; POP r29; POP r2; RET
     ];
     let holds = is_spelled(alloc, &code, &expected);
@@ -183,7 +183,7 @@ fn branches_are_put(rt: HostRuntime) {
     let alloc = rt.alloc();
     let code = branched(alloc);
     let expected = [
-        0x816E, 0x817F, 0x1561, 0x0571, // LDD r22, Y+6; LDD r23, Y+7; CP r22, r1; CPC r23, r1
+        0x816E, 0x817F, 0x2B67, // LDD r22, Y+6; LDD r23, Y+7; OR r22, r23
         0xF029, // BREQ by 5 words
         0xF411, 0x940C, 0x1234, // BRNE by 2 words; JMP 0x1234
     ];
@@ -265,6 +265,11 @@ fn dispatched(alloc: Global) -> Result<Row<Instr>, NoMemory> {
             count: 1,
             procedure: 1,
         },
+        Case {
+            first: 4,
+            count: 5,
+            procedure: 0,
+        },
     ];
     put_finds_procedure(
         &mut code,
@@ -277,15 +282,15 @@ fn dispatched(alloc: Global) -> Result<Row<Instr>, NoMemory> {
     Ok(code)
 }
 
-// A dispatch of two cases: the code number of the last one comes first, and that of the other overwrites it.
+// A dispatch of three cases: the code number of the procedure that two of them have comes first, and that of the other case overwrites it.
 #[test]
 fn dispatches_are_put(rt: HostRuntime) {
     let alloc = rt.alloc();
     let code = dispatched(alloc);
     let expected = [
-        0x818E, 0x819F, 0xE566, 0xE074, // LDD r24, Y+6; LDD r25, Y+7; LDI r22, 0x56; LDI r23, 0x04
-        0x01DC, 0x50A1, 0x40B0, 0x50A2, 0x40B0, // MOVW r26, r24; SUBI r26, 1; SBCI r27, 0; SUBI r26, 2; SBCI r27, 0
-        0xF410, 0xE263, 0xE071, // BRCC by 2 words; LDI r22, 0x23; LDI r23, 0x01
+        0x818E, 0x819F, 0xE263, 0xE071, // LDD r24, Y+6; LDD r25, Y+7; LDI r22, 0x23; LDI r23, 0x01
+        0x01DC, 0x50A3, 0x40B0, 0x50A1, 0x40B0, // MOVW r26, r24; SUBI r26, 3; SBCI r27, 0; SUBI r26, 1; SBCI r27, 0
+        0xF410, 0xE566, 0xE074, // BRCC by 2 words; LDI r22, 0x56; LDI r23, 0x04
         0x836E, 0x837F, // STD Y+6, r22; STD Y+7, r23
     ];
     let holds = is_spelled(alloc, &code, &expected);
@@ -309,7 +314,7 @@ fn locals_are_in_registers(rt: HostRuntime) {
     let code = entered_in_registers(alloc);
     let expected = [
         0x924F, 0x923F, 0x922F, // PUSH r4; PUSH r3; PUSH r2
-        0x2D62, 0x2E46, // MOV r22, r2; MOV r4, r22
+        0x2C42, // MOV r4, r2
         0xE263, 0xE071, 0x011B, // LDI r22, 0x23; LDI r23, 0x01; MOVW r2, r22
         0x2D64, 0x902F, 0x903F, 0x904F, 0x9508, // MOV r22, r4; POP r2; POP r3; POP r4; RET
     ];
@@ -338,7 +343,7 @@ fn other_locals_are_in_slots(rt: HostRuntime) {
         0x93DF, 0x93CF, 0xB7CD, 0xB7DE, // PUSH r29; PUSH r28; IN r28, SPL; IN r29, SPH
         0x9722, 0xBFDE, 0xBFCD, // SBIW r28, 2; OUT SPH, r29; OUT SPL, r28
         0x896F, 0x2D71, 0x8369, 0x837A, // LDD r22, Y+23; MOV r23, r1; STD Y+1, r22; STD Y+2, r23
-        0x01B1, 0x01C2, 0x013B, 0x014C, // MOVW r22, r2; MOVW r24, r4; MOVW r6, r22; MOVW r8, r24
+        0x0131, 0x0142, // MOVW r6, r2; MOVW r8, r4
         0x8169, 0x9622, 0xBFDE, 0xBFCD, // LDD r22, Y+1; ADIW r28, 2; OUT SPH, r29; OUT SPL, r28
         0x91CF, 0x91DF, // POP r28; POP r29
         0x902F, 0x903F, 0x904F, 0x905F, 0x906F, 0x907F, 0x908F, 0x909F, // POP r2; and so to r9
@@ -378,6 +383,109 @@ fn zeros_are_not_loaded(rt: HostRuntime) {
     ];
     let holds = is_spelled(alloc, &in_frame, &expected_in_frame)
         && is_spelled(alloc, &in_registers, &expected_in_registers);
+    assert!(rt; holds);
+}
+
+fn stored(alloc: Global, params: u8) -> Result<Row<Instr>, NoMemory>
+    requires { params ≤ 2 }
+{
+    let locations = sample_locations(alloc, params)?;
+    let mut code = Row::new(alloc);
+    let element = Address {
+        base: 0x100,
+        index: Operand::Local(0),
+    };
+    let field = Address {
+        base: 0x100,
+        index: Operand::Known(4),
+    };
+    put_stores_column(alloc, &mut code, &locations, 2, element, Operand::Known(5))?;
+    put_stores_column(alloc, &mut code, &locations, 2, field, Operand::Local(0))?;
+    put_stores_column(
+        alloc,
+        &mut code,
+        &locations,
+        4,
+        field,
+        Operand::Known(0x0001_0000),
+    )?;
+    put_loads_column(&mut code, &locations, 1, 1, field)?;
+    Ok(code)
+}
+
+// Values are stored from where they are, zero bytes of a known number from r1; and one or two bytes at a known address need no pointer.
+#[test]
+fn columns_are_stored(rt: HostRuntime) {
+    let alloc = rt.alloc();
+    let in_frame = stored(alloc, 2);
+    let expected_in_frame = [
+        0x81AE, 0x81BF, 0x50A0, 0x4FBF, // LDD r26, Y+6; LDD r27, Y+7; SUBI r26, 0; SBCI r27, 0xFF
+        0xE065, 0x936D, 0x921D, // LDI r22, 5; ST X+, r22; ST X+, r1
+        0x816E, 0x817F, 0x9360, 0x0104, 0x9370, 0x0105, // LDD r22, Y+6; LDD r23, Y+7; STS 0x104, r22; STS 0x105, r23
+        0xE0A4, 0xE0B1, 0xE081, // LDI r26, 4; LDI r27, 1; LDI r24, 1
+        0x921D, 0x921D, 0x938D, 0x921D, // ST X+, r1; ST X+, r1; ST X+, r24; ST X+, r1
+        0x9160, 0x0104, 0x836D, // LDS r22, 0x104; STD Y+5, r22
+    ];
+    let in_registers = stored(alloc, 0);
+    let expected_in_registers = [
+        0x01D1, 0x50A0, 0x4FBF, // MOVW r26, r2; SUBI r26, 0; SBCI r27, 0xFF
+        0xE065, 0x936D, 0x921D, // LDI r22, 5; ST X+, r22; ST X+, r1
+        0x9220, 0x0104, 0x9230, 0x0105, // STS 0x104, r2; STS 0x105, r3
+        0xE0A4, 0xE0B1, 0xE081, // LDI r26, 4; LDI r27, 1; LDI r24, 1
+        0x921D, 0x921D, 0x938D, 0x921D, // ST X+, r1; ST X+, r1; ST X+, r24; ST X+, r1
+        0x9040, 0x0104, // LDS r4, 0x104
+    ];
+    let holds = is_spelled(alloc, &in_frame, &expected_in_frame)
+        && is_spelled(alloc, &in_registers, &expected_in_registers);
+    assert!(rt; holds);
+}
+
+fn loaded_in_registers(alloc: Global) -> Result<Row<Instr>, NoMemory> {
+    let locations = sample_locations(alloc, 0)?;
+    let mut code = Row::new(alloc);
+    let column = Address {
+        base: 0x100,
+        index: Operand::Local(0),
+    };
+    let table = Address {
+        base: 0x8C,
+        index: Operand::Known(4),
+    };
+    put_loads_column(&mut code, &locations, 1, 1, column)?;
+    put_loads_table(&mut code, &locations, 2, 0, table)?;
+    put_reads_device(&mut code, &locations, 0, 0x36)?;
+    Ok(code)
+}
+
+// What is loaded or read comes into the registers of a local, and zeros come behind it where the local is wider.
+#[test]
+fn registers_are_loaded(rt: HostRuntime) {
+    let alloc = rt.alloc();
+    let code = loaded_in_registers(alloc);
+    let expected = [
+        0x01D1, 0x50A0, 0x4FBF, // MOVW r26, r2; SUBI r26, 0; SBCI r27, 0xFF
+        0x904D, // LD r4, X+
+        0xE9E0, 0xE0F0, 0x9025, 0x9035, // LDI r30, 0x90; LDI r31, 0; LPM r2, Z+; LPM r3, Z+
+        0xB226, 0x2C31, // IN r2, 0x16; MOV r3, r1
+    ];
+    let holds = is_spelled(alloc, &code, &expected);
+    assert!(rt; holds);
+}
+
+fn copied_to_the_frame(alloc: Global) -> Result<Row<Instr>, NoMemory> {
+    let locations = wide_locations(alloc)?;
+    let mut code = Row::new(alloc);
+    put_copies(&mut code, &locations, 5, Operand::Local(1))?;
+    Ok(code)
+}
+
+// Registers are stored where they are.
+#[test]
+fn registers_go_to_the_frame(rt: HostRuntime) {
+    let alloc = rt.alloc();
+    let code = copied_to_the_frame(alloc);
+    let expected = [0x8229, 0x823A]; // STD Y+1, r2; STD Y+2, r3
+    let holds = is_spelled(alloc, &code, &expected);
     assert!(rt; holds);
 }
 

@@ -2,9 +2,11 @@
 #![tactic(auto)]
 
 pub mod finding;
+pub mod homes;
 pub mod operands;
 pub mod registers;
 
 pub use finding::{found_in, put_finds};
-pub use operands::{put_brings, put_gives};
+pub use homes::{clear_home_of, home_of, made_in, put_settles};
+pub use operands::{put_brings, put_fetch, put_gives};
 pub use registers::least;

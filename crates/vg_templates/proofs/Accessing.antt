@@ -111,7 +111,7 @@ module _ (e : Run) (deep : Type 0) where
 
   -- ---- loads and stores
 
-  pub takes_loads : (b : Base) (q d w n j : ℕ) (v : View) → 18 ≤ d → d + n ≤ 28 → v.regs.of 1 ≡ 0
+  pub takes_loads : (b : Base) (q d w n j : ℕ) (v : View) → 2 ≤ d → d + n ≤ 28 → v.regs.of 1 ≡ 0
       → pair v.regs (low_of b) + q + length v.stack ≡ 0x1100 + j → j + w ≤ length v.stack
       → Takes e deep v (loads b q d w n) (λ u. u ≡ record v { regs = put_number v.regs d n (read v.stack j w) })
   takes_loads b q d zero n j v low top zero' there inside =

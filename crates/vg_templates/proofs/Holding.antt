@@ -18,7 +18,7 @@ use Rattle.vg_templates.specs.Transfers.{known, fetch, keep}
 use Rattle.vg_templates.specs.Transferred.{IsUsable, Fetched, Kept}
 use Rattle.vg_templates.specs.Held.{Held, IsReady, IsSet, brings, gives, Brought, Given}
 use Rattle.vg_templates.proofs.Composing.{takes_wider}
-use Rattle.vg_templates.proofs.Spotting.{takes_known, takes_fetch, takes_keep}
+use Rattle.vg_templates.proofs.Spotting.{takes_known, takes_fetch, takes_keep, takes_keep_frame}
 
 -- a spot of a layout can be used where its frame lies
 pub usable : (l : Layout) (s : Spot) (w : ℕ) (own under : List ℕ) (v : View) → IsSpot l s w → Points l own under v.regs → length own ≡ frame_size l
@@ -63,6 +63,66 @@ module _ (i : Places) (ok : (m : ℕ) → IsLayout (i.layouts m)) (m : ℕ) (fra
       agree r (inl h) = let top' = h.1 in f.others r (omega arith) (inl (omega arith))
       agree r (inr h) = let low' = h.0 in let top' = h.1 in f.others r (omega arith) (inr (omega arith))
 
+  -- a local has got a value at its spot
+  pub held_set : (live behind : ℕ → Bool) (s : State) (to x : ℕ) (v u : View) → IsSet (i.layouts m) live behind to → (k : Held i m live s frames v)
+      → Agree (registers_with ((i.layouts m).spots to) (width_of (i.layouts m) to) v.regs x) u.regs → u.regs.of 1 ≡ 0 → u.static ≡ v.static
+      → u.stack ≡ k.stacked.wait ++ (frame_with ((i.layouts m).spots to) (width_of (i.layouts m) to) k.stacked.own x ++ k.stacked.under)
+      → Held i m behind (sets to x s) frames u
+  held_set live behind s to x v u can k agree one static here =
+      let l = i.layouts m in
+      let t = k.stacked in
+      let w = width_of l to in
+      let spot = (ok m).spot to can.there in
+      let own' = frame_with (l.spots to) w t.own x in
+      let put = registers_with (l.spots to) w v.regs x in
+      let set : Stacked i m behind (sets to x s) frames (t.wait ++ (own' ++ t.under)) put =
+      record {
+        wait = t.wait;
+        own = own';
+        under = t.under;
+        cut = refl;
+        points = points_set l t.own t.under v.regs (l.spots to) w x spot t.points;
+        waits = t.waits;
+        fits = fits_set l live behind s.locals t.own v.regs to x (ok m) can.there can.others t.fits;
+        callers = callers_set i ok frames m t.own t.under v.regs (l.spots to) w x spot t.fits.long t.callers;
+      } in
+      record {
+        stacked =
+            subst (λ y. Stacked i m behind (sets to x s) frames y u.regs) (sym here)
+            (stacked_agree behind (sets to x s) (t.wait ++ (own' ++ t.under)) put u.regs agree set);
+        r1 = one;
+        ram = static ∙ k.ram;
+      }
+
+  -- a number went to a local
+  given_by : (live behind : ℕ → Bool) (s : State) (to x : ℕ) (v u : View) → IsSet (i.layouts m) live behind to → (k : Held i m live s frames v)
+      → Kept ((i.layouts m).spots to) (width_of (i.layouts m) to) x k.stacked.wait k.stacked.own k.stacked.under v u
+      → Given i m behind (sets to x s) frames v u
+  given_by live behind s to x v u can k kept =
+      let l = i.layouts m in
+      let w = width_of l to in
+      let spot = (ok m).spot to can.there in
+      record {
+        held =
+            held_set live behind s to x v u can k (λ d reliable. kept.registers d (below d reliable))
+            (kept.registers 1 (omega arith) ∙ one (l.spots to) w x spot ∙ k.r1) (ap (λ (y : View). y.static) kept.same)
+            (ap (λ (y : View). y.stack) kept.same);
+        scratch = λ d from below'. kept.registers d (omega arith) ∙ past (l.spots to) w x spot d from;
+        out = ap (λ (y : View). y.out) kept.same;
+      }
+    where
+      below : (d : ℕ) → IsReliable d → d < 30
+      below d (inl h) = let top' = h.1 in omega arith
+      below d (inr h) = h.1
+
+      past : (p : Spot) (w x : ℕ) → IsSpot (i.layouts m) p w → (d : ℕ) → 18 ≤ d → (registers_with p w v.regs x).of d ≡ v.regs.of d
+      past (InFrame at) w x h d from = refl
+      past (InRegisters f) w x h d from = let top' = h.1 in put_number-beside v.regs f w x d (inr (omega arith))
+
+      one : (p : Spot) (w x : ℕ) → IsSpot (i.layouts m) p w → (registers_with p w v.regs x).of 1 ≡ v.regs.of 1
+      one (InFrame at) w x h = refl
+      one (InRegisters f) w x h = let up = h.0 in put_number-beside v.regs f w x 1 (inl (omega arith))
+
   module _ (e : Run) (deep : Type 0) where
     -- an operand is read
     pub takes_brings : (live : ℕ → Bool) (s : State) (a : Operand) (d n x : ℕ) (v : View) → IsReady (i.layouts m) live a → value a s ≡ Some x
@@ -96,55 +156,22 @@ module _ (i : Places) (ok : (m : ℕ) → IsLayout (i.layouts m)) (m : ℕ) (fra
         let x = number v.regs r n in
         takes_wider e deep v (keep (l.spots to) (width_of l to) r n) (Kept (l.spots to) (width_of l to) x t.wait t.own t.under v)
         (Given i m behind (sets to x s) frames v)
-        (λ u kept. given u kept)
+        (λ u kept. given_by live behind s to x v u can k kept)
         (takes_keep e deep (l.spots to) (width_of l to) r n v t.wait t.own t.under t.cut
         (usable l (l.spots to) (width_of l to) t.own t.under v spot t.points t.fits.long) ((ok m).narrow to can.there) low top k.r1)
-      where
-        given : (u : View) → (let l = i.layouts m in
-            let t = k.stacked in
-            Kept (l.spots to) (width_of l to) (number v.regs r n) t.wait t.own t.under v u → Given i m behind (sets to (number v.regs r n) s) frames v u)
-        given u kept =
-            let l = i.layouts m in
-            let t = k.stacked in
-            let w = width_of l to in
-            let spot = (ok m).spot to can.there in
-            let x = number v.regs r n in
-            let own' = frame_with (l.spots to) w t.own x in
-            let put = registers_with (l.spots to) w v.regs x in
-            let set : Stacked i m behind (sets to x s) frames (t.wait ++ (own' ++ t.under)) put =
-            record {
-              wait = t.wait;
-              own = own';
-              under = t.under;
-              cut = refl;
-              points = points_set l t.own t.under v.regs (l.spots to) w x spot t.points;
-              waits = t.waits;
-              fits = fits_set l live behind s.locals t.own v.regs to x (ok m) can.there can.others t.fits;
-              callers = callers_set i ok frames m t.own t.under v.regs (l.spots to) w x spot t.fits.long t.callers;
-            } in
-            let here : u.stack ≡ t.wait ++ (own' ++ t.under) = ap (λ (y : View). y.stack) kept.same in
-            let agree : Agree put u.regs = λ d reliable. kept.registers d (below d reliable) in
-            record {
-              held =
-                  record {
-                    stacked =
-                        subst (λ y. Stacked i m behind (sets to x s) frames y u.regs) (sym here)
-                        (stacked_agree behind (sets to x s) (t.wait ++ (own' ++ t.under)) put u.regs agree set);
-                    r1 = kept.registers 1 (omega arith) ∙ one (l.spots to) w x spot ∙ k.r1;
-                    ram = ap (λ (y : View). y.static) kept.same ∙ k.ram;
-                  };
-              scratch = λ d from below'. kept.registers d (omega arith) ∙ past (l.spots to) w x spot d from;
-              out = ap (λ (y : View). y.out) kept.same;
-            }
-          where
-            below : (d : ℕ) → IsReliable d → d < 30
-            below d (inl h) = let top' = h.1 in omega arith
-            below d (inr h) = h.1
 
-            past : (p : Spot) (w x : ℕ) → IsSpot (i.layouts m) p w → (d : ℕ) → 18 ≤ d → (registers_with p w v.regs x).of d ≡ v.regs.of d
-            past (InFrame at) w x h d from = refl
-            past (InRegisters f) w x h d from = let top' = h.1 in put_number-beside v.regs f w x d (inr (omega arith))
-
-            one : (p : Spot) (w x : ℕ) → IsSpot (i.layouts m) p w → (registers_with p w v.regs x).of 1 ≡ v.regs.of 1
-            one (InFrame at) w x h = refl
-            one (InRegisters f) w x h = let up = h.0 in put_number-beside v.regs f w x 1 (inl (omega arith))
+    -- a local in the frame is set from any registers below Z
+    pub takes_gives_frame : (live behind : ℕ → Bool) (s : State) (to at r n : ℕ) (v : View) → IsSet (i.layouts m) live behind to
+        → (i.layouts m).spots to ≡ InFrame at → r + n ≤ 30 → Held i m live s frames v
+        → Takes e deep v (gives (i.layouts m) to r n) (Given i m behind (sets to (number v.regs r n) s) frames v)
+    takes_gives_frame live behind s to at r n v can is top k =
+        let l = i.layouts m in
+        let t = k.stacked in
+        let w = width_of l to in
+        let spot = (ok m).spot to can.there in
+        let x = number v.regs r n in
+        takes_wider e deep v (keep (l.spots to) w r n) (Kept (l.spots to) w x t.wait t.own t.under v) (Given i m behind (sets to x s) frames v)
+        (λ u kept. given_by live behind s to x v u can k kept)
+        (subst (λ p. Takes e deep v (keep p w r n) (Kept p w x t.wait t.own t.under v)) (sym is)
+        (takes_keep_frame e deep at w r n v t.wait t.own t.under t.cut
+        (subst (λ p. IsUsable p w t.own t.under v) is (usable l (l.spots to) w t.own t.under v spot t.points t.fits.long)) ((ok m).narrow to can.there) top k.r1))

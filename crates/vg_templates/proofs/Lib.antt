@@ -16,6 +16,7 @@ pub mod Moving
 pub mod Accessing
 pub mod Spotting
 pub mod Holding
+pub mod Settling
 pub mod Counting
 pub mod Bytes
 pub mod Finding

@@ -1,10 +1,10 @@
 -- Loads and stores by X.
 use Rattle.std.proofs.Common.{◌≡◌, ◌≢◌, ℕ, zero, suc, ◌+◌, ◌-◌, ◌*◌, ◌/◌, ◌%◌, ◌^◌, ◌<◌, ◌≤◌, ◌⊎◌, inl, inr, List, [], ◌∷◌, ◌++◌}
-use Rattle.std.proofs.Common.{Bool, true, false, ◌==◌, if◌then◌else◌}
+use Rattle.std.proofs.Common.{Bool, true, false, ◌==◌, nat_le, if◌then◌else◌}
 use Rattle.std.proofs.Common.{length, Option, Some, None, refl, sym, ap, ◌∙◌, subst, arith, slice_get, slice_index, slice_set}
 use Rattle.std.proofs.lemmas.List.{length-set}
 use Rattle.avr_instr.specs.declared.instr.Instr.{Instr}
-use Rattle.avr_instr.specs.declared.instr.Instr.TheVariants.{LdXPlus, Sbci, StXPlus, Subi}
+use Rattle.avr_instr.specs.declared.instr.Instr.TheVariants.{LdXPlus, Lds, Sbci, StXPlus, Sts, Subi}
 use Rattle.vg_lin.specs.declared.instr.Operand.{Operand}
 use Rattle.vg_lin.specs.declared.instr.Operand.TheVariants.{Local, Known}
 use Rattle.vg_lin.specs.Steps.{Frame}
@@ -13,7 +13,7 @@ use Rattle.avr_view.specs.Memory.{InStatic}
 use Rattle.avr_view.specs.Registers.{Regs, pair, put, put_next, does_all}
 use Rattle.avr_view.specs.Run.{Run}
 use Rattle.avr_view.specs.View.{View}
-use Rattle.avr_view.proofs.MemorySteps.{goes_ldx_after, goes_stx_after}
+use Rattle.avr_view.proofs.MemorySteps.{goes_lds, goes_ldx_after, goes_sts, goes_stx_after}
 use Rattle.vg_templates.specs.Spots.{number, read, written}
 use Rattle.vg_templates.specs.Layouts.{IsLayout, IsReliable}
 use Rattle.vg_templates.specs.Frames.{Places}
@@ -22,9 +22,11 @@ use Rattle.vg_templates.proofs.Numbers.{cut, put_other, put_same}
 use Rattle.vg_templates.specs.Pieces.{Takes}
 use Rattle.vg_templates.specs.Transfers.{known}
 use Rattle.vg_templates.specs.Transferred.{Fetched}
-use Rattle.vg_templates.specs.Held.{Held, IsReady, IsSet, brings, gives, Brought, Given}
+use Rattle.vg_templates.specs.Held.{Held, IsReady, IsSet, brings, Brought}
+use Rattle.vg_templates.specs.Homes.{home_of, made_in, settles, IsHome}
 use Rattle.vg_templates.proofs.Composing.{takes_none, takes_then, takes_next, takes_wider, takes_bytes, takes_plain}
-use Rattle.vg_templates.proofs.Holding.{held_scratch, takes_brings, takes_gives}
+use Rattle.vg_templates.proofs.Holding.{held_scratch, takes_brings}
+use Rattle.vg_templates.proofs.Settling.{home_is, made_low, takes_settles}
 use Rattle.vg_templates.proofs.Accessing.{written_digits}
 use Rattle.vg_templates.proofs.Spotting.{takes_known}
 use Rattle.vg_templates.specs.Numbers.{number_in, AreBeside}
@@ -32,7 +34,7 @@ use Rattle.vg_templates.specs.Operands.{finds, found_in}
 use Rattle.vg_templates.specs.Outcomes.{Found, Lies, IsKept}
 use Rattle.vg_templates.proofs.Finding.{found-length, found-beside, takes_finds}
 use Rattle.vg_templates.proofs.Storing.{held_fewer}
-use Rattle.vg_templates.specs.Accesses.{plus_base, points_x, loads_x, stores_x, loads_column, stores_column}
+use Rattle.vg_templates.specs.Accesses.{plus_base, points_x, loads_x, stores_x, loads_at, stores_at, points_by, loads_by, stores_by, loads_column, stores_column}
 
 -- registers that X and a block may have changed; all others are as they were
 abbrev Outside : (d n x : ℕ) → Type 0
@@ -152,6 +154,60 @@ module _ (e : Run) (deep : Type 0) where
             ∙ ap (λ z. record v { regs = t.regs; static = z }) (written_digits v.static j n b value (bytes r here.1));
       })
       (takes_stores_x rs (suc j) u more pointer (omega (arith, long)) (omega (arith, long)))))
+
+-- at addresses that the instructions have
+module _ (e : Run) (deep : Type 0) where
+  takes_loads_at : (d n j a : ℕ) (v : View) → d + n ≤ 26 → a ≡ 0x100 + j → j + n ≤ length v.static → length v.static ≤ 4096
+      → Takes e deep v (loads_at d n a) (Loaded d n (read v.static j n) v)
+  takes_loads_at d zero j a v top at inside size = takes_none e deep v (Loaded d 0 0 v) (record { others = λ x h. refl; holds = refl; same = refl })
+  takes_loads_at d (suc n) j a v top at inside size =
+      let b = slice_index v.static j in
+      let u : View = record v { regs = put v.regs d b } in
+      let rest = loads_at (suc d) n (suc a) in
+      let goal = Loaded d (suc n) (b + 256 * read v.static (suc j) n) v in
+      let low : a % 65536 ≡ 0x100 + j = omega (arith, at, inside, size) in
+      takes_next e deep v u (Lds d (a % 65536)) rest goal
+      (λ pc s stand room k. goes_lds e deep pc v s k d (a % 65536) (InStatic j) stand room (omega (arith, inside), low))
+      (takes_wider e deep u rest (Loaded (suc d) n (read v.static (suc j) n) u) goal
+      (λ t k.
+      let first : t.regs.of d ≡ b = k.others d (inl (omega arith), inl (omega arith)) ∙ put_same v.regs d b in
+      let more = k.holds in
+      record {
+        others = λ x h. k.others x (h.0, wider d n x h.1) ∙ put_other v.regs d b x (not_d d n x h.1);
+        holds = omega (arith, first, more);
+        same = k.same;
+      })
+      (takes_loads_at (suc d) n (suc j) (suc a) u (omega arith) (omega (arith, at)) (omega (arith, inside)) size))
+    where
+      wider : (d n x : ℕ) → (x < d) ⊎ (d + suc n ≤ x) → (x < suc d) ⊎ (suc d + n ≤ x)
+      wider d n x (inl h) = inl (omega arith)
+      wider d n x (inr h) = inr (omega arith)
+
+      not_d : (d n x : ℕ) → (x < d) ⊎ (d + suc n ≤ x) → x ≢ d
+      not_d d n x (inl h) = omega arith
+      not_d d n x (inr h) = omega arith
+
+  takes_stores_at : (rs : List ℕ) (j a : ℕ) (v : View) → AreBeside 26 28 rs → a ≡ 0x100 + j → j + length rs ≤ length v.static
+      → length v.static ≤ 4096 → Takes e deep v (stores_at rs a) (Stored rs j v)
+  takes_stores_at [] j a v beside at inside size = takes_none e deep v (Stored [] j v) (record { others = λ x h. refl; same = refl })
+  takes_stores_at (r ∷ rs) j a v (here, more) at inside size =
+      let b = v.regs.of r in
+      let u : View = record v { static = slice_set v.static j b } in
+      let rest = stores_at rs (suc a) in
+      let n = length rs in
+      let value = number_in v.regs rs in
+      let goal = Stored (r ∷ rs) j v in
+      let long = length-set v.static j b in
+      let low : a % 65536 ≡ 0x100 + j = omega (arith, at, inside, size) in
+      takes_bytes e deep v (Sts (a % 65536) r ∷ rest) goal
+      (λ bytes. takes_next e deep v u (Sts (a % 65536) r) rest goal
+      (λ pc s stand room k. goes_sts e deep pc v s k (a % 65536) r (InStatic j) stand room (omega (arith, inside), low))
+      (takes_wider e deep u rest (Stored rs (suc j) u) goal
+      (λ t k. record {
+        others = k.others;
+        same = k.same ∙ ap (λ z. record v { regs = t.regs; static = z }) (written_digits v.static j n b value (bytes r here.1));
+      })
+      (takes_stores_at rs (suc j) (suc a) u more (omega (arith, at)) (omega (arith, inside, long)) (omega (arith, size, long)))))
 
 -- what linear code reads of the columns is there
 some_same : (x y : ℕ) → Some x ≡ Some y → x ≡ y
@@ -295,17 +351,41 @@ module _ (i : Places) (ok : (m : ℕ) → IsLayout (i.layouts m)) (m : ℕ) (fra
 
   -- ---- a load
 
-  pub takes_loads_column : (live behind : ℕ → Bool) (s : State) (w to base : ℕ) (index : Operand) (x z : ℕ) (v : View) → 0 < w → w ≤ 4
-      → 0x100 ≤ base + x → IsReady (i.layouts m) live index → IsSet (i.layouts m) live behind to → value index s ≡ Some x
+  -- what was loaded goes to its local
+  takes_loaded : (live behind : ℕ → Bool) (s : State) (w to z : ℕ) (h : Option ℕ) (v u t : View) → w ≤ 4 → IsSet (i.layouts m) live behind to
+      → IsHome (i.layouts m) to w h → Held i m live s frames u → Loaded (made_in h) w z u t → u.out ≡ v.out
+      → Takes e deep t (settles (i.layouts m) to h w) (Lies i m behind (sets to z s) frames v.out)
+  takes_loaded live behind s w to z h v u t small can is k d out =
+      takes_wider e deep t (settles (i.layouts m) to h w) (Lies i m behind (sets to z s) frames t.out) (Lies i m behind (sets to z s) frames v.out)
+      (λ q g. record { held = g.held; out = g.out ∙ ap (λ (y : View). y.out) d.same ∙ out })
+      (takes_settles i ok m frames e deep live behind s to w z h u t can is small k
+      (record {
+        others = λ r kind beside. d.others r (beside_x r kind, beside);
+        holds = d.holds;
+        stack = ap (λ (y : View). y.stack) d.same;
+        static = ap (λ (y : View). y.static) d.same;
+      }))
+    where
+      beside_x : (r : ℕ) → (r ≡ 1) ⊎ IsReliable r → (r < 26) ⊎ (28 ≤ r)
+      beside_x r (inl one) = inl (omega arith)
+      beside_x r (inr (inl k')) = let up = k'.1 in inl (omega arith)
+      beside_x r (inr (inr k')) = inr k'.0
+
+  takes_loads_far : (live behind : ℕ → Bool) (s : State) (w to base : ℕ) (index : Operand) (x z : ℕ) (v : View) → 0 < w → w ≤ 4 → 0x100 ≤ base + x
+      → IsReady (i.layouts m) live index → IsSet (i.layouts m) live behind to → value index s ≡ Some x
       → number_at s.ram w (base + x - 0x100) ≡ Some z → Held i m live s frames v
-      → Takes e deep v (loads_column (i.layouts m) w to base index) (Lies i m behind (sets to z s) frames v.out)
-  takes_loads_column live behind s w to base index x z v wide small high ready can got loaded k =
+      → (let h = home_of (i.layouts m) to w in
+      Takes e deep v (points_x (i.layouts m) base index ++ (loads_x (made_in h) w ++ settles (i.layouts m) to h w)) (Lies i m behind (sets to z s) frames v.out))
+  takes_loads_far live behind s w to base index x z v wide small high ready can got loaded k =
       let l = i.layouts m in
       let is = points_x l base index in
-      let js = loads_x 22 w ++ gives l to 22 w in
+      let h = home_of l to w in
+      let d = made_in h in
+      let js = loads_x d w ++ settles l to h w in
       let at = base + x - 0x100 in
       let there = some_there s.ram w at z wide loaded in
       let inside = there.inside in
+      let low = made_low l (ok m) to w h can.there small (home_is l to w) in
       let goal = Lies i m behind (sets to z s) frames v.out in
       takes_size v (is ++ js) goal
       (λ size.
@@ -316,28 +396,79 @@ module _ (i : Places) (ok : (m : ℕ) → IsLayout (i.layouts m)) (m : ℕ) (fra
       let ram_is : u.static ≡ s.ram = p.held.ram in
       let same_length : length u.static ≡ length s.ram = ap length ram_is in
       let pointer = p.pointer in
-      takes_then e deep u (loads_x 22 w) (gives l to 22 w) (Loaded 22 w (read u.static at w) u) goal
-      (takes_loads_x e deep 22 w at u (omega arith) (omega (arith, pointer, high)) (omega (arith, same_length, inside)) (omega (arith, same_length, size, length_is)))
-      (λ t d.
-      let held : Held i m live s frames t =
-      by_x live s u t (λ r low. d.others r (inl (omega arith), inl (omega arith))) (λ r low top. d.others r (inr low, inr (omega arith))) d.same p.held in
-      let number_is : number t.regs 22 w ≡ z = d.holds ∙ ap (λ q. read q at w) ram_is ∙ there.value in
-      takes_wider e deep t (gives l to 22 w) (Given i m behind (sets to (number t.regs 22 w) s) frames t) goal
-      (λ q g. record {
-        held = subst (λ y. Held i m behind (sets to y s) frames q) number_is g.held;
-        out = g.out ∙ ap (λ (y : View). y.out) d.same ∙ ap (λ (y : View). y.out) p.same;
-      })
-      (takes_gives i ok m frames e deep live behind s to 22 w t can (omega arith) (omega arith) held))))
+      let value_is : read u.static at w ≡ z = ap (λ q. read q at w) ram_is ∙ there.value in
+      takes_then e deep u (loads_x d w) (settles l to h w) (Loaded d w (read u.static at w) u) goal
+      (takes_loads_x e deep d w at u low (omega (arith, pointer, high)) (omega (arith, same_length, inside)) (omega (arith, same_length, size, length_is)))
+      (λ t got'. takes_loaded live behind s w to z h v u t small can (home_is l to w) p.held (subst (λ y. Loaded d w y u t) value_is got')
+      (ap (λ (y : View). y.out) p.same))))
+
+  takes_loads_near : (live behind : ℕ → Bool) (s : State) (w to a x z : ℕ) (v : View) → 0 < w → w ≤ 4 → 0x100 ≤ x → IsSet (i.layouts m) live behind to
+      → a ≡ x → number_at s.ram w (x - 0x100) ≡ Some z → Held i m live s frames v
+      → (let h = home_of (i.layouts m) to w in
+      Takes e deep v (loads_at (made_in h) w a ++ settles (i.layouts m) to h w) (Lies i m behind (sets to z s) frames v.out))
+  takes_loads_near live behind s w to a x z v wide small high can same loaded k =
+      let l = i.layouts m in
+      let h = home_of l to w in
+      let d = made_in h in
+      let is = loads_at d w a in
+      let js = settles l to h w in
+      let at = x - 0x100 in
+      let there = some_there s.ram w at z wide loaded in
+      let inside = there.inside in
+      let low = made_low l (ok m) to w h can.there small (home_is l to w) in
+      let goal = Lies i m behind (sets to z s) frames v.out in
+      takes_size v (is ++ js) goal
+      (λ size.
+      let length_is : length v.static ≡ length s.ram = ap length k.ram in
+      let value_is : read v.static at w ≡ z = ap (λ q. read q at w) k.ram ∙ there.value in
+      takes_then e deep v is js (Loaded d w (read v.static at w) v) goal
+      (takes_loads_at e deep d w at a v low (omega (arith, same, high)) (omega (arith, length_is, inside)) size)
+      (λ t got'. takes_loaded live behind s w to z h v v t small can (home_is l to w) k (subst (λ y. Loaded d w y v t) value_is got') refl))
+
+  pub takes_loads_column : (live behind : ℕ → Bool) (s : State) (w to base : ℕ) (index : Operand) (x z : ℕ) (v : View) → 0 < w → w ≤ 4
+      → 0x100 ≤ base + x → IsReady (i.layouts m) live index → IsSet (i.layouts m) live behind to → value index s ≡ Some x
+      → number_at s.ram w (base + x - 0x100) ≡ Some z → Held i m live s frames v
+      → Takes e deep v (loads_column (i.layouts m) w to base index) (Lies i m behind (sets to z s) frames v.out)
+  takes_loads_column live behind s w to base (Local j) x z v wide small high ready can got loaded k =
+      takes_loads_far live behind s w to base (Local j) x z v wide small high ready can got loaded k
+  takes_loads_column live behind s w to base (Known y) x z v wide small high ready can got loaded k = by_near (nat_le w 2)
+    where
+      by_near : (b : Bool)
+          → (let h = home_of (i.layouts m) to w in
+          Takes e deep v (points_by b (i.layouts m) base (Known y) ++ (loads_by b (made_in h) w (base + y) ++ settles (i.layouts m) to h w))
+          (Lies i m behind (sets to z s) frames v.out))
+      by_near false = takes_loads_far live behind s w to base (Known y) x z v wide small high ready can got loaded k
+      by_near true =
+          takes_loads_near live behind s w to (base + y) (base + x) z v wide small high can (ap (λ n. base + n) (some_same y x got)) loaded k
 
   -- ---- a store
 
-  -- what a store by X makes of the view
-  pub takes_stores_column : (live behind : ℕ → Bool) (s : State) (w base : ℕ) (index from : Operand) (x y : ℕ) (v : View) → w ≤ 4
+  -- what a store makes of the view
+  stored_lies : (live behind : ℕ → Bool) (s : State) (w at y : ℕ) (rs : List ℕ) (v t q : View) → IsKept live behind → length rs ≡ w
+      → number_in t.regs rs ≡ y % 256 ^ w → t.out ≡ v.out → Held i m live s frames t → Stored rs at t q
+      → Lies i m behind (record s { ram = with_number s.ram w at y }) frames v.out q
+  stored_lies live behind s w at y rs v t q kept long holds out k d =
+      let ram' = with_number s.ram w at y in
+      let static_is : written t.static at (length rs) (number_in t.regs rs) ≡ ram' =
+      ap (λ z. written z at (length rs) (number_in t.regs rs)) k.ram ∙ ap (λ n. written s.ram at n (number_in t.regs rs)) long
+      ∙ ap (written s.ram at w) holds ∙ written_cut s.ram at w y ∙ same_writing s.ram w at y in
+      let first : Held i m live s frames (record t { regs = q.regs }) =
+      by_x live s t (record t { regs = q.regs }) (λ r low. d.others r (inl (omega arith))) (λ r low top. d.others r (inr low)) refl k in
+      let made : Held i m live (record s { ram = ram' }) frames (record t { regs = q.regs; static = ram' }) =
+      held_ram live s ram' (record t { regs = q.regs }) first in
+      let shape : q ≡ record t { regs = q.regs; static = ram' } = d.same ∙ ap (λ z. record t { regs = q.regs; static = z }) static_is in
+      record {
+        held = held_fewer i m live behind (record s { ram = ram' }) frames q kept (subst (Held i m live (record s { ram = ram' }) frames) (sym shape) made);
+        out = ap (λ (z : View). z.out) shape ∙ out;
+      }
+
+  takes_stores_far : (live behind : ℕ → Bool) (s : State) (w base : ℕ) (index from : Operand) (x y : ℕ) (v : View) → w ≤ 4
       → 0x100 ≤ base + x → base + x - 0x100 + w ≤ length s.ram → IsReady (i.layouts m) live index → IsReady (i.layouts m) live from → IsKept live behind
       → value index s ≡ Some x → value from s ≡ Some y → Held i m live s frames v
-      → Takes e deep v (stores_column (i.layouts m) w base index from)
-      (Lies i m behind (record s { ram = with_number s.ram w (base + x - 0x100) y }) frames v.out)
-  takes_stores_column live behind s w base index from x y v small high inside ready ready' kept got got' k =
+      → (let l = i.layouts m in
+      Takes e deep v (points_x l base index ++ (finds l from 22 w ++ stores_x (found_in l from 22 w)))
+      (Lies i m behind (record s { ram = with_number s.ram w (base + x - 0x100) y }) frames v.out))
+  takes_stores_far live behind s w base index from x y v small high inside ready ready' kept got got' k =
       let l = i.layouts m in
       let is = points_x l base index in
       let rs = found_in l from 22 w in
@@ -345,8 +476,7 @@ module _ (i : Places) (ok : (m : ℕ) → IsLayout (i.layouts m)) (m : ℕ) (fra
       let long = found-length l from 22 w in
       let beside = found-beside l (ok m) live from 22 w 26 28 ready' (omega arith) (omega (arith, small)) (omega arith) in
       let at = base + x - 0x100 in
-      let ram' = with_number s.ram w at y in
-      let goal = Lies i m behind (record s { ram = ram' }) frames v.out in
+      let goal = Lies i m behind (record s { ram = with_number s.ram w at y }) frames v.out in
       takes_size v (is ++ js) goal
       (λ size.
       let length_is : length v.static ≡ length s.ram = ap length k.ram in
@@ -355,24 +485,54 @@ module _ (i : Places) (ok : (m : ℕ) → IsLayout (i.layouts m)) (m : ℕ) (fra
       (λ u p. takes_then e deep u (finds l from 22 w) (stores_x rs) (Found i m live s frames 22 w y rs u) goal
       (takes_finds i ok m frames e deep live s from 22 w y u ready' got' (omega arith) (omega arith) p.held)
       (λ t b.
-      let ram_is : t.static ≡ s.ram = b.held.ram in
-      let same_length : length t.static ≡ length s.ram = ap length ram_is in
+      let same_length : length t.static ≡ length s.ram = ap length b.held.ram in
       let pointer = p.pointer in
       let x_low = b.others 26 (omega arith) (inr (omega arith)) in
       let x_high = b.others 27 (omega arith) (inr (omega arith)) in
       takes_wider e deep t (stores_x rs) (Stored rs at t) goal
-      (λ q d.
-      let static_is : written t.static at (length rs) (number_in t.regs rs) ≡ ram' =
-      ap (λ z. written z at (length rs) (number_in t.regs rs)) ram_is ∙ ap (λ n. written s.ram at n (number_in t.regs rs)) long
-      ∙ ap (written s.ram at w) b.holds ∙ written_cut s.ram at w y ∙ same_writing s.ram w at y in
-      let first : Held i m live s frames (record t { regs = q.regs }) =
-      by_x live s t (record t { regs = q.regs }) (λ r low. d.others r (inl (omega arith))) (λ r low top. d.others r (inr low)) refl b.held in
-      let made : Held i m live (record s { ram = ram' }) frames (record t { regs = q.regs; static = ram' }) =
-      held_ram live s ram' (record t { regs = q.regs }) first in
-      let shape : q ≡ record t { regs = q.regs; static = ram' } = d.same ∙ ap (λ z. record t { regs = q.regs; static = z }) static_is in
-      record {
-        held = held_fewer i m live behind (record s { ram = ram' }) frames q kept (subst (Held i m live (record s { ram = ram' }) frames) (sym shape) made);
-        out = ap (λ (z : View). z.out) shape ∙ ap (λ (z : View). z.out) b.same ∙ ap (λ (z : View). z.out) p.same;
-      })
+      (λ q d. stored_lies live behind s w at y rs v t q kept long b.holds (ap (λ (z : View). z.out) b.same ∙ ap (λ (z : View). z.out) p.same) b.held d)
       (takes_stores_x e deep rs at t beside (omega (arith, pointer, high, x_low, x_high)) (omega (arith, same_length, inside, long))
       (omega (arith, same_length, size, length_is))))))
+
+  takes_stores_near : (live behind : ℕ → Bool) (s : State) (w a : ℕ) (from : Operand) (x y : ℕ) (v : View) → w ≤ 4 → 0x100 ≤ x
+      → x - 0x100 + w ≤ length s.ram → IsReady (i.layouts m) live from → IsKept live behind → a ≡ x → value from s ≡ Some y → Held i m live s frames v
+      → (let l = i.layouts m in
+      Takes e deep v (finds l from 22 w ++ stores_at (found_in l from 22 w) a)
+      (Lies i m behind (record s { ram = with_number s.ram w (x - 0x100) y }) frames v.out))
+  takes_stores_near live behind s w a from x y v small high inside ready' kept same got' k =
+      let l = i.layouts m in
+      let is = finds l from 22 w in
+      let rs = found_in l from 22 w in
+      let js = stores_at rs a in
+      let long = found-length l from 22 w in
+      let beside = found-beside l (ok m) live from 22 w 26 28 ready' (omega arith) (omega (arith, small)) (omega arith) in
+      let at = x - 0x100 in
+      let goal = Lies i m behind (record s { ram = with_number s.ram w at y }) frames v.out in
+      takes_size v (is ++ js) goal
+      (λ size.
+      let length_is : length v.static ≡ length s.ram = ap length k.ram in
+      takes_then e deep v is js (Found i m live s frames 22 w y rs v) goal
+      (takes_finds i ok m frames e deep live s from 22 w y v ready' got' (omega arith) (omega arith) k)
+      (λ t b.
+      let same_length : length t.static ≡ length s.ram = ap length b.held.ram in
+      takes_wider e deep t js (Stored rs at t) goal
+      (λ q d. stored_lies live behind s w at y rs v t q kept long b.holds (ap (λ (z : View). z.out) b.same) b.held d)
+      (takes_stores_at e deep rs at a t beside (omega (arith, same, high)) (omega (arith, same_length, inside, long))
+      (omega (arith, same_length, size, length_is)))))
+
+  pub takes_stores_column : (live behind : ℕ → Bool) (s : State) (w base : ℕ) (index from : Operand) (x y : ℕ) (v : View) → w ≤ 4
+      → 0x100 ≤ base + x → base + x - 0x100 + w ≤ length s.ram → IsReady (i.layouts m) live index → IsReady (i.layouts m) live from → IsKept live behind
+      → value index s ≡ Some x → value from s ≡ Some y → Held i m live s frames v
+      → Takes e deep v (stores_column (i.layouts m) w base index from)
+      (Lies i m behind (record s { ram = with_number s.ram w (base + x - 0x100) y }) frames v.out)
+  takes_stores_column live behind s w base (Local j) from x y v small high inside ready ready' kept got got' k =
+      takes_stores_far live behind s w base (Local j) from x y v small high inside ready ready' kept got got' k
+  takes_stores_column live behind s w base (Known n) from x y v small high inside ready ready' kept got got' k = by_near (nat_le w 2)
+    where
+      by_near : (b : Bool)
+          → (let l = i.layouts m in
+          Takes e deep v (points_by b l base (Known n) ++ (finds l from 22 w ++ stores_by b (found_in l from 22 w) (base + n)))
+          (Lies i m behind (record s { ram = with_number s.ram w (base + x - 0x100) y }) frames v.out))
+      by_near false = takes_stores_far live behind s w base (Known n) from x y v small high inside ready ready' kept got got' k
+      by_near true =
+          takes_stores_near live behind s w (base + n) from (base + x) y v small high inside ready' kept (ap (λ z. base + z) (some_same n x got)) got' k

@@ -1,6 +1,6 @@
 -- Each instruction of a template has its operands in range.
 use Rattle.std.proofs.Common.{◌≡◌, ℕ, zero, suc, ◌+◌, ◌-◌, ◌/◌, ◌%◌, ◌<◌, ◌≤◌, inl, inr, Bool, true, false, ◌&&◌, ◌==◌, nat_le, nat_lt}
-use Rattle.std.proofs.Common.{List, [], ◌∷◌, ◌++◌, length, refl, arith, if◌then◌else◌}
+use Rattle.std.proofs.Common.{List, [], ◌∷◌, ◌++◌, length, refl, subst, arith, if◌then◌else◌, Option, Some, None}
 use Rattle.std.specs.List.{AllByRecursion}
 use Rattle.avr_instr.specs.declared.instr.Instr.{Instr}
 use Rattle.avr_instr.specs.declared.instr.Instr.TheVariants.{In, Ldi, Lds, Mov, Movw, Out, Push, Sbci, Sts, Subi}
@@ -19,13 +19,15 @@ use Rattle.vg_templates.specs.Layouts.{Layout, IsLayout, IsSpot, width_of}
 use Rattle.vg_templates.specs.Linkage.{pushes}
 use Rattle.vg_templates.specs.Transfers.{clears, known, moves_two, moves, loads, stores, reach, reach_by, fetch, keep}
 use Rattle.vg_templates.specs.Held.{IsReady, IsSet, brings, gives}
+use Rattle.vg_templates.specs.Homes.{home_of, made_in, settles, IsHome, clear_home}
+use Rattle.vg_templates.proofs.Settling.{home_is, clear_is, made_low}
 use Rattle.vg_templates.specs.Numbers.{AreBeside, AreRegisters}
 use Rattle.vg_templates.specs.Chains.{adds_on, adds, subtracts_on, subtracts, takes_known_on, takes_known, ands, ors, eors}
 use Rattle.vg_templates.specs.Operands.{least, known_bytes, finds_spot, finds, found_in}
-use Rattle.vg_templates.specs.Plain.{copies_low, copies_whole, bytes_in, copies, first_of, operates, works}
+use Rattle.vg_templates.specs.Plain.{copies_low, copies_whole, bytes_in, copies_through, copies_local, copies, first_of, operates, works}
 use Rattle.vg_templates.proofs.Bytes.{least_is, bytes_in_few}
 use Rattle.vg_templates.proofs.Finding.{beside_registers, found-length, found-beside}
-use Rattle.vg_templates.specs.Accesses.{plus_base, points_x, loads_x, stores_x}
+use Rattle.vg_templates.specs.Accesses.{plus_base, points_x, loads_x, stores_x, is_near, address_of, loads_at, stores_at, points_by, loads_by, stores_by}
 use Rattle.vg_templates.specs.Straight.{plain_code, IsCovered}
 
 abbrev Fine : List Instr → Type 0
@@ -105,6 +107,13 @@ module _ (l : Layout) (ok : IsLayout l) where
 
   gives-fine : (live behind : ℕ → Bool) (to r n : ℕ) → IsSet l live behind to → r + n ≤ 32 → Fine (gives l to r n)
   gives-fine live behind to r n can h = keep-fine (l.spots to) (width_of l to) r n (ok.spot to can.there) (ok.narrow to can.there) h
+
+  settles-fine : (live behind : ℕ → Bool) (to n : ℕ) (h : Option ℕ) → IsSet l live behind to → IsHome l to n h → n ≤ 4 → Fine (settles l to h n)
+  settles-fine live behind to n None can is few = gives-fine live behind to 22 n can (omega arith)
+  settles-fine live behind to n (Some r) can is few =
+      let inside = (subst (λ p. IsSpot l p (width_of l to)) is.0 (ok.spot to can.there)).1 in
+      let less = is.1 in
+      clears-fine (r + n) (width_of l to - n) (omega arith)
 
   bytes_fine : (b : Bool) (d x : ℕ) (is : List Instr) → 16 ≤ d → d < 32 → x < 256 → Fine is → Fine ((if b then [] else Ldi d x ∷ []) ++ is)
   bytes_fine true d x is p q h k = k
@@ -194,6 +203,22 @@ stores_x-fine [] k = tt
 stores_x-fine (r ∷ rs) ((inl low, chip), more) = ((chip, omega (arith, low), omega (arith, low)), stores_x-fine rs more)
 stores_x-fine (r ∷ rs) ((inr high, chip), more) = ((chip, omega (arith, high), omega (arith, high)), stores_x-fine rs more)
 
+loads_at-fine : (d n a : ℕ) → d + n ≤ 32 → Fine (loads_at d n a)
+loads_at-fine d zero a h = tt
+loads_at-fine d (suc n) a h = ((omega arith, omega arith), loads_at-fine (suc d) n (suc a) (omega arith))
+
+stores_at-fine : (rs : List ℕ) (a : ℕ) → AreBeside 26 28 rs → Fine (stores_at rs a)
+stores_at-fine [] a k = tt
+stores_at-fine (r ∷ rs) a ((beside, chip), more) = ((omega arith, chip), stores_at-fine rs (suc a) more)
+
+loads_by-fine : (near : Bool) (d n a : ℕ) → d + n ≤ 26 → Fine (loads_by near d n a)
+loads_by-fine true d n a h = loads_at-fine d n a (omega arith)
+loads_by-fine false d n a h = loads_x-fine d n h
+
+stores_by-fine : (near : Bool) (rs : List ℕ) (a : ℕ) → AreBeside 26 28 rs → Fine (stores_by near rs a)
+stores_by-fine true rs a k = stores_at-fine rs a k
+stores_by-fine false rs a k = stores_x-fine rs k
+
 device_word : (address : ℕ) → IsDeviceAddress address → address < 65536
 device_word address d = let small = d.below in omega arith
 
@@ -241,8 +266,26 @@ module _ (l : Layout) (ok : IsLayout l) (live behind : ℕ → Bool) where
   copies_whole-fine : (to : ℕ) (a : Operand) → IsReady l live a → IsSet l live behind to → Fine (copies_whole l to a)
   copies_whole-fine to a ready can = copies_low-fine to a (width_of l to) ready can (ok.narrow to can.there)
 
+  copies_through-fine : (to k : ℕ) → IsReady l live (Local k) → IsSet l live behind to → Fine (copies_through l to k)
+  copies_through-fine to k ready can =
+      let w = width_of l to in
+      let small = ok.narrow to can.there in
+      let h = clear_home (l.spots k) (width_of l k) w (home_of l to w) in
+      let is = clear_is l to w (l.spots k) (width_of l k) w (home_of l to w) (home_is l to w) in
+      let low = made_low l ok to w h can.there small is in
+      fine_append (brings l (Local k) (made_in h) w) (settles l to h w)
+      (fetch-fine l ok (l.spots k) (width_of l k) (made_in h) w (ok.spot k ready.0) (ok.narrow k ready.0) (omega (arith, low)))
+      (settles-fine l ok live behind to w h can is small)
+
+  copies_local-fine : (to k : ℕ) (s t : Spot) → IsSpot l t (width_of l k) → IsReady l live (Local k) → IsSet l live behind to
+      → Fine (copies_local s t l to k)
+  copies_local-fine to k (InFrame at) (InRegisters f) spot ready can =
+      let inside = spot.1 in gives-fine l ok live behind to f (width_of l k) can (omega arith)
+  copies_local-fine to k (InFrame at) (InFrame p) spot ready can = copies_through-fine to k ready can
+  copies_local-fine to k (InRegisters r) t spot ready can = copies_through-fine to k ready can
+
   copies-fine : (to : ℕ) (a : Operand) → IsReady l live a → IsSet l live behind to → Fine (copies l to a)
-  copies-fine to (Local k) ready can = copies_whole-fine to (Local k) ready can
+  copies-fine to (Local k) ready can = copies_local-fine to k (l.spots to) (l.spots k) (ok.spot k ready.0) ready can
   copies-fine to (Known v) ready can =
       let small = ok.narrow to can.there in
       let few = bytes_in_few (width_of l to) v in
@@ -262,6 +305,10 @@ module _ (l : Layout) (ok : IsLayout l) (live behind : ℕ → Bool) where
   points-fine base (Local j) ready =
       fine_append (brings l (Local j) 26 2) (plus_base 26 base) (brings-fine l ok live (Local j) 26 2 ready (omega arith) (omega arith)) (base-fine base)
 
+  points_by-fine : (near : Bool) (base : ℕ) (a : Operand) → IsReady l live a → Fine (points_by near l base a)
+  points_by-fine true base a ready = tt
+  points_by-fine false base a ready = points-fine base a ready
+
   pub plain_code-fine : (codes : ℕ → ℕ) (q : Plain) → IsCovered l live behind q → Fine (plain_code l codes q)
   plain_code-fine codes (Copy to a) can = copies-fine to a can.0 can.1
   plain_code-fine codes (CodeOf q to) can = copies_whole-fine to (Known (codes q)) tt can
@@ -275,18 +322,30 @@ module _ (l : Layout) (ok : IsLayout l) (live behind : ℕ → Bool) where
       (gives-fine l ok live behind c.to 22 n can.1.1 (omega (arith, small))))
   plain_code-fine codes (Load Ram w to a) can =
       let small = can.0.1 in
-      fine_append (points_x l a.base a.index) (loads_x 22 w ++ gives l to 22 w) (points-fine a.base a.index can.1.0)
-      (fine_append (loads_x 22 w) (gives l to 22 w) (loads_x-fine 22 w (omega (arith, small))) (gives-fine l ok live behind to 22 w can.1.1 (omega (arith, small))))
+      let near = is_near w a.index in
+      let h = home_of l to w in
+      let d = made_in h in
+      let loaded = loads_by near d w (address_of a.base a.index) in
+      fine_append (points_by near l a.base a.index) (loaded ++ settles l to h w) (points_by-fine near a.base a.index can.1.0)
+      (fine_append loaded (settles l to h w)
+      (loads_by-fine near d w (address_of a.base a.index) (made_low l ok to w h can.1.1.there small (home_is l to w)))
+      (settles-fine l ok live behind to w h can.1.1 (home_is l to w) small))
   plain_code-fine codes (Store w a from) can =
       let small = can.0.1 in
+      let near = is_near w a.index in
       let rs = found_in l from 22 w in
-      fine_append (points_x l a.base a.index) (finds l from 22 w ++ stores_x rs) (points-fine a.base a.index can.1.0.0)
-      (fine_append (finds l from 22 w) (stores_x rs) (finds-fine l ok live from 22 w can.1.0.1 (omega arith) (omega (arith, small)))
-      (stores_x-fine rs (found-beside l ok live from 22 w 26 28 can.1.0.1 (omega arith) (omega (arith, small)) (omega arith))))
+      let stored = stores_by near rs (address_of a.base a.index) in
+      fine_append (points_by near l a.base a.index) (finds l from 22 w ++ stored) (points_by-fine near a.base a.index can.1.0.0)
+      (fine_append (finds l from 22 w) stored (finds-fine l ok live from 22 w can.1.0.1 (omega arith) (omega (arith, small)))
+      (stores_by-fine near rs (address_of a.base a.index)
+      (found-beside l ok live from 22 w 26 28 can.1.0.1 (omega arith) (omega (arith, small)) (omega arith))))
   plain_code-fine codes (ReadDevice to address) can =
-      fine_append (if nat_le 0x20 address && nat_lt address 0x60 then In 22 (address - 0x20) ∷ [] else Lds 22 address ∷ []) (gives l to 22 1)
-      (reads-fine (nat_le 0x20 address && nat_lt address 0x60) address 22 refl (device_word address can.0) (omega arith))
-      (gives-fine l ok live behind to 22 1 can.1 (omega arith))
+      let h = home_of l to 1 in
+      let d = made_in h in
+      let low = made_low l ok to 1 h can.1.there (omega arith) (home_is l to 1) in
+      fine_append (if nat_le 0x20 address && nat_lt address 0x60 then In d (address - 0x20) ∷ [] else Lds d address ∷ []) (settles l to h 1)
+      (reads-fine (nat_le 0x20 address && nat_lt address 0x60) address d refl (device_word address can.0) (omega (arith, low)))
+      (settles-fine l ok live behind to 1 h can.1 (home_is l to 1) (omega arith))
   plain_code-fine codes (WriteDevice address a) can =
       let rs = found_in l a 22 1 in
       fine_append (finds l a 22 1) (if nat_le 0x20 address && nat_lt address 0x60 then Out (address - 0x20) (first_of rs) ∷ [] else Sts address (first_of rs) ∷ [])

@@ -1,5 +1,5 @@
 -- Templates of reads of device registers, and of stops.
-use Rattle.std.proofs.Common.{◌≡◌, ◌≢◌, ℕ, ◌+◌, ◌-◌, ◌<◌, ◌≤◌, inl, inr, Bool, true, false, ◌&&◌, nat_le, nat_lt, if◌then◌else◌}
+use Rattle.std.proofs.Common.{◌≡◌, ◌≢◌, ℕ, ◌+◌, ◌-◌, ◌<◌, ◌≤◌, ◌⊎◌, inl, inr, Bool, true, false, ◌&&◌, nat_le, nat_lt, if◌then◌else◌}
 use Rattle.std.proofs.Common.{List, [], ◌∷◌, ◌++◌, refl, sym, subst, arith}
 use Rattle.vg_meaning.specs.declared.event.Event.TheVariants.{Read}
 use Rattle.vg_meaning.specs.Device.{IsDeviceAddress}
@@ -18,17 +18,16 @@ use Rattle.avr_view.proofs.DeviceSteps.{goes_lds_device, goes_in_device, ends_ld
 use Rattle.avr_view.proofs.Going.{goes_then, goes_fewer}
 use Rattle.avr_view.proofs.JumpSteps.{ends_rjmp}
 use Rattle.avr_view.proofs.Steps.{goes_does}
-use Rattle.vg_templates.specs.Spots.{number}
-use Rattle.vg_templates.specs.Layouts.{Layout, IsLayout, Agree}
+use Rattle.vg_templates.specs.Layouts.{Layout, IsLayout}
 use Rattle.vg_templates.specs.Frames.{Places}
 use Rattle.vg_templates.proofs.Numbers.{put_other, put_same}
 use Rattle.vg_templates.specs.Pieces.{Takes}
-use Rattle.vg_templates.specs.Held.{Held, IsSet, gives, Given}
-use Rattle.vg_templates.proofs.Composing.{takes_none, takes_then, takes_next, takes_wider}
-use Rattle.vg_templates.proofs.Holding.{held_scratch, takes_gives}
+use Rattle.vg_templates.specs.Held.{Held, IsSet}
+use Rattle.vg_templates.specs.Homes.{home_of, made_in, settles}
+use Rattle.vg_templates.proofs.Composing.{takes_none, takes_then, takes_next}
+use Rattle.vg_templates.proofs.Settling.{home_is, takes_settles}
 use Rattle.vg_templates.specs.Outcomes.{Lies}
 use Rattle.vg_templates.specs.Plain.{reads_register, reads_device}
-use Rattle.vg_templates.proofs.Storing.{held_out}
 use Rattle.vg_templates.specs.Straight.{stops}
 
 near_is : (address : ℕ) → (nat_le 0x20 address && nat_lt address 0x60) ≡ true → (0x20 ≤ address) × (address < 0x60)
@@ -62,38 +61,41 @@ module _ (i : Places) (ok : (m : ℕ) → IsLayout (i.layouts m)) (m : ℕ) (fra
   takes_reads_device live behind s to address x xs v can device left front k =
       let l = i.layouts m in
       let o = read_from v.out address x xs in
-      let middle : View = record v { regs = put v.regs 22 x } in
-      let u : View = record middle { out = o } in
+      let h = home_of l to 1 in
+      let d = made_in h in
+      let u : View = record v { regs = put v.regs d x; out = o } in
       let goal = Lies i m behind (sets to x s) frames o in
-      let held : Held i m live s frames u =
-      held_out i m live s frames middle o (held_scratch i ok m frames live s v middle refl agree (put_other v.regs 22 x 1 (omega arith)) k) in
-      let number_is : number u.regs 22 1 ≡ x = (let byte = put_same v.regs 22 x in omega (arith, byte)) in
-      takes_then e deep v (reads_register 22 address) (gives l to 22 1) (λ t. t ≡ u) goal
-      (takes_reads (nat_le 0x20 address && nat_lt address 0x60) address 22 x xs v (near_is address) device left front)
-      (λ t is. subst (λ y. Takes e deep y (gives l to 22 1) goal) (sym is)
-      (takes_wider e deep u (gives l to 22 1) (Given i m behind (sets to (number u.regs 22 1) s) frames u) goal
-      (λ q g. record { held = subst (λ y. Held i m behind (sets to y s) frames q) number_is g.held; out = g.out })
-      (takes_gives i ok m frames e deep live behind s to 22 1 u can (omega arith) (omega arith) held)))
+      takes_then e deep v (reads_register d address) (settles l to h 1) (λ t. t ≡ u) goal
+      (takes_reads (nat_le 0x20 address && nat_lt address 0x60) address d x xs v (near_is address) device left front)
+      (λ t is. subst (λ y. Takes e deep y (settles l to h 1) goal) (sym is)
+      (takes_settles i ok m frames e deep live behind s to 1 x h v u can (home_is l to 1) (omega arith) k
+      (record {
+        others = λ r kind beside. put_other v.regs d x r (not_d d r beside);
+        holds = let byte = put_same v.regs d x in omega (arith, byte);
+        stack = refl;
+        static = refl;
+      })))
     where
-      agree : Agree v.regs (put v.regs 22 x)
-      agree r (inl h) = let top = h.1 in put_other v.regs 22 x r (let ne : r ≢ 22 = omega arith in ne)
-      agree r (inr h) = let low = h.0 in put_other v.regs 22 x r (let ne : r ≢ 22 = omega arith in ne)
+      not_d : (d r : ℕ) → (r < d) ⊎ (d + 1 ≤ r) → r ≢ d
+      not_d d r (inl k') = omega arith
+      not_d d r (inr k') = omega arith
 
 -- with no read left, the run ends at the read
 module _ (e : Run) (deep : Type 0) where
-  ends_reads : (near : Bool) (address pc : ℕ) (js : List Instr) (v : View) (t : MachineState) → (near ≡ true → (0x20 ≤ address) × (address < 0x60))
-      → IsDeviceAddress address → AllStandAt e.flash pc ((if near then In 22 (address - 0x20) ∷ [] else Lds 22 address ∷ []) ++ js) → v.out.reads ≡ []
+  ends_reads : (near : Bool) (d address pc : ℕ) (js : List Instr) (v : View) (t : MachineState) → (near ≡ true → (0x20 ≤ address) × (address < 0x60))
+      → IsDeviceAddress address → AllStandAt e.flash pc ((if near then In d (address - 0x20) ∷ [] else Lds d address ∷ []) ++ js) → v.out.reads ≡ []
       → At e pc v t → Goes e deep 1 t (Ended e (Wants address) v.out)
-  ends_reads false address pc js v t h device stand none a = ends_lds_device e deep pc v t a 22 address stand.0 device none
-  ends_reads true address pc js v t h device stand none a =
+  ends_reads false d address pc js v t h device stand none a = ends_lds_device e deep pc v t a d address stand.0 device none
+  ends_reads true d address pc js v t h device stand none a =
       let back : address - 0x20 + 0x20 ≡ address = let low' = (h refl).0 in omega arith in
       subst (λ n. Goes e deep 1 t (Ended e (Wants n) v.out)) back
-      (ends_in_device e deep pc v t a 22 (address - 0x20) stand.0 (subst IsDeviceAddress (sym back) device) none)
+      (ends_in_device e deep pc v t a d (address - 0x20) stand.0 (subst IsDeviceAddress (sym back) device) none)
 
   pub ends_reads_device : (l : Layout) (to address pc : ℕ) (v : View) (t : MachineState) → IsDeviceAddress address → AllStandAt e.flash pc (reads_device l to address)
       → v.out.reads ≡ [] → At e pc v t → Goes e deep 1 t (Ended e (Wants address) v.out)
   ends_reads_device l to address pc v t device stand none a =
-      ends_reads (nat_le 0x20 address && nat_lt address 0x60) address pc (gives l to 22 1) v t (near_is address) device stand none a
+      let h = home_of l to 1 in
+      ends_reads (nat_le 0x20 address && nat_lt address 0x60) (made_in h) address pc (settles l to h 1) v t (near_is address) device stand none a
 
   pub ends_stops : (code pc : ℕ) (v : View) (t : MachineState) → AllStandAt e.flash pc (stops code) → pc + 1 < 65536 → At e pc v t
       → Goes e deep 1 t (Ended e (Stop code) v.out)

@@ -1,5 +1,5 @@
 -- Templates of returns, and of what follows a call.
-use Rattle.std.proofs.Common.{◌≡◌, ℕ, zero, suc, ◌+◌, ◌%◌, ◌^◌, ◌<◌, ◌≤◌, ◌⊎◌, inl, inr, Bool, true, false, not, ◌&&◌, ◌==◌}
+use Rattle.std.proofs.Common.{◌≡◌, ℕ, suc, ◌+◌, ◌%◌, ◌^◌, ◌<◌, ◌≤◌, ◌⊎◌, inl, inr, Bool, true, false, not, ◌&&◌, ◌==◌}
 use Rattle.std.proofs.Common.{List, [], ◌∷◌, ◌++◌, length, Option, Some, None, refl, sym, ap, ◌∙◌, subst, arith}
 use Rattle.vg_meaning.specs.Outside.{Outside}
 use Rattle.avr_instr.specs.declared.instr.Instr.TheVariants.{Pop}
@@ -13,7 +13,7 @@ use Rattle.vg_lin.specs.Steps.{Result, Frame}
 use Rattle.vg_lin.specs.State.{State, value, sets}
 use Rattle.vg_lin.specs.Meaning.{with_result}
 use Rattle.vg_lin.specs.Values.{low}
-use Rattle.avr_view.specs.Registers.{Regs, pair, put}
+use Rattle.avr_view.specs.Registers.{pair, put}
 use Rattle.avr_view.specs.Run.{Run, Goes}
 use Rattle.avr_view.specs.View.{View, At}
 use Rattle.avr_view.proofs.Going.{goes_then, goes_fewer, goes_wider}

@@ -73,7 +73,7 @@ link_with l (InFrame at) w v own ok =
     ∙ sym (ap (take 2) (drop-drop own l.slots (length l.saved)))
 link_with l (InRegisters r) w v own ok = refl
 
-below_or : (d r w : ℕ) → ((r ≤ d) × (d < r + w)) ⊎ ((d < r) ⊎ (r + w ≤ d))
+pub below_or : (d r w : ℕ) → ((r ≤ d) × (d < r + w)) ⊎ ((d < r) ⊎ (r + w ≤ d))
 below_or d r w =
     elim (below_or_not d r) [
       | inl low ↦ inr (inl low)

@@ -1,5 +1,5 @@
 -- Values come from spots, and go to spots.
-use Rattle.std.proofs.Common.{◌≡◌, ℕ, zero, suc, ◌+◌, ◌<◌, ◌≤◌, inl, inr, false, List, ◌++◌, length}
+use Rattle.std.proofs.Common.{◌≡◌, ℕ, zero, suc, ◌+◌, ◌<◌, ◌≤◌, ◌⊎◌, inl, inr, false, List, ◌++◌, length}
 use Rattle.std.proofs.Common.{refl, sym, ap, ◌∙◌, subst, arith, nat_lt, length-append}
 use Rattle.avr_view.specs.Registers.{Regs, does_all}
 use Rattle.avr_view.specs.Run.{Run}
@@ -26,6 +26,15 @@ fetched_put : (v u : View) (d n x : ℕ) → u ≡ record v { regs = put_number 
 fetched_put v u d n x k =
     subst (Fetched d n x v) (sym k) (record { others = λ y low beside. put_number-beside v.regs d n x y beside; holds = number-put v.regs d n x; same = refl })
 
+-- a spot has no byte among so many registers
+abbrev pub IsClear : Spot → (width first count : ℕ) → Type 0
+IsClear (InFrame at) w d n = Unit {0}
+IsClear (InRegisters r) w d n = (r + w ≤ d) ⊎ (d + n ≤ r)
+
+scratch_clear : (s : Spot) (w d n : ℕ) (own under : List ℕ) (v : View) → 18 ≤ d → IsUsable s w own under v → IsClear s w d n
+scratch_clear (InFrame at) w d n own under v low can = tt
+scratch_clear (InRegisters r) w d n own under v low can = let inside = can.1 in inl (omega arith)
+
 module _ (e : Run) (deep : Type 0) where
   -- a known number
   pub takes_known : (d n x : ℕ) (v : View) → Takes e deep v (known d n x) (Fetched d n x v)
@@ -34,18 +43,18 @@ module _ (e : Run) (deep : Type 0) where
       (λ u k. fetched_put v u d n x (k ∙ ap (λ g. record v { regs = g }) (known-put e.flash d n x v.regs)))
       (takes_plain e deep v (known d n x) (known-plain d n x))
 
-  -- a value at a spot
-  pub takes_fetch : (s : Spot) (w d n : ℕ) (v : View) (wait own under : List ℕ) → v.stack ≡ wait ++ (own ++ under) → IsUsable s w own under v → w ≤ 4
-      → 18 ≤ d → d + n ≤ 28 → v.regs.of 1 ≡ 0 → Takes e deep v (fetch s w d n) (Fetched d n (value_at s w own v.regs) v)
-  takes_fetch (InRegisters r) w d n v wait own under cut can small low top zero' =
+  -- a value at a spot, which has no byte where it comes
+  pub takes_fetch_clear : (s : Spot) (w d n : ℕ) (v : View) (wait own under : List ℕ) → v.stack ≡ wait ++ (own ++ under) → IsUsable s w own under v → w ≤ 4
+      → 2 ≤ d → d + n ≤ 28 → IsClear s w d n → v.regs.of 1 ≡ 0 → Takes e deep v (fetch s w d n) (Fetched d n (value_at s w own v.regs) v)
+  takes_fetch_clear (InRegisters r) w d n v wait own under cut can small low top clear zero' =
       let is = moves r d w n in
       let inside = can.1 in
       takes_bytes e deep v is (Fetched d n (number v.regs r w) v)
       (λ bytes. takes_wider e deep v is (λ u. u ≡ record v { regs = does_all e.flash is v.regs }) (Fetched d n (number v.regs r w) v)
       (λ u k. fetched_put v u d n (number v.regs r w) (k ∙ ap (λ g. record v { regs = g })
-      (moves-put e.flash r d w n v.regs zero' (omega arith) (inl (omega arith)) (λ x lo hi. bytes x (omega arith)))))
+      (moves-put e.flash r d w n v.regs zero' low clear (λ x lo hi. bytes x (omega arith)))))
       (takes_plain e deep v is (moves-plain r d w n)))
-  takes_fetch (InFrame at) w d n v wait own under cut can small low top zero' =
+  takes_fetch_clear (InFrame at) w d n v wait own under cut can small low top clear zero' =
       let (base, inside) = can in
       let r = reach at w in
       let value = read own at w in
@@ -66,26 +75,16 @@ module _ (e : Run) (deep : Type 0) where
       (takes_loads e deep r.base r.displacement d w n (length wait + at) u low top (k.others 1 (omega arith) ∙ zero') (omega (arith, pointer, long, base))
       (omega (arith, long, sizes, inside))))
 
-  -- a number goes to a spot
-  pub takes_keep : (s : Spot) (w r n : ℕ) (v : View) (wait own under : List ℕ) → v.stack ≡ wait ++ (own ++ under) → IsUsable s w own under v → w ≤ 4
-      → 18 ≤ r → r + n ≤ 28 → v.regs.of 1 ≡ 0 → Takes e deep v (keep s w r n) (Kept s w (number v.regs r n) wait own under v)
-  takes_keep (InRegisters d) w r n v wait own under cut can small low top zero' =
-      let is = moves r d n w in
-      let (up, inside) = can in
-      let value = number v.regs r n in
-      let goal = Kept (InRegisters d) w value wait own under v in
-      takes_bytes e deep v is goal
-      (λ bytes. takes_wider e deep v is (λ u. u ≡ record v { regs = does_all e.flash is v.regs }) goal
-      (λ u k.
-      let put = k ∙ ap (λ g. record v { regs = g })
-      (moves-put e.flash r d n w v.regs zero' up (inr (omega arith)) (λ x lo hi. bytes x (omega arith))) in
-      record {
-        registers = λ x low'. ap (λ (t : View). t.regs.of x) put;
-        same = put ∙ ap (λ l. record v { regs = put_number v.regs d w value; stack = l }) cut
-            ∙ ap (λ (t : View). record v { regs = t.regs; stack = wait ++ (own ++ under) }) (sym put);
-      })
-      (takes_plain e deep v is (moves-plain r d n w)))
-  takes_keep (InFrame at) w r n v wait own under cut can small low top zero' =
+  -- into scratch registers
+  pub takes_fetch : (s : Spot) (w d n : ℕ) (v : View) (wait own under : List ℕ) → v.stack ≡ wait ++ (own ++ under) → IsUsable s w own under v → w ≤ 4
+      → 18 ≤ d → d + n ≤ 28 → v.regs.of 1 ≡ 0 → Takes e deep v (fetch s w d n) (Fetched d n (value_at s w own v.regs) v)
+  takes_fetch s w d n v wait own under cut can small low top zero' =
+      takes_fetch_clear s w d n v wait own under cut can small (omega arith) top (scratch_clear s w d n own under v low can) zero'
+
+  -- a number goes to the frame, from any registers below Z
+  pub takes_keep_frame : (at w r n : ℕ) (v : View) (wait own under : List ℕ) → v.stack ≡ wait ++ (own ++ under) → IsUsable (InFrame at) w own under v
+      → w ≤ 4 → r + n ≤ 30 → v.regs.of 1 ≡ 0 → Takes e deep v (keep (InFrame at) w r n) (Kept (InFrame at) w (number v.regs r n) wait own under v)
+  takes_keep_frame at w r n v wait own under cut can small top zero' =
       let (base, inside) = can in
       let p = reach at w in
       let value = number v.regs r n in
@@ -113,3 +112,25 @@ module _ (e : Run) (deep : Type 0) where
       })
       (takes_stores e deep p.base p.displacement r w n (length wait + at) u (omega arith) (k.others 1 (omega arith) ∙ zero') (omega (arith, pointer, long, base))
       (omega (arith, long, sizes, inside))))
+
+  -- a number goes to a spot
+  pub takes_keep : (s : Spot) (w r n : ℕ) (v : View) (wait own under : List ℕ) → v.stack ≡ wait ++ (own ++ under) → IsUsable s w own under v → w ≤ 4
+      → 18 ≤ r → r + n ≤ 28 → v.regs.of 1 ≡ 0 → Takes e deep v (keep s w r n) (Kept s w (number v.regs r n) wait own under v)
+  takes_keep (InRegisters d) w r n v wait own under cut can small low top zero' =
+      let is = moves r d n w in
+      let (up, inside) = can in
+      let value = number v.regs r n in
+      let goal = Kept (InRegisters d) w value wait own under v in
+      takes_bytes e deep v is goal
+      (λ bytes. takes_wider e deep v is (λ u. u ≡ record v { regs = does_all e.flash is v.regs }) goal
+      (λ u k.
+      let put = k ∙ ap (λ g. record v { regs = g })
+      (moves-put e.flash r d n w v.regs zero' up (inr (omega arith)) (λ x lo hi. bytes x (omega arith))) in
+      record {
+        registers = λ x low'. ap (λ (t : View). t.regs.of x) put;
+        same = put ∙ ap (λ l. record v { regs = put_number v.regs d w value; stack = l }) cut
+            ∙ ap (λ (t : View). record v { regs = t.regs; stack = wait ++ (own ++ under) }) (sym put);
+      })
+      (takes_plain e deep v is (moves-plain r d n w)))
+  takes_keep (InFrame at) w r n v wait own under cut can small low top zero' =
+      takes_keep_frame at w r n v wait own under cut can small (omega arith) zero'

@@ -1,5 +1,5 @@
 -- Templates of values that go to locals, wait for calls, or go to devices.
-use Rattle.std.proofs.Common.{◌≡◌, ℕ, zero, suc, ◌+◌, ◌-◌, ◌*◌, ◌%◌, ◌^◌, ◌<◌, ◌≤◌, Bool, true, false, ◌&&◌, List, [], ◌∷◌, ◌++◌}
+use Rattle.std.proofs.Common.{◌≡◌, ℕ, zero, suc, ◌+◌, ◌-◌, ◌*◌, ◌%◌, ◌^◌, ◌<◌, ◌≤◌, ◌⊎◌, inl, inr, Bool, true, false, ◌&&◌, List, [], ◌∷◌, ◌++◌}
 use Rattle.std.proofs.Common.{length, Some, refl, sym, ap, ◌∙◌, subst, arith, nat_le, nat_lt, if◌then◌else◌, slice_index, append_assoc, length-append}
 use Rattle.std.specs.Prelude.{map}
 use Rattle.vg_meaning.specs.declared.event.Event.TheVariants.{Write}
@@ -17,8 +17,8 @@ use Rattle.avr_view.specs.Run.{Run, Goes, Front}
 use Rattle.avr_view.specs.View.{View, At}
 use Rattle.avr_view.proofs.DeviceSteps.{goes_sts_device, goes_out_device}
 use Rattle.avr_view.proofs.Going.{goes_wider}
-use Rattle.vg_templates.specs.Spots.{number, read}
-use Rattle.vg_templates.specs.Layouts.{Layout, IsLayout, width_of}
+use Rattle.vg_templates.specs.Spots.{Spot, InFrame, InRegisters, number, read, value_at}
+use Rattle.vg_templates.specs.Layouts.{Layout, IsLayout, IsSpot, IsReliable, width_of}
 use Rattle.vg_templates.specs.Linkage.{pushes}
 use Rattle.vg_templates.specs.Frames.{Places}
 use Rattle.vg_templates.proofs.Saving.{fits_fewer}
@@ -26,11 +26,16 @@ use Rattle.vg_templates.proofs.Linking.{goes_pushes, widths-pushes}
 use Rattle.vg_templates.specs.Pieces.{Sees, Takes}
 use Rattle.vg_templates.specs.Held.{Held, IsReady, IsSet, brings, gives, Brought, Given}
 use Rattle.vg_templates.proofs.Composing.{takes_none, takes_then, takes_next, takes_wider}
-use Rattle.vg_templates.proofs.Holding.{takes_brings, takes_gives}
+use Rattle.vg_templates.proofs.Holding.{usable, takes_brings, takes_gives, takes_gives_frame}
 use Rattle.vg_templates.specs.Numbers.{number_in}
 use Rattle.vg_templates.specs.Operands.{finds, found_in}
+use Rattle.vg_templates.specs.Homes.{home_of, made_in, settles, clear_home}
+use Rattle.vg_templates.specs.Transfers.{fetch}
+use Rattle.vg_templates.specs.Transferred.{Fetched}
+use Rattle.vg_templates.proofs.Spotting.{takes_fetch_clear}
+use Rattle.vg_templates.proofs.Settling.{Made, home_is, clear_is, home_clear, made_low, made_above, takes_settles}
 use Rattle.vg_templates.specs.Outcomes.{Found, Lies, IsKept}
-use Rattle.vg_templates.specs.Plain.{copies_low, copies_whole, bytes_in, copies, pushes_value, first_of, writes_register, writes_device}
+use Rattle.vg_templates.specs.Plain.{copies_low, copies_whole, bytes_in, copies_through, copies_local, copies, pushes_value, first_of, writes_register, writes_device}
 use Rattle.vg_templates.proofs.Bytes.{cut_twice, bytes_in_few, bytes_in_tell}
 use Rattle.vg_templates.proofs.Finding.{found-length, takes_finds}
 
@@ -128,10 +133,68 @@ module _ (i : Places) (ok : (m : ℕ) → IsLayout (i.layouts m)) (m : ℕ) (fra
       let w = width_of (i.layouts m) to in
       takes_copies_low live behind s to a w x v ready can ((ok m).narrow to can.there) (cut_twice x w w (omega arith)) got k
 
+  -- the value of a local comes into the registers of another one, or through scratch ones
+  takes_copies_through : (live behind : ℕ → Bool) (s : State) (to j x : ℕ) (v : View) → IsReady (i.layouts m) live (Local j)
+      → IsSet (i.layouts m) live behind to → value (Local j) s ≡ Some x → Held i m live s frames v
+      → Takes e deep v (copies_through (i.layouts m) to j) (Lies i m behind (sets to x s) frames v.out)
+  takes_copies_through live behind s to j x v ready can got k =
+      let l = i.layouts m in
+      let w = width_of l to in
+      let p = l.spots j in
+      let wide = width_of l j in
+      let h = clear_home p wide w (home_of l to w) in
+      let is = clear_is l to w p wide w (home_of l to w) (home_is l to w) in
+      let small = (ok m).narrow to can.there in
+      let spot = (ok m).spot j ready.0 in
+      let t = k.stacked in
+      let value_is : value_at p wide t.own v.regs ≡ x = t.fits.each j x ready.0 ready.1 got in
+      let goal = Lies i m behind (sets to x s) frames v.out in
+      takes_then e deep v (fetch p wide (made_in h) w) (settles l to h w) (Fetched (made_in h) w (value_at p wide t.own v.regs) v) goal
+      (takes_fetch_clear e deep p wide (made_in h) w v t.wait t.own t.under t.cut (usable l p wide t.own t.under v spot t.points t.fits.long)
+      ((ok m).narrow j ready.0) (made_above l (ok m) to w h can.there is)
+      (let low = made_low l (ok m) to w h can.there small is in omega (arith, low))
+      (home_clear l p wide w (home_of l to w) spot) k.r1)
+      (λ u f. takes_wider e deep u (settles l to h w) (Lies i m behind (sets to (x % 256 ^ w) s) frames u.out) goal
+      (λ q g. record {
+        held = subst (λ z. Held i m behind z frames q) (sets-same l s to (x % 256 ^ w) x t.fits.widths (cut_twice x w w (omega arith))) g.held;
+        out = g.out ∙ ap (λ (y : View). y.out) f.same;
+      })
+      (takes_settles i ok m frames e deep live behind s to w (x % 256 ^ w) h v u can is small k
+      (record {
+        others = λ r kind beside. f.others r (below r kind) beside;
+        holds = f.holds ∙ ap (λ z. z % 256 ^ w) value_is;
+        stack = ap (λ (y : View). y.stack) f.same;
+        static = ap (λ (y : View). y.static) f.same;
+      })))
+    where
+      below : (r : ℕ) → (r ≡ 1) ⊎ IsReliable r → r < 30
+      below r (inl one) = omega arith
+      below r (inr (inl k')) = let up = k'.1 in omega arith
+      below r (inr (inr k')) = k'.1
+
+  -- from registers it goes to the frame at once
+  takes_copies_local : (live behind : ℕ → Bool) (s : State) (to j x : ℕ) (target source : Spot) (v : View) → IsReady (i.layouts m) live (Local j)
+      → IsSet (i.layouts m) live behind to → (i.layouts m).spots to ≡ target → (i.layouts m).spots j ≡ source → value (Local j) s ≡ Some x
+      → Held i m live s frames v
+      → Takes e deep v (copies_local target source (i.layouts m) to j) (Lies i m behind (sets to x s) frames v.out)
+  takes_copies_local live behind s to j x (InRegisters r) source v ready can is is' got k = takes_copies_through live behind s to j x v ready can got k
+  takes_copies_local live behind s to j x (InFrame at) (InFrame p) v ready can is is' got k = takes_copies_through live behind s to j x v ready can got k
+  takes_copies_local live behind s to j x (InFrame at) (InRegisters f) v ready can is is' got k =
+      let l = i.layouts m in
+      let t = k.stacked in
+      let wide = width_of l j in
+      let inside = (subst (λ p. IsSpot l p wide) is' ((ok m).spot j ready.0)).1 in
+      let value_is : number v.regs f wide ≡ x =
+      ap (λ p. value_at p wide t.own v.regs) (sym is') ∙ t.fits.each j x ready.0 ready.1 got in
+      takes_wider e deep v (gives l to f wide) (Given i m behind (sets to (number v.regs f wide) s) frames v) (Lies i m behind (sets to x s) frames v.out)
+      (λ q g. record { held = subst (λ y. Held i m behind (sets to y s) frames q) value_is g.held; out = g.out })
+      (takes_gives_frame i ok m frames e deep live behind s to at f wide v can is (omega arith) k)
+
   pub takes_copies : (live behind : ℕ → Bool) (s : State) (to : ℕ) (a : Operand) (x : ℕ) (v : View) → IsReady (i.layouts m) live a
       → IsSet (i.layouts m) live behind to → value a s ≡ Some x → Held i m live s frames v
       → Takes e deep v (copies (i.layouts m) to a) (Lies i m behind (sets to x s) frames v.out)
-  takes_copies live behind s to (Local j) x v ready can got k = takes_copies_whole live behind s to (Local j) x v ready can got k
+  takes_copies live behind s to (Local j) x v ready can got k =
+      takes_copies_local live behind s to j x ((i.layouts m).spots to) ((i.layouts m).spots j) v ready can refl refl got k
   takes_copies live behind s to (Known y) x v ready can got k =
       let w = width_of (i.layouts m) to in
       let small = (ok m).narrow to can.there in

@@ -12,6 +12,7 @@ pub mod Pieces
 pub mod Transfers
 pub mod Transferred
 pub mod Held
+pub mod Homes
 pub mod Depths
 pub mod Operands
 pub mod Outcomes

@@ -8,6 +8,7 @@ use Rattle.vg_lin.specs.declared.instr.Operand.TheVariants.{Local, Known}
 use Rattle.vg_templates.specs.Layouts.{Layout}
 use Rattle.vg_templates.specs.Transfers.{known}
 use Rattle.vg_templates.specs.Held.{brings, gives}
+use Rattle.vg_templates.specs.Homes.{home_of, made_in, settles}
 use Rattle.vg_templates.specs.Chains.{takes_known}
 use Rattle.vg_templates.specs.Accesses.{plus_base}
 use Rattle.vg_templates.specs.Choices.{usual, unusual}
@@ -23,7 +24,9 @@ loads_z d (suc n) = LpmZPlus d ∷ loads_z (suc d) n
 
 -- so many bytes of a table in flash go to a local
 abbrev pub loads_table : Layout → (width to base : ℕ) → (index : Operand) → List Instr
-loads_table l w to base index = points_z l base index ++ (loads_z 22 w ++ gives l to 22 w)
+loads_table l w to base index =
+    let h = home_of l to w in
+    points_z l base index ++ (loads_z (made_in h) w ++ settles l to h w)
 
 -- The code number of the first case that has the number in r24 and r25 comes into r22 and r23. That of the procedure that stands for all others comes
 -- first, and the cases overwrite it, the last one first: a branch leads past the two instructions that do, where the number is not one of so many from the

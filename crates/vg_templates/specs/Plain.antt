@@ -7,9 +7,11 @@ use Rattle.vg_lin.specs.declared.instr.Operand.TheVariants.{Local, Known}
 use Rattle.vg_lin.specs.declared.instr.Operator.{Operator}
 use Rattle.vg_lin.specs.declared.instr.Operator.TheVariants.{Plus, Minus, And, Or, Xor}
 use Rattle.vg_lin.specs.declared.instr.Computation.{Computation}
+use Rattle.vg_templates.specs.Spots.{Spot, InFrame, InRegisters}
 use Rattle.vg_templates.specs.Layouts.{Layout, width_of}
 use Rattle.vg_templates.specs.Linkage.{pushes}
 use Rattle.vg_templates.specs.Held.{brings, gives}
+use Rattle.vg_templates.specs.Homes.{home_of, made_in, settles, clear_home}
 use Rattle.vg_templates.specs.Chains.{adds, subtracts, takes_known, ands, ors, eors}
 use Rattle.vg_templates.specs.Operands.{least, finds, found_in}
 
@@ -26,9 +28,21 @@ abbrev pub bytes_in : (most value : ℕ) → ℕ
 bytes_in zero v = zero
 bytes_in (suc n) v = if v == 0 then zero else suc (bytes_in n (v / 256))
 
--- the same, without code for the zeros with which a known number ends
+-- the value of a local comes into the registers of another one, where these have none of its bytes, or it goes through scratch ones
+abbrev pub copies_through : Layout → (to from : ℕ) → List Instr
+copies_through l to k =
+    let w = width_of l to in
+    let h = clear_home (l.spots k) (width_of l k) w (home_of l to w) in
+    brings l (Local k) (made_in h) w ++ settles l to h w
+
+-- from registers it goes to the frame at once
+abbrev pub copies_local : (target source : Spot) → Layout → (to from : ℕ) → List Instr
+copies_local (InFrame at) (InRegisters f) l to k = gives l to f (width_of l k)
+copies_local s t l to k = copies_through l to k
+
+-- a value goes to a local, without code for the zeros with which a known number ends
 abbrev pub copies : Layout → (to : ℕ) → Operand → List Instr
-copies l to (Local k) = copies_whole l to (Local k)
+copies l to (Local k) = copies_local (l.spots to) (l.spots k) l to k
 copies l to (Known v) = copies_low l to (Known v) (bytes_in (width_of l to) v)
 
 -- the low bytes of a value wait for a call
@@ -51,7 +65,9 @@ abbrev pub writes_device : Layout → (address : ℕ) → Operand → List Instr
 writes_device l address a = finds l a 22 1 ++ writes_register address (first_of (found_in l a 22 1))
 
 abbrev pub reads_device : Layout → (to address : ℕ) → List Instr
-reads_device l to address = reads_register 22 address ++ gives l to 22 1
+reads_device l to address =
+    let h = home_of l to 1 in
+    reads_register (made_in h) address ++ settles l to h 1
 
 -- operators that work byte by byte
 abbrev pub IsBytewise : Operator → Type 0

@@ -1,5 +1,5 @@
 -- The code for returns of linear code, and behind its calls. A result comes in r22 to r25.
-use Rattle.std.specs.Prelude.{ℕ, zero, suc, ◌≡◌, ◌≢◌, ◌%◌, ◌^◌, ◌<◌, ◌≤◌, Bool, true, false, List, [], ◌∷◌, ◌++◌, length, Option, Some, None}
+use Rattle.std.specs.Prelude.{ℕ, zero, suc, ◌≡◌, ◌≢◌, ◌%◌, ◌^◌, ◌<◌, Bool, true, false, List, [], ◌∷◌, ◌++◌, length, Option, Some, None}
 use Rattle.vg_meaning.specs.Outside.{Outside}
 use Rattle.avr_instr.specs.declared.instr.Instr.{Instr}
 use Rattle.avr_instr.specs.declared.instr.Instr.TheVariants.{Pop}
