@@ -2,7 +2,7 @@
 use Rattle.std.specs.Prelude.{ℕ, zero, suc, ◌+◌, ◌-◌, ◌/◌, ◌%◌, ◌<◌, ◌≤◌, ◌==◌, nat_lt, nat_le, Bool, true, false, ◌&&◌, not, if◌then◌else◌, List, [], ◌∷◌, ◌++◌, length, slice_index}
 use Rattle.std.specs.Prelude.{Option, Some, None, slice_get}
 use Rattle.std.specs.List.{AllByRecursion}
-use Rattle.std.proofs.Common.{arith}
+use Rattle.std.proofs.Common.{◌≡◌, refl, arith}
 use Rattle.std.proofs.lemmas.List.{length-append}
 use Rattle.avr_instr.specs.declared.instr.Instr.{Instr as Avr}
 use Rattle.avr_instr.specs.declared.instr.Instr.TheVariants.{Mov, Movw, Ret, Push as PushOf}
@@ -31,7 +31,7 @@ use Rattle.vg_templates.specs.Homes.{home_of, made_in, settles, clear_home}
 use Rattle.vg_templates.specs.Branches.{tests, told_by, near_branch}
 use Rattle.vg_templates.specs.Calls.{call_code}
 use Rattle.vg_templates.specs.Operands.{least, padded, known_registers, finds, spot_found, found_in}
-use Rattle.vg_templates.specs.Plain.{bytes_in, copies_low, copies_through, copies_local, copies, computes, works, writes_register, reads_register, first_of}
+use Rattle.vg_templates.specs.Plain.{bytes_in, copies_low, copies_through, copies_local, copies, is_bytewise, operates, works_with, works, is_there, works_at, work_home, comes, computes_in, computes, writes_register, reads_register, first_of}
 use Rattle.vg_templates.specs.Accesses.{loads_x, stores_x, is_near, address_of, loads_at, points_by, loads_by, stores_by}
 use Rattle.vg_templates.specs.Shifts.{doubles, halves, repeats, shifts_left, shifts_right}
 use Rattle.vg_templates.specs.Choices.{usual, unusual}
@@ -130,6 +130,28 @@ stores_some_by near [] a h = absurd (omega (arith, h))
 stores_some_by true (r ∷ rs) a h = omega arith
 stores_some_by false (r ∷ rs) a h = stores_x_some (r ∷ rs) h
 
+operates_some : (o : Operator) (d : ℕ) (rs : List ℕ) → is_bytewise o ≡ true → 1 ≤ length rs → 1 ≤ length (operates d o rs)
+operates_some o d [] e h = absurd (omega (arith, h))
+operates_some Plus d (r ∷ rs) e h = omega arith
+operates_some Minus d (r ∷ rs) e h = omega arith
+operates_some And d (r ∷ rs) e h = omega arith
+operates_some Or d (r ∷ rs) e h = omega arith
+operates_some Xor d (r ∷ rs) e h = omega arith
+operates_some Times d (r ∷ rs) e h = absurd (let clash : false ≡ true = e in cc)
+operates_some Divide d (r ∷ rs) e h = absurd (let clash : false ≡ true = e in cc)
+operates_some Remainder d (r ∷ rs) e h = absurd (let clash : false ≡ true = e in cc)
+operates_some ShiftLeft d (r ∷ rs) e h = absurd (let clash : false ≡ true = e in cc)
+operates_some ShiftRight d (r ∷ rs) e h = absurd (let clash : false ≡ true = e in cc)
+
+first_true : (a b : Bool) → (a && b) ≡ true → a ≡ true
+first_true true b e = refl
+first_true false b e = absurd (let clash : false ≡ true = e in cc)
+
+least_some : (w n : ℕ) → 1 ≤ w → 1 ≤ n → 1 ≤ least w n
+least_some zero n h g = absurd (omega (arith, h))
+least_some (suc w) zero h g = absurd (omega (arith, g))
+least_some (suc w) (suc n) h g = omega arith
+
 writes_some : (b : Bool) (x y : Avr) → 1 ≤ length (if b then x ∷ [] else y ∷ [])
 writes_some true x y = omega arith
 writes_some false x y = omega arith
@@ -178,11 +200,29 @@ module _ (m : Procedure) (s : IsSound m) where
   found_some (Local k) d n h = spot_some (l.spots k) (width_of l k) d n h
   found_some (Known x) d n h = known_some d n x h
 
-  computes_some : (c : Computation) → c.to < length m.widths → 1 ≤ length (computes l c)
-  computes_some c h =
-      let n = least c.width (width_of l c.to) in
+  computes_scratch_some : (c : Computation) (n : ℕ) → c.to < length m.widths → 1 ≤ length (computes_in l c None n)
+  computes_scratch_some c n h =
       back (brings l c.left 22 n) (works l c.operator c.right n ++ gives l c.to 22 n)
       (back (works l c.operator c.right n) (gives l c.to 22 n) (gives_some c.to 22 n h))
+
+  computes_in_some : (c : Computation) (h : Option ℕ) (n : ℕ) → 1 ≤ n → c.to < length m.widths → 1 ≤ length (computes_in l c (work_home l c n h) n)
+  computes_in_some c None n some h = computes_scratch_some c n h
+  computes_in_some c (Some r) n some h = by_test (works_at l c r n) refl
+    where
+      by_test : (b : Bool) → works_at l c r n ≡ b → 1 ≤ length (computes_in l c (if b then Some r else None) n)
+      by_test false e = computes_scratch_some c n h
+      by_test true e =
+          let there = is_there l c.left r n in
+          let worked = works_with l r c.operator c.right n in
+          let rs = found_in l c.right 18 n in
+          back (comes there l c.left r n) (worked ++ settles l c.to (Some r) n)
+          (front worked (settles l c.to (Some r) n)
+          (back (finds l c.right 18 n) (operates r c.operator rs) (operates_some c.operator r rs (first_true (is_bytewise c.operator) _ e) (found_some c.right 18 n some))))
+
+  computes_some : (c : Computation) → IsWidth c.width → c.to < length m.widths → 1 ≤ length (computes l c)
+  computes_some c wide h =
+      let n = least c.width (width_of l c.to) in
+      computes_in_some c (home_of l c.to n) n (least_some c.width (width_of l c.to) wide.0 (wide_at m.widths s.widths h)) h
 
   left_some : (w to : ℕ) (a : Operand) (n : ℕ) → to < length m.widths → 1 ≤ length (shifts_left l w to a n)
   left_some w to a n h =
@@ -197,19 +237,19 @@ module _ (m : Procedure) (s : IsSound m) where
       let out = gives l to (22 + whole) (w - whole) in
       back (brings l a 22 w) (shifted ++ out) (back shifted out (gives_some to (22 + whole) (w - whole) h))
 
-  computation_some : (c : Computation) (op : Operator) (a : Operand) → c.to < length m.widths → 1 ≤ length (computation_code l c op a)
-  computation_some c Plus a h = computes_some c h
-  computation_some c Minus a h = computes_some c h
-  computation_some c Times a h = computes_some c h
-  computation_some c Divide a h = computes_some c h
-  computation_some c Remainder a h = computes_some c h
-  computation_some c And a h = computes_some c h
-  computation_some c Or a h = computes_some c h
-  computation_some c Xor a h = computes_some c h
-  computation_some c ShiftLeft (Local k) h = computes_some c h
-  computation_some c ShiftLeft (Known n) h = left_some c.width c.to c.left n h
-  computation_some c ShiftRight (Local k) h = computes_some c h
-  computation_some c ShiftRight (Known n) h = right_some c.width c.to c.left n h
+  computation_some : (c : Computation) (op : Operator) (a : Operand) → IsWidth c.width → c.to < length m.widths → 1 ≤ length (computation_code l c op a)
+  computation_some c Plus a wide h = computes_some c wide h
+  computation_some c Minus a wide h = computes_some c wide h
+  computation_some c Times a wide h = computes_some c wide h
+  computation_some c Divide a wide h = computes_some c wide h
+  computation_some c Remainder a wide h = computes_some c wide h
+  computation_some c And a wide h = computes_some c wide h
+  computation_some c Or a wide h = computes_some c wide h
+  computation_some c Xor a wide h = computes_some c wide h
+  computation_some c ShiftLeft (Local k) wide h = computes_some c wide h
+  computation_some c ShiftLeft (Known n) wide h = left_some c.width c.to c.left n h
+  computation_some c ShiftRight (Local k) wide h = computes_some c wide h
+  computation_some c ShiftRight (Known n) wide h = right_some c.width c.to c.left n h
 
   copies_low_some : (to : ℕ) (a : Operand) (n : ℕ) → to < length m.widths → 1 ≤ length (copies_low l to a n)
   copies_low_some to a n h = back (brings l a 22 n) (gives l to 22 n) (gives_some to 22 n h)
@@ -232,7 +272,7 @@ module _ (m : Procedure) (s : IsSound m) where
 
   plain_some : (p : Program) (i : PlainInstr) → IsPlain m i → 1 ≤ length (plain_template l p i)
   plain_some p (Copy to a) h = copies_some to a h.0
-  plain_some p (Compute c) h = computation_some c c.operator c.right h.1
+  plain_some p (Compute c) h = computation_some c c.operator c.right h.0 h.1
   plain_some p (Product to a b) h =
       back (finds l a 18 1) (finds l b 22 1 ++ _) (back (finds l b 22 1) (_ ∷ _) (omega arith))
   plain_some p (DivideSteps r d a) h = omega arith

@@ -518,10 +518,48 @@ fn registers_are_found(rt: HostRuntime) {
     let alloc = rt.alloc();
     let code = computed_in_registers(alloc);
     let expected = [
-        0x2D64, 0x5F6D, 0x2E46, // MOV r22, r4; SUBI r22, 0xFD; MOV r4, r22
+        0xE023, 0x0E42, // LDI r18, 3; ADD r4, r18
         0x923F, 0x922F, // PUSH r3; PUSH r2
         0xBA48, // OUT 0x18, r4
         0x1421, 0x0431, // CP r2, r1; CPC r3, r1
+    ];
+    let holds = is_spelled(alloc, &code, &expected);
+    assert!(rt; holds);
+}
+
+fn computed_in_place(alloc: Global) -> Result<Row<Instr>, NoMemory> {
+    let locations = wide_locations(alloc)?;
+    let mut code = Row::new(alloc);
+    let sum = Computation {
+        operator: Operator::Plus,
+        width: 4,
+        to: 2,
+        left: Operand::Local(1),
+        right: Operand::Local(3),
+    };
+    let difference = Computation {
+        operator: Operator::Minus,
+        width: 4,
+        to: 2,
+        left: Operand::Local(1),
+        right: Operand::Local(2),
+    };
+    put_computes(alloc, &mut code, &locations, sum)?;
+    put_computes(alloc, &mut code, &locations, difference)?;
+    Ok(code)
+}
+
+// A result is made in the registers of its local, unless the right operand is there.
+#[test]
+fn results_are_made_in_place(rt: HostRuntime) {
+    let alloc = rt.alloc();
+    let code = computed_in_place(alloc);
+    let expected = [
+        0x0131, 0x0142, // MOVW r6, r2; MOVW r8, r4
+        0x0C6A, 0x1C7B, 0x1C8C, 0x1C9D, // ADD r6, r10; ADC r7, r11; and so to r9
+        0x01B1, 0x01C2, // MOVW r22, r2; MOVW r24, r4
+        0x1966, 0x0977, 0x0988, 0x0999, // SUB r22, r6; SBC r23, r7; and so to r25
+        0x013B, 0x014C, // MOVW r6, r22; MOVW r8, r24
     ];
     let holds = is_spelled(alloc, &code, &expected);
     assert!(rt; holds);

@@ -36,7 +36,8 @@ pub fn home_of(locations: &Locations, to: u8, count: u8) -> Option<u8>
     home(locations.spot(to), locations.width(to), count)
 }
 
-fn is_clear(spot: Spot, width: u8, first: u8, count: u8) -> bool
+/// Whether no byte of a spot is in so many registers from one on.
+pub fn is_clear(spot: Spot, width: u8, first: u8, count: u8) -> bool
     requires within { IsWithin spot width }
     requires low { first + count ≤ 26 }
     ensures { result ≡ is_clear (place spot) width first count }

@@ -7,6 +7,6 @@ pub mod operands;
 pub mod registers;
 
 pub use finding::{found_in, put_finds};
-pub use homes::{clear_home_of, home_of, made_in, put_settles};
+pub use homes::{clear_home_of, home_of, is_clear, made_in, put_settles};
 pub use operands::{put_brings, put_fetch, put_gives};
 pub use registers::least;

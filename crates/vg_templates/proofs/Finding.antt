@@ -79,7 +79,7 @@ module _ (flash : List ℕ) where
 
 -- ---- which registers an operand is found in
 
-padded-beside : (low high r w n : ℕ) → 1 < low → (r + n ≤ low) ⊎ ((r + w ≤ low) ⊎ (high ≤ r)) → r + least w n ≤ 32 → AreBeside low high (padded r w n)
+pub padded-beside : (low high r w n : ℕ) → 1 < low → (r + n ≤ low) ⊎ ((r + w ≤ low) ⊎ (high ≤ r)) → r + least w n ≤ 32 → AreBeside low high (padded r w n)
 padded-beside low high r zero zero one k top = tt
 padded-beside low high r (suc w) zero one k top = tt
 padded-beside low high r zero (suc n) one k top = ((inl one, omega arith), padded-beside low high r zero n one (inr (inl' k)) (omega arith))
@@ -114,7 +114,7 @@ found-length l (Local k) d n = at (l.spots k) (width_of l k)
     at (InFrame p) w = padded-length d w n
     at (InRegisters r) w = padded-length r w n
 
-least_less : (w n : ℕ) → (least w n ≤ w) × (least w n ≤ n)
+pub least_less : (w n : ℕ) → (least w n ≤ w) × (least w n ≤ n)
 least_less w n = elim (least_is w n) [ inl k ↦ (omega (arith, k.0), omega (arith, k.0, k.1)) | inr k ↦ (omega (arith, k.0, k.1), omega (arith, k.0)) ]
 
 -- the registers of an operand lie below a block that begins behind the scratch ones into which it came

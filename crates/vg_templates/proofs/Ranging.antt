@@ -1,5 +1,5 @@
 -- Each instruction of a template has its operands in range.
-use Rattle.std.proofs.Common.{◌≡◌, ℕ, zero, suc, ◌+◌, ◌-◌, ◌/◌, ◌%◌, ◌<◌, ◌≤◌, inl, inr, Bool, true, false, ◌&&◌, ◌==◌, nat_le, nat_lt}
+use Rattle.std.proofs.Common.{◌≡◌, ℕ, zero, suc, ◌+◌, ◌-◌, ◌/◌, ◌%◌, ◌<◌, ◌≤◌, inl, inr, Bool, true, false, not, ◌&&◌, ◌||◌, ◌==◌, nat_le, nat_lt}
 use Rattle.std.proofs.Common.{List, [], ◌∷◌, ◌++◌, length, refl, subst, arith, if◌then◌else◌, Option, Some, None}
 use Rattle.std.specs.List.{AllByRecursion}
 use Rattle.avr_instr.specs.declared.instr.Instr.{Instr}
@@ -13,6 +13,7 @@ use Rattle.vg_lin.specs.declared.instr.Operand.TheVariants.{Local, Known}
 use Rattle.vg_lin.specs.declared.instr.Operator.{Operator}
 use Rattle.vg_lin.specs.declared.instr.Operator.TheVariants.{Plus, Minus, Times, Divide, Remainder, And, Or, Xor, ShiftLeft, ShiftRight}
 use Rattle.vg_lin.specs.declared.instr.Plain.{Plain}
+use Rattle.vg_lin.specs.declared.instr.Computation.{Computation}
 use Rattle.vg_lin.specs.declared.instr.Plain.TheVariants.{Copy, Compute, Product, DivideSteps, Load, Store, ReadDevice, WriteDevice, Push as PushValue, Pop, Find, CodeOf, Stop}
 use Rattle.vg_templates.specs.Spots.{Spot, InFrame, InRegisters}
 use Rattle.vg_templates.specs.Layouts.{Layout, IsLayout, IsSpot, width_of}
@@ -24,9 +25,10 @@ use Rattle.vg_templates.proofs.Settling.{home_is, clear_is, made_low}
 use Rattle.vg_templates.specs.Numbers.{AreBeside, AreRegisters}
 use Rattle.vg_templates.specs.Chains.{adds_on, adds, subtracts_on, subtracts, takes_known_on, takes_known, ands, ors, eors}
 use Rattle.vg_templates.specs.Operands.{least, known_bytes, finds_spot, finds, found_in}
-use Rattle.vg_templates.specs.Plain.{copies_low, copies_whole, bytes_in, copies_through, copies_local, copies, first_of, operates, works}
+use Rattle.vg_templates.specs.Plain.{copies_low, copies_whole, bytes_in, copies_through, copies_local, copies, first_of, is_bytewise, operates, works_with, works, is_there, suits_left, suits_right, is_known, works_at, work_home, comes, computes_in}
 use Rattle.vg_templates.proofs.Bytes.{least_is, bytes_in_few}
 use Rattle.vg_templates.proofs.Finding.{beside_registers, found-length, found-beside}
+use Rattle.vg_templates.proofs.Computing.{both_rest, left_suits}
 use Rattle.vg_templates.specs.Accesses.{plus_base, points_x, loads_x, stores_x, is_near, address_of, loads_at, stores_at, points_by, loads_by, stores_by}
 use Rattle.vg_templates.specs.Straight.{plain_code, IsCovered}
 
@@ -174,17 +176,17 @@ takes_known-fine : (d n v : ℕ) → 16 ≤ d → d + n ≤ 32 → Fine (takes_k
 takes_known-fine d zero v low h = tt
 takes_known-fine d (suc n) v low h = (((low, omega arith), omega arith), takes_known_on-fine (suc d) n (v / 256) (omega arith) (omega arith))
 
-operates-fine : (o : Operator) (rs : List ℕ) → 22 + length rs ≤ 32 → AreRegisters rs → Fine (operates o rs)
-operates-fine Plus rs h k = adds-fine 22 rs h k
-operates-fine Minus rs h k = subtracts-fine 22 rs h k
-operates-fine And rs h k = ands-fine 22 rs h k
-operates-fine Or rs h k = ors-fine 22 rs h k
-operates-fine Xor rs h k = eors-fine 22 rs h k
-operates-fine Times rs h k = tt
-operates-fine Divide rs h k = tt
-operates-fine Remainder rs h k = tt
-operates-fine ShiftLeft rs h k = tt
-operates-fine ShiftRight rs h k = tt
+operates-fine : (d : ℕ) (o : Operator) (rs : List ℕ) → d + length rs ≤ 32 → AreRegisters rs → Fine (operates d o rs)
+operates-fine d Plus rs h k = adds-fine d rs h k
+operates-fine d Minus rs h k = subtracts-fine d rs h k
+operates-fine d And rs h k = ands-fine d rs h k
+operates-fine d Or rs h k = ors-fine d rs h k
+operates-fine d Xor rs h k = eors-fine d rs h k
+operates-fine d Times rs h k = tt
+operates-fine d Divide rs h k = tt
+operates-fine d Remainder rs h k = tt
+operates-fine d ShiftLeft rs h k = tt
+operates-fine d ShiftRight rs h k = tt
 
 pushes-fine : (rs : List ℕ) → AreRegisters rs → Fine (pushes rs)
 pushes-fine [] k = tt
@@ -228,11 +230,14 @@ module _ (l : Layout) (ok : IsLayout l) (live behind : ℕ → Bool) where
   found_low : (a : Operand) (d n : ℕ) → IsReady l live a → 18 ≤ d → d + n ≤ 26 → AreRegisters (found_in l a d n)
   found_low a d n ready low h = beside_registers 26 26 (found_in l a d n) (found-beside l ok live a d n 26 26 ready low h (omega arith))
 
-  works-fine : (o : Operator) (a : Operand) (n : ℕ) → IsReady l live a → n ≤ 4 → Fine (finds l a 18 n ++ operates o (found_in l a 18 n))
-  works-fine o a n ready small =
+  works_with-fine : (d : ℕ) (o : Operator) (a : Operand) (n : ℕ) → IsReady l live a → n ≤ 4 → d + n ≤ 32 → Fine (works_with l d o a n)
+  works_with-fine d o a n ready small high =
       let long = found-length l a 18 n in
-      fine_append (finds l a 18 n) (operates o (found_in l a 18 n)) (finds-fine l ok live a 18 n ready (omega arith) (omega arith))
-      (operates-fine o (found_in l a 18 n) (omega (arith, long, small)) (found_low a 18 n ready (omega arith) (omega arith)))
+      fine_append (finds l a 18 n) (operates d o (found_in l a 18 n)) (finds-fine l ok live a 18 n ready (omega arith) (omega arith))
+      (operates-fine d o (found_in l a 18 n) (omega (arith, long, high)) (found_low a 18 n ready (omega arith) (omega arith)))
+
+  works-fine : (o : Operator) (a : Operand) (n : ℕ) → IsReady l live a → n ≤ 4 → Fine (works_with l 22 o a n)
+  works-fine o a n ready small = works_with-fine 22 o a n ready small (omega arith)
 
   all_works-fine : (o : Operator) (a : Operand) (n : ℕ) → IsReady l live a → n ≤ 4 → Fine (works l o a n)
   all_works-fine Plus (Known y) n ready small = takes_known-fine 22 n _ (omega arith) (omega arith)
@@ -309,6 +314,39 @@ module _ (l : Layout) (ok : IsLayout l) (live behind : ℕ → Bool) where
   points_by-fine true base a ready = tt
   points_by-fine false base a ready = points-fine base a ready
 
+  computes_scratch-fine : (c : Computation) (n : ℕ) → IsReady l live c.left → IsReady l live c.right → IsSet l live behind c.to → n ≤ 4
+      → Fine (computes_in l c None n)
+  computes_scratch-fine c n ready ready' can small =
+      fine_append (brings l c.left 22 n) (works l c.operator c.right n ++ gives l c.to 22 n)
+      (brings-fine l ok live c.left 22 n ready (omega arith) (omega (arith, small)))
+      (fine_append (works l c.operator c.right n) (gives l c.to 22 n) (all_works-fine c.operator c.right n ready' small)
+      (gives-fine l ok live behind c.to 22 n can (omega (arith, small))))
+
+  computes_in-fine : (c : Computation) (h : Option ℕ) (n : ℕ) → IsReady l live c.left → IsReady l live c.right → IsSet l live behind c.to
+      → IsHome l c.to n h → n ≤ 4 → Fine (computes_in l c (work_home l c n h) n)
+  computes_in-fine c None n ready ready' can is small = computes_scratch-fine c n ready ready' can small
+  computes_in-fine c (Some r) n ready ready' can is small = by_test (works_at l c r n) refl
+    where
+      low : r + n ≤ 18
+      low = let inside = (subst (λ p. IsSpot l p (width_of l c.to)) is.0 (ok.spot c.to can.there)).1 in let less = is.1 in omega arith
+
+      comes-fine : (b : Bool) (a : Operand) → IsReady l live a → is_there l a r n ≡ b → (b ≡ false → suits_left l a r n ≡ true) → Fine (comes b l a r n)
+      comes-fine true (Known x) ready e f = tt
+      comes-fine false (Known x) ready e f = tt
+      comes-fine true (Local k) ready e f = tt
+      comes-fine false (Local k) ready e f = fetch-fine l ok (l.spots k) (width_of l k) r n (ok.spot k ready.0) (ok.narrow k ready.0) (omega (arith, low))
+
+      by_test : (b : Bool) → works_at l c r n ≡ b → Fine (computes_in l c (if b then Some r else None) n)
+      by_test false e = computes_scratch-fine c n ready ready' can small
+      by_test true e =
+          let there = is_there l c.left r n in
+          let parts =
+          both_rest (is_bytewise c.operator) (suits_right l c.right r (width_of l c.to)) (there || (not (is_known c.right) && suits_left l c.left r n)) e in
+          fine_append (comes there l c.left r n) (works_with l r c.operator c.right n ++ settles l c.to (Some r) n)
+          (comes-fine there c.left ready refl (left_suits there (is_known c.right) (suits_left l c.left r n) parts.1))
+          (fine_append (works_with l r c.operator c.right n) (settles l c.to (Some r) n) (works_with-fine r c.operator c.right n ready' small (omega (arith, low)))
+          (settles-fine l ok live behind c.to n (Some r) can is small))
+
   pub plain_code-fine : (codes : ℕ → ℕ) (q : Plain) → IsCovered l live behind q → Fine (plain_code l codes q)
   plain_code-fine codes (Copy to a) can = copies-fine to a can.0 can.1
   plain_code-fine codes (CodeOf q to) can = copies_whole-fine to (Known (codes q)) tt can
@@ -316,10 +354,7 @@ module _ (l : Layout) (ok : IsLayout l) (live behind : ℕ → Bool) where
       let n = least c.width (width_of l c.to) in
       let narrow = ok.narrow c.to can.1.1.there in
       let small : n ≤ 4 = elim (least_is c.width (width_of l c.to)) [ inl k ↦ omega (arith, k.0, k.1, narrow) | inr k ↦ omega (arith, k.0, narrow) ] in
-      fine_append (brings l c.left 22 n) (works l c.operator c.right n ++ gives l c.to 22 n)
-      (brings-fine l ok live c.left 22 n can.1.0.0 (omega arith) (omega (arith, small)))
-      (fine_append (works l c.operator c.right n) (gives l c.to 22 n) (all_works-fine c.operator c.right n can.1.0.1 small)
-      (gives-fine l ok live behind c.to 22 n can.1.1 (omega (arith, small))))
+      computes_in-fine c (home_of l c.to n) n can.1.0.0 can.1.0.1 can.1.1 (home_is l c.to n) small
   plain_code-fine codes (Load Ram w to a) can =
       let small = can.0.1 in
       let near = is_near w a.index in

@@ -19,7 +19,7 @@ with_local-widths [] to v = refl
 with_local-widths (l ∷ ls) zero v = refl
 with_local-widths (l ∷ ls) (suc to) v = ap (λ ws. l.width ∷ ws) (with_local-widths ls to v)
 
-with_local-beside : (ls : List LocalState) (to v k : ℕ) → k ≢ to → value_in (slice_get (with_local ls to v) k) ≡ value_in (slice_get ls k)
+pub with_local-beside : (ls : List LocalState) (to v k : ℕ) → k ≢ to → value_in (slice_get (with_local ls to v) k) ≡ value_in (slice_get ls k)
 with_local-beside [] to v k h = refl
 with_local-beside (l ∷ ls) zero v zero h = absurd (h refl)
 with_local-beside (l ∷ ls) zero v (suc k) h = refl

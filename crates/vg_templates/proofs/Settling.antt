@@ -100,7 +100,7 @@ made_above l ok to n None there is = omega arith
 made_above l ok to n (Some r) there is = (subst (λ p. IsSpot l p (width_of l to)) is.0 (ok.spot to there)).0
 
 -- where this is tested, a spot has no byte there; nor has it any among scratch registers
-tested_clear : (s : Spot) (w r n : ℕ) → is_clear s w r n ≡ true → IsClear s w r n
+pub tested_clear : (s : Spot) (w r n : ℕ) → is_clear s w r n ≡ true → IsClear s w r n
 tested_clear (InFrame at) w r n e = tt
 tested_clear (InRegisters f) w r n e = by_test (nat_le (f + w) r) refl
   where
@@ -130,6 +130,32 @@ pub record Made (d n z : ℕ) (old new : View) : Type 0 where
   pub holds : number new.regs d n ≡ z
   pub stack : new.stack ≡ old.stack
   pub static : new.static ≡ old.static
+
+module _ (i : Places) (ok : (m : ℕ) → IsLayout (i.layouts m)) (m : ℕ) (frames : List (Frame State)) where
+  -- registers of a local alone have changed, of those that outlive calls: it has what is in them
+  pub held_own : (live behind : ℕ → Bool) (s : State) (to r : ℕ) (v u : View) → IsSet (i.layouts m) live behind to
+      → (i.layouts m).spots to ≡ InRegisters r → Held i m live s frames v → ((y : ℕ) → y < 32 → u.regs.of y < 256)
+      → ((y : ℕ) → (y ≡ 1) ⊎ IsReliable y → (y < r) ⊎ (r + width_of (i.layouts m) to ≤ y) → u.regs.of y ≡ v.regs.of y)
+      → u ≡ record v { regs = u.regs } → Held i m behind (sets to (number u.regs r (width_of (i.layouts m) to)) s) frames u
+  held_own live behind s to r v u can is k bytes others same =
+      let l = i.layouts m in
+      let w = width_of l to in
+      let z = number u.regs r w in
+      let spot = subst (λ p. IsSpot l p w) is ((ok m).spot to can.there) in
+      let up = spot.0 in
+      let inside = spot.1 in
+      held_set i ok m frames live behind s to z v u can k
+      (subst (λ p. Agree (registers_with p w v.regs z) u.regs) (sym is) (agree w (omega arith) others))
+      (others 1 (inl refl) (inl (omega arith)) ∙ k.r1) (ap (λ (y : View). y.static) same)
+      (ap (λ (y : View). y.stack) same ∙ k.stacked.cut ∙ ap (λ p. k.stacked.wait ++ (frame_with p w k.stacked.own z ++ k.stacked.under)) (sym is))
+    where
+      agree : (w : ℕ) → r + w ≤ 18 → ((y : ℕ) → (y ≡ 1) ⊎ IsReliable y → (y < r) ⊎ (r + w ≤ y) → u.regs.of y ≡ v.regs.of y)
+          → Agree (put_number v.regs r w (number u.regs r w)) u.regs
+      agree w low beyond x reliable =
+          elim (below_or x r w) [
+            | inl inside ↦ digits_same u.regs v.regs r w (number u.regs r w) x refl (λ y lo hi. bytes y (omega arith)) inside.0 inside.1
+            | inr beside ↦ beyond x (inr reliable) beside ∙ sym (put_number-beside v.regs r w (number u.regs r w) x beside)
+          ]
 
 module _ (i : Places) (ok : (m : ℕ) → IsLayout (i.layouts m)) (m : ℕ) (frames : List (Frame State)) (e : Run) (deep : Type 0) where
   -- the local has got it then

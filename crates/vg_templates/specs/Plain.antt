@@ -1,5 +1,5 @@
 -- The code for plain instructions of linear code. Values are worked on in r22 to r25, and a right one comes into r18 to r21.
-use Rattle.std.specs.Prelude.{ℕ, zero, suc, ◌-◌, ◌/◌, ◌^◌, ◌%◌, ◌==◌, ◌&&◌, nat_le, nat_lt, if◌then◌else◌, List, [], ◌∷◌, ◌++◌}
+use Rattle.std.specs.Prelude.{ℕ, zero, suc, ◌-◌, ◌/◌, ◌^◌, ◌%◌, ◌==◌, Bool, true, false, not, ◌&&◌, ◌||◌, nat_le, nat_lt, if◌then◌else◌, Option, Some, None, List, [], ◌∷◌, ◌++◌}
 use Rattle.avr_instr.specs.declared.instr.Instr.{Instr}
 use Rattle.avr_instr.specs.declared.instr.Instr.TheVariants.{In, Lds, Out, Sts}
 use Rattle.vg_lin.specs.declared.instr.Operand.{Operand}
@@ -10,8 +10,9 @@ use Rattle.vg_lin.specs.declared.instr.Computation.{Computation}
 use Rattle.vg_templates.specs.Spots.{Spot, InFrame, InRegisters}
 use Rattle.vg_templates.specs.Layouts.{Layout, width_of}
 use Rattle.vg_templates.specs.Linkage.{pushes}
+use Rattle.vg_templates.specs.Transfers.{fetch}
 use Rattle.vg_templates.specs.Held.{brings, gives}
-use Rattle.vg_templates.specs.Homes.{home_of, made_in, settles, clear_home}
+use Rattle.vg_templates.specs.Homes.{home_of, made_in, settles, is_clear, clear_home}
 use Rattle.vg_templates.specs.Chains.{adds, subtracts, takes_known, ands, ors, eors}
 use Rattle.vg_templates.specs.Operands.{least, finds, found_in}
 
@@ -78,23 +79,77 @@ IsBytewise Or = Unit {0}
 IsBytewise Xor = Unit {0}
 IsBytewise _ = ⊥
 
--- what they do, on the number in r22 and behind it and one in other registers
-abbrev pub operates : Operator → List ℕ → List Instr
-operates Plus rs = adds 22 rs
-operates Minus rs = subtracts 22 rs
-operates And rs = ands 22 rs
-operates Or rs = ors 22 rs
-operates Xor rs = eors 22 rs
-operates _ rs = []
+abbrev pub is_bytewise : Operator → Bool
+is_bytewise Plus = true
+is_bytewise Minus = true
+is_bytewise And = true
+is_bytewise Or = true
+is_bytewise Xor = true
+is_bytewise _ = false
 
--- the right operand comes in and is worked with; a known one stands in SUBI and SBCI itself
+-- what they do, on the number in registers from d on and one in other registers
+abbrev pub operates : (d : ℕ) → Operator → List ℕ → List Instr
+operates d Plus rs = adds d rs
+operates d Minus rs = subtracts d rs
+operates d And rs = ands d rs
+operates d Or rs = ors d rs
+operates d Xor rs = eors d rs
+operates d _ rs = []
+
+-- the right operand comes in and is worked with
+abbrev pub works_with : Layout → (d : ℕ) → Operator → Operand → (count : ℕ) → List Instr
+works_with l d o a n = finds l a 18 n ++ operates d o (found_in l a 18 n)
+
+-- the same in r22 and behind it: a known one stands in SUBI and SBCI itself
 abbrev pub works : Layout → Operator → Operand → (count : ℕ) → List Instr
 works l Plus (Known y) n = takes_known 22 n (256 ^ n - y % 256 ^ n)
 works l Minus (Known y) n = takes_known 22 n y
-works l o a n = finds l a 18 n ++ operates o (found_in l a 18 n)
+works l o a n = works_with l 22 o a n
+
+-- whether so many bytes of an operand are in registers from one on already
+abbrev pub stands : Spot → (width first count : ℕ) → Bool
+stands (InFrame at) w r n = false
+stands (InRegisters f) w r n = (f == r) && nat_le n w
+
+abbrev pub is_there : Layout → Operand → (first count : ℕ) → Bool
+is_there l (Known x) r n = false
+is_there l (Local j) r n = stands (l.spots j) (width_of l j) r n
+
+-- whether a local has no byte in registers; and of known numbers, whether those in SUBI and SBCI are no shorter
+abbrev pub suits_left : Layout → Operand → (first count : ℕ) → Bool
+suits_left l (Known x) r n = false
+suits_left l (Local j) r n = is_clear (l.spots j) (width_of l j) r n
+
+abbrev pub suits_right : Layout → Operand → (first width : ℕ) → Bool
+suits_right l (Known y) r w = true
+suits_right l (Local j) r w = is_clear (l.spots j) (width_of l j) r w
+
+abbrev pub is_known : Operand → Bool
+is_known (Known y) = true
+is_known (Local j) = false
+
+-- A computation works in a home where the right operand has no byte, and the left one stands or comes.
+abbrev pub works_at : Layout → Computation → (first count : ℕ) → Bool
+works_at l c r n =
+    is_bytewise c.operator && suits_right l c.right r (width_of l c.to)
+    && (is_there l c.left r n || (not (is_known c.right) && suits_left l c.left r n))
+
+abbrev pub work_home : Layout → Computation → (count : ℕ) → Option ℕ → Option ℕ
+work_home l c n None = None
+work_home l c n (Some r) = if works_at l c r n then Some r else None
+
+-- the left operand comes, unless it stands there; it is no known number
+abbrev pub comes : (there : Bool) → Layout → Operand → (d count : ℕ) → List Instr
+comes there l (Known x) d n = []
+comes true l (Local j) d n = []
+comes false l (Local j) d n = fetch (l.spots j) (width_of l j) d n
 
 -- a computation, of no more bytes than its local has
+abbrev pub computes_in : Layout → Computation → Option ℕ → (count : ℕ) → List Instr
+computes_in l c None n = brings l c.left 22 n ++ (works l c.operator c.right n ++ gives l c.to 22 n)
+computes_in l c (Some r) n = comes (is_there l c.left r n) l c.left r n ++ (works_with l r c.operator c.right n ++ settles l c.to (Some r) n)
+
 abbrev pub computes : Layout → Computation → List Instr
 computes l c =
     let n = least c.width (width_of l c.to) in
-    brings l c.left 22 n ++ (works l c.operator c.right n ++ gives l c.to 22 n)
+    computes_in l c (work_home l c n (home_of l c.to n)) n
