@@ -1,5 +1,5 @@
 -- Each instruction of a sound procedure has code of at least one instruction.
-use Rattle.std.specs.Prelude.{ℕ, zero, suc, ◌+◌, ◌-◌, ◌/◌, ◌%◌, ◌<◌, ◌≤◌, ◌==◌, nat_lt, nat_le, Bool, true, false, ◌&&◌, not, if◌then◌else◌, List, [], ◌∷◌, ◌++◌, length, slice_index}
+use Rattle.std.specs.Prelude.{ℕ, zero, suc, ◌+◌, ◌-◌, ◌/◌, ◌%◌, ◌<◌, ◌≤◌, ◌==◌, nat_lt, nat_le, Bool, true, false, ◌&&◌, ◌||◌, not, if◌then◌else◌, List, [], ◌∷◌, ◌++◌, length, slice_index}
 use Rattle.std.specs.Prelude.{Option, Some, None, slice_get}
 use Rattle.std.specs.List.{AllByRecursion}
 use Rattle.std.proofs.Common.{◌≡◌, refl, arith}
@@ -31,7 +31,7 @@ use Rattle.vg_templates.specs.Homes.{home_of, made_in, settles, clear_home}
 use Rattle.vg_templates.specs.Branches.{tests, told_by, near_branch}
 use Rattle.vg_templates.specs.Calls.{call_code}
 use Rattle.vg_templates.specs.Operands.{least, padded, known_registers, finds, spot_found, found_in}
-use Rattle.vg_templates.specs.Plain.{bytes_in, copies_low, copies_through, copies_local, copies, is_bytewise, operates, works_with, works, is_there, works_at, work_home, comes, computes_in, computes, writes_register, reads_register, first_of}
+use Rattle.vg_templates.specs.Plain.{bytes_in, copies_low, copies_through, copies_local, copies, is_bytewise, operates, works_with, works, is_there, suits_left, suits_right, is_known, works_at, work_home, comes, computes_in, computes, writes_register, reads_register, first_of}
 use Rattle.vg_templates.specs.Accesses.{loads_x, stores_x, is_near, address_of, loads_at, points_by, loads_by, stores_by}
 use Rattle.vg_templates.specs.Shifts.{doubles, halves, repeats, shifts_left, shifts_right}
 use Rattle.vg_templates.specs.Choices.{usual, unusual}
@@ -143,9 +143,10 @@ operates_some Remainder d (r ∷ rs) e h = absurd (let clash : false ≡ true = 
 operates_some ShiftLeft d (r ∷ rs) e h = absurd (let clash : false ≡ true = e in cc)
 operates_some ShiftRight d (r ∷ rs) e h = absurd (let clash : false ≡ true = e in cc)
 
-first_true : (a b : Bool) → (a && b) ≡ true → a ≡ true
-first_true true b e = refl
-first_true false b e = absurd (let clash : false ≡ true = e in cc)
+first_true : (a b c : Bool) → (a && b && c) ≡ true → a ≡ true
+first_true true b c e = refl
+first_true false true c e = absurd (let clash : false ≡ true = e in cc)
+first_true false false c e = absurd (let clash : false ≡ true = e in cc)
 
 least_some : (w n : ℕ) → 1 ≤ w → 1 ≤ n → 1 ≤ least w n
 least_some zero n h g = absurd (omega (arith, h))
@@ -209,6 +210,11 @@ module _ (m : Procedure) (s : IsSound m) where
   computes_in_some c None n some h = computes_scratch_some c n h
   computes_in_some c (Some r) n some h = by_test (works_at l c r n) refl
     where
+      bytewise : works_at l c r n ≡ true → is_bytewise c.operator ≡ true
+      bytewise e =
+          first_true (is_bytewise c.operator) (suits_right l c.right r (width_of l c.to))
+          (is_there l c.left r n || (not (is_known c.right) && suits_left l c.left r n)) e
+
       by_test : (b : Bool) → works_at l c r n ≡ b → 1 ≤ length (computes_in l c (if b then Some r else None) n)
       by_test false e = computes_scratch_some c n h
       by_test true e =
@@ -217,12 +223,12 @@ module _ (m : Procedure) (s : IsSound m) where
           let rs = found_in l c.right 18 n in
           back (comes there l c.left r n) (worked ++ settles l c.to (Some r) n)
           (front worked (settles l c.to (Some r) n)
-          (back (finds l c.right 18 n) (operates r c.operator rs) (operates_some c.operator r rs (first_true (is_bytewise c.operator) _ e) (found_some c.right 18 n some))))
+          (back (finds l c.right 18 n) (operates r c.operator rs) (operates_some c.operator r rs (bytewise e) (found_some c.right 18 n some))))
 
   computes_some : (c : Computation) → IsWidth c.width → c.to < length m.widths → 1 ≤ length (computes l c)
   computes_some c wide h =
       let n = least c.width (width_of l c.to) in
-      computes_in_some c (home_of l c.to n) n (least_some c.width (width_of l c.to) wide.0 (wide_at m.widths s.widths h)) h
+      computes_in_some c (home_of l c.to n) n (least_some c.width (width_of l c.to) wide.0 (wide_at m.widths c.to s.widths h)) h
 
   left_some : (w to : ℕ) (a : Operand) (n : ℕ) → to < length m.widths → 1 ≤ length (shifts_left l w to a n)
   left_some w to a n h =
