@@ -1,16 +1,18 @@
 -- That sessions which one program follows are followed by a program that does what it did.
 use Rattle.std.specs.Prelude.{◌≢◌, ℕ, ◌+◌, ◌≤◌, Option, Some}
 use Rattle.std.proofs.Common.{◌≡◌, sym, ◌∙◌, subst, arith}
+use Rattle.vg_meaning.specs.Outside.{before}
 use Rattle.vg_meaning.specs.Answer.{End, Stops, Wants, Touches, Done, OutOfClock, OutOfDepth, OutOfRoom, Wrong}
 use Rattle.vg_meaning.specs.Code.{Code}
 use Rattle.vg_lin.specs.declared.instr.Call.{Call}
 use Rattle.vg_lin.specs.Program.{Program}
 use Rattle.vg_lin.specs.State.{State}
-use Rattle.vg_lin.specs.Meaning.{run}
+use Rattle.vg_lin.specs.Meaning.{language, codes_in, at_start, run, counted_steps}
 use Rattle.vg_lin.specs.Steps.{Config}
 use Rattle.vg_lin.specs.Structured.{Step}
 use Rattle.vg_lin.specs.Follows.{EndsBy, IsLegal}
 use Rattle.vg_lin.specs.Sessions.{ShowsEnd, FollowsSessions}
+use Rattle.vg_lin.proofs.Followed.{counted_within}
 use Rattle.vg_expand.specs.Runs.{ShowsSame, RunsAs, FollowsSessionsOf}
 
 abbrev IsFine : Option End → Type 0
@@ -41,7 +43,7 @@ ends_same Wrong c d e h = e ∙ h
 pub followed : (p n : Program) (bodies : ℕ → Code Step) (c : Call) → RunsAs p n → FollowsSessions p bodies c → FollowsSessionsOf p n bodies c
 followed p n bodies c runs follows clock deepest reads interrupts t v why legal e = shown (follows clock deepest reads interrupts t v why legal e)
   where
-    shown : (j : ℕ) × (clock ≤ v.clock + j) × ShowsEnd why v (run p j reads interrupts)
+    shown : (j : ℕ) × (clock ≤ v.clock + counted_steps p j reads interrupts) × ShowsEnd why v (run p j reads interrupts)
         → (i : ℕ) × (clock ≤ v.clock + i) × ShowsEnd why v (run n i reads interrupts)
     shown (j, h, s) = onto (runs j reads interrupts (not_wrong why (run p j reads interrupts) legal s.ending))
       where
@@ -49,7 +51,7 @@ followed p n bodies c runs follows clock deepest reads interrupts t v why legal 
             → (i : ℕ) × (clock ≤ v.clock + i) × ShowsEnd why v (run n i reads interrupts)
         onto (i, g, r) = (
           i,
-          omega (arith, h, g),
+          let few = counted_within (language p) (codes_in p.procedures) j (at_start p (before reads interrupts)) in omega (arith, h, g, few),
           record {
             ending = ends_same why (run p j reads interrupts) (run n i reads interrupts) r.ending s.ending;
             outside = r.outside ∙ s.outside;

@@ -1,4 +1,5 @@
--- Linear code follows a structured answer: with at least one step for each tick, the same outside, and the same calls open at each opening.
+-- Linear code follows a structured answer: with at least one step that counts for each tick, the same outside, and the same calls open
+-- at each opening.
 use Rattle.std.specs.Prelude.{◌≡◌, ℕ, suc, ◌+◌, ◌≤◌, Bool, true, false, List, [], ◌∷◌, Option, Some, None}
 use Rattle.vg_meaning.specs.History.{Active, History}
 use Rattle.vg_meaning.specs.World.{World}
@@ -7,6 +8,7 @@ use Rattle.vg_lin.specs.declared.instr.Instr.{Instr}
 use Rattle.vg_meaning.specs.Code.{Code}
 use Rattle.vg_lin.specs.declared.instr.Call.{Call}
 use Rattle.vg_lin.specs.Steps.{Frame, Language, Config, steps, open_below, open_calls, noted}
+use Rattle.vg_lin.specs.Turns.{counted}
 use Rattle.vg_lin.specs.Structured.{Step, Deciding, fresh, Doing, Caller, running}
 use Rattle.vg_lin.specs.Stands.{Goal, Next, Either}
 
@@ -14,6 +16,10 @@ use Rattle.vg_lin.specs.Stands.{Goal, Next, Either}
 -- same from c.
 pub record Leads {S : Type 0} (l : Language S) (procs : List (List Instr)) (t : ℕ) (c d : Config S) : Type 0 where
   pub by : (k : ℕ) → (j : ℕ) × (k + t ≤ j) × (steps l procs j c ≡ steps l procs k d)
+
+-- The same for steps that count: however many of them are to follow there, so many and at least t more are made from c.
+pub record Reaches {S : Type 0} (l : Language S) (procs : List (List Instr)) (t : ℕ) (c d : Config S) : Type 0 where
+  pub by : (k : ℕ) → (j : ℕ) × (counted l procs k d + t ≤ counted l procs j c) × (steps l procs j c ≡ steps l procs k d)
 
 -- The configuration of a procedure at a place, under these frames, in this state and this world.
 abbrev pub conf : {S : Type 0} → (m pc : ℕ) → List (Frame S) → S → World History → Config S
@@ -34,11 +40,12 @@ IsLegal why = Unit {0}
 -- From c, with n ticks left: the run is over for this reason, in this world.
 abbrev pub Finishes : {S : Type 0} → Language S → List (List Instr) → Config S → ℕ → End → World History → Type 0
 Finishes {S} l procs c n why w =
-    (t : ℕ) × (t + w.clock ≡ n) × (d : Config S) × Leads l procs t c d × EndsBy why d × (d.outside ≡ w.outside) × (d.openings ≡ w.history.at_openings)
+    (t : ℕ) × (t + w.clock ≡ n) × (d : Config S) × Reaches l procs t c d × EndsBy why d × (d.outside ≡ w.outside) × (d.openings ≡ w.history.at_openings)
 
--- From c, with n ticks left: the run comes to d in this world, where these calls are active; it makes so many more steps than ticks.
+-- From c, with n ticks left: the run comes to d in this world, where these calls are active; so many more steps count than there are
+-- ticks.
 abbrev pub Comes : {S : Type 0} → Language S → List (List Instr) → Config S → (n : ℕ) → List Active → (more : ℕ) → Config S → World History → Type 0
-Comes l procs c n calls more d w = (t : ℕ) × (t + w.clock ≡ n) × (w.history.active ≡ calls) × Leads l procs (t + more) c d
+Comes l procs c n calls more d w = (t : ℕ) × (t + w.clock ≡ n) × (w.history.active ≡ calls) × Reaches l procs (t + more) c d
 
 -- From c, with n ticks left, linear code does what the answer says: it comes to `to` where that goes on, and to `leave` where it
 -- leaves for a reason.
@@ -54,7 +61,7 @@ by_truth met unmet (Some true) = met
 by_truth met unmet (Some false) = unmet
 by_truth met unmet None = unmet
 
--- Where procedure m is when its code goes on at a goal, and how many more steps it made than ticks.
+-- Where procedure m is when its code goes on at a goal, and how many more of its steps count than there are ticks.
 abbrev pub arriving : {S : Type 0} → ℕ → List (Frame S) → Goal → Deciding S → World History → Config S
 arriving m fs (Next to) s w = conf m to fs s.state w
 arriving m fs (Either met unmet paid) s w = conf m (by_truth met unmet s.truth) fs s.state w
@@ -90,11 +97,11 @@ FollowsFrom {S} l procs m f fs at g x y go =
 abbrev pub entry : {S : Type 0} → Language S → (k : ℕ) → Frame S → List (Frame S) → S → World History → Config S
 entry l k f fs s w = record (conf k 0 (f ∷ fs) s w) { openings = noted (l.named k) (open_below l (f ∷ fs)) w.history.at_openings }
 
--- Calls are followed, from wherever one step leads to the entry of the procedure.
+-- Calls are followed, from wherever one step that counts leads to the entry of the procedure.
 abbrev pub FollowsCalls : {S : Type 0} → Language S → List (List Instr) → Caller S → Type 0
 FollowsCalls {S} l procs go =
     (k : ℕ) (f : Frame S) (fs : List (Frame S)) (c : Config S) (s : S) (w : World History) (leave : Signal → Deciding S → World History → Config S)
-    → c.ending ≡ None → c.outside ≡ w.outside → c.openings ≡ w.history.at_openings → Leads l procs 1 c (entry l k f fs s w)
+    → c.ending ≡ None → c.outside ≡ w.outside → c.openings ≡ w.history.at_openings → Reaches l procs 1 c (entry l k f fs s w)
     → w.history.active ≡ open_below l (f ∷ fs)
     → Follows l procs c w.clock (open_below l (f ∷ fs)) 0 (back l f fs) leave (go k (fresh s) w)
 

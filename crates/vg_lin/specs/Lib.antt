@@ -1,4 +1,5 @@
 pub mod Steps
+pub mod Turns
 pub mod Values
 pub mod Program
 pub mod State

@@ -17,6 +17,7 @@ use Rattle.vg_lin.specs.Values.{low}
 use Rattle.vg_lin.specs.Program.{Procedure, Program}
 use Rattle.vg_lin.specs.State.{LocalState, Waiting, State, value, sets, plain, holds}
 use Rattle.vg_lin.specs.Steps.{Awaits, Result, Interrupt, Entry, Language, Config, steps}
+use Rattle.vg_lin.specs.Turns.{counted}
 
 -- ---- calls
 
@@ -170,3 +171,7 @@ at_start p o =
 -- A run of so many steps, with these device reads and interrupts to come.
 abbrev pub run : Program → (steps' : ℕ) → (reads interrupts : List ℕ) → Config State
 run p n reads interrupts = steps (language p) (codes_in p.procedures) n (at_start p (before reads interrupts))
+
+-- How many of these steps count.
+abbrev pub counted_steps : Program → (steps' : ℕ) → (reads interrupts : List ℕ) → ℕ
+counted_steps p n reads interrupts = counted (language p) (codes_in p.procedures) n (at_start p (before reads interrupts))

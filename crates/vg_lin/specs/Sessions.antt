@@ -9,7 +9,7 @@ use Rattle.vg_lin.specs.declared.instr.Call.{Call}
 use Rattle.vg_lin.specs.Steps.{Config}
 use Rattle.vg_lin.specs.Program.{Program}
 use Rattle.vg_lin.specs.State.{State}
-use Rattle.vg_lin.specs.Meaning.{language, first_state, run}
+use Rattle.vg_lin.specs.Meaning.{language, first_state, run, counted_steps}
 use Rattle.vg_lin.specs.Structured.{Step, Deciding, fresh, running}
 use Rattle.vg_lin.specs.Follows.{EndsBy, IsLegal}
 
@@ -29,9 +29,9 @@ pub record ShowsEnd (why : End) (v : World History) (d : Config State) : Type 0 
   pub outside : d.outside ≡ v.outside
   pub openings : d.openings ≡ v.history.at_openings
 
--- Where the session is over for a legal reason, the program's run shows it, after at least as many steps as ticks were spent.
+-- Where the session is over for a legal reason, the program's run shows it, after at least as many steps that count as ticks were spent.
 abbrev pub FollowsSessions : Program → (ℕ → Code Step) → Call → Type 0
 FollowsSessions p bodies c =
     (clock : ℕ) (deepest : Option ℕ) (reads interrupts : List ℕ) (t : Deciding State) (v : World History) (why : End) → IsLegal why
     → session p bodies c clock deepest reads interrupts ≡ Ends (Over why) t v
-    → (j : ℕ) × (clock ≤ v.clock + j) × ShowsEnd why v (run p j reads interrupts)
+    → (j : ℕ) × (clock ≤ v.clock + counted_steps p j reads interrupts) × ShowsEnd why v (run p j reads interrupts)

@@ -15,7 +15,7 @@ use Rattle.vg_lin.specs.declared.instr.Call.{Call as Calling}
 use Rattle.vg_lin.specs.declared.instr.Instr.{Instr}
 use Rattle.vg_lin.specs.declared.instr.Instr.TheVariants.{Plain, When, Unless, Jump, Call, Return, Idle}
 use Rattle.vg_lin.specs.Program.{Procedure, Program}
-use Rattle.vg_lin.specs.Meaning.{run}
+use Rattle.vg_lin.specs.Meaning.{run, counted_steps}
 use Rattle.vg_lin_rows.specs.Shown.{Shown, seen}
 use Rattle.vg_lin_rows.specs.Packed.{codes, vector_three}
 
@@ -99,6 +99,11 @@ whole_run : seen (run (linear 1) 60 (2 ∷ []) (3 ∷ 5 ∷ []))
       ending = Some Done;
     }
 whole_run = refl
+
+-- Of its steps count the three calls, the three tests of the loop, the three times that it idles, and what is done with each of the two
+-- interrupts; the test of the bounds check does not.
+eleven_count : counted_steps (linear 1) 60 (2 ∷ []) (3 ∷ 5 ∷ []) ≡ 11
+eleven_count = refl
 
 wanting_run : (seen (run (linear 1) 60 [] [])).ending ≡ Some (Wants 0x36)
 wanting_run = refl

@@ -13,7 +13,7 @@ use Rattle.vg_firm.specs.declared.step.Prefix.TheVariants.{Cut}
 use Rattle.vg_firm.specs.declared.step.Elements.{Elements}
 use Rattle.vg_firm.specs.declared.step.Step.{Step}
 use Rattle.vg_firm.specs.declared.step.Step.TheVariants.{Number, Local, SetLocal, Forget, Operate, Apply, ReadDevice, WriteDevice, Load, Store, LoadAt}
-use Rattle.vg_firm.specs.declared.step.Step.TheVariants.{StoreNothing, LoadItem, This, Bind, BindFor, CallFor, CallValue}
+use Rattle.vg_firm.specs.declared.step.Step.TheVariants.{StoreNothing, LoadItem, This, Bind, BindFor, Call, CallFor, CallValue}
 use Rattle.vg_firm.specs.Program.{Procedure, Program}
 use Rattle.vg_firm.specs.Meaning.{State}
 use Rattle.vg_firm.specs.Session.{first_state, running}
@@ -42,6 +42,7 @@ main =
       method = 0;
       params = 0;
       receives = false;
+      on_objects = false;
       widths = 4 ∷ [];
       result = 0;
       calls = 1 ∷ 2 ∷ [];
@@ -52,7 +53,7 @@ main =
 
 -- method 4, of object 1: nothing
 abbrev pub nothing_done : Procedure
-nothing_done = record { method = 4; params = 1; receives = true; widths = 4 ∷ []; result = 0; calls = []; body = Nothing }
+nothing_done = record { method = 4; params = 1; receives = true; on_objects = true; widths = 4 ∷ []; result = 0; calls = []; body = Nothing }
 
 -- method 7, of object 2: sum = sum + n; write the low byte of sum to 0x38
 abbrev pub count : Procedure
@@ -61,6 +62,7 @@ count =
       method = 7;
       params = 1;
       receives = true;
+      on_objects = true;
       widths = 4 ∷ [];
       result = 0;
       calls = [];
@@ -74,6 +76,7 @@ handler index =
       method = 9;
       params = 0;
       receives = false;
+      on_objects = false;
       widths = [];
       result = 0;
       calls = [];
@@ -135,7 +138,7 @@ alone body =
       flash = [];
       tables = [];
       ram = (0 ∷ []) ∷ [];
-      procedures = record { method = 0; params = 0; receives = true; widths = 1 ∷ []; result = 0; calls = []; body = steps body } ∷ [];
+      procedures = record { method = 0; params = 0; receives = true; on_objects = false; widths = 1 ∷ []; result = 0; calls = []; body = steps body } ∷ [];
       dispatches = [];
       main = 0;
       handler = λ v. None;
@@ -171,21 +174,21 @@ object_one : (alone_ends (Number 1 ∷ LoadAt Ram 0 2 ∷ Forget ∷ [])).ending
 object_one = refl
 
 -- A delegate is called on its receiver, and a procedure that gets none is called on none.
-abbrev pub delegated : (receives : Bool) → List Step → Program
-delegated receives body =
+abbrev pub delegated : (receives on : Bool) → List Step → Program
+delegated receives on body =
     record {
       flash = [];
       tables = [];
       ram = [];
-      procedures = record { method = 0; params = 0; receives = false; widths = []; result = 0; calls = 1 ∷ []; body = steps body }
-          ∷ record { method = 1; params = 0; receives = receives; widths = []; result = 0; calls = []; body = steps (This ∷ WriteDevice 0x38 ∷ []) } ∷ [];
+      procedures = record { method = 0; params = 0; receives = false; on_objects = false; widths = []; result = 0; calls = 1 ∷ []; body = steps body }
+          ∷ record { method = 1; params = 0; receives = receives; on_objects = on; widths = []; result = 0; calls = []; body = steps (This ∷ WriteDevice 0x38 ∷ []) } ∷ [];
       dispatches = (record { first = 2; count = 3; procedure = 1 } ∷ []) ∷ [];
       main = 0;
       handler = λ v. None;
     }
 
 abbrev pub delegate_shows : (receives : Bool) → List Step → Shown
-delegate_shows receives body = shown (packed_run (delegated receives body) 5 [] [])
+delegate_shows receives body = shown (packed_run (delegated receives false body) 5 [] [])
 
 -- the object 4 has the method
 bound_object : (delegate_shows true (Number 4 ∷ BindFor 0 ∷ CallValue 0 ∷ Forget ∷ [])).trace ≡ Write 0x38 4 ∷ []
@@ -206,3 +209,16 @@ null_delegate = refl
 
 gets_none : (delegate_shows false (Bind 1 ∷ CallValue 0 ∷ Forget ∷ [])).ending ≡ Some Wrong
 gets_none = refl
+
+-- A method of a class is called on objects alone.
+abbrev pub method_shows : List Step → Shown
+method_shows body = shown (packed_run (delegated true true body) 5 [] [])
+
+on_object : (method_shows (Number 4 ∷ CallFor 0 0 ∷ Forget ∷ [])).trace ≡ Write 0x38 4 ∷ []
+on_object = refl
+
+on_null : (method_shows (Bind 1 ∷ CallValue 0 ∷ Forget ∷ [])).ending ≡ Some Wrong
+on_null = refl
+
+on_nothing : (method_shows (Call 1 0 ∷ Forget ∷ [])).ending ≡ Some Wrong
+on_nothing = refl

@@ -1,5 +1,5 @@
 -- The linear code of Linear stands where structured code wants it.
-use Rattle.std.specs.Prelude.{◌≡◌, refl, ℕ, zero, suc, List, [], ◌∷◌, Some, None}
+use Rattle.std.specs.Prelude.{◌≡◌, refl, ℕ, zero, suc, List, [], ◌∷◌, Some, None, slice_get}
 use Rattle.vg_meaning.specs.declared.event.Event.TheVariants.{Read, Write, Enter}
 use Rattle.vg_meaning.specs.History.{Calling as OpenCall}
 use Rattle.vg_meaning.specs.Answer.{Done}
@@ -9,7 +9,7 @@ use Rattle.vg_lin.specs.declared.instr.Operator.TheVariants.{Plus, Minus}
 use Rattle.vg_lin.specs.declared.instr.Comparison.TheVariants.{Below}
 use Rattle.vg_lin.specs.declared.instr.Memory.TheVariants.{Ram, Flash}
 use Rattle.vg_lin.specs.declared.instr.Plain.TheVariants.{Compute, Load, Store, ReadDevice, WriteDevice, Push, Find, Stop}
-use Rattle.vg_lin.specs.Steps.{fetch}
+use Rattle.vg_lin.specs.Steps.{code_of}
 use Rattle.vg_lin.specs.Meaning.{codes_in}
 use Rattle.vg_lin.specs.Structured.{Step, Here, Pick, Flip, Give, To}
 use Rattle.vg_lin.specs.Stands.{Next, Stands, nothing, sequence, plain, call, when, unless, flip, choice, loop, return, behind, AllStand, StandsFirst}
@@ -64,28 +64,28 @@ structured_run : shown (session (linear 1) bodies start_call 6 None (2 ∷ []) (
     }
 structured_run = refl
 
-main_stands : Stands (fetch (codes_in (linear 1).procedures) 0) 0 0 main_body 0 (Next 8)
+main_stands : Stands (code_of (slice_get (codes_in (linear 1).procedures) 0)) 0 0 main_body 0 (Next 8)
 main_stands =
     sequence (plain refl) (sequence
-    (loop (flip (when refl)) (sequence (plain refl) (sequence (plain refl) (sequence (call refl) (plain refl)))) (behind nothing refl))
+    (loop (flip (when refl refl)) (sequence (plain refl) (sequence (plain refl) (sequence (call refl) (plain refl)))) (behind nothing refl))
     (return refl))
 
-count_stands : Stands (fetch (codes_in (linear 1).procedures) 2) 0 0 count_body 0 (Next 5)
+count_stands : Stands (code_of (slice_get (codes_in (linear 1).procedures) 2)) 0 0 count_body 0 (Next 5)
 count_stands = sequence (plain refl) (sequence (plain refl) (sequence (plain refl) (sequence (plain refl) (return refl))))
 
 -- Behind the bounds check: the element is read, or the run stops.
-handler_stands : Stands (fetch (codes_in (linear 1).procedures) 3) 0 0 handler_body 0 (Next 7)
+handler_stands : Stands (code_of (slice_get (codes_in (linear 1).procedures) 3)) 0 0 handler_body 0 (Next 7)
 handler_stands =
     sequence (plain refl)
-    (choice (unless refl) (sequence (plain refl) (sequence (plain refl) (sequence (plain refl) (return refl)))) (plain refl))
+    (choice (unless refl tt) (sequence (plain refl) (sequence (plain refl) (sequence (plain refl) (return refl)))) (plain refl))
 
 -- All bodies stand, and so does the procedure with which a run begins.
-pub all_stand : AllStand (fetch (codes_in (linear 1).procedures)) bodies
+pub all_stand : AllStand (codes_in (linear 1).procedures) bodies
 all_stand zero = (8, main_stands)
 all_stand (suc zero) = (1, return refl)
 all_stand (suc (suc zero)) = (5, count_stands)
 all_stand (suc (suc (suc zero))) = (7, handler_stands)
 all_stand (suc (suc (suc (suc m)))) = (0, nothing)
 
-pub first_stands : StandsFirst (fetch (codes_in (linear 1).procedures) 4) start_call
+pub first_stands : StandsFirst (code_of (slice_get (codes_in (linear 1).procedures) 4)) start_call
 first_stands = record { first = refl; idle = refl; again = refl }
