@@ -36,4 +36,13 @@ list_of (c ∷ cs) = Then (code_of c) (list_of cs)
 -- A procedure.
 abbrev pub procedure_of : HeldProcedure → Procedure
 procedure_of m =
-    record { method = m.method; params = m.params; receives = m.receives; widths = m.widths; result = m.result; calls = m.calls; body = code_of m.body }
+    record {
+      method = m.method;
+      params = m.params;
+      receives = m.receives;
+      on_objects = m.on_objects;
+      widths = m.widths;
+      result = m.result;
+      calls = m.calls;
+      body = code_of m.body;
+    }

@@ -10,6 +10,7 @@ pub record Procedure : Type 0 where
   pub method : ℕ  -- its number in the order of the text
   pub params : ℕ
   pub receives : Bool  -- whether it gets a receiver: a method of a class, or one of which delegates are made
+  pub on_objects : Bool  -- whether it is called on objects alone: a method of a class
   pub widths : List ℕ  -- of its locals in bytes; the parameters come first
   pub result : ℕ  -- the width of its result, 0 where it has none
   pub calls : List ℕ  -- the procedures that it may call

@@ -1,5 +1,5 @@
 -- Calls and runs of packed programs.
-use Rattle.std.specs.Prelude.{if◌then◌else◌, ℕ, zero, suc, ◌-◌, Bool, true, false, ◌==◌, ◌&&◌, List, [], ◌∷◌, ◌++◌, length, take, drop, reverse}
+use Rattle.std.specs.Prelude.{if◌then◌else◌, ℕ, zero, suc, ◌-◌, Bool, true, false, ◌==◌, ◌&&◌, nat_lt, List, [], ◌∷◌, ◌++◌, length, take, drop, reverse}
 use Rattle.std.specs.Prelude.{replicate, Option, Some, None, slice_get}
 use Rattle.vg_meaning.specs.History.{Calling, Recorder}
 use Rattle.vg_meaning.specs.Answer.{OutOfClock, Gives, Piece, go_on, over, and_then}
@@ -56,9 +56,18 @@ abbrev pub may_receive : Procedure → Option ℕ → Bool
 may_receive m (Some n) = m.receives && fits 2 n
 may_receive m None = true
 
+-- A receiver that is an object: its number is not 0.
+abbrev pub is_object : Option ℕ → Bool
+is_object (Some n) = nat_lt 0 n
+is_object None = false
+
+-- A method of a class is called on objects alone.
+abbrev pub may_be_on : Procedure → Option ℕ → Bool
+may_be_on m self = if m.on_objects then is_object self else true
+
 -- A call with the right number of arguments, each of the width of its parameter.
 abbrev pub may_enter : Procedure → (count : ℕ) → (self : Option ℕ) → State → Bool
-may_enter m count self s = (count == m.params) && (length (arguments count s) == count) && all_fit m.widths (arguments count s) && may_receive m self
+may_enter m count self s = (count == m.params) && (length (arguments count s) == count) && all_fit m.widths (arguments count s) && (may_receive m self && may_be_on m self)
 
 -- The handler of an interrupt, where there is one: it gets no argument, and its result is dropped.
 abbrev pub handled : {H : Type 0} → Caller H → Option ℕ → Piece State H

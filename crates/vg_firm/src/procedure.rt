@@ -11,6 +11,8 @@ pub struct Procedure {
     pub params: u8,
     /// Whether it gets a receiver: a method of a class does, and one of which delegates are made.
     pub receives: bool,
+    /// Whether it is called on objects alone: a method of a class is.
+    pub on_objects: bool,
     /// The widths of its locals in bytes; the parameters come first.
     pub widths: Row<u8>,
     /// The width of its result, 0 where it has none.

@@ -27,7 +27,7 @@ use Rattle.vg_firm.specs.Program.{Procedure, Program}
 use Rattle.vg_firm.specs.Meaning.{State, Caller, put, with_found, take_from, taking, from_below, stop_unless, not_null, checked, fits, of_width, put_computed, set_local}
 use Rattle.vg_firm.specs.Meaning.{entry, columns_in, load, set_found, store, at_object, array_at, stands_in, item_index, at_item, put_length, stop_unless_within}
 use Rattle.vg_firm.specs.Meaning.{call_delegate, put_delegate, step, truth}
-use Rattle.vg_firm.specs.Session.{all_fit, arguments, entered, back_in, is_among, guarded, run_procedure, may_receive, may_enter, handled, entering, called}
+use Rattle.vg_firm.specs.Session.{all_fit, arguments, entered, back_in, is_among, guarded, run_procedure, may_receive, may_be_on, may_enter, handled, entering, called}
 use Rattle.vg_firm_typed.specs.Steps.{takes}
 use Rattle.vg_firm_frames.specs.Frames.{over, Above, gives, ends, AboveOne, gives_one, ends_one}
 
@@ -218,7 +218,7 @@ module _ (under : List ℕ) where
   enters_same : (m : Procedure) (count : ℕ) (self : Option ℕ) (s : State) → count ≤ length s.values
       → may_enter m count self (over under s) ≡ may_enter m count self s
   enters_same m count self s le =
-      ap (λ xs. (count == m.params) && (length xs == count) && all_fit m.widths xs && may_receive m self) (arguments_same count s le)
+      ap (λ xs. (count == m.params) && (length xs == count) && all_fit m.widths xs && (may_receive m self && may_be_on m self)) (arguments_same count s le)
 
   entered_same : (m : Procedure) (count : ℕ) (self : Option ℕ) (s : State) → count ≤ length s.values
       → entered m count self (over under s) ≡ entered m count self s

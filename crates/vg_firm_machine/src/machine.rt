@@ -229,6 +229,9 @@ impl<'a> Machine<'a> {
         if receiver.is_some() && !procedure.receives {
             return Err(End::Wrong("no receiver wanted"));
         }
+        if procedure.on_objects && !is_object(receiver) {
+            return Err(End::Wrong("a method without its object"));
+        }
         self.tick()?;
         if self.stacks.depth() >= CALLS {
             return Err(End::Depth);
@@ -527,5 +530,13 @@ pub fn delegate(code: u32, receiver: u32) -> Option<u32> {
         Some(code + 65_536 * receiver)
     } else {
         None
+    }
+}
+
+// Whether a receiver is an object: its number is not 0.
+fn is_object(receiver: Option<u16>) -> bool {
+    match receiver {
+        Some(number) => number != 0,
+        None => false,
     }
 }

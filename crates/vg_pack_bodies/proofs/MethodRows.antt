@@ -13,6 +13,7 @@ use Rattle.vg_coded.specs.Widths.{width_of}
 use Rattle.vg_meaning.specs.Code.{Code, replaced}
 use Rattle.vg_firm.specs.declared.step.Step.{Step as FirmStep}
 use Rattle.vg_pairs.specs.Pairs.{without_pairs}
+use Rattle.vg_packing.specs.Pass.{is_class}
 use Rattle.vg_pack_bodies.specs.Procedures.{packed_at, packed_here, packed_if, packed_methods}
 
 -- a list turned twice is as it was
@@ -20,26 +21,30 @@ pub turned : {A : Type 0} (xs acc more : List A) → onto (onto xs acc) more ≡
 turned [] acc more = refl
 turned (x ∷ xs) acc more = turned xs (x ∷ acc) more
 
+abbrev part : (m count : ℕ) (receives on : Bool) → List ℕ → ℕ → List ℕ → Code FirmStep → Procedure
+part m count receives on widths result calls body =
+    record { method = m; params = count; receives = receives; on_objects = on; widths = widths; result = result; calls = calls; body = body }
+
 -- a procedure is what its parts are
-pub made : (p : Tables) (n : Numbers) (x : Plan) (m : ℕ) (y : Method) (b : Body) (count : ℕ) (receives : Bool) (widths : List ℕ) (result : ℕ)
-    (calls : List ℕ) (body : Code FirmStep) → count ≡ length y.params → receives ≡ holds (slice_get x.receives m)
+pub made : (p : Tables) (n : Numbers) (x : Plan) (m : ℕ) (y : Method) (b : Body) (count : ℕ) (receives on : Bool) (widths : List ℕ) (result : ℕ)
+    (calls : List ℕ) (body : Code FirmStep) → count ≡ length y.params → receives ≡ holds (slice_get x.receives m) → on ≡ is_class y.owner
     → widths ≡ map width_of (y.params ++ b.others) → result ≡ width_of y.result → calls ≡ row_in (slice_get x.edges m)
     → body ≡ replaced (moved p n x) (without_pairs b.code)
-    → record { method = m; params = count; receives = receives; widths = widths; result = result; calls = calls; body = body } ≡ packed_here p n x m y b
-made p n x m y b count receives widths result calls body e1 e2 e3 e4 e5 e6 =
-    ap (λ z. part z receives widths result calls body) e1
-    ∙ ap (λ z. part (length y.params) z widths result calls body) e2
-    ∙ ap (λ z. part (length y.params) (holds (slice_get x.receives m)) z result calls body) (e3 ∙ ap (map width_of) (sym (turned y.params [] b.others)))
-    ∙ ap (λ z. part (length y.params) (holds (slice_get x.receives m)) all z calls body) e4
-    ∙ ap (λ z. part (length y.params) (holds (slice_get x.receives m)) all (width_of y.result) z body) e5
-    ∙ ap (λ z. part (length y.params) (holds (slice_get x.receives m)) all (width_of y.result) (row_in (slice_get x.edges m)) z) e6
+    → part m count receives on widths result calls body ≡ packed_here p n x m y b
+made p n x m y b count receives on widths result calls body e1 e2 e7 e3 e4 e5 e6 =
+    ap (λ z. part m z receives on widths result calls body) e1
+    ∙ ap (λ z. part m (length y.params) z on widths result calls body) e2
+    ∙ ap (λ z. part m (length y.params) (holds (slice_get x.receives m)) z widths result calls body) e7
+    ∙ ap (λ z. here z result calls body) (e3 ∙ ap (map width_of) (sym (turned y.params [] b.others)))
+    ∙ ap (λ z. here all z calls body) e4
+    ∙ ap (λ z. here all (width_of y.result) z body) e5
+    ∙ ap (λ z. here all (width_of y.result) (row_in (slice_get x.edges m)) z) e6
   where
     all : List ℕ
     all = map width_of (onto (onto y.params []) b.others)
 
-    part : ℕ → Bool → List ℕ → ℕ → List ℕ → Code FirmStep → Procedure
-    part count receives widths result calls body =
-        record { method = m; params = count; receives = receives; widths = widths; result = result; calls = calls; body = body }
+    here : List ℕ → ℕ → List ℕ → Code FirmStep → Procedure
+    here widths result calls body = part m (length y.params) (holds (slice_get x.receives m)) (is_class y.owner) widths result calls body
 
 module _ (p : Tables) (n : Numbers) (x : Plan) where
   without_bodies : (m : ℕ) (ys : List Method) → packed_methods p n x m ys [] ≡ []

@@ -4,12 +4,13 @@ ghost use Rattle.vg_core.specs.HeldProgram.{body_at};
 ghost use Rattle.vg_firm.specs.Held.{procedure_of};
 ghost use Rattle.vg_live.specs.Sets.{flat};
 ghost use Rattle.vg_pack_code.specs.Plans.{holds, row_in};
+ghost use Rattle.vg_packing.specs.Pass.{is_class};
 ghost use Rattle.vg_pack_bodies.specs.Procedures.{HaveFewParameters, packed_at, packed_here, packed_if, packed_methods};
 
 use crate::locals::{copied, widths};
 use std::alloc::Global;
 use vg_base::{NoMemory, Row};
-use vg_core::{Body, Method, Program, Tables};
+use vg_core::{Body, Method, Owner, Program, Tables};
 use vg_firm::Procedure;
 use vg_number::Numbers;
 use vg_pack_code::{Plan, packed_code, width_of};
@@ -142,6 +143,7 @@ fn procedure(
         method: number,
         params: method.params.len() as u8,
         receives: receives(plan, number),
+        on_objects: is_class(method.owner),
         widths,
         result: width_of(method.result),
         calls,
@@ -156,6 +158,16 @@ fn receives(plan: &Plan, number: u16) -> bool
     match plan.receives.as_slice().get(usize::from(number)) {
         Some(found) => *found,
         None => false,
+    }
+}
+
+// Whether it is a class that declares a method.
+fn is_class(owner: Owner) -> bool
+    ensures { result ≡ is_class owner }
+{
+    match owner {
+        Owner::InClass(_) => true,
+        Owner::InComponent(_) => false,
     }
 }
 

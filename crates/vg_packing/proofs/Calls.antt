@@ -1,5 +1,5 @@
 -- Bodies, calls and whole runs.
-use Rattle.std.proofs.Common.{◌≡◌, refl, sym, ap, subst, ◌∙◌, arith, append_assoc, ℕ, zero, suc, ◌+◌, ◌-◌, ◌==◌, Bool, true, false, List, [], ◌∷◌, ◌++◌}
+use Rattle.std.proofs.Common.{◌≡◌, refl, sym, ap, subst, ◌∙◌, arith, append_assoc, ℕ, zero, suc, ◌+◌, ◌-◌, ◌<◌, ◌==◌, nat_lt, Bool, true, false, List, [], ◌∷◌, ◌++◌}
 use Rattle.std.proofs.Common.{length, map, take, drop}
 use Rattle.std.proofs.Common.{reverse, replicate, Option, Some, None, if◌then◌else◌}
 use Rattle.std.proofs.lemmas.Option.{none-some}
@@ -30,7 +30,7 @@ use Rattle.vg_core.specs.declared.operator.Prefix.{Prefix}
 use Rattle.vg_core.specs.declared.step.Step.TheVariants.{Apply}
 use Rattle.vg_core.specs.declared.program.Handler.{Handler}
 use Rattle.vg_core.specs.declared.program.Owner.{Owner}
-use Rattle.vg_core.specs.declared.program.Owner.TheVariants.{InComponent}
+use Rattle.vg_core.specs.declared.program.Owner.TheVariants.{InClass, InComponent}
 use Rattle.vg_core.specs.declared.program.Target.TheVariants.{Run}
 use Rattle.vg_core.specs.Heap.{Kind, kind_of, default}
 use Rattle.vg_core.specs.Program.{Body, Program, Signature, signature_of, method_signature, body_of}
@@ -53,7 +53,7 @@ use Rattle.vg_firm.specs.declared.step.Step.TheVariants as steps
 use Rattle.vg_firm.specs.Meaning as firm
 use Rattle.vg_firm.specs.Meaning.{State as FirmState}
 use Rattle.vg_firm.specs.Session as calls
-use Rattle.vg_firm.specs.Session.{all_fit, guarded, may_receive, may_enter}
+use Rattle.vg_firm.specs.Session.{all_fit, guarded, may_receive, is_object, may_enter}
 use Rattle.vg_coded.specs.Numbers.{coded}
 use Rattle.vg_coded.specs.Kept.{IsKept}
 use Rattle.vg_coded.specs.Operators.{prefix_for}
@@ -61,7 +61,7 @@ use Rattle.vg_coded.specs.Widths.{width_of}
 use Rattle.vg_coded.proofs.Fitting.{value_fits}
 use Rattle.vg_packing.specs.Layout.{Layout}
 use Rattle.vg_pairs.specs.Pairs.{without_pairs}
-use Rattle.vg_packing.specs.Pass.{move, packed}
+use Rattle.vg_packing.specs.Pass.{is_class, move, packed}
 use Rattle.vg_packing.specs.Allowed.{IsSmall, AreSmall, allowing}
 use Rattle.vg_packing.specs.Packs.{AreKept, Holds, Receiver, Packs, packs}
 use Rattle.vg_packing.specs.Laid.{SameEntry, IsPacked, Laid}
@@ -149,6 +149,21 @@ module _ (p : Program) (good : WellTyped p) (l : Layout) (k : Codes) (f : FirmPr
 
   abbrev good_of : (ts : List CoreType) (o : Owner) (x : List CoreType) (s : State) → Typed p l.kinds ts o x s → Good p.tables l.kinds ts o x s
   good_of ts o x s j = record { kinds = l.kinds; grown = λ n a q. q; heap = j.heap; values = j.values; locals = j.locals; self = j.self }
+
+  -- ---- receivers
+
+  abbrev on_owner : Owner → Option ℕ → Bool
+  on_owner a number = if is_class a then is_object number else true
+
+  -- a method of a class is called on an object, and the number of one that is kept is not 0
+  on_objects : (a : Owner) (self : CoreValue) (number : Option ℕ) → IsKept l.numbering self → SelfOf p.tables l.kinds self a → Receiver l k a self number
+      → on_owner a number ≡ true
+  on_objects (InClass c) self number kept (j, es, object) rec =
+      ap is_object (rec ∙ ap (λ v. Some (coded l.numbering k v)) es) ∙ above (l.numbering.number j) (subst (IsKept l.numbering) es kept)
+    where
+      above : (n : ℕ) → 0 < n → nat_lt 0 n ≡ true
+      above n lt = grind arith
+  on_objects (InComponent c) self number kept selfis rec = refl
 
   -- ---- the beginning of a body
 
@@ -256,12 +271,12 @@ module _ (p : Program) (good : WellTyped p) (l : Layout) (k : Codes) (f : FirmPr
     may_get m (Some n) (e, lt) = both (l.receives m) _ e (below n 65536 lt)
 
     enters : (m : ℕ) (o : Owner) (ts us x : List CoreType) (number : Option ℕ) → Subs p.tables us (onto g.params []) → MayGet l m number
-        → (s : State) (t : FirmState) → Packs p.tables l k f o s t → Typed p l.kinds ts o (us ++ x) s
+        → on_owner g.owner number ≡ true → (s : State) (t : FirmState) → Packs p.tables l k f o s t → Typed p l.kinds ts o (us ++ x) s
         → may_enter (packed p.tables l k m g b) (length us) number t ≡ true
-    enters m o ts us x number subs may _ _ (packs {vs = vs} y z ks rs q) j =
+    enters m o ts us x number subs may on _ _ (packs {vs = vs} y z ks rs q) j =
         both _ _
         (both _ _ (both _ _ (eq_true (length us) (length g.params) (as_many us subs)) (eq_true _ _ (as_many_wait us x vs j.values)))
-        (arguments_fit us x _ j.heap.cells vs subs j.values y)) (may_get m number may)
+        (arguments_fit us x _ j.heap.cells vs subs j.values y)) (both _ _ (may_get m number may) on)
 
   module _ {K : Type 0} (r : Recorder K) where
     -- ---- truth values and results
@@ -420,14 +435,14 @@ module _ (p : Program) (good : WellTyped p) (l : Layout) (k : Codes) (f : FirmPr
     -- the procedure of a method is entered
     entering_is : (o : Owner) (ts us x : List CoreType) (m q : ℕ) (g : Signature) (b : Body) (number : Option ℕ) (a : Piece State K)
         (go : Procedure → Piece FirmState K)
-        → IsPacked p.tables l k f m q g b → Subs p.tables us (onto g.params []) → MayGet l m number
+        → IsPacked p.tables l k f m q g b → Subs p.tables us (onto g.params []) → MayGet l m number → on_owner g.owner number ≡ true
         → SameFrom p l k f o (Typed p l.kinds ts o (us ++ x)) Nowhere a (go (packed p.tables l k m g b))
         → SameFrom p l k f o (Typed p l.kinds ts o (us ++ x)) Nowhere a (calls.entering f q (length us) number go)
-    entering_is o ts us x m q g b number a go is subs may h s t w i z j =
+    entering_is o ts us x m q g b number a go is subs may on h s t w i z j =
         subst (λ c. Alike (Packs p.tables l k f o) Nowhere (a s w) (firm.with_found c (λ d. firm.checked (may_enter d (length us) number t) (go d)) t w))
         (sym is.procedure)
         (subst (λ c. Alike (Packs p.tables l k f o) Nowhere (a s w) (firm.checked c (go (packed p.tables l k m g b)) t w))
-        (sym (enters g b m o ts us x number subs may s t z j)) (h s t w i z j))
+        (sym (enters g b m o ts us x number subs may on s t z j)) (h s t w i z j))
 
     same_opened : (n : ℕ) → SameCalled n → (o : Owner) (ts us x : List CoreType) (m q : ℕ) (g : Signature) (b : Body) (self : CoreValue) (number : Option ℕ)
         → IsPacked p.tables l k f m q g b → signature_of p.tables (Run m) ≡ Some g → body_of p (Run m) ≡ Some b → Subs p.tables us (onto g.params [])
@@ -440,7 +455,7 @@ module _ (p : Program) (good : WellTyped p) (l : Layout) (k : Codes) (f : FirmPr
         (subst (λ c. Alike (Packs p.tables l k f o) Nowhere (core.with_found c (λ b1. started g b1) s w)
         (calls.called r k f (suc n) q (length us) number t w)) (sym eb)
         (entering_is o ts us x m q g b number (started g b)
-        (λ d. opened r (Calling d.method) (calls.run_procedure r k f (calls.called r k f n) handle d (length us) number)) is subs may
+        (λ d. opened r (Calling d.method) (calls.run_procedure r k f (calls.called r k f n) handle d (length us) number)) is subs may (on_objects g.owner self number kept selfis rec)
         (same_checked p l k f o (Typed p l.kinds ts o (us ++ x)) Nowhere (length g.params == length us) _ _ (λ e1 s1 t1 w1 i1 z1 j1.
         same_checked p l k f o (Typed p l.kinds ts o (us ++ x)) Nowhere (are_of p.tables s1.heap.cells (onto g.params []) (take (length us) s1.values)) _ _
         (λ e2 s2 t2 w2 i2 z2 j2. alike_opened r (Calling m) _ _
@@ -463,7 +478,7 @@ module _ (p : Program) (good : WellTyped p) (l : Layout) (k : Codes) (f : FirmPr
             (calls.called r k f zero q (length us) number)
         by (b, eb, typed) =
             entering_is o ts us x m q g b number (core.called r p zero (Run m) (length us) self) _ (laid.bodies m q g b e sig eb) subs may
-            (λ s t w i z j. overs)
+            (on_objects g.owner self number kept selfis rec) (λ s t w i z j. overs)
     same_called (suc n) o ts us x m q g self number e sig subs kept selfis rec may = by (same_called n) (good.bodies (Run m) g sig)
       where
         by : SameCalled n → (b : Body) × (body_of p (Run m) ≡ Some b) × TypedBody p.tables g b

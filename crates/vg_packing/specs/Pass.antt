@@ -1,9 +1,11 @@
 -- The pass: each step becomes at most one, but for a call of null with very many arguments.
-use Rattle.std.specs.Prelude.{ℕ, zero, suc, nat_lt, if◌then◌else◌, Option, Some, None, map, length}
+use Rattle.std.specs.Prelude.{ℕ, zero, suc, Bool, true, false, nat_lt, if◌then◌else◌, Option, Some, None, map, length}
 use Rattle.vg_meaning.specs.Code.{Code, Nothing, Then, Do, replaced}
 use Rattle.vg_codes.specs.Codes.{Codes}
 use Rattle.vg_core.specs.declared.types.CoreType.{CoreType}
 use Rattle.vg_core.specs.declared.types.CoreType.TheVariants.{IntType, CharType, RawType, ClassType}
+use Rattle.vg_core.specs.declared.program.Owner.{Owner}
+use Rattle.vg_core.specs.declared.program.Owner.TheVariants.{InClass, InComponent}
 use Rattle.vg_core.specs.declared.program.Tables.{Tables}
 use Rattle.vg_core.specs.declared.step.Step.{Step}
 use Rattle.vg_core.specs.declared.step.Step.TheVariants.{Put, Literal, This, Local, ComponentField, Register, ComponentMethod, Apply, Operate, CastTo}
@@ -98,6 +100,11 @@ move p l k (NewObject at c count) = Nothing
 move p l k (NewArray at t) = Nothing
 move p l k (Super c count) = Nothing
 
+-- Whether it is a class that declares a method.
+abbrev pub is_class : Owner → Bool
+is_class (InClass c) = true
+is_class (InComponent c) = false
+
 -- The procedure of a method: each two operators, one behind the other, are dropped, and then each step is replaced.
 abbrev pub packed : Tables → Layout → Codes → (m : ℕ) → Signature → Body → Procedure
 packed p l k m g b =
@@ -105,6 +112,7 @@ packed p l k m g b =
       method = m;
       params = length g.params;
       receives = l.receives m;
+      on_objects = is_class g.owner;
       widths = map width_of (locals_of g b);
       result = width_of g.result;
       calls = l.edges m;
