@@ -6,6 +6,7 @@ use Rattle.vg_firm.specs.declared.step.Operator.TheVariants.{Plus, Minus, Times,
 use Rattle.vg_firm.specs.declared.step.Operator.TheVariants.{And, Or, Xor, ShiftLeft, ShiftRight, Concat}
 use Rattle.vg_firm.specs.declared.step.Prefix.{Prefix}
 use Rattle.vg_firm.specs.declared.step.Prefix.TheVariants.{Negative, Not, Complement, Cut}
+use Rattle.vg_firm.specs.declared.step.ArrayPlace.{ArrayPlace}
 use Rattle.vg_firm.specs.declared.step.Elements.{Elements}
 use Rattle.vg_firm.specs.declared.step.Step.{Step}
 use Rattle.vg_firm.specs.declared.step.Step.TheVariants.{Number, This, Local as GetLocal, SetLocal, Forget, Operate, Apply, ReadDevice, WriteDevice}
@@ -35,12 +36,12 @@ use Rattle.vg_flatten_shapes.specs.Made.{Made, Gives, Refused, behind, after, by
 use Rattle.vg_flatten_values.specs.Values.{computing, comparing, computed, operated, operated_as, bytes_of, bytes_around, cut_bits, cut, applied}
 use Rattle.vg_flatten_values.specs.Values.{divided, masked, shifted_left, shifted_right, combined, divisor_checked, may_be_zero}
 use Rattle.vg_flatten_places.specs.declared.elements.Reach.{Reach}
-use Rattle.vg_flatten_places.specs.Places.{is_width, fetched, fetched_from, load_one, load_of, length_of, places_in, memory_of, multiplied}
-use Rattle.vg_flatten_places.specs.Places.{store_one, store_of, is_place, load_item, store_item, inside, element_of, no_element}
+use Rattle.vg_flatten_places.specs.Places.{is_width, fetched, fetched_from, load_one, load_of, length_of, lone_of, known_length, array_length, places_in, memory_of, multiplied}
+use Rattle.vg_flatten_places.specs.Places.{store_one, store_of, is_place, load_inside, load_item, store_inside, store_item, inside, element_of, lone_element, no_element}
 use Rattle.vg_flatten_steps.specs.Locals.{at_local, set_local, forgotten, written}
 use Rattle.vg_flatten_steps.specs.Calls.{in_widths, with_taken, passing_of, with_receiver, resulting, called, called_on, called_by, bound_for}
 use Rattle.vg_flatten_steps.specs.Objects.{is_one_of, cast_to}
-use Rattle.vg_flatten_places.specs.Places.{load_nothing, store_nothing}
+use Rattle.vg_flatten_places.specs.Places.{may_be_null, null_check, load_no_field, store_no_field, load_nothing, store_nothing}
 use Rattle.vg_flatten_steps.specs.Steps.{stepped}
 use Rattle.vg_flat_each.specs.Each.{Carries, StepHas}
 use Rattle.vg_flat_each.proofs.Blocks.{EachIn}
@@ -87,6 +88,13 @@ module _ (Has : Instr → Type 0) (k : Carries Has) (lay : Layout) (r : Room) wh
       by_zero : (c : Bool) → EachIn Has (if c then stop_where 3 (Holds (is_zero b)) else Skip)
       by_zero true = (k.stops 3, tt)
       by_zero false = tt
+
+  each_null : (a : Operand) → EachIn Has (null_check r a)
+  each_null a = by_null (may_be_null r a)
+    where
+      by_null : (c : Bool) → EachIn Has (if c then stop_where 1 (Holds (is_zero a)) else Skip)
+      by_null true = (k.stops 1, tt)
+      by_null false = tt
 
   each_divided : (op : LinOperator) (a b : Operand) (hs : List Operand) → HasEach Has (divided r op a b hs)
   each_divided op a b hs = each_temp Has (temp r hs) _ (λ to. (each_divisor b, k.computes _))
@@ -187,7 +195,7 @@ module _ (Has : Instr → Type 0) (k : Carries Has) (lay : Layout) (r : Room) wh
 
   each_on : (d code : ℕ) (xs rest : List Operand) → ((to : ℕ) (a : Operand) → Has (Plain (Find d to a))) → HasEach Has (called_on r d code xs rest)
   each_on d code [] rest h = tt
-  each_on d code (a ∷ xs) rest h = each_temp Has (temp r rest) _ (λ to. ((k.stops 1, tt), (h code a, tt)))
+  each_on d code (a ∷ xs) rest h = each_temp Has (temp r rest) _ (λ to. (each_null a, (h code a, tt)))
 
   each_by : (receiver : ℕ) (xs rest : List Operand) → HasEach Has (called_by r receiver xs rest)
   each_by receiver [] rest = tt
@@ -196,7 +204,7 @@ module _ (Has : Instr → Type 0) (k : Carries Has) (lay : Layout) (r : Room) wh
   each_bound_for : (d : ℕ) (hs : List Operand) → ((to : ℕ) (a : Operand) → Has (Plain (Find d to a))) → HasEach Has (bound_for r d hs)
   each_bound_for d [] h = tt
   each_bound_for d (a ∷ hs) h =
-      each_temp Has (temp r hs) _ (λ to. each_temp Has (temp r (a ∷ hs)) _ (λ above. ((k.stops 1, tt), (k.computes _, (h to a, k.computes _)))))
+      each_temp Has (temp r hs) _ (λ to. each_temp Has (temp r (a ∷ hs)) _ (λ above. (each_null a, (k.computes _, (h to a, k.computes _)))))
 
   -- ---- objects, columns and elements
 
@@ -219,6 +227,15 @@ module _ (Has : Instr → Type 0) (k : Carries Has) (lay : Layout) (r : Room) wh
   each_no_store (v ∷ []) = tt
   each_no_store (v ∷ a ∷ hs) = (k.stops 1, tt)
 
+  each_no_field : (hs : List Operand) → HasEach Has (load_no_field r hs)
+  each_no_field [] = tt
+  each_no_field (a ∷ hs) = each_null a
+
+  each_no_field_store : (hs : List Operand) → HasEach Has (store_no_field r hs)
+  each_no_field_store [] = tt
+  each_no_field_store (v ∷ []) = tt
+  each_no_field_store (v ∷ a ∷ hs) = each_null a
+
   each_multiplied : (to by : ℕ) (h : Operand) → EachIn Has (multiplied to by h)
   each_multiplied to by h = by_one (by == 1)
     where
@@ -227,11 +244,11 @@ module _ (Has : Instr → Type 0) (k : Carries Has) (lay : Layout) (r : Room) wh
       by_one false = k.computes _
 
   each_fetched : (memory : Memory) (width by base : ℕ) (a : Operand) (hs : List Operand) → HasEach Has (fetched r memory width by base a hs)
-  each_fetched memory width by base a hs = each_temp Has (temp r hs) _ (λ to. ((k.stops 1, tt), (each_multiplied to by a, k.loads memory width to _)))
+  each_fetched memory width by base a hs = each_temp Has (temp r hs) _ (λ to. (each_null a, (each_multiplied to by a, k.loads memory width to _)))
 
   each_fetched_from : (memory : Memory) (width first base : ℕ) (a : Operand) (hs : List Operand) → HasEach Has (fetched_from r memory width first base a hs)
   each_fetched_from memory width first base a hs =
-      each_temp Has (temp r hs) _ (λ to. ((k.stops 1, tt), (k.computes _, (each_multiplied to width (Local to), k.loads memory width to _))))
+      each_temp Has (temp r hs) _ (λ to. (each_null a, (k.computes _, (each_multiplied to width (Local to), k.loads memory width to _))))
 
   each_load_one : (memory : Memory) (o : Option Place) (hs : List Operand) → HasEach Has (load_one r memory o hs)
   each_load_one memory None hs = tt
@@ -243,13 +260,22 @@ module _ (Has : Instr → Type 0) (k : Carries Has) (lay : Layout) (r : Room) wh
   each_load_of memory first (Some place) [] = tt
   each_load_of memory first (Some place) (a ∷ hs) =
       each_if Has (is_width place.width) _ _
+      (each_if Has (place.count == 1) _ _ (each_temp Has (temp r hs) _ (λ to. (each_null a, k.loads memory place.width to _)))
       (each_if Has (nat_le (place.width * first) place.address) _ _ (each_fetched memory place.width place.width _ a hs)
-      (each_fetched_from memory place.width first place.address a hs)) tt
+      (each_fetched_from memory place.width first place.address a hs))) tt
 
   each_length : (o : Option ℕ) (hs : List Operand) → HasEach Has (length_of r o hs)
   each_length None hs = each_nothing hs
   each_length (Some table) [] = tt
   each_length (Some table) (a ∷ hs) = each_if Has (nat_le 2 table) _ _ (each_fetched _ 2 4 _ a hs) tt
+
+  each_known_length : (length : ℕ) (hs : List Operand) → HasEach Has (known_length length hs)
+  each_known_length length [] = tt
+  each_known_length length (a ∷ hs) = (k.stops 1, tt)
+
+  each_array_length : (single : Option ArrayPlace) (o : Option ℕ) (hs : List Operand) → HasEach Has (array_length r single o hs)
+  each_array_length (Some a) o hs = each_known_length a.length hs
+  each_array_length None o hs = each_length o hs
 
   each_store_one : (width : ℕ) (o : Option Place) (hs : List Operand) → HasEach Has (store_one width o hs)
   each_store_one width None hs = tt
@@ -262,9 +288,10 @@ module _ (Has : Instr → Type 0) (k : Carries Has) (lay : Layout) (r : Room) wh
   each_store_of first width (Some place) (v ∷ []) = tt
   each_store_of first width (Some place) (v ∷ a ∷ hs) =
       each_if Has (is_width width && (width == place.width)) _ _
+      (each_if Has (place.count == 1) _ _ (each_null a, k.stores width _ v)
       (each_if Has (nat_le (width * first) place.address) _ _
-      (each_temp Has (temp r (v ∷ a ∷ hs)) _ (λ to. ((k.stops 1, tt), (each_multiplied to width a, k.stores width _ v))))
-      (each_temp Has (temp r (v ∷ a ∷ hs)) _ (λ to. ((k.stops 1, tt), (k.computes _, (each_multiplied to width (Local to), k.stores width _ v)))))) tt
+      (each_temp Has (temp r (v ∷ a ∷ hs)) _ (λ to. (each_null a, (each_multiplied to width a, k.stores width _ v))))
+      (each_temp Has (temp r (v ∷ a ∷ hs)) _ (λ to. (each_null a, (k.computes _, (each_multiplied to width (Local to), k.stores width _ v))))))) tt
 
   -- an element is reached by loads and computations, and then loaded or stored
   each_inside : (x : Reach) (last : Option PlainInstr) → EachIn Has (inside x last) → EachIn Has (element_of x last)
@@ -278,35 +305,49 @@ module _ (Has : Instr → Type 0) (k : Carries Has) (lay : Layout) (r : Room) wh
       each_temp Has (temp r (i ∷ a ∷ hs)) _ (λ first. each_temp Has (temp r (Local first ∷ i ∷ a ∷ hs)) _ (λ second.
       each_inside (record { first = first; second = second; table = table; width = width; home = a; index = i }) None (k.stops 2)))
 
-  each_load_item : (e : Elements) (o : Option Place) (u : Option ℕ) (hs : List Operand) → HasEach Has (load_item r e o u hs)
-  each_load_item e o None [] = tt
-  each_load_item e o None (i ∷ hs) = each_nothing hs
-  each_load_item e None (Some table) [] = tt
-  each_load_item e None (Some table) (i ∷ []) = tt
-  each_load_item e None (Some table) (i ∷ a ∷ hs) =
-      each_if Has (nat_le 4 table) _ _ (each_no_element e.width table a i hs (Known 0 ∷ hs)) tt
-  each_load_item e (Some place) (Some table) [] = tt
-  each_load_item e (Some place) (Some table) (i ∷ []) = tt
-  each_load_item e (Some place) (Some table) (i ∷ a ∷ hs) =
-      each_if Has (is_width e.width && is_place e place && nat_le 4 table) _ _
-      (each_temp Has (temp r hs) _ (λ to. each_temp Has (temp r (i ∷ a ∷ hs)) _ (λ first.
-      each_temp Has (temp r (Local first ∷ i ∷ a ∷ hs)) _ (λ second. each_element _ _ (k.loads (memory_of e.home) e.width to _))))) tt
+  -- one that is the only one by known numbers
+  each_lone : (length width to : ℕ) (a i : Operand) (last : PlainInstr) → Has (Plain last) → EachIn Has (lone_element length width to a i last)
+  each_lone length width to a i last h = ((k.stops 1, tt), ((k.stops 2, tt), (each_multiplied to width i, h)))
 
-  each_store_item : (e : Elements) (o : Option Place) (u : Option ℕ) (hs : List Operand) → HasEach Has (store_item r e o u hs)
-  each_store_item e o None [] = tt
-  each_store_item e o None (v ∷ []) = tt
-  each_store_item e o None (v ∷ i ∷ hs) = each_no_store (v ∷ hs)
-  each_store_item e None (Some table) [] = tt
-  each_store_item e None (Some table) (v ∷ []) = tt
-  each_store_item e None (Some table) (v ∷ i ∷ []) = tt
-  each_store_item e None (Some table) (v ∷ i ∷ a ∷ hs) = each_if Has (nat_le 4 table) _ _ (each_no_element e.width table a i hs hs) tt
-  each_store_item e (Some place) (Some table) [] = tt
-  each_store_item e (Some place) (Some table) (v ∷ []) = tt
-  each_store_item e (Some place) (Some table) (v ∷ i ∷ []) = tt
-  each_store_item e (Some place) (Some table) (v ∷ i ∷ a ∷ hs) =
-      each_if Has (is_width e.width && is_place e place && nat_le 4 table) _ _
-      (each_temp Has (temp r (v ∷ i ∷ a ∷ hs)) _ (λ first. each_temp Has (temp r (Local first ∷ v ∷ i ∷ a ∷ hs)) _ (λ second.
-      each_element _ _ (k.stores e.width _ v)))) tt
+  each_load_inside : (single : Option ArrayPlace) (e : Elements) (table : ℕ) (a i : Operand) (hs : List Operand)
+      → HasEach Has (load_inside r single e table a i hs)
+  each_load_inside (Some x) e table a i hs = each_temp Has (temp r hs) _ (λ to. each_lone x.length e.width to a i _ (k.loads (memory_of e.home) e.width to _))
+  each_load_inside None e table a i hs =
+      each_temp Has (temp r hs) _ (λ to. each_temp Has (temp r (i ∷ a ∷ hs)) _ (λ first.
+      each_temp Has (temp r (Local first ∷ i ∷ a ∷ hs)) _ (λ second. each_element _ _ (k.loads (memory_of e.home) e.width to _))))
+
+  each_load_item : (single : Option ArrayPlace) (e : Elements) (o : Option Place) (u : Option ℕ) (hs : List Operand) → HasEach Has (load_item r single e o u hs)
+  each_load_item single e o None [] = tt
+  each_load_item single e o None (i ∷ hs) = each_nothing hs
+  each_load_item single e None (Some table) [] = tt
+  each_load_item single e None (Some table) (i ∷ []) = tt
+  each_load_item single e None (Some table) (i ∷ a ∷ hs) =
+      each_if Has (nat_le 4 table) _ _ (each_no_element e.width table a i hs (Known 0 ∷ hs)) tt
+  each_load_item single e (Some place) (Some table) [] = tt
+  each_load_item single e (Some place) (Some table) (i ∷ []) = tt
+  each_load_item single e (Some place) (Some table) (i ∷ a ∷ hs) =
+      each_if Has (is_width e.width && is_place e place && nat_le 4 table) _ _ (each_load_inside single e table a i hs) tt
+
+  each_store_inside : (single : Option ArrayPlace) (width table : ℕ) (v a i : Operand) (hs : List Operand)
+      → HasEach Has (store_inside r single width table v a i hs)
+  each_store_inside (Some x) width table v a i hs = each_temp Has (temp r (v ∷ i ∷ a ∷ hs)) _ (λ to. each_lone x.length width to a i _ (k.stores width _ v))
+  each_store_inside None width table v a i hs =
+      each_temp Has (temp r (v ∷ i ∷ a ∷ hs)) _ (λ first. each_temp Has (temp r (Local first ∷ v ∷ i ∷ a ∷ hs)) _ (λ second.
+      each_element _ _ (k.stores width _ v)))
+
+  each_store_item : (single : Option ArrayPlace) (e : Elements) (o : Option Place) (u : Option ℕ) (hs : List Operand) → HasEach Has (store_item r single e o u hs)
+  each_store_item single e o None [] = tt
+  each_store_item single e o None (v ∷ []) = tt
+  each_store_item single e o None (v ∷ i ∷ hs) = each_no_store (v ∷ hs)
+  each_store_item single e None (Some table) [] = tt
+  each_store_item single e None (Some table) (v ∷ []) = tt
+  each_store_item single e None (Some table) (v ∷ i ∷ []) = tt
+  each_store_item single e None (Some table) (v ∷ i ∷ a ∷ hs) = each_if Has (nat_le 4 table) _ _ (each_no_element e.width table a i hs hs) tt
+  each_store_item single e (Some place) (Some table) [] = tt
+  each_store_item single e (Some place) (Some table) (v ∷ []) = tt
+  each_store_item single e (Some place) (Some table) (v ∷ i ∷ []) = tt
+  each_store_item single e (Some place) (Some table) (v ∷ i ∷ a ∷ hs) =
+      each_if Has (is_width e.width && is_place e place && nat_le 4 table) _ _ (each_store_inside single e.width table v a i hs) tt
 
   -- ---- all steps
 
@@ -324,11 +365,11 @@ module _ (Has : Instr → Type 0) (k : Carries Has) (lay : Layout) (r : Room) wh
   each_step (Store c width) hs h = each_store_one width (slice_get lay.ram c) hs
   each_step (LoadAt home c first) hs h = each_load_of (memory_of home) first (slice_get (places_in lay home) c) hs
   each_step (StoreAt c first width) hs h = each_store_of first width (slice_get lay.ram c) hs
-  each_step LoadNothing hs h = each_nothing hs
-  each_step StoreNothing hs h = each_no_store hs
-  each_step (LoadItem e) hs h = each_load_item e (slice_get (places_in lay e.home) e.column) (slice_get lay.tables e.table) hs
-  each_step (StoreItem e) hs h = each_store_item e (slice_get lay.ram e.column) (slice_get lay.tables e.table) hs
-  each_step (Length t) hs h = each_length (slice_get lay.tables t) hs
+  each_step LoadNothing hs h = each_no_field hs
+  each_step StoreNothing hs h = each_no_field_store hs
+  each_step (LoadItem e) hs h = each_load_item (lone_of lay e.table) e (slice_get (places_in lay e.home) e.column) (slice_get lay.tables e.table) hs
+  each_step (StoreItem e) hs h = each_store_item (lone_of lay e.table) e (slice_get lay.ram e.column) (slice_get lay.tables e.table) hs
+  each_step (Length t) hs h = each_array_length (lone_of lay t) (slice_get lay.tables t) hs
   each_step (IsWithin first count) hs h = each_one_of first count hs
   each_step (StopUnlessWithin first count) hs h = each_cast first count hs
   each_step (Bind q) hs h = each_temp Has (temp r hs) _ (λ to. k.codes q to)

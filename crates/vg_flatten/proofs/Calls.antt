@@ -1,10 +1,8 @@
 -- That the calls of packed code stand in the flattened code, each once and in their order, and no other.
-use Rattle.std.specs.Prelude.{ℕ, zero, suc, ◌+◌, ◌-◌, ◌*◌, ◌≤◌, ◌^◌, Bool, true, false, ◌==◌, ◌&&◌, nat_lt, nat_le, List, [], ◌∷◌, ◌++◌, length, map}
-use Rattle.std.specs.Prelude.{reverse, take, drop, Option, Some, None, Result, Ok, Err, IfOk, slice_get, if◌then◌else◌}
-use Rattle.std.proofs.Common.{◌≡◌, refl, sym, ap, ◌∙◌, subst, arith}
+use Rattle.std.specs.Prelude.{ℕ, zero, suc, ◌+◌, ◌-◌, ◌*◌, ◌^◌, Bool, true, false, ◌==◌, ◌&&◌, nat_lt, nat_le, List, [], ◌∷◌, ◌++◌, length, map}
+use Rattle.std.specs.Prelude.{reverse, Option, Some, None, slice_get, if◌then◌else◌}
+use Rattle.std.proofs.Common.{◌≡◌, refl, sym, ap, ◌∙◌, subst}
 use Rattle.std.proofs.lemmas.List.{append_assoc, append-nil}
-use Rattle.vg_lin.specs.declared.instr.Instr.{Instr}
-use Rattle.vg_lin.specs.declared.instr.Instr.TheVariants.{When, Unless, Call as Calls}
 use Rattle.vg_flatten_shapes.specs.declared.open.Open.TheVariants.{Break as Breaking, Continue as Continuing}
 use Rattle.vg_flatten_shapes.specs.declared.open.Truth.TheVariants.{Fails}
 use Rattle.vg_meaning.specs.Code.{Code, Nothing, Then, Do, If, Loop, Break, Continue, Return}
@@ -13,6 +11,7 @@ use Rattle.vg_firm.specs.declared.step.Operator.TheVariants.{Plus, Minus, Times,
 use Rattle.vg_firm.specs.declared.step.Operator.TheVariants.{And, Or, Xor, ShiftLeft, ShiftRight, Concat}
 use Rattle.vg_firm.specs.declared.step.Prefix.{Prefix}
 use Rattle.vg_firm.specs.declared.step.Prefix.TheVariants.{Negative, Not, Complement, Cut}
+use Rattle.vg_firm.specs.declared.step.ArrayPlace.{ArrayPlace}
 use Rattle.vg_firm.specs.declared.step.Elements.{Elements}
 use Rattle.vg_firm.specs.declared.step.Step.{Step}
 use Rattle.vg_firm.specs.declared.step.Step.TheVariants.{Number, This, Local as GetLocal, SetLocal, Forget, Operate, Apply, ReadDevice, WriteDevice}
@@ -20,8 +19,6 @@ use Rattle.vg_firm.specs.declared.step.Step.TheVariants.{Load, Store}
 use Rattle.vg_firm.specs.declared.step.Step.TheVariants.{LoadAt, StoreAt, LoadNothing, StoreNothing, LoadItem, StoreItem, Length, IsWithin}
 use Rattle.vg_firm.specs.declared.step.Step.TheVariants.{StopUnlessWithin, Bind, BindFor, Call, CallFor, CallValue, Idle}
 use Rattle.vg_firm.specs.Program.{Procedure}
-use Rattle.vg_lin.specs.Program.{Procedure as LinProcedure}
-use Rattle.vg_base.specs.declared.refusal.Refusal.{Refusal}
 use Rattle.vg_lin.specs.declared.instr.Operand.{Operand}
 use Rattle.vg_lin.specs.declared.instr.Operand.TheVariants.{Local, Known}
 use Rattle.vg_lin.specs.declared.instr.Operator.{Operator as LinOperator}
@@ -29,11 +26,9 @@ use Rattle.vg_lin.specs.declared.instr.Operator.TheVariants.{Times as Product}
 use Rattle.vg_lin.specs.declared.instr.Plain.TheVariants.{Compute}
 use Rattle.vg_lin.specs.declared.instr.Memory.{Memory}
 use Rattle.vg_lin.specs.declared.instr.Passed.{Passed}
-use Rattle.vg_lin.specs.declared.instr.Callee.{Callee}
-use Rattle.vg_lin.specs.declared.instr.Callee.TheVariants.{Procedure as ByNumber, Code as ByCode}
+use Rattle.vg_lin.specs.declared.instr.Callee.TheVariants.{Procedure as ByNumber}
 use Rattle.vg_lin.specs.declared.instr.Call.{Call as Calling}
 use Rattle.vg_lin.specs.declared.instr.Instr.TheVariants.{Jump}
-use Rattle.vg_flatten_shapes.specs.declared.fault.Fault.{Fault}
 use Rattle.vg_flatten_shapes.specs.declared.fault.Fault.TheVariants.{NotTaken}
 use Rattle.vg_flatten_shapes.specs.declared.open.Open.{Open}
 use Rattle.vg_flatten_shapes.specs.declared.open.Open.TheVariants.{Set}
@@ -51,16 +46,16 @@ use Rattle.vg_flatten_shapes.proofs.Choices.{choice_cases}
 use Rattle.vg_flatten_shapes.specs.Made.{Made, Gives, Refused, behind, after, by_temp, settled, settled_as, Tested, tested, is_zero}
 use Rattle.vg_flatten_values.specs.Values.{computing, comparing, computed, operated, operated_as, bytes_of, bytes_around, cut_bits, cut, applied}
 use Rattle.vg_flatten_values.specs.Values.{divided, masked, shifted_left, shifted_right, combined, divisor_checked, may_be_zero}
-use Rattle.vg_flatten_places.specs.Places.{is_width, fetched, fetched_from, load_one, load_of, length_of, places_in, memory_of, multiplied}
-use Rattle.vg_flatten_places.specs.Places.{store_one, store_of, is_place, load_item, store_item, no_element}
+use Rattle.vg_flatten_places.specs.Places.{is_width, fetched, fetched_from, load_one, load_of, length_of, lone_of, known_length, array_length, places_in, memory_of, multiplied}
+use Rattle.vg_flatten_places.specs.Places.{store_one, store_of, is_place, load_inside, load_item, store_inside, store_item, no_element}
 use Rattle.vg_flatten_steps.specs.Locals.{at_local, set_local, forgotten, written}
-use Rattle.vg_flatten_steps.specs.Calls.{in_widths, with_taken, passing_of, with_receiver, resulting, called, called_on, called_for, called_by as called_by', called_value, bound_for}
+use Rattle.vg_flatten_steps.specs.Calls.{in_widths, with_taken, passing_of, with_receiver, resulting, called, called_on, called_by as called_by', bound_for}
 use Rattle.vg_flatten_steps.specs.Objects.{is_one_of, cast_to}
-use Rattle.vg_flatten_places.specs.Places.{load_nothing, store_nothing}
+use Rattle.vg_flatten_places.specs.Places.{may_be_null, null_check, load_no_field, store_no_field, load_nothing, store_nothing}
 use Rattle.vg_flatten_steps.specs.Steps.{stepped}
 use Rattle.vg_flatten_control.specs.Flat.{landed_as, landed, joined, chosen, where_empty, repeated, repeated_test, repeated_body, repeated_next}
 use Rattle.vg_flatten_control.specs.Flat.{given_back, flat}
-use Rattle.vg_flatten.specs.Flattened.{zeroes, own_params, whole, IsFlat}
+use Rattle.vg_flatten.specs.Flattened.{zeroes, own_params, whole}
 use Rattle.vg_flatten.specs.Calls.{Called, Named, Found, called_by, calls_of, callee_of, called_at, calls_in}
 
 -- ---- blocks
@@ -210,6 +205,17 @@ module _ (lay : Layout) (r : Room) where
       by_zero true = refl
       by_zero false = refl
 
+  null_quiet : (a : Operand) → block_calls (null_check r a) ≡ []
+  null_quiet a = by_null (may_be_null r a)
+    where
+      by_null : (c : Bool) → block_calls (if c then stop_where 1 (Holds (is_zero a)) else Skip) ≡ []
+      by_null true = refl
+      by_null false = refl
+
+  -- the null check, and what is done behind it
+  behind_null : (a : Operand) {cs ds : List Called} → cs ≡ ds → block_calls (null_check r a) ++ cs ≡ ds
+  behind_null a {cs} {ds} e = ap (λ z. z ++ cs) (null_quiet a) ∙ e
+
   quiet_divided : (op : LinOperator) (a b : Operand) (hs : List Operand) → Quiet (divided r op a b hs)
   quiet_divided op a b hs = quiet_temp (temp r hs) _ (λ to. ap (λ z. z ++ []) (divisor_quiet b))
 
@@ -299,7 +305,7 @@ module _ (lay : Layout) (r : Room) where
 
   calls_on : (d code : ℕ) (xs rest : List Operand) → HasCalls (Found ∷ []) (called_on r d code xs rest)
   calls_on d code [] rest = tt
-  calls_on d code (a ∷ xs) rest = calls_temp (Found ∷ []) (temp r rest) _ (λ to. refl)
+  calls_on d code (a ∷ xs) rest = calls_temp (Found ∷ []) (temp r rest) _ (λ to. behind_null a refl)
 
   calls_by : (receiver : ℕ) (xs rest : List Operand) → HasCalls (Found ∷ []) (called_by' r receiver xs rest)
   calls_by receiver [] rest = tt
@@ -307,7 +313,7 @@ module _ (lay : Layout) (r : Room) where
 
   quiet_bound_for : (d : ℕ) (hs : List Operand) → Quiet (bound_for r d hs)
   quiet_bound_for d [] = tt
-  quiet_bound_for d (a ∷ hs) = quiet_temp (temp r hs) _ (λ to. quiet_temp (temp r (a ∷ hs)) _ (λ above. refl))
+  quiet_bound_for d (a ∷ hs) = quiet_temp (temp r hs) _ (λ to. quiet_temp (temp r (a ∷ hs)) _ (λ above. behind_null a refl))
 
   -- ---- objects, columns and elements
 
@@ -328,6 +334,15 @@ module _ (lay : Layout) (r : Room) where
   quiet_no_store (v ∷ []) = tt
   quiet_no_store (v ∷ a ∷ hs) = refl
 
+  quiet_no_field : (hs : List Operand) → Quiet (load_no_field r hs)
+  quiet_no_field [] = tt
+  quiet_no_field (a ∷ hs) = null_quiet a
+
+  quiet_no_field_store : (hs : List Operand) → Quiet (store_no_field r hs)
+  quiet_no_field_store [] = tt
+  quiet_no_field_store (v ∷ []) = tt
+  quiet_no_field_store (v ∷ a ∷ hs) = null_quiet a
+
   multiplied_quiet : (to by : ℕ) (h : Operand) → block_calls (multiplied to by h) ≡ []
   multiplied_quiet to by h = by_one (by == 1)
     where
@@ -336,10 +351,12 @@ module _ (lay : Layout) (r : Room) where
       by_one false = refl
 
   quiet_fetched : (memory : Memory) (width by base : ℕ) (a : Operand) (hs : List Operand) → Quiet (fetched r memory width by base a hs)
-  quiet_fetched memory width by base a hs = quiet_temp (temp r hs) _ (λ to. ap (λ z. z ++ []) (multiplied_quiet to by a))
+  quiet_fetched memory width by base a hs =
+      quiet_temp (temp r hs) _ (λ to. behind_null a (ap (λ z. z ++ []) (multiplied_quiet to by a)))
 
   quiet_fetched_from : (memory : Memory) (width first base : ℕ) (a : Operand) (hs : List Operand) → Quiet (fetched_from r memory width first base a hs)
-  quiet_fetched_from memory width first base a hs = quiet_temp (temp r hs) _ (λ to. ap (λ z. z ++ []) (multiplied_quiet to width (Local to)))
+  quiet_fetched_from memory width first base a hs =
+      quiet_temp (temp r hs) _ (λ to. behind_null a (ap (λ z. z ++ []) (multiplied_quiet to width (Local to))))
 
   quiet_load_one : (memory : Memory) (o : Option Place) (hs : List Operand) → Quiet (load_one r memory o hs)
   quiet_load_one memory None hs = tt
@@ -350,13 +367,22 @@ module _ (lay : Layout) (r : Room) where
   quiet_load_of memory first (Some place) [] = tt
   quiet_load_of memory first (Some place) (a ∷ hs) =
       quiet_if (is_width place.width) _ _
+      (quiet_if (place.count == 1) _ _ (quiet_temp (temp r hs) _ (λ to. behind_null a refl))
       (quiet_if (nat_le (place.width * first) place.address) _ _ (quiet_fetched memory place.width place.width _ a hs)
-      (quiet_fetched_from memory place.width first place.address a hs)) tt
+      (quiet_fetched_from memory place.width first place.address a hs))) tt
 
   quiet_length : (o : Option ℕ) (hs : List Operand) → Quiet (length_of r o hs)
   quiet_length None hs = quiet_nothing hs
   quiet_length (Some table) [] = tt
   quiet_length (Some table) (a ∷ hs) = quiet_if (nat_le 2 table) _ _ (quiet_fetched _ 2 4 _ a hs) tt
+
+  quiet_known_length : (length : ℕ) (hs : List Operand) → Quiet (known_length length hs)
+  quiet_known_length length [] = tt
+  quiet_known_length length (a ∷ hs) = refl
+
+  quiet_array_length : (single : Option ArrayPlace) (o : Option ℕ) (hs : List Operand) → Quiet (array_length r single o hs)
+  quiet_array_length (Some a) o hs = quiet_known_length a.length hs
+  quiet_array_length None o hs = quiet_length o hs
 
   quiet_store_one : (width : ℕ) (o : Option Place) (hs : List Operand) → Quiet (store_one width o hs)
   quiet_store_one width None hs = tt
@@ -369,42 +395,53 @@ module _ (lay : Layout) (r : Room) where
   quiet_store_of first width (Some place) (v ∷ []) = tt
   quiet_store_of first width (Some place) (v ∷ a ∷ hs) =
       quiet_if (is_width width && (width == place.width)) _ _
+      (quiet_if (place.count == 1) _ _ (behind_null a refl)
       (quiet_if (nat_le (width * first) place.address) _ _
-      (quiet_temp (temp r (v ∷ a ∷ hs)) _ (λ to. ap (λ z. z ++ []) (multiplied_quiet to width a)))
-      (quiet_temp (temp r (v ∷ a ∷ hs)) _ (λ to. ap (λ z. z ++ []) (multiplied_quiet to width (Local to))))) tt
+      (quiet_temp (temp r (v ∷ a ∷ hs)) _ (λ to. behind_null a (ap (λ z. z ++ []) (multiplied_quiet to width a))))
+      (quiet_temp (temp r (v ∷ a ∷ hs)) _ (λ to. behind_null a (ap (λ z. z ++ []) (multiplied_quiet to width (Local to))))))) tt
 
   quiet_no_element : (width table : ℕ) (a i : Operand) (hs left : List Operand) → Quiet (no_element r width table a i hs left)
   quiet_no_element width table a i hs left =
       quiet_temp (temp r (i ∷ a ∷ hs)) _ (λ first. quiet_temp (temp r (Local first ∷ i ∷ a ∷ hs)) _ (λ second. refl))
 
-  quiet_load_item : (e : Elements) (o : Option Place) (u : Option ℕ) (hs : List Operand) → Quiet (load_item r e o u hs)
-  quiet_load_item e o None [] = tt
-  quiet_load_item e o None (i ∷ hs) = quiet_nothing hs
-  quiet_load_item e None (Some table) [] = tt
-  quiet_load_item e None (Some table) (i ∷ []) = tt
-  quiet_load_item e None (Some table) (i ∷ a ∷ hs) =
-      quiet_if (nat_le 4 table) _ _ (quiet_no_element e.width table a i hs (Known 0 ∷ hs)) tt
-  quiet_load_item e (Some place) (Some table) [] = tt
-  quiet_load_item e (Some place) (Some table) (i ∷ []) = tt
-  quiet_load_item e (Some place) (Some table) (i ∷ a ∷ hs) =
-      quiet_if (is_width e.width && is_place e place && nat_le 4 table) _ _
-      (quiet_temp (temp r hs) _ (λ to. quiet_temp (temp r (i ∷ a ∷ hs)) _ (λ first.
-      quiet_temp (temp r (Local first ∷ i ∷ a ∷ hs)) _ (λ second. refl)))) tt
+  quiet_load_inside : (single : Option ArrayPlace) (e : Elements) (table : ℕ) (a i : Operand) (hs : List Operand)
+      → Quiet (load_inside r single e table a i hs)
+  quiet_load_inside (Some x) e table a i hs = quiet_temp (temp r hs) _ (λ to. ap (λ z. z ++ []) (multiplied_quiet to e.width i))
+  quiet_load_inside None e table a i hs =
+      quiet_temp (temp r hs) _ (λ to. quiet_temp (temp r (i ∷ a ∷ hs)) _ (λ first.
+      quiet_temp (temp r (Local first ∷ i ∷ a ∷ hs)) _ (λ second. refl)))
 
-  quiet_store_item : (e : Elements) (o : Option Place) (u : Option ℕ) (hs : List Operand) → Quiet (store_item r e o u hs)
-  quiet_store_item e o None [] = tt
-  quiet_store_item e o None (v ∷ []) = tt
-  quiet_store_item e o None (v ∷ i ∷ hs) = quiet_no_store (v ∷ hs)
-  quiet_store_item e None (Some table) [] = tt
-  quiet_store_item e None (Some table) (v ∷ []) = tt
-  quiet_store_item e None (Some table) (v ∷ i ∷ []) = tt
-  quiet_store_item e None (Some table) (v ∷ i ∷ a ∷ hs) = quiet_if (nat_le 4 table) _ _ (quiet_no_element e.width table a i hs hs) tt
-  quiet_store_item e (Some place) (Some table) [] = tt
-  quiet_store_item e (Some place) (Some table) (v ∷ []) = tt
-  quiet_store_item e (Some place) (Some table) (v ∷ i ∷ []) = tt
-  quiet_store_item e (Some place) (Some table) (v ∷ i ∷ a ∷ hs) =
-      quiet_if (is_width e.width && is_place e place && nat_le 4 table) _ _
-      (quiet_temp (temp r (v ∷ i ∷ a ∷ hs)) _ (λ first. quiet_temp (temp r (Local first ∷ v ∷ i ∷ a ∷ hs)) _ (λ second. refl))) tt
+  quiet_load_item : (single : Option ArrayPlace) (e : Elements) (o : Option Place) (u : Option ℕ) (hs : List Operand) → Quiet (load_item r single e o u hs)
+  quiet_load_item single e o None [] = tt
+  quiet_load_item single e o None (i ∷ hs) = quiet_nothing hs
+  quiet_load_item single e None (Some table) [] = tt
+  quiet_load_item single e None (Some table) (i ∷ []) = tt
+  quiet_load_item single e None (Some table) (i ∷ a ∷ hs) =
+      quiet_if (nat_le 4 table) _ _ (quiet_no_element e.width table a i hs (Known 0 ∷ hs)) tt
+  quiet_load_item single e (Some place) (Some table) [] = tt
+  quiet_load_item single e (Some place) (Some table) (i ∷ []) = tt
+  quiet_load_item single e (Some place) (Some table) (i ∷ a ∷ hs) =
+      quiet_if (is_width e.width && is_place e place && nat_le 4 table) _ _ (quiet_load_inside single e table a i hs) tt
+
+  quiet_store_inside : (single : Option ArrayPlace) (width table : ℕ) (v a i : Operand) (hs : List Operand)
+      → Quiet (store_inside r single width table v a i hs)
+  quiet_store_inside (Some x) width table v a i hs = quiet_temp (temp r (v ∷ i ∷ a ∷ hs)) _ (λ to. ap (λ z. z ++ []) (multiplied_quiet to width i))
+  quiet_store_inside None width table v a i hs =
+      quiet_temp (temp r (v ∷ i ∷ a ∷ hs)) _ (λ first. quiet_temp (temp r (Local first ∷ v ∷ i ∷ a ∷ hs)) _ (λ second. refl))
+
+  quiet_store_item : (single : Option ArrayPlace) (e : Elements) (o : Option Place) (u : Option ℕ) (hs : List Operand) → Quiet (store_item r single e o u hs)
+  quiet_store_item single e o None [] = tt
+  quiet_store_item single e o None (v ∷ []) = tt
+  quiet_store_item single e o None (v ∷ i ∷ hs) = quiet_no_store (v ∷ hs)
+  quiet_store_item single e None (Some table) [] = tt
+  quiet_store_item single e None (Some table) (v ∷ []) = tt
+  quiet_store_item single e None (Some table) (v ∷ i ∷ []) = tt
+  quiet_store_item single e None (Some table) (v ∷ i ∷ a ∷ hs) = quiet_if (nat_le 4 table) _ _ (quiet_no_element e.width table a i hs hs) tt
+  quiet_store_item single e (Some place) (Some table) [] = tt
+  quiet_store_item single e (Some place) (Some table) (v ∷ []) = tt
+  quiet_store_item single e (Some place) (Some table) (v ∷ i ∷ []) = tt
+  quiet_store_item single e (Some place) (Some table) (v ∷ i ∷ a ∷ hs) =
+      quiet_if (is_width e.width && is_place e place && nat_le 4 table) _ _ (quiet_store_inside single e.width table v a i hs) tt
 
   quiet_forgotten : (hs : List Operand) → Quiet (forgotten hs)
   quiet_forgotten [] = tt
@@ -428,11 +465,11 @@ module _ (lay : Layout) (r : Room) where
   calls_step (Store c width) hs = quiet_store_one width (slice_get lay.ram c) hs
   calls_step (LoadAt home c first) hs = quiet_load_of (memory_of home) first (slice_get (places_in lay home) c) hs
   calls_step (StoreAt c first width) hs = quiet_store_of first width (slice_get lay.ram c) hs
-  calls_step LoadNothing hs = quiet_nothing hs
-  calls_step StoreNothing hs = quiet_no_store hs
-  calls_step (LoadItem e) hs = quiet_load_item e (slice_get (places_in lay e.home) e.column) (slice_get lay.tables e.table) hs
-  calls_step (StoreItem e) hs = quiet_store_item e (slice_get lay.ram e.column) (slice_get lay.tables e.table) hs
-  calls_step (Length t) hs = quiet_length (slice_get lay.tables t) hs
+  calls_step LoadNothing hs = quiet_no_field hs
+  calls_step StoreNothing hs = quiet_no_field_store hs
+  calls_step (LoadItem e) hs = quiet_load_item (lone_of lay e.table) e (slice_get (places_in lay e.home) e.column) (slice_get lay.tables e.table) hs
+  calls_step (StoreItem e) hs = quiet_store_item (lone_of lay e.table) e (slice_get lay.ram e.column) (slice_get lay.tables e.table) hs
+  calls_step (Length t) hs = quiet_array_length (lone_of lay t) (slice_get lay.tables t) hs
   calls_step (IsWithin first count) hs = quiet_one_of first count hs
   calls_step (StopUnlessWithin first count) hs = quiet_cast first count hs
   calls_step (Bind q) hs = quiet_temp (temp r hs) _ (λ to. refl)

@@ -1,5 +1,5 @@
 -- The causes of refusals.
-use Rattle.std.specs.Prelude.{◌≡◌, List, length, Result, Ok, Err}
+use Rattle.std.specs.Prelude.{◌≡◌, ℕ, Bool, List, length, Result, Ok, Err}
 use Rattle.std.proofs.Common.{inl, inr, sym, ap, ◌∙◌, subst}
 use Rattle.vg_base.specs.declared.refusal.Refusal.{Refusal}
 use Rattle.vg_base.specs.declared.refusal.Refusal.TheVariants.{Fault as Faulty, NoMemory as Memory}
@@ -19,14 +19,18 @@ use Rattle.vg_flatten.specs.Flattened.{receivers, own_widths, result_width}
 use Rattle.vg_flatten.specs.Sealing.{IsNotTaken, WholeFails, IsWhole}
 use Rattle.vg_flatten.specs.Refusals.{temps_for, room_for, made_of, stacked_of, IsNotTakenAs, IsCauseIn, IsRefusedIn, IsCause, IsRefusedFor}
 
-module _ (lay : Layout) (m : Procedure) (r : Room) (receiver : r.receiver ≡ receivers m.receives) (locals : r.locals ≡ length (own_widths m))
+abbrev pub room_of : (receiver : ℕ) → (on : Bool) → (locals temps result : ℕ) → Room
+room_of receiver on locals temps result = record { receiver = receiver; on_objects = on; locals = locals; temps = temps; result = result }
+
+module _ (lay : Layout) (m : Procedure) (r : Room) (receiver : r.receiver ≡ receivers m.receives) (on : r.on_objects ≡ m.on_objects) (locals : r.locals ≡ length (own_widths m))
     (temps : r.temps ≡ temps_for r.locals) (given : r.result ≡ result_width m) where
   room_is : r ≡ room_for m
   room_is =
-      ap (λ z. record { receiver = r.receiver; locals = r.locals; temps = z; result = r.result }) temps
-      ∙ ap (λ z. record { receiver = r.receiver; locals = z; temps = temps_for z; result = r.result }) locals
-      ∙ ap (λ z. record { receiver = z; locals = length (own_widths m); temps = temps_for (length (own_widths m)); result = r.result }) receiver
-      ∙ ap (λ z. record { receiver = receivers m.receives; locals = length (own_widths m); temps = temps_for (length (own_widths m)); result = z }) given
+      ap (λ z. room_of r.receiver r.on_objects r.locals z r.result) temps
+      ∙ ap (λ z. room_of r.receiver r.on_objects z (temps_for z) r.result) locals
+      ∙ ap (λ z. room_of z r.on_objects (length (own_widths m)) (temps_for (length (own_widths m))) r.result) receiver
+      ∙ ap (λ z. room_of (receivers m.receives) z (length (own_widths m)) (temps_for (length (own_widths m))) r.result) on
+      ∙ ap (λ z. room_of (receivers m.receives) m.on_objects (length (own_widths m)) (temps_for (length (own_widths m))) z) given
 
   made_is : flat lay r m.body empty ≡ made_of lay m
   made_is = ap (λ z. flat lay z m.body empty) room_is
@@ -52,14 +56,15 @@ module _ (lay : Layout) (m : Procedure) (r : Room) (receiver : r.receiver ≡ re
   unfit code h no' = unfit_in (made_of lay m) code (subst (λ z. IsWhole code z m) made_is h) no'
 
 -- The same where each waiting value is pushed.
-module _ (lay : Layout) (m : Procedure) (r : Room) (receiver : r.receiver ≡ receivers m.receives) (locals : r.locals ≡ length (own_widths m))
+module _ (lay : Layout) (m : Procedure) (r : Room) (receiver : r.receiver ≡ receivers m.receives) (on : r.on_objects ≡ m.on_objects) (locals : r.locals ≡ length (own_widths m))
     (temps : r.temps ≡ temps_for r.locals) (given : r.result ≡ result_width m) where
   pushed_room_is : r ≡ room_for m
   pushed_room_is =
-      ap (λ z. record { receiver = r.receiver; locals = r.locals; temps = z; result = r.result }) temps
-      ∙ ap (λ z. record { receiver = r.receiver; locals = z; temps = temps_for z; result = r.result }) locals
-      ∙ ap (λ z. record { receiver = z; locals = length (own_widths m); temps = temps_for (length (own_widths m)); result = r.result }) receiver
-      ∙ ap (λ z. record { receiver = receivers m.receives; locals = length (own_widths m); temps = temps_for (length (own_widths m)); result = z }) given
+      ap (λ z. room_of r.receiver r.on_objects r.locals z r.result) temps
+      ∙ ap (λ z. room_of r.receiver r.on_objects z (temps_for z) r.result) locals
+      ∙ ap (λ z. room_of z r.on_objects (length (own_widths m)) (temps_for (length (own_widths m))) r.result) receiver
+      ∙ ap (λ z. room_of (receivers m.receives) z (length (own_widths m)) (temps_for (length (own_widths m))) r.result) on
+      ∙ ap (λ z. room_of (receivers m.receives) m.on_objects (length (own_widths m)) (temps_for (length (own_widths m))) z) given
 
   pushed_made_is : stacked lay r m.body empty ≡ stacked_of lay m
   pushed_made_is = ap (λ z. stacked lay z m.body empty) pushed_room_is

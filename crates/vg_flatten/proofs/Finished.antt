@@ -4,7 +4,7 @@ use Rattle.std.specs.List.{AllByRecursion}
 use Rattle.std.specs.Prelude.{Result, Ok, Err}
 use Rattle.std.specs.Result.{IsErrAnd}
 use Rattle.std.proofs.lemmas.List.{append_assoc}
-use Rattle.std.proofs.Common.{inl, inr, refl, sym, ap, ◌∙◌, subst, arith}
+use Rattle.std.proofs.Common.{inl, refl, sym, ap, ◌∙◌, subst, arith}
 use Rattle.vg_firm.specs.Program.{Procedure as FirmProcedure}
 use Rattle.vg_lin.specs.declared.instr.Instr.{Instr}
 use Rattle.vg_lin.specs.Program.{Procedure}
@@ -128,7 +128,7 @@ pub fails_lays : (m : FirmProcedure) (go : Shape → Made) (s : Shape) (first : 
 fails_lays m go s first at res e r is hf ep h =
     whole_err res e (go empty) m r (whole_fails m (go empty) first at e hf ep (subst (λ z. Fails e at (go z)) is h))
 
-module _ (lay : Layout) (m : FirmProcedure) (r : Room) (receiver : r.receiver ≡ receivers m.receives) (locals : r.locals ≡ length (own_widths m))
+module _ (lay : Layout) (m : FirmProcedure) (r : Room) (receiver : r.receiver ≡ receivers m.receives) (on : r.on_objects ≡ m.on_objects) (locals : r.locals ≡ length (own_widths m))
     (given : r.result ≡ result_width m) (few : r.locals + r.temps ≤ 252) (hp : m.params ≤ length m.widths)
     (hw : AllByRecursion IsWidth m.widths) (hr : m.result ≤ 4) (open' : List Open) (code : List Instr) (widths : List ℕ) (is : IsWhole open' (flat lay r m.body empty) m)
     (sealed : code ≡ map (set_in 0 0) open') (set : AllSet open') (ws : widths ≡ all_widths m ++ replicate r.temps 4) where
@@ -162,6 +162,7 @@ module _ (lay : Layout) (m : FirmProcedure) (r : Room) (receiver : r.receiver �
         made = inl e;
         done = h.0;
         receiver = receiver;
+        on_objects = on;
         locals = locals;
         given = given;
         method = refl;

@@ -1,20 +1,12 @@
 -- That what the code makes of a procedure, where each waiting value is pushed, is the flattened procedure.
-use Rattle.std.specs.Prelude.{◌≡◌, ℕ, zero, suc, ◌+◌, ◌-◌, ◌<◌, ◌≤◌, true, false, List, [], ◌∷◌, ◌++◌, length, drop, map, replicate, Some}
+use Rattle.std.specs.Prelude.{◌≡◌, ℕ, ◌+◌, ◌-◌, ◌≤◌, true, false, List, ◌++◌, length, map, replicate, Some}
 use Rattle.std.specs.List.{AllByRecursion}
-use Rattle.std.specs.Prelude.{Result, Ok, Err}
-use Rattle.std.specs.Result.{IsErrAnd}
-use Rattle.std.proofs.lemmas.List.{append_assoc}
-use Rattle.std.proofs.Common.{inl, inr, refl, sym, ap, ◌∙◌, subst, arith}
+use Rattle.std.proofs.Common.{inr, refl, sym, ap, ◌∙◌, subst, arith}
 use Rattle.vg_firm.specs.Program.{Procedure as FirmProcedure}
 use Rattle.vg_lin.specs.declared.instr.Instr.{Instr}
 use Rattle.vg_lin.specs.Program.{Procedure}
 use Rattle.vg_lin.specs.Sound.{IsWidth, IsSound}
-use Rattle.vg_lin.specs.declared.instr.Operand.TheVariants.{Known}
-use Rattle.vg_lin.specs.declared.instr.Plain.TheVariants.{Copy}
-use Rattle.vg_lin.specs.declared.instr.Instr.TheVariants.{Plain, Return}
 use Rattle.vg_flatten_shapes.specs.declared.open.Open.{Open}
-use Rattle.vg_flatten_shapes.specs.declared.open.Open.TheVariants.{Set}
-use Rattle.vg_flatten_shapes.specs.declared.piece.Piece.{Piece}
 use Rattle.vg_flatten_shapes.specs.declared.layout.Layout.{Layout}
 use Rattle.vg_flatten_shapes.specs.declared.room.Room.{Room}
 use Rattle.vg_flatten_shapes.specs.Shapes.{Shape, empty, is_empty}
@@ -23,16 +15,8 @@ use Rattle.vg_flatten_shapes.specs.Made.{Made, Gives, Refused}
 use Rattle.vg_flatten_pushed.specs.Stacked.{stacked}
 use Rattle.vg_flatten.specs.Closing.{AllSet}
 use Rattle.vg_flatten_shapes.specs.Blocks.{set_in}
-use Rattle.vg_flatten.specs.Flattened.{zeroes, zero_list, receivers, own_widths, own_params, widened, all_widths, result_width, whole, IsFlat}
-use Rattle.vg_flatten_shapes.specs.Laying.{IsPiece, Fails}
-use Rattle.vg_flatten_shapes.specs.Blocks.{block_size}
-use Rattle.vg_flatten_shapes.proofs.Sizes.{block_long}
-use Rattle.vg_base.specs.declared.refusal.Refusal.{Refusal}
-use Rattle.vg_base.specs.declared.refusal.Refusal.TheVariants.{Fault as Faulty, NoMemory as Memory}
-use Rattle.vg_flatten_shapes.specs.declared.fault.Fault.{Fault}
-use Rattle.vg_flatten_shapes.specs.declared.fault.Fault.TheVariants.{NotTaken, TooHigh, TooLong}
-use Rattle.vg_flatten.specs.Refusals.{IsTooLong}
-use Rattle.vg_flatten.specs.Sealing.{IsNotTaken, IsWhole, WholeFails, Wholes}
+use Rattle.vg_flatten.specs.Flattened.{receivers, own_widths, own_params, all_widths, result_width, whole, IsFlat}
+use Rattle.vg_flatten.specs.Sealing.{IsWhole}
 use Rattle.vg_flatten.proofs.PushedBlocks.{BlockOn, MadeOn}
 use Rattle.vg_flatten.proofs.StackedBlocks.{none_waits, stacked_on}
 use Rattle.vg_flatten.proofs.Whole.{own_long}
@@ -41,7 +25,7 @@ use Rattle.vg_flatten.proofs.PushedOnward.{leads_onward}
 use Rattle.vg_flatten.specs.Loops.{has_loop}
 use Rattle.vg_lin.specs.Onward.{all_lead_on}
 
-module _ (lay : Layout) (m : FirmProcedure) (r : Room) (receiver : r.receiver ≡ receivers m.receives) (locals : r.locals ≡ length (own_widths m))
+module _ (lay : Layout) (m : FirmProcedure) (r : Room) (receiver : r.receiver ≡ receivers m.receives) (on : r.on_objects ≡ m.on_objects) (locals : r.locals ≡ length (own_widths m))
     (given : r.result ≡ result_width m) (few : r.locals + r.temps ≤ 252) (hp : m.params ≤ length m.widths)
     (hw : AllByRecursion IsWidth m.widths) (hr : m.result ≤ 4) (open' : List Open) (code : List Instr) (widths : List ℕ) (is : IsWhole open' (stacked lay r m.body empty) m)
     (sealed : code ≡ map (set_in 0 0) open') (set : AllSet open') (ws : widths ≡ all_widths m ++ replicate r.temps 4) where
@@ -78,6 +62,7 @@ module _ (lay : Layout) (m : FirmProcedure) (r : Room) (receiver : r.receiver �
         made = inr e;
         done = h.0;
         receiver = receiver;
+        on_objects = on;
         locals = locals;
         given = given;
         method = refl;

@@ -1,18 +1,16 @@
 -- How many instructions stand at most for code where each value that waits is pushed.
 use Rattle.std.specs.Prelude.{ℕ, zero, suc, ◌+◌, ◌-◌, ◌≤◌, Bool, true, false, ◌==◌, nat_lt, nat_le, List, [], ◌∷◌, length, reverse, take, drop, Option, Some, None, Result, Ok, Err, IfOk, if◌then◌else◌}
-use Rattle.std.proofs.Common.{◌≡◌, ◌⊎◌, inl, inr, refl, sym, ap, ◌∙◌, subst, arith}
+use Rattle.std.proofs.Common.{◌≡◌, ◌⊎◌, inl, inr, refl, ap, ◌∙◌, subst, arith}
 use Rattle.vg_meaning.specs.Code.{Code, Nothing, Then, Do, If, Loop, Break, Continue, Return}
 use Rattle.vg_firm.specs.declared.step.Step.{Step}
 use Rattle.vg_firm_typed.specs.Steps.{takes}
 use Rattle.vg_lin.specs.declared.instr.Operand.{Operand}
-use Rattle.vg_lin.specs.declared.instr.Operand.TheVariants.{Local, Known}
-use Rattle.vg_lin.specs.declared.instr.Plain.TheVariants.{Push, Pop}
 use Rattle.vg_flatten_shapes.specs.declared.fault.Fault.TheVariants.{NotTaken, TooHigh}
 use Rattle.vg_flatten_shapes.specs.declared.layout.Layout.{Layout}
 use Rattle.vg_flatten_shapes.specs.declared.room.Room.{Room}
-use Rattle.vg_flatten_shapes.specs.Shapes.{Shape, only, empty, is_empty, temp}
-use Rattle.vg_flatten_shapes.specs.Blocks.{Block, Skip, One, BreakOut, GoOn, Both, block_size}
-use Rattle.vg_flatten_shapes.specs.Made.{Made, Gives, Refused, behind, after, by_temp, settled, Tested, tested}
+use Rattle.vg_flatten_shapes.specs.Shapes.{Shape, only, empty, temp}
+use Rattle.vg_flatten_shapes.specs.Blocks.{Block, Skip, BreakOut, GoOn, block_size}
+use Rattle.vg_flatten_shapes.specs.Made.{Made, Gives, Refused, after, settled, Tested, tested}
 use Rattle.vg_flatten_steps.specs.Steps.{stepped}
 use Rattle.std.proofs.lemmas.List.{length-map}
 use Rattle.vg_base.specs.declared.refusal.Refusal.{Refusal}
@@ -22,7 +20,7 @@ use Rattle.vg_flatten_shapes.specs.declared.fault.Fault.{Fault}
 use Rattle.vg_flatten_shapes.proofs.Sizes.{block_long}
 use Rattle.vg_flatten_shapes.specs.Blocks.{open_code, set_in}
 use Rattle.vg_flatten.specs.Flattened.{own_params, whole, IsFlat}
-use Rattle.vg_flatten_control.specs.Flat.{flat, joined, where_empty, repeated, given_back}
+use Rattle.vg_flatten_control.specs.Flat.{flat}
 use Rattle.vg_flatten_pushed.specs.Pushed.{pops, popped, pushed_on, put_back, worked, drawn, step_on, done, topped, with_newest, lowered, level, raised, pushed_again}
 use Rattle.vg_flatten_pushed.specs.Stacked.{levelled, ways, stacked}
 use Rattle.vg_flatten.specs.Sizes.{step_size, step_pushed, code_size, code_pushed, larger, procedure_size}

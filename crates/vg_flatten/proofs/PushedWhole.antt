@@ -18,7 +18,7 @@ use Rattle.vg_lin.specs.declared.instr.Instr.{Instr}
 use Rattle.vg_lin.specs.declared.instr.Instr.TheVariants.{Plain, When, Unless, Jump, Call, Return, Idle}
 use Rattle.vg_lin.specs.Meaning.{operands}
 use Rattle.vg_lin.specs.Program.{Procedure}
-use Rattle.vg_lin.specs.Sound.{IsWidth, IsOperand, IsPassed, IsTest, IsTo, IsCallee, IsPlain, AreOperands, behind_plain, behind, waits_in, waits_of, PlainWaits, Waits, IsSound}
+use Rattle.vg_lin.specs.Sound.{IsWidth, IsOperand, IsPassed, IsTest, IsTo, IsCallee, IsPlain, AreOperands, behind_plain, behind, waits_in, PlainWaits, Waits, IsSound}
 use Rattle.vg_lin.proofs.Scanned.{waits_marked}
 use Rattle.vg_flatten_shapes.specs.declared.open.Truth.{Truth}
 use Rattle.vg_flatten_shapes.specs.declared.open.Truth.TheVariants.{Holds, Fails}
@@ -32,7 +32,7 @@ use Rattle.vg_flatten.specs.Flattened.{zeroes, receivers, with_receiver_width, o
 use Rattle.vg_flatten.proofs.Sound.{IsIn, ArePassedIn, IsTestIn, IsTruthIn, IsPlainIn, IsToIn, IsCalleeIn}
 use Rattle.vg_flatten.proofs.Whole.{own_long, all_long}
 use Rattle.vg_flatten.proofs.PushedBlocks.{PlainOn, BlockOn}
-use Rattle.vg_flatten.proofs.PushedWaits.{fours, left, Marks, GoesTo, PlainHas, Has, AllHave, marks_front, have_both, ends, have}
+use Rattle.vg_flatten.proofs.PushedWaits.{Marks, PlainHas, Has, AllHave, marks_front, have_both, ends, have}
 
 -- ---- operands
 

@@ -1,14 +1,15 @@
 -- That for each step and each form of code at most so many instructions stand.
-use Rattle.std.specs.Prelude.{ℕ, zero, suc, ◌+◌, ◌-◌, ◌*◌, ◌≤◌, ◌^◌, Bool, true, false, ◌==◌, ◌&&◌, nat_lt, nat_le, List, [], ◌∷◌, ◌++◌, length, map}
-use Rattle.std.specs.Prelude.{reverse, take, drop, Option, Some, None, Result, Ok, Err, IfOk, slice_get, if◌then◌else◌}
-use Rattle.std.proofs.Common.{◌≡◌, refl, ap, ◌∙◌, subst, arith}
-use Rattle.std.proofs.lemmas.List.{length-append, length-map, length-reverse, length-take-le}
+use Rattle.std.specs.Prelude.{ℕ, zero, suc, ◌+◌, ◌-◌, ◌*◌, ◌≤◌, ◌^◌, Bool, true, false, ◌==◌, ◌&&◌, nat_lt, nat_le, List, [], ◌∷◌, length}
+use Rattle.std.specs.Prelude.{reverse, take, drop, Option, Some, None, slice_get, if◌then◌else◌}
+use Rattle.std.proofs.Common.{◌≡◌, refl, ap, subst, arith}
+use Rattle.std.proofs.lemmas.List.{length-reverse, length-take-le}
 use Rattle.vg_meaning.specs.Code.{Code, Nothing, Then, Do, If, Loop, Break, Continue, Return}
 use Rattle.vg_firm.specs.declared.step.Operator.{Operator}
 use Rattle.vg_firm.specs.declared.step.Operator.TheVariants.{Plus, Minus, Times, Divide, Remainder, Less, AtMost, Greater, AtLeast, Equal, Unequal}
 use Rattle.vg_firm.specs.declared.step.Operator.TheVariants.{And, Or, Xor, ShiftLeft, ShiftRight, Concat}
 use Rattle.vg_firm.specs.declared.step.Prefix.{Prefix}
 use Rattle.vg_firm.specs.declared.step.Prefix.TheVariants.{Negative, Not, Complement, Cut}
+use Rattle.vg_firm.specs.declared.step.ArrayPlace.{ArrayPlace}
 use Rattle.vg_firm.specs.declared.step.Elements.{Elements}
 use Rattle.vg_firm.specs.declared.step.Step.{Step}
 use Rattle.vg_firm.specs.declared.step.Step.TheVariants.{Number, This, Local as GetLocal, SetLocal, Forget, Operate, Apply, ReadDevice, WriteDevice}
@@ -16,8 +17,6 @@ use Rattle.vg_firm.specs.declared.step.Step.TheVariants.{Load, Store}
 use Rattle.vg_firm.specs.declared.step.Step.TheVariants.{LoadAt, StoreAt, LoadNothing, StoreNothing, LoadItem, StoreItem, Length, IsWithin}
 use Rattle.vg_firm.specs.declared.step.Step.TheVariants.{StopUnlessWithin, Bind, BindFor, Call, CallFor, CallValue, Idle}
 use Rattle.vg_firm.specs.Program.{Procedure}
-use Rattle.vg_lin.specs.Program.{Procedure as LinProcedure}
-use Rattle.vg_base.specs.declared.refusal.Refusal.{Refusal}
 use Rattle.vg_lin.specs.declared.instr.Operand.{Operand}
 use Rattle.vg_lin.specs.declared.instr.Operand.TheVariants.{Local, Known}
 use Rattle.vg_lin.specs.declared.instr.Operator.{Operator as LinOperator}
@@ -28,12 +27,7 @@ use Rattle.vg_lin.specs.declared.instr.Passed.{Passed}
 use Rattle.vg_lin.specs.declared.instr.Target.{Target}
 use Rattle.vg_lin.specs.declared.instr.Callee.{Callee}
 use Rattle.vg_lin.specs.declared.instr.Callee.TheVariants.{Procedure as ByNumber, Code as ByCode}
-use Rattle.vg_lin.specs.declared.instr.Call.{Call as Calling}
-use Rattle.vg_lin.specs.declared.instr.Instr.TheVariants.{Jump}
-use Rattle.vg_flatten_shapes.specs.declared.fault.Fault.{Fault}
 use Rattle.vg_flatten_shapes.specs.declared.fault.Fault.TheVariants.{NotTaken}
-use Rattle.vg_flatten_shapes.specs.declared.open.Open.{Open}
-use Rattle.vg_flatten_shapes.specs.declared.open.Open.TheVariants.{Set}
 use Rattle.vg_flatten_shapes.specs.declared.open.Truth.{Truth}
 use Rattle.vg_flatten_shapes.specs.declared.open.Truth.TheVariants.{Holds}
 use Rattle.vg_flatten_shapes.specs.declared.layout.Place.{Place}
@@ -44,23 +38,23 @@ use Rattle.vg_flatten_shapes.specs.declared.layout.Width.TheVariants.{Two as Two
 use Rattle.vg_flatten_shapes.specs.Widths.{bytes_of as bytes_of_width}
 use Rattle.vg_flatten_shapes.specs.declared.room.Room.{Room}
 use Rattle.vg_flatten_shapes.specs.Shapes.{Shape, only, empty, is_empty, is_free, same_operand, same_homes, taken, temp}
-use Rattle.vg_flatten_shapes.specs.Blocks.{Block, Skip, One, CallTo, TakeInterrupt, GiveBack, BreakOut, GoOn, Both, Choice, Repeat, stop_where}
-use Rattle.vg_flatten_shapes.specs.Blocks.{open_code, block_size, set_in}
+use Rattle.vg_flatten_shapes.specs.Blocks.{Block, Skip, One, BreakOut, GoOn, Choice, Repeat, stop_where}
+use Rattle.vg_flatten_shapes.specs.Blocks.{open_code, block_size}
 use Rattle.vg_flatten_shapes.proofs.Sizes.{block_long}
 use Rattle.vg_flatten_shapes.specs.Made.{Made, Gives, Refused, behind, after, by_temp, settled, settled_as, Tested, tested, is_zero}
 use Rattle.vg_flatten_values.specs.Values.{computing, comparing, computed, operated, operated_as, bytes_of, bytes_around, cut_bits, cut, applied}
 use Rattle.vg_flatten_values.specs.Values.{divided, masked, shifted_left, shifted_right, combined, divisor_checked, may_be_zero}
-use Rattle.vg_flatten_places.specs.Places.{is_width, fetched, fetched_from, load_one, load_of, length_of, places_in, memory_of, multiplied}
-use Rattle.vg_flatten_places.specs.Places.{store_one, store_of, is_place, load_item, store_item, no_element}
+use Rattle.vg_flatten_places.specs.Places.{is_width, fetched, fetched_from, load_one, load_of, length_of, lone_of, known_length, array_length, places_in, memory_of, multiplied}
+use Rattle.vg_flatten_places.specs.Places.{store_one, store_of, is_place, load_inside, load_item, store_inside, store_item, no_element}
 use Rattle.vg_flatten_steps.specs.Locals.{at_local, set_local, forgotten, written}
 use Rattle.vg_flatten_steps.specs.Calls.{in_widths, passing, passing_of, with_receiver, with_taken, resulting, called, passing_found, called_on, called_for, called_by, called_value, bound_for}
 use Rattle.vg_flatten_steps.specs.Objects.{is_one_of, cast_to}
-use Rattle.vg_flatten_places.specs.Places.{load_nothing, store_nothing}
+use Rattle.vg_flatten_places.specs.Places.{may_be_null, null_check, load_no_field, store_no_field, load_nothing, store_nothing}
 use Rattle.vg_flatten_steps.specs.Steps.{stepped}
 use Rattle.vg_flatten_control.specs.Flat.{landed_as, landed, joined, chosen, where_empty, repeated, repeated_test, repeated_body, repeated_next}
 use Rattle.vg_flatten_control.specs.Flat.{given_back, flat}
-use Rattle.vg_flatten.specs.Flattened.{zeroes, own_params, whole, IsFlat}
-use Rattle.vg_flatten.specs.Sizes.{step_size, code_size, procedure_size}
+use Rattle.vg_flatten.specs.Flattened.{zeroes, own_params, whole}
+use Rattle.vg_flatten.specs.Sizes.{step_size, code_size}
 
 -- ---- what is made
 
@@ -107,6 +101,13 @@ module _ (lay : Layout) (r : Room) where
       by_zero : (c : Bool) → block_size (if c then stop_where 3 (Holds (is_zero b)) else Skip) ≤ 3
       by_zero true = omega arith
       by_zero false = omega arith
+
+  null_few : (a : Operand) → block_size (null_check r a) ≤ 3
+  null_few a = by_null (may_be_null r a)
+    where
+      by_null : (c : Bool) → block_size (if c then stop_where 1 (Holds (is_zero a)) else Skip) ≤ 3
+      by_null true = omega arith
+      by_null false = omega arith
 
   small_divided : (op : LinOperator) (a b : Operand) (hs : List Operand) → Small 12 (divided r op a b hs)
   small_divided op a b hs = small_temp 12 (temp r hs) _ (λ to. let d = divisor_few b in omega (arith, d))
@@ -230,7 +231,7 @@ module _ (lay : Layout) (r : Room) where
   small_on : (d code n : ℕ) (xs rest : List Operand) → length xs ≤ n + 1 → Small (12 + n) (called_on r d code xs rest)
   small_on d code n [] rest le = tt
   small_on d code n (a ∷ xs) rest le =
-      small_temp (12 + n) (temp r rest) _ (λ to. let p = found_few (ByCode (Local code)) to (a ∷ xs) in omega (arith, p, le))
+      small_temp (12 + n) (temp r rest) _ (λ to. let p = found_few (ByCode (Local code)) to (a ∷ xs) in let c = null_few a in omega (arith, p, c, le))
 
   small_by : (receiver n : ℕ) (xs rest : List Operand) → length xs ≤ n + 1 → Small (12 + n) (called_by r receiver xs rest)
   small_by receiver n [] rest le = tt
@@ -239,7 +240,7 @@ module _ (lay : Layout) (r : Room) where
 
   small_bound_for : (d : ℕ) (hs : List Operand) → Small 12 (bound_for r d hs)
   small_bound_for d [] = tt
-  small_bound_for d (a ∷ hs) = small_temp 12 (temp r hs) _ (λ to. small_temp 12 (temp r (a ∷ hs)) _ (λ above. omega arith))
+  small_bound_for d (a ∷ hs) = small_temp 12 (temp r hs) _ (λ to. small_temp 12 (temp r (a ∷ hs)) _ (λ above. let c = null_few a in omega (arith, c)))
 
   -- ---- objects, columns and elements
 
@@ -260,6 +261,15 @@ module _ (lay : Layout) (r : Room) where
   small_no_store (v ∷ []) = tt
   small_no_store (v ∷ a ∷ hs) = omega arith
 
+  small_no_field : (hs : List Operand) → Small 12 (load_no_field r hs)
+  small_no_field [] = tt
+  small_no_field (a ∷ hs) = let c = null_few a in omega (arith, c)
+
+  small_no_field_store : (hs : List Operand) → Small 12 (store_no_field r hs)
+  small_no_field_store [] = tt
+  small_no_field_store (v ∷ []) = tt
+  small_no_field_store (v ∷ a ∷ hs) = let c = null_few a in omega (arith, c)
+
   multiplied_few : (to by : ℕ) (h : Operand) → block_size (multiplied to by h) ≤ 1
   multiplied_few to by h = by_one (by == 1)
     where
@@ -268,10 +278,11 @@ module _ (lay : Layout) (r : Room) where
       by_one false = omega arith
 
   small_fetched : (memory : Memory) (width by base : ℕ) (a : Operand) (hs : List Operand) → Small 12 (fetched r memory width by base a hs)
-  small_fetched memory width by base a hs = small_temp 12 (temp r hs) _ (λ to. let m = multiplied_few to by a in omega (arith, m))
+  small_fetched memory width by base a hs = small_temp 12 (temp r hs) _ (λ to. let m = multiplied_few to by a in let c = null_few a in omega (arith, m, c))
 
   small_fetched_from : (memory : Memory) (width first base : ℕ) (a : Operand) (hs : List Operand) → Small 12 (fetched_from r memory width first base a hs)
-  small_fetched_from memory width first base a hs = small_temp 12 (temp r hs) _ (λ to. let m = multiplied_few to width (Local to) in omega (arith, m))
+  small_fetched_from memory width first base a hs =
+      small_temp 12 (temp r hs) _ (λ to. let m = multiplied_few to width (Local to) in let c = null_few a in omega (arith, m, c))
 
   small_load_one : (memory : Memory) (o : Option Place) (hs : List Operand) → Small 12 (load_one r memory o hs)
   small_load_one memory None hs = tt
@@ -282,13 +293,22 @@ module _ (lay : Layout) (r : Room) where
   small_load_of memory first (Some place) [] = tt
   small_load_of memory first (Some place) (a ∷ hs) =
       small_if 12 (is_width place.width) _ _
+      (small_if 12 (place.count == 1) _ _ (small_temp 12 (temp r hs) _ (λ to. let c = null_few a in omega (arith, c)))
       (small_if 12 (nat_le (place.width * first) place.address) _ _ (small_fetched memory place.width place.width _ a hs)
-      (small_fetched_from memory place.width first place.address a hs)) tt
+      (small_fetched_from memory place.width first place.address a hs))) tt
 
   small_length : (o : Option ℕ) (hs : List Operand) → Small 12 (length_of r o hs)
   small_length None hs = small_nothing hs
   small_length (Some table) [] = tt
   small_length (Some table) (a ∷ hs) = small_if 12 (nat_le 2 table) _ _ (small_fetched _ 2 4 _ a hs) tt
+
+  small_known_length : (length : ℕ) (hs : List Operand) → Small 12 (known_length length hs)
+  small_known_length length [] = tt
+  small_known_length length (a ∷ hs) = omega arith
+
+  small_array_length : (single : Option ArrayPlace) (o : Option ℕ) (hs : List Operand) → Small 12 (array_length r single o hs)
+  small_array_length (Some a) o hs = small_known_length a.length hs
+  small_array_length None o hs = small_length o hs
 
   small_store_one : (width : ℕ) (o : Option Place) (hs : List Operand) → Small 12 (store_one width o hs)
   small_store_one width None hs = tt
@@ -301,42 +321,53 @@ module _ (lay : Layout) (r : Room) where
   small_store_of first width (Some place) (v ∷ []) = tt
   small_store_of first width (Some place) (v ∷ a ∷ hs) =
       small_if 12 (is_width width && (width == place.width)) _ _
+      (small_if 12 (place.count == 1) _ _ (let c = null_few a in omega (arith, c))
       (small_if 12 (nat_le (width * first) place.address) _ _
-      (small_temp 12 (temp r (v ∷ a ∷ hs)) _ (λ to. let m = multiplied_few to width a in omega (arith, m)))
-      (small_temp 12 (temp r (v ∷ a ∷ hs)) _ (λ to. let m = multiplied_few to width (Local to) in omega (arith, m)))) tt
+      (small_temp 12 (temp r (v ∷ a ∷ hs)) _ (λ to. let m = multiplied_few to width a in let c = null_few a in omega (arith, m, c)))
+      (small_temp 12 (temp r (v ∷ a ∷ hs)) _ (λ to. let m = multiplied_few to width (Local to) in let c = null_few a in omega (arith, m, c))))) tt
 
   small_no_element : (width table : ℕ) (a i : Operand) (hs left : List Operand) → Small 12 (no_element r width table a i hs left)
   small_no_element width table a i hs left =
       small_temp 12 (temp r (i ∷ a ∷ hs)) _ (λ first. small_temp 12 (temp r (Local first ∷ i ∷ a ∷ hs)) _ (λ second. omega arith))
 
-  small_load_item : (e : Elements) (o : Option Place) (u : Option ℕ) (hs : List Operand) → Small 12 (load_item r e o u hs)
-  small_load_item e o None [] = tt
-  small_load_item e o None (i ∷ hs) = small_nothing hs
-  small_load_item e None (Some table) [] = tt
-  small_load_item e None (Some table) (i ∷ []) = tt
-  small_load_item e None (Some table) (i ∷ a ∷ hs) =
-      small_if 12 (nat_le 4 table) _ _ (small_no_element e.width table a i hs (Known 0 ∷ hs)) tt
-  small_load_item e (Some place) (Some table) [] = tt
-  small_load_item e (Some place) (Some table) (i ∷ []) = tt
-  small_load_item e (Some place) (Some table) (i ∷ a ∷ hs) =
-      small_if 12 (is_width e.width && is_place e place && nat_le 4 table) _ _
-      (small_temp 12 (temp r hs) _ (λ to. small_temp 12 (temp r (i ∷ a ∷ hs)) _ (λ first.
-      small_temp 12 (temp r (Local first ∷ i ∷ a ∷ hs)) _ (λ second. omega arith)))) tt
+  small_load_inside : (single : Option ArrayPlace) (e : Elements) (table : ℕ) (a i : Operand) (hs : List Operand)
+      → Small 12 (load_inside r single e table a i hs)
+  small_load_inside (Some x) e table a i hs = small_temp 12 (temp r hs) _ (λ to. let m = multiplied_few to e.width i in omega (arith, m))
+  small_load_inside None e table a i hs =
+      small_temp 12 (temp r hs) _ (λ to. small_temp 12 (temp r (i ∷ a ∷ hs)) _ (λ first.
+      small_temp 12 (temp r (Local first ∷ i ∷ a ∷ hs)) _ (λ second. omega arith)))
 
-  small_store_item : (e : Elements) (o : Option Place) (u : Option ℕ) (hs : List Operand) → Small 12 (store_item r e o u hs)
-  small_store_item e o None [] = tt
-  small_store_item e o None (v ∷ []) = tt
-  small_store_item e o None (v ∷ i ∷ hs) = small_no_store (v ∷ hs)
-  small_store_item e None (Some table) [] = tt
-  small_store_item e None (Some table) (v ∷ []) = tt
-  small_store_item e None (Some table) (v ∷ i ∷ []) = tt
-  small_store_item e None (Some table) (v ∷ i ∷ a ∷ hs) = small_if 12 (nat_le 4 table) _ _ (small_no_element e.width table a i hs hs) tt
-  small_store_item e (Some place) (Some table) [] = tt
-  small_store_item e (Some place) (Some table) (v ∷ []) = tt
-  small_store_item e (Some place) (Some table) (v ∷ i ∷ []) = tt
-  small_store_item e (Some place) (Some table) (v ∷ i ∷ a ∷ hs) =
-      small_if 12 (is_width e.width && is_place e place && nat_le 4 table) _ _
-      (small_temp 12 (temp r (v ∷ i ∷ a ∷ hs)) _ (λ first. small_temp 12 (temp r (Local first ∷ v ∷ i ∷ a ∷ hs)) _ (λ second. omega arith))) tt
+  small_load_item : (single : Option ArrayPlace) (e : Elements) (o : Option Place) (u : Option ℕ) (hs : List Operand) → Small 12 (load_item r single e o u hs)
+  small_load_item single e o None [] = tt
+  small_load_item single e o None (i ∷ hs) = small_nothing hs
+  small_load_item single e None (Some table) [] = tt
+  small_load_item single e None (Some table) (i ∷ []) = tt
+  small_load_item single e None (Some table) (i ∷ a ∷ hs) =
+      small_if 12 (nat_le 4 table) _ _ (small_no_element e.width table a i hs (Known 0 ∷ hs)) tt
+  small_load_item single e (Some place) (Some table) [] = tt
+  small_load_item single e (Some place) (Some table) (i ∷ []) = tt
+  small_load_item single e (Some place) (Some table) (i ∷ a ∷ hs) =
+      small_if 12 (is_width e.width && is_place e place && nat_le 4 table) _ _ (small_load_inside single e table a i hs) tt
+
+  small_store_inside : (single : Option ArrayPlace) (width table : ℕ) (v a i : Operand) (hs : List Operand)
+      → Small 12 (store_inside r single width table v a i hs)
+  small_store_inside (Some x) width table v a i hs = small_temp 12 (temp r (v ∷ i ∷ a ∷ hs)) _ (λ to. let m = multiplied_few to width i in omega (arith, m))
+  small_store_inside None width table v a i hs =
+      small_temp 12 (temp r (v ∷ i ∷ a ∷ hs)) _ (λ first. small_temp 12 (temp r (Local first ∷ v ∷ i ∷ a ∷ hs)) _ (λ second. omega arith))
+
+  small_store_item : (single : Option ArrayPlace) (e : Elements) (o : Option Place) (u : Option ℕ) (hs : List Operand) → Small 12 (store_item r single e o u hs)
+  small_store_item single e o None [] = tt
+  small_store_item single e o None (v ∷ []) = tt
+  small_store_item single e o None (v ∷ i ∷ hs) = small_no_store (v ∷ hs)
+  small_store_item single e None (Some table) [] = tt
+  small_store_item single e None (Some table) (v ∷ []) = tt
+  small_store_item single e None (Some table) (v ∷ i ∷ []) = tt
+  small_store_item single e None (Some table) (v ∷ i ∷ a ∷ hs) = small_if 12 (nat_le 4 table) _ _ (small_no_element e.width table a i hs hs) tt
+  small_store_item single e (Some place) (Some table) [] = tt
+  small_store_item single e (Some place) (Some table) (v ∷ []) = tt
+  small_store_item single e (Some place) (Some table) (v ∷ i ∷ []) = tt
+  small_store_item single e (Some place) (Some table) (v ∷ i ∷ a ∷ hs) =
+      small_if 12 (is_width e.width && is_place e place && nat_le 4 table) _ _ (small_store_inside single e.width table v a i hs) tt
 
   small_forgotten : (hs : List Operand) → Small 12 (forgotten hs)
   small_forgotten [] = tt
@@ -360,11 +391,11 @@ module _ (lay : Layout) (r : Room) where
   small_step (Store c width) hs = small_store_one width (slice_get lay.ram c) hs
   small_step (LoadAt home c first) hs = small_load_of (memory_of home) first (slice_get (places_in lay home) c) hs
   small_step (StoreAt c first width) hs = small_store_of first width (slice_get lay.ram c) hs
-  small_step LoadNothing hs = small_nothing hs
-  small_step StoreNothing hs = small_no_store hs
-  small_step (LoadItem e) hs = small_load_item e (slice_get (places_in lay e.home) e.column) (slice_get lay.tables e.table) hs
-  small_step (StoreItem e) hs = small_store_item e (slice_get lay.ram e.column) (slice_get lay.tables e.table) hs
-  small_step (Length t) hs = small_length (slice_get lay.tables t) hs
+  small_step LoadNothing hs = small_no_field hs
+  small_step StoreNothing hs = small_no_field_store hs
+  small_step (LoadItem e) hs = small_load_item (lone_of lay e.table) e (slice_get (places_in lay e.home) e.column) (slice_get lay.tables e.table) hs
+  small_step (StoreItem e) hs = small_store_item (lone_of lay e.table) e (slice_get lay.ram e.column) (slice_get lay.tables e.table) hs
+  small_step (Length t) hs = small_array_length (lone_of lay t) (slice_get lay.tables t) hs
   small_step (IsWithin first count) hs = small_one_of first count hs
   small_step (StopUnlessWithin first count) hs = small_cast first count hs
   small_step (Bind q) hs = small_temp 12 (temp r hs) _ (λ to. omega arith)

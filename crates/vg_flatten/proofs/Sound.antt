@@ -46,11 +46,12 @@ use Rattle.vg_flatten.specs.Loops.{has_loop}
 use Rattle.vg_flatten_control.specs.Flat.{repeated_body, repeated_next, given_back, flat}
 use Rattle.vg_flatten_values.specs.Values.{bytes_around, may_be_zero, divisor_checked, divided, masked, shifted_left, shifted_right, combined}
 use Rattle.vg_flatten_steps.specs.Objects.{is_near, is_one_of, cast_to}
-use Rattle.vg_flatten_places.specs.Places.{load_nothing, store_nothing}
-use Rattle.vg_flatten_places.specs.Places.{is_width, load_from, multiplied, multiple, fetched, load_one, load_of, length_of, places_in, memory_of}
-use Rattle.vg_flatten_places.specs.Places.{distance, fetched_from, load_placed, put_from, store_placed, store_at, store_one, put_of, store_of, is_place, timed, inside, element_of, load_element, load_item}
-use Rattle.vg_flatten_places.specs.Places.{no_element, store_element, store_item}
+use Rattle.vg_flatten_places.specs.Places.{may_be_null, null_check, load_no_field, store_no_field, load_nothing, store_nothing}
+use Rattle.vg_flatten_places.specs.Places.{is_width, load_from, multiplied, multiple, fetched, load_one, load_sole, load_entry, load_of, length_of, lone_of, known_length, array_length, places_in, memory_of}
+use Rattle.vg_flatten_places.specs.Places.{distance, fetched_from, load_placed, put_from, store_placed, store_at, store_one, put_of, store_entry, store_of, is_place, timed, inside, element_of, lone_element, load_inside, load_item}
+use Rattle.vg_flatten_places.specs.Places.{no_element, store_inside, store_item}
 use Rattle.vg_flatten_places.specs.declared.elements.Reach.{Reach}
+use Rattle.vg_firm.specs.declared.step.ArrayPlace.{ArrayPlace}
 use Rattle.vg_firm.specs.declared.step.Elements.{Elements}
 use Rattle.vg_flatten_shapes.specs.declared.layout.Place.{Place}
 use Rattle.vg_flatten_shapes.specs.declared.layout.Passing.{Passing}
@@ -203,6 +204,13 @@ module _ (L : Type 0) (lay : Layout) (r : Room) where
       by_zero : (b : Bool) → BlockIn L r.result size (if b then stop_where 3 (Holds (is_zero y)) else Skip)
       by_zero true = in_stop 3 (Holds (is_zero y)) (in_test y (Known 0) hy tt Same)
       by_zero false = tt
+
+  in_null : (a : Operand) → IsIn size a → BlockIn L r.result size (null_check r a)
+  in_null a ha = by_null (may_be_null r a)
+    where
+      by_null : (b : Bool) → BlockIn L r.result size (if b then stop_where 1 (Holds (is_zero a)) else Skip)
+      by_null true = in_stop 1 (Holds (is_zero a)) (in_test a (Known 0) ha tt Same)
+      by_null false = tt
 
   in_divided : (op : LinOperator) (x y : Operand) (hs : List Operand) → IsIn size x → IsIn size y → AreIn size hs → MadeIn L r.result size (divided r op x y hs)
   in_divided op x y hs hx hy h = in_by_temp hs _ (λ to lt. ((in_divisor y hy, (omega arith, omega arith, lt, hx, hy)), ((lt, h), tt)))
@@ -427,7 +435,7 @@ module _ (L : Type 0) (lay : Layout) (r : Room) where
   in_called_on d code lc [] rest hx hr = tt
   in_called_on d code lc (a ∷ xs) rest hx hr =
       in_by_temp rest _ (λ to lt. (
-        (in_stop 1 (Holds (is_zero a)) (in_test a (Known 0) hx.0 tt Same), ((lc, hx.0), in_passing_found (ByCode (Local code)) to (a ∷ xs) lc lt hx)),
+        (in_null a hx.0, ((lc, hx.0), in_passing_found (ByCode (Local code)) to (a ∷ xs) lc lt hx)),
         ((lt, hr), tt),
       ))
 
@@ -453,7 +461,7 @@ module _ (L : Type 0) (lay : Layout) (r : Room) where
   in_bound_for d (a ∷ hs) h =
       in_by_temp hs _ (λ to lt. in_by_temp (a ∷ hs) _ (λ above la. (
         (
-          in_stop 1 (Holds (is_zero a)) (in_test a (Known 0) h.0 tt Same),
+          in_null a h.0,
           ((omega arith, omega arith, la, h.0, tt), ((lt, h.0), (omega arith, omega arith, lt, lt, la))),
         ),
         ((lt, h.1), tt),
@@ -475,6 +483,15 @@ module _ (L : Type 0) (lay : Layout) (r : Room) where
   in_store_nothing [] h = tt
   in_store_nothing (v ∷ []) h = tt
   in_store_nothing (v ∷ a ∷ hs) h = (in_stop 1 (Holds (is_zero a)) (in_test a (Known 0) h.1.0 tt Same), (h.1.1, tt))
+
+  in_load_no_field : (hs : List Operand) → AreIn size hs → MadeIn L r.result size (load_no_field r hs)
+  in_load_no_field [] h = tt
+  in_load_no_field (a ∷ hs) h = (in_null a h.0, ((tt, h.1), tt))
+
+  in_store_no_field : (hs : List Operand) → AreIn size hs → MadeIn L r.result size (store_no_field r hs)
+  in_store_no_field [] h = tt
+  in_store_no_field (v ∷ []) h = tt
+  in_store_no_field (v ∷ a ∷ hs) h = (in_null a h.1.0, (h.1.1, tt))
 
   in_one_of : (first count : ℕ) (hs : List Operand) → AreIn size hs → MadeIn L r.result size (is_one_of r first count hs)
   in_one_of first count [] h = tt
@@ -516,7 +533,7 @@ module _ (L : Type 0) (lay : Layout) (r : Room) where
   in_fetched memory width by base h hs low high hh hhs =
       in_by_temp hs _ (λ to lt. (
         (
-          in_stop 1 (Holds (is_zero h)) (in_test h (Known 0) hh tt Same),
+          in_null h hh,
           (in_multiplied to by h lt hh, (low, high, lt, in_multiple to by h lt hh)),
         ),
         ((lt, hhs), tt),
@@ -546,7 +563,7 @@ module _ (L : Type 0) (lay : Layout) (r : Room) where
   in_fetched_from memory width first base h hs low high hh hhs =
       in_by_temp hs _ (λ to lt. (
         (
-          in_stop 1 (Holds (is_zero h)) (in_test h (Known 0) hh tt Same),
+          in_null h hh,
           (in_distance to first h lt hh, (in_multiplied to width (Local to) lt lt, (low, high, lt, in_multiple to width (Local to) lt lt))),
         ),
         ((lt, hhs), tt),
@@ -558,14 +575,25 @@ module _ (L : Type 0) (lay : Layout) (r : Room) where
       in_if (nat_le (width * first) address) _ _ (in_fetched memory width width (address - width * first) h hs low high hh hhs)
       (in_fetched_from memory width first address h hs low high hh hhs)
 
+  in_load_sole : (memory : Memory) (width address : ℕ) (h : Operand) (hs : List Operand) → 1 ≤ width → width ≤ 4 → IsIn size h → AreIn size hs
+      → MadeIn L r.result size (load_sole r memory width address h hs)
+  in_load_sole memory width address h hs low high hh hhs =
+      in_by_temp hs _ (λ to lt. ((in_null h hh, (low, high, lt, tt)), ((lt, hhs), tt)))
+
+  in_load_entry : (memory : Memory) (first : ℕ) (place : Place) (h : Operand) (hs : List Operand) → 1 ≤ place.width → place.width ≤ 4 → IsIn size h
+      → AreIn size hs → MadeIn L r.result size (load_entry r memory first place h hs)
+  in_load_entry memory first place h hs low high hh hhs =
+      in_if (place.count == 1) _ _ (in_load_sole memory place.width place.address h hs low high hh hhs)
+      (in_load_placed memory place.width first place.address h hs low high hh hhs)
+
   in_load_of : (memory : Memory) (first : ℕ) (o : Option Place) (hs : List Operand) → AreIn size hs → MadeIn L r.result size (load_of r memory first o hs)
   in_load_of memory first None hs h = tt
   in_load_of memory first (Some place) [] h = tt
   in_load_of memory first (Some place) (a ∷ hs) h = by_width (is_width place.width) refl
     where
       by_width : (b : Bool) → is_width place.width ≡ b
-          → MadeIn L r.result size (if b then load_placed r memory place.width first place.address a hs else Refused NotTaken)
-      by_width true e = in_load_placed memory place.width first place.address a hs (width_low place.width e) (width_high place.width e) h.0 h.1
+          → MadeIn L r.result size (if b then load_entry r memory first place a hs else Refused NotTaken)
+      by_width true e = in_load_entry memory first place a hs (width_low place.width e) (width_high place.width e) h.0 h.1
       by_width false e = tt
 
   in_length_of : (o : Option ℕ) (hs : List Operand) → AreIn size hs → MadeIn L r.result size (length_of r o hs)
@@ -574,6 +602,14 @@ module _ (L : Type 0) (lay : Layout) (r : Room) where
   in_length_of (Some table) (a ∷ hs) h =
       in_if (nat_le 2 table) (fetched r Flash 2 4 (table - 2) a hs) (Refused NotTaken) (in_fetched Flash 2 4 (table - 2) a hs (omega arith)
       (omega arith) h.0 h.1) tt
+
+  in_known_length : (length : ℕ) (hs : List Operand) → AreIn size hs → MadeIn L r.result size (known_length length hs)
+  in_known_length length [] h = tt
+  in_known_length length (a ∷ hs) h = (in_stop 1 (Holds (is_zero a)) (in_test a (Known 0) h.0 tt Same), ((tt, h.1), tt))
+
+  in_array_length : (single : Option ArrayPlace) (o : Option ℕ) (hs : List Operand) → AreIn size hs → MadeIn L r.result size (array_length r single o hs)
+  in_array_length (Some a) o hs h = in_known_length a.length hs h
+  in_array_length None o hs h = in_length_of o hs h
 
   in_store_one : (width : ℕ) (o : Option Place) (hs : List Operand) → AreIn size hs → MadeIn L r.result size (store_one width o hs)
   in_store_one width None hs h = tt
@@ -591,7 +627,7 @@ module _ (L : Type 0) (lay : Layout) (r : Room) where
   in_put_of width base v a hs low high hv ha h =
       in_by_temp (v ∷ a ∷ hs) _ (λ to lt. (
         (
-          in_stop 1 (Holds (is_zero a)) (in_test a (Known 0) ha tt Same),
+          in_null a ha,
           (in_multiplied to width a lt ha, (low, high, in_multiple to width a lt ha, hv)),
         ),
         (h, tt),
@@ -602,7 +638,7 @@ module _ (L : Type 0) (lay : Layout) (r : Room) where
   in_put_from width first base v a hs low high hv ha h =
       in_by_temp (v ∷ a ∷ hs) _ (λ to lt. (
         (
-          in_stop 1 (Holds (is_zero a)) (in_test a (Known 0) ha tt Same),
+          in_null a ha,
           (in_distance to first a lt ha, (in_multiplied to width (Local to) lt lt, (low, high, in_multiple to width (Local to) lt lt, hv))),
         ),
         (h, tt),
@@ -614,6 +650,12 @@ module _ (L : Type 0) (lay : Layout) (r : Room) where
       in_if (nat_le (width * first) address) _ _ (in_put_of width (address - width * first) v a hs low high hv ha h)
       (in_put_from width first address v a hs low high hv ha h)
 
+  in_store_entry : (first width : ℕ) (place : Place) (v a : Operand) (hs : List Operand) → 1 ≤ width → width ≤ 4 → IsIn size v → IsIn size a → AreIn size hs
+      → MadeIn L r.result size (store_entry r first width place v a hs)
+  in_store_entry first width place v a hs low high hv ha h =
+      in_if (place.count == 1) _ _ ((in_null a ha, (low, high, tt, hv)), (h, tt))
+      (in_store_placed width first place.address v a hs low high hv ha h)
+
   in_store_of : (first width : ℕ) (o : Option Place) (hs : List Operand) → AreIn size hs → MadeIn L r.result size (store_of r first width o hs)
   in_store_of first width None hs h = tt
   in_store_of first width (Some place) [] h = tt
@@ -621,8 +663,8 @@ module _ (L : Type 0) (lay : Layout) (r : Room) where
   in_store_of first width (Some place) (v ∷ a ∷ hs) h = by_width (is_width width) (width == place.width) refl
     where
       by_width : (b c : Bool) → is_width width ≡ b
-          → MadeIn L r.result size (if b && c then store_placed r width first place.address v a hs else Refused NotTaken)
-      by_width true true e = in_store_placed width first place.address v a hs (width_low width e) (width_high width e) h.0 h.1.0 h.1.1
+          → MadeIn L r.result size (if b && c then store_entry r first width place v a hs else Refused NotTaken)
+      by_width true true e = in_store_entry first width place v a hs (width_low width e) (width_high width e) h.0 h.1.0 h.1.1
       by_width true false e = tt
       by_width false c e = tt
 
@@ -661,56 +703,80 @@ module _ (L : Type 0) (lay : Layout) (r : Room) where
         (h, tt),
       )))
 
-  in_load_item : (e : Elements) (o : Option Place) (u : Option ℕ) (hs : List Operand) → AreIn size hs → MadeIn L r.result size (load_item r e o u hs)
-  in_load_item e o None [] h = tt
-  in_load_item e o None (i ∷ hs) h = in_load_nothing hs h.1
-  in_load_item e None (Some table) [] h = tt
-  in_load_item e None (Some table) (i ∷ []) h = tt
-  in_load_item e None (Some table) (i ∷ a ∷ hs) h =
-      in_if (nat_le 4 table) _ _ (in_no_element e.width table a i hs (Known 0 ∷ hs) h.1.0 h.0 (tt, h.1.1)) tt
-  in_load_item e (Some place) (Some table) [] h = tt
-  in_load_item e (Some place) (Some table) (i ∷ []) h = tt
-  in_load_item e (Some place) (Some table) (i ∷ a ∷ hs) h = by_width (is_width e.width) (is_place e place) (nat_le 4 table) refl
-    where
-      made : is_width e.width ≡ true → MadeIn L r.result size (load_element r e table a i hs)
-      made is =
-          in_by_temp hs _ (λ to l0. in_by_temp (i ∷ a ∷ hs) _ (λ first l1. in_by_temp (Local first ∷ i ∷ a ∷ hs) _ (λ second l2. (
-            in_element (record { first = first; second = second; table = table; width = e.width; home = a; index = i })
-                (load_from (memory_of e.home) e.width to 0 (Local first)) l1 l2 h.1.0 h.0 (width_low e.width is, width_high e.width is, l0, l1),
-            ((l0, h.1.1), tt),
-          ))))
+  -- those of the only array of a table
+  in_lone : (length width to : ℕ) (a i : Operand) (last : PlainInstr) → to < size → IsIn size a → IsIn size i → IsPlainIn size last
+      → BlockIn L r.result size (lone_element length width to a i last)
+  in_lone length width to a i last lt ha hi hl = (
+    in_stop 1 (Holds (is_zero a)) (in_test a (Known 0) ha tt Same),
+    (in_stop 2 (Fails (test_of Below i (Known length))) (in_test i (Known length) hi tt Below), (in_multiplied to width i lt hi, hl)),
+  )
 
-      by_width : (b c d : Bool) → is_width e.width ≡ b → MadeIn L r.result size (if b && c && d then load_element r e table a i hs else Refused NotTaken)
-      by_width true true true is = made is
+  in_load_inside : (single : Option ArrayPlace) (e : Elements) (table : ℕ) (a i : Operand) (hs : List Operand) → is_width e.width ≡ true → IsIn size a
+      → IsIn size i → AreIn size hs → MadeIn L r.result size (load_inside r single e table a i hs)
+  in_load_inside (Some x) e table a i hs is ha hi h =
+      in_by_temp hs _ (λ to l0. (
+        in_lone x.length e.width to a i (load_from (memory_of e.home) e.width to x.address (multiple to e.width i)) l0 ha hi
+            (width_low e.width is, width_high e.width is, l0, in_multiple to e.width i l0 hi),
+        ((l0, h), tt),
+      ))
+  in_load_inside None e table a i hs is ha hi h =
+      in_by_temp hs _ (λ to l0. in_by_temp (i ∷ a ∷ hs) _ (λ first l1. in_by_temp (Local first ∷ i ∷ a ∷ hs) _ (λ second l2. (
+        in_element (record { first = first; second = second; table = table; width = e.width; home = a; index = i })
+            (load_from (memory_of e.home) e.width to 0 (Local first)) l1 l2 ha hi (width_low e.width is, width_high e.width is, l0, l1),
+        ((l0, h), tt),
+      ))))
+
+  in_load_item : (single : Option ArrayPlace) (e : Elements) (o : Option Place) (u : Option ℕ) (hs : List Operand) → AreIn size hs
+      → MadeIn L r.result size (load_item r single e o u hs)
+  in_load_item single e o None [] h = tt
+  in_load_item single e o None (i ∷ hs) h = in_load_nothing hs h.1
+  in_load_item single e None (Some table) [] h = tt
+  in_load_item single e None (Some table) (i ∷ []) h = tt
+  in_load_item single e None (Some table) (i ∷ a ∷ hs) h =
+      in_if (nat_le 4 table) _ _ (in_no_element e.width table a i hs (Known 0 ∷ hs) h.1.0 h.0 (tt, h.1.1)) tt
+  in_load_item single e (Some place) (Some table) [] h = tt
+  in_load_item single e (Some place) (Some table) (i ∷ []) h = tt
+  in_load_item single e (Some place) (Some table) (i ∷ a ∷ hs) h = by_width (is_width e.width) (is_place e place) (nat_le 4 table) refl
+    where
+      by_width : (b c d : Bool) → is_width e.width ≡ b → MadeIn L r.result size (if b && c && d then load_inside r single e table a i hs else Refused NotTaken)
+      by_width true true true is = in_load_inside single e table a i hs is h.1.0 h.0 h.1.1
       by_width true true false is = tt
       by_width true false d is = tt
       by_width false c d is = tt
 
-  in_store_item : (e : Elements) (o : Option Place) (u : Option ℕ) (hs : List Operand) → AreIn size hs → MadeIn L r.result size (store_item r e o u hs)
-  in_store_item e o None [] h = tt
-  in_store_item e o None (v ∷ []) h = tt
-  in_store_item e o None (v ∷ i ∷ hs) h = in_store_nothing (v ∷ hs) (h.0, h.1.1)
-  in_store_item e None (Some table) [] h = tt
-  in_store_item e None (Some table) (v ∷ []) h = tt
-  in_store_item e None (Some table) (v ∷ i ∷ []) h = tt
-  in_store_item e None (Some table) (v ∷ i ∷ a ∷ hs) h =
-      in_if (nat_le 4 table) _ _ (in_no_element e.width table a i hs hs h.1.1.0 h.1.0 h.1.1.1) tt
-  in_store_item e (Some place) (Some table) [] h = tt
-  in_store_item e (Some place) (Some table) (v ∷ []) h = tt
-  in_store_item e (Some place) (Some table) (v ∷ i ∷ []) h = tt
-  in_store_item e (Some place) (Some table) (v ∷ i ∷ a ∷ hs) h = by_width (is_width e.width) (is_place e place) (nat_le 4 table) refl
-    where
-      made : is_width e.width ≡ true → MadeIn L r.result size (store_element r e.width table v a i hs)
-      made is =
-          in_by_temp (v ∷ i ∷ a ∷ hs) _ (λ first l1. in_by_temp (Local first ∷ v ∷ i ∷ a ∷ hs) _ (λ second l2. (
-            in_element (record { first = first; second = second; table = table; width = e.width; home = a; index = i })
-                (store_at e.width 0 (Local first) v) l1 l2 h.1.1.0 h.1.0 (width_low e.width is, width_high e.width is, l1, h.0),
-            (h.1.1.1, tt),
-          )))
+  in_store_inside : (single : Option ArrayPlace) (width table : ℕ) (v a i : Operand) (hs : List Operand) → is_width width ≡ true → IsIn size v → IsIn size a
+      → IsIn size i → AreIn size hs → MadeIn L r.result size (store_inside r single width table v a i hs)
+  in_store_inside (Some x) width table v a i hs is hv ha hi h =
+      in_by_temp (v ∷ i ∷ a ∷ hs) _ (λ to l0. (
+        in_lone x.length width to a i (store_at width x.address (multiple to width i) v) l0 ha hi
+            (width_low width is, width_high width is, in_multiple to width i l0 hi, hv),
+        (h, tt),
+      ))
+  in_store_inside None width table v a i hs is hv ha hi h =
+      in_by_temp (v ∷ i ∷ a ∷ hs) _ (λ first l1. in_by_temp (Local first ∷ v ∷ i ∷ a ∷ hs) _ (λ second l2. (
+        in_element (record { first = first; second = second; table = table; width = width; home = a; index = i })
+            (store_at width 0 (Local first) v) l1 l2 ha hi (width_low width is, width_high width is, l1, hv),
+        (h, tt),
+      )))
 
+  in_store_item : (single : Option ArrayPlace) (e : Elements) (o : Option Place) (u : Option ℕ) (hs : List Operand) → AreIn size hs
+      → MadeIn L r.result size (store_item r single e o u hs)
+  in_store_item single e o None [] h = tt
+  in_store_item single e o None (v ∷ []) h = tt
+  in_store_item single e o None (v ∷ i ∷ hs) h = in_store_nothing (v ∷ hs) (h.0, h.1.1)
+  in_store_item single e None (Some table) [] h = tt
+  in_store_item single e None (Some table) (v ∷ []) h = tt
+  in_store_item single e None (Some table) (v ∷ i ∷ []) h = tt
+  in_store_item single e None (Some table) (v ∷ i ∷ a ∷ hs) h =
+      in_if (nat_le 4 table) _ _ (in_no_element e.width table a i hs hs h.1.1.0 h.1.0 h.1.1.1) tt
+  in_store_item single e (Some place) (Some table) [] h = tt
+  in_store_item single e (Some place) (Some table) (v ∷ []) h = tt
+  in_store_item single e (Some place) (Some table) (v ∷ i ∷ []) h = tt
+  in_store_item single e (Some place) (Some table) (v ∷ i ∷ a ∷ hs) h = by_width (is_width e.width) (is_place e place) (nat_le 4 table) refl
+    where
       by_width : (b c d : Bool) → is_width e.width ≡ b
-          → MadeIn L r.result size (if b && c && d then store_element r e.width table v a i hs else Refused NotTaken)
-      by_width true true true is = made is
+          → MadeIn L r.result size (if b && c && d then store_inside r single e.width table v a i hs else Refused NotTaken)
+      by_width true true true is = in_store_inside single e.width table v a i hs is h.0 h.1.1.0 h.1.0 h.1.1.1
       by_width true true false is = tt
       by_width true false d is = tt
       by_width false c d is = tt
@@ -731,11 +797,11 @@ module _ (L : Type 0) (lay : Layout) (r : Room) where
   in_stepped (Store c w) hs h = in_store_one w (slice_get lay.ram c) hs h
   in_stepped (LoadAt a c o) hs h = in_load_of (memory_of a) o (slice_get (places_in lay a) c) hs h
   in_stepped (StoreAt c o w) hs h = in_store_of o w (slice_get lay.ram c) hs h
-  in_stepped LoadNothing hs h = in_load_nothing hs h
-  in_stepped StoreNothing hs h = in_store_nothing hs h
-  in_stepped (LoadItem e) hs h = in_load_item e (slice_get (places_in lay e.home) e.column) (slice_get lay.tables e.table) hs h
-  in_stepped (StoreItem e) hs h = in_store_item e (slice_get lay.ram e.column) (slice_get lay.tables e.table) hs h
-  in_stepped (Length t) hs h = in_length_of (slice_get lay.tables t) hs h
+  in_stepped LoadNothing hs h = in_load_no_field hs h
+  in_stepped StoreNothing hs h = in_store_no_field hs h
+  in_stepped (LoadItem e) hs h = in_load_item (lone_of lay e.table) e (slice_get (places_in lay e.home) e.column) (slice_get lay.tables e.table) hs h
+  in_stepped (StoreItem e) hs h = in_store_item (lone_of lay e.table) e (slice_get lay.ram e.column) (slice_get lay.tables e.table) hs h
+  in_stepped (Length t) hs h = in_array_length (lone_of lay t) (slice_get lay.tables t) hs h
   in_stepped (IsWithin a b) hs h = in_one_of a b hs h
   in_stepped (StopUnlessWithin a b) hs h = in_cast a b hs h
   in_stepped (Bind q) hs h = in_by_temp hs _ (λ to lt. (lt, ((lt, h), tt)))

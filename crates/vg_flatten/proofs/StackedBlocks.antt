@@ -1,7 +1,7 @@
 -- That what code becomes, where each value that waits is pushed, is such a block.
-use Rattle.std.specs.Prelude.{ℕ, zero, suc, ◌+◌, ◌-◌, ◌<◌, ◌≤◌, Bool, true, false, ◌&&◌, ◌||◌, ◌==◌, nat_lt, nat_le, List, [], ◌∷◌, length, reverse, take, drop, Option, Some, None, if◌then◌else◌}
+use Rattle.std.specs.Prelude.{ℕ, zero, suc, ◌+◌, ◌-◌, ◌<◌, ◌≤◌, Bool, true, false, ◌&&◌, ◌==◌, nat_lt, nat_le, List, [], ◌∷◌, length, reverse, take, drop, Option, Some, None, if◌then◌else◌}
 use Rattle.std.proofs.Common.{◌≡◌, ◌⊎◌, inl, inr, refl, sym, ap, ◌∙◌, subst, arith}
-use Rattle.std.proofs.lemmas.List.{length-reverse, length-drop}
+use Rattle.std.proofs.lemmas.List.{length-drop}
 use Rattle.vg_meaning.specs.Code.{Code, Nothing, Then, Do, If, Loop, Break, Continue, Return}
 use Rattle.vg_firm.specs.declared.step.Step.{Step}
 use Rattle.vg_firm_typed.specs.Steps.{takes}
@@ -13,17 +13,17 @@ use Rattle.vg_flatten_shapes.specs.declared.open.Truth.{Truth}
 use Rattle.vg_flatten_shapes.specs.declared.open.Truth.TheVariants.{Fails}
 use Rattle.vg_flatten_shapes.specs.declared.layout.Layout.{Layout}
 use Rattle.vg_flatten_shapes.specs.declared.room.Room.{Room}
-use Rattle.vg_flatten_shapes.specs.Shapes.{Shape, only, empty, is_none, is_empty, same_operand, same_homes, temp}
-use Rattle.vg_flatten_shapes.specs.Blocks.{Block, Skip, One, GiveBack, BreakOut, GoOn, Both, Choice, Repeat}
-use Rattle.vg_flatten_shapes.specs.Made.{Made, Gives, Refused, behind, after, by_temp, settled, Tested, tested, is_zero}
+use Rattle.vg_flatten_shapes.specs.Shapes.{Shape, only, empty, is_none, is_empty, same_homes, temp}
+use Rattle.vg_flatten_shapes.specs.Blocks.{Block, Skip, One, BreakOut, GoOn, Both, Choice, Repeat}
+use Rattle.vg_flatten_shapes.specs.Made.{Made, Gives, Refused, behind, after, by_temp, settled, tested, is_zero}
 use Rattle.vg_flatten_shapes.proofs.Temps.{temp_is}
 use Rattle.vg_flatten_steps.specs.Steps.{stepped}
 use Rattle.vg_flatten_control.specs.Flat.{joined, where_empty, repeated, repeated_body, repeated_next, given_back}
 use Rattle.vg_flatten_pushed.specs.Pushed.{pops, popped, pushed_on, put_back, worked, drawn, step_on, done, topped, with_newest, lowered, raised, pushed_again}
 use Rattle.vg_flatten_pushed.specs.Stacked.{levelled, ways, stacked}
 use Rattle.vg_flatten.specs.Loops.{has_loop}
-use Rattle.vg_flatten.proofs.Sound.{IsIn, AreIn, IsTruthIn, ShapeIn, BlockIn, MadeIn, in_stepped, in_settled, first_of, rest_of}
-use Rattle.vg_flatten.proofs.Steady.{steady, IsSteady, steady_step, steady_settled}
+use Rattle.vg_flatten.proofs.Sound.{IsIn, AreIn, IsTruthIn, MadeIn, in_stepped, in_settled, first_of, rest_of}
+use Rattle.vg_flatten.proofs.Steady.{IsSteady, steady_step, steady_settled}
 use Rattle.vg_flatten.proofs.PushedBlocks.{BlockOn, MadeOn, steady_on}
 
 le_of : (a b : ℕ) → nat_le a b ≡ true → a ≤ b

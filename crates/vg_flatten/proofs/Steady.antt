@@ -1,5 +1,5 @@
 -- What a step becomes neither leaves the code nor turns back: it has no loop, no jump out of one, and gives nothing back.
-use Rattle.std.specs.Prelude.{ℕ, ◌+◌, ◌-◌, ◌*◌, ◌≤◌, ◌^◌, Bool, true, false, ◌==◌, ◌&&◌, nat_lt, nat_le, List, [], ◌∷◌, ◌++◌}
+use Rattle.std.specs.Prelude.{ℕ, ◌+◌, ◌*◌, ◌^◌, Bool, true, false, ◌==◌, ◌&&◌, nat_lt, nat_le, List, [], ◌∷◌}
 use Rattle.std.specs.Prelude.{reverse, Option, Some, None, slice_get, if◌then◌else◌}
 use Rattle.std.proofs.Common.{◌≡◌, refl, ap, ◌∙◌}
 use Rattle.vg_firm.specs.declared.step.Operator.{Operator}
@@ -7,6 +7,7 @@ use Rattle.vg_firm.specs.declared.step.Operator.TheVariants.{Plus, Minus, Times,
 use Rattle.vg_firm.specs.declared.step.Operator.TheVariants.{And, Or, Xor, ShiftLeft, ShiftRight, Concat}
 use Rattle.vg_firm.specs.declared.step.Prefix.{Prefix}
 use Rattle.vg_firm.specs.declared.step.Prefix.TheVariants.{Negative, Not, Complement, Cut}
+use Rattle.vg_firm.specs.declared.step.ArrayPlace.{ArrayPlace}
 use Rattle.vg_firm.specs.declared.step.Elements.{Elements}
 use Rattle.vg_firm.specs.declared.step.Step.{Step}
 use Rattle.vg_firm.specs.declared.step.Step.TheVariants.{Number, This, Local as GetLocal, SetLocal, Forget, Operate, Apply, ReadDevice, WriteDevice}
@@ -33,14 +34,13 @@ use Rattle.vg_flatten_shapes.specs.Blocks.{Block, Skip, One, GiveBack, BreakOut,
 use Rattle.vg_flatten_shapes.specs.Made.{Made, Gives, Refused, by_temp, settled, settled_as, is_zero}
 use Rattle.vg_flatten_values.specs.Values.{computing, comparing, computed, operated, operated_as, bytes_of, bytes_around, cut_bits, cut, applied}
 use Rattle.vg_flatten_values.specs.Values.{divided, masked, shifted_left, shifted_right, combined, divisor_checked, may_be_zero}
-use Rattle.vg_flatten_places.specs.Places.{is_width, fetched, fetched_from, load_one, load_of, length_of, places_in, memory_of, multiplied}
-use Rattle.vg_flatten_places.specs.Places.{store_one, store_of, is_place, load_item, store_item, no_element}
+use Rattle.vg_flatten_places.specs.Places.{is_width, fetched, fetched_from, load_one, load_of, length_of, lone_of, known_length, array_length, places_in, memory_of, multiplied}
+use Rattle.vg_flatten_places.specs.Places.{store_one, store_of, is_place, load_inside, load_item, store_inside, store_item, no_element}
 use Rattle.vg_flatten_steps.specs.Locals.{at_local, set_local, forgotten, written}
 use Rattle.vg_flatten_steps.specs.Calls.{in_widths, with_taken, passing_of, with_receiver, resulting, called, called_on, called_by as called_by', bound_for}
 use Rattle.vg_flatten_steps.specs.Objects.{is_one_of, cast_to}
-use Rattle.vg_flatten_places.specs.Places.{load_nothing, store_nothing}
+use Rattle.vg_flatten_places.specs.Places.{may_be_null, null_check, load_no_field, store_no_field, load_nothing, store_nothing}
 use Rattle.vg_flatten_steps.specs.Steps.{stepped}
-use Rattle.vg_flatten.specs.Calls.{called_by}
 
 abbrev pub steady : Block → Bool
 steady (GiveBack w a) = false
@@ -82,6 +82,17 @@ module _ (lay : Layout) (r : Room) where
       by_zero : (c : Bool) → steady (if c then stop_where 3 (Holds (is_zero b)) else Skip) ≡ true
       by_zero true = refl
       by_zero false = refl
+
+  null_steady : (a : Operand) → steady (null_check r a) ≡ true
+  null_steady a = by_null (may_be_null r a)
+    where
+      by_null : (c : Bool) → steady (if c then stop_where 1 (Holds (is_zero a)) else Skip) ≡ true
+      by_null true = refl
+      by_null false = refl
+
+  -- the null check, and what is done behind it
+  behind_null : (a : Operand) (b : Bool) → b ≡ true → (steady (null_check r a) && b) ≡ true
+  behind_null a b e = ap (λ z. z && b) (null_steady a) ∙ e
 
   steady_divided : (op : LinOperator) (a b : Operand) (hs : List Operand) → IsSteady (divided r op a b hs)
   steady_divided op a b hs = steady_temp (temp r hs) _ (λ to. ap (λ z. z && true) (divisor_steady b))
@@ -172,7 +183,7 @@ module _ (lay : Layout) (r : Room) where
 
   steady_on : (d code : ℕ) (xs rest : List Operand) → IsSteady (called_on r d code xs rest)
   steady_on d code [] rest = tt
-  steady_on d code (a ∷ xs) rest = steady_temp (temp r rest) _ (λ to. refl)
+  steady_on d code (a ∷ xs) rest = steady_temp (temp r rest) _ (λ to. behind_null a true refl)
 
   steady_by : (receiver : ℕ) (xs rest : List Operand) → IsSteady (called_by' r receiver xs rest)
   steady_by receiver [] rest = tt
@@ -180,7 +191,7 @@ module _ (lay : Layout) (r : Room) where
 
   steady_bound_for : (d : ℕ) (hs : List Operand) → IsSteady (bound_for r d hs)
   steady_bound_for d [] = tt
-  steady_bound_for d (a ∷ hs) = steady_temp (temp r hs) _ (λ to. steady_temp (temp r (a ∷ hs)) _ (λ above. refl))
+  steady_bound_for d (a ∷ hs) = steady_temp (temp r hs) _ (λ to. steady_temp (temp r (a ∷ hs)) _ (λ above. behind_null a true refl))
 
   -- ---- objects, columns and elements
 
@@ -201,6 +212,15 @@ module _ (lay : Layout) (r : Room) where
   steady_no_store (v ∷ []) = tt
   steady_no_store (v ∷ a ∷ hs) = refl
 
+  steady_no_field : (hs : List Operand) → IsSteady (load_no_field r hs)
+  steady_no_field [] = tt
+  steady_no_field (a ∷ hs) = null_steady a
+
+  steady_no_field_store : (hs : List Operand) → IsSteady (store_no_field r hs)
+  steady_no_field_store [] = tt
+  steady_no_field_store (v ∷ []) = tt
+  steady_no_field_store (v ∷ a ∷ hs) = null_steady a
+
   multiplied_steady : (to by : ℕ) (h : Operand) → steady (multiplied to by h) ≡ true
   multiplied_steady to by h = by_one (by == 1)
     where
@@ -209,10 +229,12 @@ module _ (lay : Layout) (r : Room) where
       by_one false = refl
 
   steady_fetched : (memory : Memory) (width by base : ℕ) (a : Operand) (hs : List Operand) → IsSteady (fetched r memory width by base a hs)
-  steady_fetched memory width by base a hs = steady_temp (temp r hs) _ (λ to. ap (λ z. z && true) (multiplied_steady to by a))
+  steady_fetched memory width by base a hs =
+      steady_temp (temp r hs) _ (λ to. behind_null a _ (ap (λ z. z && true) (multiplied_steady to by a)))
 
   steady_fetched_from : (memory : Memory) (width first base : ℕ) (a : Operand) (hs : List Operand) → IsSteady (fetched_from r memory width first base a hs)
-  steady_fetched_from memory width first base a hs = steady_temp (temp r hs) _ (λ to. ap (λ z. z && true) (multiplied_steady to width (Local to)))
+  steady_fetched_from memory width first base a hs =
+      steady_temp (temp r hs) _ (λ to. behind_null a _ (ap (λ z. z && true) (multiplied_steady to width (Local to))))
 
   steady_load_one : (memory : Memory) (o : Option Place) (hs : List Operand) → IsSteady (load_one r memory o hs)
   steady_load_one memory None hs = tt
@@ -223,13 +245,22 @@ module _ (lay : Layout) (r : Room) where
   steady_load_of memory first (Some place) [] = tt
   steady_load_of memory first (Some place) (a ∷ hs) =
       steady_if (is_width place.width) _ _
+      (steady_if (place.count == 1) _ _ (steady_temp (temp r hs) _ (λ to. behind_null a true refl))
       (steady_if (nat_le (place.width * first) place.address) _ _ (steady_fetched memory place.width place.width _ a hs)
-      (steady_fetched_from memory place.width first place.address a hs)) tt
+      (steady_fetched_from memory place.width first place.address a hs))) tt
 
   steady_length : (o : Option ℕ) (hs : List Operand) → IsSteady (length_of r o hs)
   steady_length None hs = steady_nothing hs
   steady_length (Some table) [] = tt
   steady_length (Some table) (a ∷ hs) = steady_if (nat_le 2 table) _ _ (steady_fetched _ 2 4 _ a hs) tt
+
+  steady_known_length : (length : ℕ) (hs : List Operand) → IsSteady (known_length length hs)
+  steady_known_length length [] = tt
+  steady_known_length length (a ∷ hs) = refl
+
+  steady_array_length : (single : Option ArrayPlace) (o : Option ℕ) (hs : List Operand) → IsSteady (array_length r single o hs)
+  steady_array_length (Some a) o hs = steady_known_length a.length hs
+  steady_array_length None o hs = steady_length o hs
 
   steady_store_one : (width : ℕ) (o : Option Place) (hs : List Operand) → IsSteady (store_one width o hs)
   steady_store_one width None hs = tt
@@ -242,42 +273,53 @@ module _ (lay : Layout) (r : Room) where
   steady_store_of first width (Some place) (v ∷ []) = tt
   steady_store_of first width (Some place) (v ∷ a ∷ hs) =
       steady_if (is_width width && (width == place.width)) _ _
+      (steady_if (place.count == 1) _ _ (behind_null a true refl)
       (steady_if (nat_le (width * first) place.address) _ _
-      (steady_temp (temp r (v ∷ a ∷ hs)) _ (λ to. ap (λ z. z && true) (multiplied_steady to width a)))
-      (steady_temp (temp r (v ∷ a ∷ hs)) _ (λ to. ap (λ z. z && true) (multiplied_steady to width (Local to))))) tt
+      (steady_temp (temp r (v ∷ a ∷ hs)) _ (λ to. behind_null a _ (ap (λ z. z && true) (multiplied_steady to width a))))
+      (steady_temp (temp r (v ∷ a ∷ hs)) _ (λ to. behind_null a _ (ap (λ z. z && true) (multiplied_steady to width (Local to))))))) tt
 
   steady_no_element : (width table : ℕ) (a i : Operand) (hs left : List Operand) → IsSteady (no_element r width table a i hs left)
   steady_no_element width table a i hs left =
       steady_temp (temp r (i ∷ a ∷ hs)) _ (λ first. steady_temp (temp r (Local first ∷ i ∷ a ∷ hs)) _ (λ second. refl))
 
-  steady_load_item : (e : Elements) (o : Option Place) (u : Option ℕ) (hs : List Operand) → IsSteady (load_item r e o u hs)
-  steady_load_item e o None [] = tt
-  steady_load_item e o None (i ∷ hs) = steady_nothing hs
-  steady_load_item e None (Some table) [] = tt
-  steady_load_item e None (Some table) (i ∷ []) = tt
-  steady_load_item e None (Some table) (i ∷ a ∷ hs) =
-      steady_if (nat_le 4 table) _ _ (steady_no_element e.width table a i hs (Known 0 ∷ hs)) tt
-  steady_load_item e (Some place) (Some table) [] = tt
-  steady_load_item e (Some place) (Some table) (i ∷ []) = tt
-  steady_load_item e (Some place) (Some table) (i ∷ a ∷ hs) =
-      steady_if (is_width e.width && is_place e place && nat_le 4 table) _ _
-      (steady_temp (temp r hs) _ (λ to. steady_temp (temp r (i ∷ a ∷ hs)) _ (λ first.
-      steady_temp (temp r (Local first ∷ i ∷ a ∷ hs)) _ (λ second. refl)))) tt
+  steady_load_inside : (single : Option ArrayPlace) (e : Elements) (table : ℕ) (a i : Operand) (hs : List Operand)
+      → IsSteady (load_inside r single e table a i hs)
+  steady_load_inside (Some x) e table a i hs = steady_temp (temp r hs) _ (λ to. ap (λ z. z && true) (multiplied_steady to e.width i))
+  steady_load_inside None e table a i hs =
+      steady_temp (temp r hs) _ (λ to. steady_temp (temp r (i ∷ a ∷ hs)) _ (λ first.
+      steady_temp (temp r (Local first ∷ i ∷ a ∷ hs)) _ (λ second. refl)))
 
-  steady_store_item : (e : Elements) (o : Option Place) (u : Option ℕ) (hs : List Operand) → IsSteady (store_item r e o u hs)
-  steady_store_item e o None [] = tt
-  steady_store_item e o None (v ∷ []) = tt
-  steady_store_item e o None (v ∷ i ∷ hs) = steady_no_store (v ∷ hs)
-  steady_store_item e None (Some table) [] = tt
-  steady_store_item e None (Some table) (v ∷ []) = tt
-  steady_store_item e None (Some table) (v ∷ i ∷ []) = tt
-  steady_store_item e None (Some table) (v ∷ i ∷ a ∷ hs) = steady_if (nat_le 4 table) _ _ (steady_no_element e.width table a i hs hs) tt
-  steady_store_item e (Some place) (Some table) [] = tt
-  steady_store_item e (Some place) (Some table) (v ∷ []) = tt
-  steady_store_item e (Some place) (Some table) (v ∷ i ∷ []) = tt
-  steady_store_item e (Some place) (Some table) (v ∷ i ∷ a ∷ hs) =
-      steady_if (is_width e.width && is_place e place && nat_le 4 table) _ _
-      (steady_temp (temp r (v ∷ i ∷ a ∷ hs)) _ (λ first. steady_temp (temp r (Local first ∷ v ∷ i ∷ a ∷ hs)) _ (λ second. refl))) tt
+  steady_load_item : (single : Option ArrayPlace) (e : Elements) (o : Option Place) (u : Option ℕ) (hs : List Operand) → IsSteady (load_item r single e o u hs)
+  steady_load_item single e o None [] = tt
+  steady_load_item single e o None (i ∷ hs) = steady_nothing hs
+  steady_load_item single e None (Some table) [] = tt
+  steady_load_item single e None (Some table) (i ∷ []) = tt
+  steady_load_item single e None (Some table) (i ∷ a ∷ hs) =
+      steady_if (nat_le 4 table) _ _ (steady_no_element e.width table a i hs (Known 0 ∷ hs)) tt
+  steady_load_item single e (Some place) (Some table) [] = tt
+  steady_load_item single e (Some place) (Some table) (i ∷ []) = tt
+  steady_load_item single e (Some place) (Some table) (i ∷ a ∷ hs) =
+      steady_if (is_width e.width && is_place e place && nat_le 4 table) _ _ (steady_load_inside single e table a i hs) tt
+
+  steady_store_inside : (single : Option ArrayPlace) (width table : ℕ) (v a i : Operand) (hs : List Operand)
+      → IsSteady (store_inside r single width table v a i hs)
+  steady_store_inside (Some x) width table v a i hs = steady_temp (temp r (v ∷ i ∷ a ∷ hs)) _ (λ to. ap (λ z. z && true) (multiplied_steady to width i))
+  steady_store_inside None width table v a i hs =
+      steady_temp (temp r (v ∷ i ∷ a ∷ hs)) _ (λ first. steady_temp (temp r (Local first ∷ v ∷ i ∷ a ∷ hs)) _ (λ second. refl))
+
+  steady_store_item : (single : Option ArrayPlace) (e : Elements) (o : Option Place) (u : Option ℕ) (hs : List Operand) → IsSteady (store_item r single e o u hs)
+  steady_store_item single e o None [] = tt
+  steady_store_item single e o None (v ∷ []) = tt
+  steady_store_item single e o None (v ∷ i ∷ hs) = steady_no_store (v ∷ hs)
+  steady_store_item single e None (Some table) [] = tt
+  steady_store_item single e None (Some table) (v ∷ []) = tt
+  steady_store_item single e None (Some table) (v ∷ i ∷ []) = tt
+  steady_store_item single e None (Some table) (v ∷ i ∷ a ∷ hs) = steady_if (nat_le 4 table) _ _ (steady_no_element e.width table a i hs hs) tt
+  steady_store_item single e (Some place) (Some table) [] = tt
+  steady_store_item single e (Some place) (Some table) (v ∷ []) = tt
+  steady_store_item single e (Some place) (Some table) (v ∷ i ∷ []) = tt
+  steady_store_item single e (Some place) (Some table) (v ∷ i ∷ a ∷ hs) =
+      steady_if (is_width e.width && is_place e place && nat_le 4 table) _ _ (steady_store_inside single e.width table v a i hs) tt
 
   steady_forgotten : (hs : List Operand) → IsSteady (forgotten hs)
   steady_forgotten [] = tt
@@ -301,11 +343,11 @@ module _ (lay : Layout) (r : Room) where
   steady_step (Store c width) hs = steady_store_one width (slice_get lay.ram c) hs
   steady_step (LoadAt home c first) hs = steady_load_of (memory_of home) first (slice_get (places_in lay home) c) hs
   steady_step (StoreAt c first width) hs = steady_store_of first width (slice_get lay.ram c) hs
-  steady_step LoadNothing hs = steady_nothing hs
-  steady_step StoreNothing hs = steady_no_store hs
-  steady_step (LoadItem e) hs = steady_load_item e (slice_get (places_in lay e.home) e.column) (slice_get lay.tables e.table) hs
-  steady_step (StoreItem e) hs = steady_store_item e (slice_get lay.ram e.column) (slice_get lay.tables e.table) hs
-  steady_step (Length t) hs = steady_length (slice_get lay.tables t) hs
+  steady_step LoadNothing hs = steady_no_field hs
+  steady_step StoreNothing hs = steady_no_field_store hs
+  steady_step (LoadItem e) hs = steady_load_item (lone_of lay e.table) e (slice_get (places_in lay e.home) e.column) (slice_get lay.tables e.table) hs
+  steady_step (StoreItem e) hs = steady_store_item (lone_of lay e.table) e (slice_get lay.ram e.column) (slice_get lay.tables e.table) hs
+  steady_step (Length t) hs = steady_array_length (lone_of lay t) (slice_get lay.tables t) hs
   steady_step (IsWithin first count) hs = steady_one_of first count hs
   steady_step (StopUnlessWithin first count) hs = steady_cast first count hs
   steady_step (Bind q) hs = steady_temp (temp r hs) _ (λ to. refl)

@@ -12,6 +12,7 @@ use Rattle.vg_firm.specs.declared.step.Prefix.{Prefix}
 use Rattle.vg_firm.specs.declared.step.Prefix.TheVariants.{Negative, Not, Complement, Cut}
 use Rattle.vg_firm.specs.declared.step.Home.{Home}
 use Rattle.vg_firm.specs.declared.step.Home.TheVariants.{Ram as InRam, Flash as InFlash}
+use Rattle.vg_firm.specs.declared.step.ArrayPlace.{ArrayPlace}
 use Rattle.vg_firm.specs.declared.step.Elements.{Elements}
 use Rattle.vg_firm.specs.declared.step.Step.{Step}
 use Rattle.vg_firm.specs.declared.step.Step.TheVariants.{Number, This, Local as GetLocal, SetLocal, Forget, Operate, Apply, ReadDevice, WriteDevice}
@@ -51,12 +52,12 @@ use Rattle.vg_flatten_shapes.specs.Blocks.{closed, call_code, open_code}
 use Rattle.vg_flatten_shapes.specs.Made.{Made, Gives, Refused, behind, after, by_temp, settled, settled_as, Tested, tested, tested_as, is_zero}
 use Rattle.vg_flatten_values.specs.Values.{computing, comparing, computed, operated, operated_as, bytes_of, bytes_around, cut_bits, cut, applied}
 use Rattle.vg_flatten_values.specs.Values.{divided, masked, shifted_left, shifted_right, concatenated, combined, divisor_checked, may_be_zero}
-use Rattle.vg_flatten_places.specs.Places.{is_width, fetched, fetched_from, load_one, load_of, length_of, places_in, memory_of, multiplied}
-use Rattle.vg_flatten_places.specs.Places.{store_one, store_of, is_place, load_item, store_item, no_element}
+use Rattle.vg_flatten_places.specs.Places.{is_width, fetched, fetched_from, load_one, load_of, length_of, lone_of, array_length, places_in, memory_of, multiplied}
+use Rattle.vg_flatten_places.specs.Places.{store_one, store_of, is_place, load_inside, load_item, store_inside, store_item, no_element}
 use Rattle.vg_flatten_steps.specs.Locals.{at_local, get_receiver, put_in_local, set_local, forgotten, written}
 use Rattle.vg_flatten_steps.specs.Calls.{in_widths, with_taken, passing_of, with_receiver, resulting, called, called_on, called_for, called_by, called_value, bound_for}
 use Rattle.vg_flatten_steps.specs.Objects.{is_one_of, cast_to}
-use Rattle.vg_flatten_places.specs.Places.{load_nothing, store_nothing}
+use Rattle.vg_flatten_places.specs.Places.{may_be_null, null_check, load_no_field, store_no_field}
 use Rattle.vg_flatten_steps.specs.Steps.{stepped}
 use Rattle.vg_flatten_control.specs.Flat.{landed_as, landed, joined, chosen, repeated, repeated_test, given_back, flat}
 use Rattle.vg_firm_typed.specs.Steps.{takes, leaves, IsWidth, columns_of, Names}
@@ -208,6 +209,13 @@ module _ (lay : Layout) (r : Room) (looped : Bool) (under : List Operand) where
       by_zero true = (tt, tt)
       by_zero false = tt
 
+  stays_null : (a : Operand) → Stays looped (null_check r a)
+  stays_null a = by_null (may_be_null r a)
+    where
+      by_null : (c : Bool) → Stays looped (if c then stop_where 1 (Holds (is_zero a)) else Skip)
+      by_null true = (tt, tt)
+      by_null false = tt
+
   fine_divided : (op : LinOperator) (a b : Operand) (own : List Operand) (n y : ℕ) → length own ≡ n → y ≡ 1 + n
       → length (own ++ under) < r.temps → Fine looped under y (divided r op a b (own ++ under))
   fine_divided op a b own n y e g h =
@@ -330,7 +338,7 @@ module _ (lay : Layout) (r : Room) (looped : Bool) (under : List Operand) where
       → Fine looped under y (called_on r d code args (back ++ under))
   fine_on d code [] back n y some e g h = absurd (omega (arith, some))
   fine_on d code (a ∷ args) back n y some e g h =
-      with_temp r (Fine looped under y) (back ++ under) _ h (λ to. (((tt, tt), (tt, tt)), puts under back (Local to) n y e g))
+      with_temp r (Fine looped under y) (back ++ under) _ h (λ to. ((stays_null a, (tt, tt)), puts under back (Local to) n y e g))
 
   fine_by : (receiver : ℕ) (args back : List Operand) (n y : ℕ) → 0 < length args → length back ≡ n → y ≡ 1 + n → length (back ++ under) < r.temps
       → Fine looped under y (called_by r receiver args (back ++ under))
@@ -373,7 +381,7 @@ module _ (lay : Layout) (r : Room) (looped : Bool) (under : List Operand) where
   fine_bound_for d a own n y e g l =
       with_temp r (Fine looped under y) (own ++ under) _ (omega (arith, l)) (λ to.
       with_temp r (Fine looped under y) (a ∷ own ++ under) _ (omega (arith, l)) (λ above.
-      (((tt, tt), (tt, (tt, tt))), puts under own (Local to) n y e g)))
+      ((stays_null a, (tt, (tt, tt))), puts under own (Local to) n y e g)))
 
   -- ---- objects
 
@@ -401,13 +409,13 @@ module _ (lay : Layout) (r : Room) (looped : Bool) (under : List Operand) where
   fine_fetched : (memory : Memory) (width by base : ℕ) (a : Operand) (own : List Operand) (n y : ℕ) → length own ≡ n → y ≡ 1 + n
       → length (own ++ under) < r.temps → Fine looped under y (fetched r memory width by base a (own ++ under))
   fine_fetched memory width by base a own n y e g h =
-      with_temp r (Fine looped under y) (own ++ under) _ h (λ to. (((tt, tt), (stays_multiplied to by a, tt)), puts under own (Local to) n y e g))
+      with_temp r (Fine looped under y) (own ++ under) _ h (λ to. ((stays_null a, (stays_multiplied to by a, tt)), puts under own (Local to) n y e g))
 
   fine_fetched_from : (memory : Memory) (width first base : ℕ) (a : Operand) (own : List Operand) (n y : ℕ) → length own ≡ n → y ≡ 1 + n
       → length (own ++ under) < r.temps → Fine looped under y (fetched_from r memory width first base a (own ++ under))
   fine_fetched_from memory width first base a own n y e g h =
       with_temp r (Fine looped under y) (own ++ under) _ h (λ to.
-      (((tt, tt), (tt, (stays_multiplied to width (Local to), tt))), puts under own (Local to) n y e g))
+      ((stays_null a, (tt, (stays_multiplied to width (Local to), tt))), puts under own (Local to) n y e g))
 
   fine_load_one : (memory : Memory) (o : Option Place) (place : Place) (own : List Operand) (n y : ℕ) → length own ≡ n → y ≡ 1 + n
       → length (own ++ under) < r.temps → o ≡ Some place → IsWidth place.width → Fine looped under y (load_one r memory o (own ++ under))
@@ -421,14 +429,21 @@ module _ (lay : Layout) (r : Room) (looped : Bool) (under : List Operand) where
   fine_load_of memory first o place a own n y e g h there w =
       subst (λ z. Fine looped under y (load_of r memory first z (a ∷ own ++ under))) (sym there)
       (by_if (Fine looped under y) (is_width place.width) _ _ (width_true place.width w)
+      (either_way (Fine looped under y) (place.count == 1) _ _
+      (with_temp r (Fine looped under y) (own ++ under) _ h (λ to. ((stays_null a, tt), puts under own (Local to) n y e g)))
       (either_way (Fine looped under y) (nat_le (place.width * first) place.address) _ _
-      (fine_fetched memory place.width place.width _ a own n y e g h) (fine_fetched_from memory place.width first place.address a own n y e g h)))
+      (fine_fetched memory place.width place.width _ a own n y e g h) (fine_fetched_from memory place.width first place.address a own n y e g h))))
 
   fine_length : (o : Option ℕ) (table : ℕ) (a : Operand) (own : List Operand) (n y : ℕ) → length own ≡ n → y ≡ 1 + n
       → length (own ++ under) < r.temps → o ≡ Some table → 4 ≤ table → Fine looped under y (length_of r o (a ∷ own ++ under))
   fine_length o table a own n y e g h there above =
       subst (λ z. Fine looped under y (length_of r z (a ∷ own ++ under))) (sym there)
       (by_if (Fine looped under y) (nat_le 2 table) _ _ (le_true 2 table (omega (arith, above))) (fine_fetched _ 2 4 _ a own n y e g h))
+
+  fine_array_length : (single : Option ArrayPlace) (o : Option ℕ) (a : Operand) (own : List Operand) (n y : ℕ) → length own ≡ n → y ≡ 1 + n
+      → Fine looped under y (length_of r o (a ∷ own ++ under)) → Fine looped under y (array_length r single o (a ∷ own ++ under))
+  fine_array_length (Some x) o a own n y e g h = ((tt, tt), puts under own (Known x.length) n y e g)
+  fine_array_length None o a own n y e g h = h
 
   fine_store_one : (width : ℕ) (o : Option Place) (place : Place) (v : Operand) (own : List Operand) (n y : ℕ) → length own ≡ n → y ≡ 0 + n
       → o ≡ Some place → IsWidth width → width ≡ place.width → Fine looped under y (store_one width o (v ∷ own ++ under))
@@ -444,39 +459,54 @@ module _ (lay : Layout) (r : Room) (looped : Bool) (under : List Operand) where
       subst (λ z. Fine looped under y (store_of r first width z (v ∷ a ∷ own ++ under))) (sym there)
       (by_if (Fine looped under y) (is_width width && (width == place.width)) _ _
       (two_true _ _ (width_true width w) (same_true width place.width same))
+      (either_way (Fine looped under y) (place.count == 1) _ _ ((stays_null a, tt), drops under own n y e g)
       (either_way (Fine looped under y) (nat_le (width * first) place.address) _ _
       (with_temp r (Fine looped under y) (v ∷ a ∷ own ++ under) _ (omega (arith, l)) (λ to.
-      (((tt, tt), (stays_multiplied to width a, tt)), drops under own n y e g)))
+      ((stays_null a, (stays_multiplied to width a, tt)), drops under own n y e g)))
       (with_temp r (Fine looped under y) (v ∷ a ∷ own ++ under) _ (omega (arith, l)) (λ to.
-      (((tt, tt), (tt, (stays_multiplied to width (Local to), tt))), drops under own n y e g)))))
+      ((stays_null a, (tt, (stays_multiplied to width (Local to), tt))), drops under own n y e g))))))
 
   is_there : (e : Elements) (place : Place) (table : ℕ) → e.address ≡ place.address → e.width ≡ place.width → IsWidth e.width → 4 ≤ table
       → (is_width e.width && is_place e place && nat_le 4 table) ≡ true
   is_there e place table ea ew w above =
       three_true _ _ _ (width_true e.width w) (two_true _ _ (same_true e.address place.address ea) (same_true e.width place.width ew)) (le_true 4 table above)
 
-  fine_load_item : (e : Elements) (o : Option Place) (u : Option ℕ) (place : Place) (table : ℕ) (i a : Operand) (own : List Operand) (n y : ℕ)
-      → length own ≡ n → y ≡ 1 + n → 2 + length (own ++ under) + 2 ≤ r.temps → o ≡ Some place → u ≡ Some table
-      → (is_width e.width && is_place e place && nat_le 4 table) ≡ true → Fine looped under y (load_item r e o u (i ∷ a ∷ own ++ under))
-  fine_load_item e o u place table i a own n y le g l there tabled ok =
-      subst (λ z. Fine looped under y (load_item r e z u (i ∷ a ∷ own ++ under))) (sym there)
-      (subst (λ z. Fine looped under y (load_item r e (Some place) z (i ∷ a ∷ own ++ under))) (sym tabled)
-      (by_if (Fine looped under y) (is_width e.width && is_place e place && nat_le 4 table) _ _ ok
-      (with_temp r (Fine looped under y) (own ++ under) _ (omega (arith, l)) (λ to.
+  fine_load_inside : (single : Option ArrayPlace) (e : Elements) (table : ℕ) (i a : Operand) (own : List Operand) (n y : ℕ) → length own ≡ n → y ≡ 1 + n
+      → 2 + length (own ++ under) + 2 ≤ r.temps → Fine looped under y (load_inside r single e table a i (own ++ under))
+  fine_load_inside (Some x) e table i a own n y le g l =
+      with_temp r (Fine looped under y) (own ++ under) _ (omega (arith, l)) (λ to.
+      (((tt, tt), ((tt, tt), (stays_multiplied to e.width i, tt))), puts under own (Local to) n y le g))
+  fine_load_inside None e table i a own n y le g l =
+      with_temp r (Fine looped under y) (own ++ under) _ (omega (arith, l)) (λ to.
       with_temp r (Fine looped under y) (i ∷ a ∷ own ++ under) _ (omega (arith, l)) (λ first.
       with_temp r (Fine looped under y) (Local first ∷ i ∷ a ∷ own ++ under) _ (omega (arith, l)) (λ second.
-      (((tt, tt), (tt, (tt, ((tt, tt), (tt, (tt, (tt, tt))))))), puts under own (Local to) n y le g)))))))
+      (((tt, tt), (tt, (tt, ((tt, tt), (tt, (tt, (tt, tt))))))), puts under own (Local to) n y le g))))
 
-  fine_store_item : (e : Elements) (o : Option Place) (u : Option ℕ) (place : Place) (table : ℕ) (v i a : Operand) (own : List Operand) (n y : ℕ)
-      → length own ≡ n → y ≡ 0 + n → 3 + length (own ++ under) + 2 ≤ r.temps → o ≡ Some place → u ≡ Some table
-      → (is_width e.width && is_place e place && nat_le 4 table) ≡ true → Fine looped under y (store_item r e o u (v ∷ i ∷ a ∷ own ++ under))
-  fine_store_item e o u place table v i a own n y le g l there tabled ok =
-      subst (λ z. Fine looped under y (store_item r e z u (v ∷ i ∷ a ∷ own ++ under))) (sym there)
-      (subst (λ z. Fine looped under y (store_item r e (Some place) z (v ∷ i ∷ a ∷ own ++ under))) (sym tabled)
-      (by_if (Fine looped under y) (is_width e.width && is_place e place && nat_le 4 table) _ _ ok
-      (with_temp r (Fine looped under y) (v ∷ i ∷ a ∷ own ++ under) _ (omega (arith, l)) (λ first.
+  fine_load_item : (single : Option ArrayPlace) (e : Elements) (o : Option Place) (u : Option ℕ) (place : Place) (table : ℕ) (i a : Operand) (own : List Operand)
+      (n y : ℕ) → length own ≡ n → y ≡ 1 + n → 2 + length (own ++ under) + 2 ≤ r.temps → o ≡ Some place → u ≡ Some table
+      → (is_width e.width && is_place e place && nat_le 4 table) ≡ true → Fine looped under y (load_item r single e o u (i ∷ a ∷ own ++ under))
+  fine_load_item single e o u place table i a own n y le g l there tabled ok =
+      subst (λ z. Fine looped under y (load_item r single e z u (i ∷ a ∷ own ++ under))) (sym there)
+      (subst (λ z. Fine looped under y (load_item r single e (Some place) z (i ∷ a ∷ own ++ under))) (sym tabled)
+      (by_if (Fine looped under y) (is_width e.width && is_place e place && nat_le 4 table) _ _ ok (fine_load_inside single e table i a own n y le g l)))
+
+  fine_store_inside : (single : Option ArrayPlace) (width table : ℕ) (v i a : Operand) (own : List Operand) (n y : ℕ) → length own ≡ n → y ≡ 0 + n
+      → 3 + length (own ++ under) + 2 ≤ r.temps → Fine looped under y (store_inside r single width table v a i (own ++ under))
+  fine_store_inside (Some x) width table v i a own n y le g l =
+      with_temp r (Fine looped under y) (v ∷ i ∷ a ∷ own ++ under) _ (omega (arith, l)) (λ to.
+      (((tt, tt), ((tt, tt), (stays_multiplied to width i, tt))), drops under own n y le g))
+  fine_store_inside None width table v i a own n y le g l =
+      with_temp r (Fine looped under y) (v ∷ i ∷ a ∷ own ++ under) _ (omega (arith, l)) (λ first.
       with_temp r (Fine looped under y) (Local first ∷ v ∷ i ∷ a ∷ own ++ under) _ (omega (arith, l)) (λ second.
-      (((tt, tt), (tt, (tt, ((tt, tt), (tt, (tt, (tt, tt))))))), drops under own n y le g))))))
+      (((tt, tt), (tt, (tt, ((tt, tt), (tt, (tt, (tt, tt))))))), drops under own n y le g)))
+
+  fine_store_item : (single : Option ArrayPlace) (e : Elements) (o : Option Place) (u : Option ℕ) (place : Place) (table : ℕ) (v i a : Operand)
+      (own : List Operand) (n y : ℕ) → length own ≡ n → y ≡ 0 + n → 3 + length (own ++ under) + 2 ≤ r.temps → o ≡ Some place → u ≡ Some table
+      → (is_width e.width && is_place e place && nat_le 4 table) ≡ true → Fine looped under y (store_item r single e o u (v ∷ i ∷ a ∷ own ++ under))
+  fine_store_item single e o u place table v i a own n y le g l there tabled ok =
+      subst (λ z. Fine looped under y (store_item r single e z u (v ∷ i ∷ a ∷ own ++ under))) (sym there)
+      (subst (λ z. Fine looped under y (store_item r single e (Some place) z (v ∷ i ∷ a ∷ own ++ under))) (sym tabled)
+      (by_if (Fine looped under y) (is_width e.width && is_place e place && nat_le 4 table) _ _ ok (fine_store_inside single e.width table v i a own n y le g l)))
 
   -- where the elements have no column
   fine_no_element : (width table : ℕ) (i a : Operand) (own : List Operand) (left : List Operand) (y : ℕ)
@@ -486,21 +516,21 @@ module _ (lay : Layout) (r : Room) (looped : Bool) (under : List Operand) where
       with_temp r (Fine looped under y) (Local first ∷ i ∷ a ∷ own ++ under) _ (omega (arith, l)) (λ second.
       (((tt, tt), (tt, (tt, ((tt, tt), tt)))), w)))
 
-  fine_load_dropped : (e : Elements) (o : Option Place) (u : Option ℕ) (table : ℕ) (i a : Operand) (own : List Operand) (n y : ℕ)
+  fine_load_dropped : (single : Option ArrayPlace) (e : Elements) (o : Option Place) (u : Option ℕ) (table : ℕ) (i a : Operand) (own : List Operand) (n y : ℕ)
       → length own ≡ n → y ≡ 1 + n → 2 + length (own ++ under) + 2 ≤ r.temps → o ≡ None → u ≡ Some table → 4 ≤ table
-      → Fine looped under y (load_item r e o u (i ∷ a ∷ own ++ under))
-  fine_load_dropped e o u table i a own n y le g l lacks tabled above =
-      subst (λ z. Fine looped under y (load_item r e z u (i ∷ a ∷ own ++ under))) (sym lacks)
-      (subst (λ z. Fine looped under y (load_item r e None z (i ∷ a ∷ own ++ under))) (sym tabled)
+      → Fine looped under y (load_item r single e o u (i ∷ a ∷ own ++ under))
+  fine_load_dropped single e o u table i a own n y le g l lacks tabled above =
+      subst (λ z. Fine looped under y (load_item r single e z u (i ∷ a ∷ own ++ under))) (sym lacks)
+      (subst (λ z. Fine looped under y (load_item r single e None z (i ∷ a ∷ own ++ under))) (sym tabled)
       (by_if (Fine looped under y) (nat_le 4 table) _ _ (le_true 4 table above)
       (fine_no_element e.width table i a own (Known 0 ∷ own ++ under) y l (puts under own (Known 0) n y le g))))
 
-  fine_store_dropped : (e : Elements) (o : Option Place) (u : Option ℕ) (table : ℕ) (v i a : Operand) (own : List Operand) (n y : ℕ)
+  fine_store_dropped : (single : Option ArrayPlace) (e : Elements) (o : Option Place) (u : Option ℕ) (table : ℕ) (v i a : Operand) (own : List Operand) (n y : ℕ)
       → length own ≡ n → y ≡ 0 + n → 3 + length (own ++ under) + 2 ≤ r.temps → o ≡ None → u ≡ Some table → 4 ≤ table
-      → Fine looped under y (store_item r e o u (v ∷ i ∷ a ∷ own ++ under))
-  fine_store_dropped e o u table v i a own n y le g l lacks tabled above =
-      subst (λ z. Fine looped under y (store_item r e z u (v ∷ i ∷ a ∷ own ++ under))) (sym lacks)
-      (subst (λ z. Fine looped under y (store_item r e None z (v ∷ i ∷ a ∷ own ++ under))) (sym tabled)
+      → Fine looped under y (store_item r single e o u (v ∷ i ∷ a ∷ own ++ under))
+  fine_store_dropped single e o u table v i a own n y le g l lacks tabled above =
+      subst (λ z. Fine looped under y (store_item r single e z u (v ∷ i ∷ a ∷ own ++ under))) (sym lacks)
+      (subst (λ z. Fine looped under y (store_item r single e None z (v ∷ i ∷ a ∷ own ++ under))) (sym tabled)
       (by_if (Fine looped under y) (nat_le 4 table) _ _ (le_true 4 table above)
       (fine_no_element e.width table i a own (own ++ under) y (omega (arith, l)) (drops under own n y le g))))
 
@@ -547,46 +577,48 @@ module _ (lay : Layout) (r : Room) (looped : Bool) (under : List Operand) where
         two_of (λ z. Fine looped under y (store_of r first width (slice_get lay.ram c) (z ++ under))) own n e (λ v a rest e1.
         fine_store_of first width (slice_get lay.ram c) there.0 v a rest n y e1 g (lower rest n 2 e1 room) there.1 there.2 there.3)
     fine_step LoadNothing own n y e g room alone there =
-        one_of (λ z. Fine looped under y (load_nothing (z ++ under))) own n e (λ a rest e1. ((tt, tt), puts under rest (Known 0) n y e1 g))
+        one_of (λ z. Fine looped under y (load_no_field r (z ++ under))) own n e (λ a rest e1. (stays_null a, puts under rest (Known 0) n y e1 g))
     fine_step StoreNothing own n y e g room alone there =
-        two_of (λ z. Fine looped under y (store_nothing (z ++ under))) own n e (λ v a rest e1. ((tt, tt), drops under rest n y e1 g))
+        two_of (λ z. Fine looped under y (store_no_field r (z ++ under))) own n e (λ v a rest e1. (stays_null a, drops under rest n y e1 g))
     fine_step (LoadItem x) own n y e g room alone (inr (inl none)) =
-        two_of (λ z. Fine looped under y (load_item r x (slice_get (places_in lay x.home) x.column) (slice_get lay.tables x.table) (z ++ under))) own n e
+        two_of (λ z. Fine looped under y (load_item r (lone_of lay x.table) x (slice_get (places_in lay x.home) x.column) (slice_get lay.tables x.table) (z ++ under))) own n e
         (λ i a rest e1.
-        subst (λ u. Fine looped under y (load_item r x (slice_get (places_in lay x.home) x.column) u (i ∷ a ∷ rest ++ under))) (sym none)
+        subst (λ u. Fine looped under y (load_item r (lone_of lay x.table) x (slice_get (places_in lay x.home) x.column) u (i ∷ a ∷ rest ++ under))) (sym none)
         ((tt, tt), puts under rest (Known 0) n y e1 g))
     fine_step (LoadItem x) own n y e g room alone (inr (inr there)) =
-        two_of (λ z. Fine looped under y (load_item r x (slice_get (places_in lay x.home) x.column) (slice_get lay.tables x.table) (z ++ under))) own n e
+        two_of (λ z. Fine looped under y (load_item r (lone_of lay x.table) x (slice_get (places_in lay x.home) x.column) (slice_get lay.tables x.table) (z ++ under))) own n e
         (λ i a rest e1.
-        fine_load_dropped x (slice_get (places_in lay x.home) x.column) (slice_get lay.tables x.table) there.1.0 i a rest n y e1 g
+        fine_load_dropped (lone_of lay x.table) x (slice_get (places_in lay x.home) x.column) (slice_get lay.tables x.table) there.1.0 i a rest n y e1 g
         (lower rest n 2 e1 room) (sym (ap (λ z. slice_get z x.column) (columns_are x.home)) ∙ there.0) there.1.1 there.1.2)
     fine_step (LoadItem x) own n y e g room alone (inl there) =
-        two_of (λ z. Fine looped under y (load_item r x (slice_get (places_in lay x.home) x.column) (slice_get lay.tables x.table) (z ++ under))) own n e
+        two_of (λ z. Fine looped under y (load_item r (lone_of lay x.table) x (slice_get (places_in lay x.home) x.column) (slice_get lay.tables x.table) (z ++ under))) own n e
         (λ i a rest e1.
-        fine_load_item x (slice_get (places_in lay x.home) x.column) (slice_get lay.tables x.table) there.0 there.5.0 i a rest n y e1 g
+        fine_load_item (lone_of lay x.table) x (slice_get (places_in lay x.home) x.column) (slice_get lay.tables x.table) there.0 there.5.0 i a rest n y e1 g
         (lower rest n 2 e1 room) (sym (ap (λ z. slice_get z x.column) (columns_are x.home)) ∙ there.1) there.5.1
         (is_there x there.0 there.5.0 there.2 there.3 there.4 there.5.2))
     fine_step (StoreItem x) own n y e g room alone (inr (inl none)) =
-        three_of (λ z. Fine looped under y (store_item r x (slice_get lay.ram x.column) (slice_get lay.tables x.table) (z ++ under))) own n e
+        three_of (λ z. Fine looped under y (store_item r (lone_of lay x.table) x (slice_get lay.ram x.column) (slice_get lay.tables x.table) (z ++ under))) own n e
         (λ v i a rest e1.
-        subst (λ u. Fine looped under y (store_item r x (slice_get lay.ram x.column) u (v ∷ i ∷ a ∷ rest ++ under))) (sym none)
+        subst (λ u. Fine looped under y (store_item r (lone_of lay x.table) x (slice_get lay.ram x.column) u (v ∷ i ∷ a ∷ rest ++ under))) (sym none)
         ((tt, tt), drops under rest n y e1 g))
     fine_step (StoreItem x) own n y e g room alone (inr (inr there)) =
-        three_of (λ z. Fine looped under y (store_item r x (slice_get lay.ram x.column) (slice_get lay.tables x.table) (z ++ under))) own n e
+        three_of (λ z. Fine looped under y (store_item r (lone_of lay x.table) x (slice_get lay.ram x.column) (slice_get lay.tables x.table) (z ++ under))) own n e
         (λ v i a rest e1.
-        fine_store_dropped x (slice_get lay.ram x.column) (slice_get lay.tables x.table) there.1.0 v i a rest n y e1 g
+        fine_store_dropped (lone_of lay x.table) x (slice_get lay.ram x.column) (slice_get lay.tables x.table) there.1.0 v i a rest n y e1 g
         (lower rest n 3 e1 room) there.0 there.1.1 there.1.2)
     fine_step (StoreItem x) own n y e g room alone (inl there) =
-        three_of (λ z. Fine looped under y (store_item r x (slice_get lay.ram x.column) (slice_get lay.tables x.table) (z ++ under))) own n e
+        three_of (λ z. Fine looped under y (store_item r (lone_of lay x.table) x (slice_get lay.ram x.column) (slice_get lay.tables x.table) (z ++ under))) own n e
         (λ v i a rest e1.
-        fine_store_item x (slice_get lay.ram x.column) (slice_get lay.tables x.table) there.0 there.5.0 v i a rest n y e1 g
+        fine_store_item (lone_of lay x.table) x (slice_get lay.ram x.column) (slice_get lay.tables x.table) there.0 there.5.0 v i a rest n y e1 g
         (lower rest n 3 e1 room) there.1 there.5.1 (is_there x there.0 there.5.0 there.2 there.3 there.4 there.5.2))
     fine_step (Length t) own n y e g room alone (inr none) =
-        one_of (λ z. Fine looped under y (length_of r (slice_get lay.tables t) (z ++ under))) own n e (λ a rest e1.
-        subst (λ u. Fine looped under y (length_of r u (a ∷ rest ++ under))) (sym none) ((tt, tt), puts under rest (Known 0) n y e1 g))
+        one_of (λ z. Fine looped under y (array_length r (lone_of lay t) (slice_get lay.tables t) (z ++ under))) own n e (λ a rest e1.
+        fine_array_length (lone_of lay t) (slice_get lay.tables t) a rest n y e1 g
+        (subst (λ u. Fine looped under y (length_of r u (a ∷ rest ++ under))) (sym none) ((tt, tt), puts under rest (Known 0) n y e1 g)))
     fine_step (Length t) own n y e g room alone (inl there) =
-        one_of (λ z. Fine looped under y (length_of r (slice_get lay.tables t) (z ++ under))) own n e (λ a rest e1.
-        fine_length (slice_get lay.tables t) there.0 a rest n y e1 g (let l = lower rest n 1 e1 room in omega (arith, l)) there.1 there.2)
+        one_of (λ z. Fine looped under y (array_length r (lone_of lay t) (slice_get lay.tables t) (z ++ under))) own n e (λ a rest e1.
+        fine_array_length (lone_of lay t) (slice_get lay.tables t) a rest n y e1 g
+        (fine_length (slice_get lay.tables t) there.0 a rest n y e1 g (let l = lower rest n 1 e1 room in omega (arith, l)) there.1 there.2))
     fine_step (IsWithin first count) own n y e g room alone there =
         one_of (λ z. Fine looped under y (is_one_of r first count (z ++ under))) own n e (λ a rest e1.
         fine_one_of first count a rest n y e1 g (let l = lower rest n 1 e1 room in omega (arith, l)) there)

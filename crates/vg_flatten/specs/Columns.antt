@@ -1,5 +1,5 @@
 -- How the columns and tables of a packed program stand among the bytes of both memories.
-use Rattle.std.specs.Prelude.{◌≡◌, ◌≢◌, ◌⊎◌, ℕ, ◌+◌, ◌-◌, ◌*◌, ◌^◌, ◌<◌, ◌≤◌, List, length, Some, None, slice_get}
+use Rattle.std.specs.Prelude.{◌≡◌, ◌≢◌, ◌⊎◌, ℕ, ◌+◌, ◌-◌, ◌*◌, ◌^◌, ◌<◌, ◌≤◌, List, [], ◌∷◌, length, Some, None, slice_get}
 use Rattle.vg_firm.specs.declared.step.ArrayPlace.{ArrayPlace}
 use Rattle.vg_firm.specs.Program.{Program as FirmProgram}
 use Rattle.vg_lin.specs.declared.instr.Memory.{Memory}
@@ -11,6 +11,7 @@ use Rattle.vg_flatten_shapes.specs.declared.layout.Layout.{Layout}
 
 -- The values of a column stand one behind the other, each in as many bytes as an entry has.
 pub record ColumnStands (memory : Memory) (bytes : List ℕ) (place : Place) (vs : List ℕ) : Type 0 where
+  pub counted : length vs ≡ place.count
   pub behind : first_address memory ≤ place.address
   pub short : place.address + place.width * length vs ≤ 65536
   pub held : (i v : ℕ) → slice_get vs i ≡ Some v
@@ -40,6 +41,8 @@ pub record FlashStands (lay : Layout) (f : FirmProgram) (p : Program) : Type 0 w
       → ColumnStands Flash p.tables place vs
   pub tables : (t address : ℕ) (arrays : List ArrayPlace) → slice_get lay.tables t ≡ Some address → slice_get f.tables t ≡ Some arrays
       → TableStands p.tables address arrays
+  -- where the layout has the one array of a table, the table has no other
+  pub lone : (t : ℕ) (a : ArrayPlace) → slice_get lay.lone_arrays t ≡ Some (Some a) → slice_get f.tables t ≡ Some (a ∷ [])
   -- where the layout has no table, the program has none, and where it has no column, the program has none
   pub known : (t : ℕ) → slice_get lay.tables t ≡ None → slice_get f.tables t ≡ None
   pub known_columns : (c : ℕ) → slice_get lay.flash c ≡ None → slice_get f.flash c ≡ None

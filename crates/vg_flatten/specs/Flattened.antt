@@ -76,6 +76,7 @@ pub record IsFlat (lay : Layout) (m : FirmProcedure) (p : Procedure) : Type 0 wh
   pub made : (flat lay room m.body empty ≡ Gives block shape) ⊎ (stacked lay room m.body empty ≡ Gives block shape)
   pub done : is_empty shape ≡ true
   pub receiver : room.receiver ≡ receivers m.receives
+  pub on_objects : room.on_objects ≡ m.on_objects
   pub locals : room.locals ≡ length (own_widths m)
   pub given : room.result ≡ result_width m
   pub method : p.method ≡ Some m.method

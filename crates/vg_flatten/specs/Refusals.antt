@@ -22,7 +22,13 @@ temps_for n = 252 - n
 
 abbrev pub room_for : Procedure → Room
 room_for m =
-    record { receiver = receivers m.receives; locals = length (own_widths m); temps = temps_for (length (own_widths m)); result = result_width m }
+    record {
+      receiver = receivers m.receives;
+      on_objects = m.on_objects;
+      locals = length (own_widths m);
+      temps = temps_for (length (own_widths m));
+      result = result_width m;
+    }
 
 -- What is made of its body.
 abbrev pub made_of : Layout → Procedure → Made

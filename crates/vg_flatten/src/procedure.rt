@@ -94,6 +94,7 @@ fn whole_code(
 ) -> Result<Row<Open>, Refusal<Fault>>
     requires room { room.locals + room.temps ≤ 252 }
     requires receiver { room.receiver ≡ receivers procedure.now.receives }
+    requires on_objects { room.on_objects ≡ procedure.now.on_objects }
     requires locals { room.locals ≡ length (own_widths (procedure_of procedure.now)) }
     requires given { room.result ≡ result_width (procedure_of procedure.now) }
     requires params { procedure.now.params ≤ length procedure.now.widths }
@@ -120,6 +121,7 @@ fn pushed_code(
 ) -> Result<Row<Open>, Refusal<Fault>>
     requires room { room.locals + room.temps ≤ 252 }
     requires receiver { room.receiver ≡ receivers procedure.now.receives }
+    requires on_objects { room.on_objects ≡ procedure.now.on_objects }
     requires locals { room.locals ≡ length (own_widths (procedure_of procedure.now)) }
     requires given { room.result ≡ result_width (procedure_of procedure.now) }
     requires params { procedure.now.params ≤ length procedure.now.widths }
@@ -379,6 +381,7 @@ fn flattened_with(
     let given = result_width(procedure);
     let room = Room {
         receiver,
+        on_objects: procedure.on_objects,
         locals,
         temps,
         result: given,
@@ -416,6 +419,7 @@ fn pushed_with(
     let given = result_width(procedure);
     let room = Room {
         receiver,
+        on_objects: procedure.on_objects,
         locals,
         temps,
         result: given,

@@ -2,13 +2,14 @@
 ghost use Rattle.std.specs.Prelude.{◌≡◌, ◌+◌, ◌≤◌, Some, None, slice_get};
 ghost use Rattle.vg_flatten_shapes.specs.Blocks.{open_code};
 ghost use Rattle.vg_flatten_shapes.specs.Laying.{Lays, LaysCode};
-ghost use Rattle.vg_flatten_places.specs.Places.{is_width, load_from, multiplied, multiple, distance, fetched, fetched_from, load_placed, load_one, load_of, length_of, places_in, memory_of};
-ghost use Rattle.vg_flatten_places.specs.Places.{store_at, store_one, put_of, put_from, store_placed, store_of};
+ghost use Rattle.vg_flatten_places.specs.Places.{is_width, load_from, multiplied, multiple, distance, fetched, fetched_from, load_placed, load_sole, load_entry, load_one, load_of, length_of, lone_of, known_length, array_length, places_in, memory_of};
+ghost use Rattle.vg_flatten_places.specs.Places.{store_at, store_one, put_of, put_from, store_placed, put_sole, store_entry, store_of};
 
 use crate::nothing::load_nothing;
+use crate::nulls::null_check;
 use std::alloc::Global;
 use vg_base::{Refusal, Row};
-use vg_firm::Home;
+use vg_firm::{ArrayPlace, Home};
 use vg_flatten_shapes::{
     Fault, Homes, Layout, Open, Piece, Place, Room, Truth, append, one, place_behind, stop_where,
 };
@@ -48,7 +49,7 @@ pub(crate) fn memory_of(home: Home) -> Memory
 }
 
 /// The low two bytes of a number, so many times.
-fn multiplied(
+pub(crate) fn multiplied(
     alloc: Global,
     at: u16,
     to: u8,
@@ -71,7 +72,7 @@ fn multiplied(
     Ok(code)
 }
 
-fn multiple(to: u8, by: u8, home: Operand) -> Operand
+pub(crate) fn multiple(to: u8, by: u8, home: Operand) -> Operand
     ensures { result ≡ multiple to by home }
 {
     if by == 1 { home } else { Operand::Local(to) }
@@ -95,8 +96,8 @@ fn fetched(
     ensures { Lays result at (fetched room memory width by base home homes.homes) }
 {
     let to = temp(room, &homes)?;
-    let check = stop_where(alloc, at, 1, Truth::Holds(is_zero(home)))?;
-    let inside = place_behind(at, 2)?;
+    let check = null_check(alloc, room, at, home)?;
+    let inside = place_behind(at, check.len())?;
     let mut rest = multiplied(alloc, inside, to, by, home)?;
     let load = load_from(memory, width, to, base, multiple(to, by, home));
     rest.push(Open::Set(Instr::Plain(load)))?;
@@ -177,8 +178,8 @@ fn fetched_from(
 {
     let to = temp(room, &homes)?;
     let number = Operand::Local(to);
-    let check = stop_where(alloc, at, 1, Truth::Holds(is_zero(home)))?;
-    let distance_at = place_behind(at, 2)?;
+    let check = null_check(alloc, room, at, home)?;
+    let distance_at = place_behind(at, check.len())?;
     let inside = place_behind(distance_at, 1)?;
     let mut rest = multiplied(alloc, inside, to, place.width, number)?;
     let index = multiple(to, place.width, number);
@@ -216,6 +217,51 @@ fn load_placed(
     fetched_from(alloc, room, at, memory, first, place, home, homes)
 }
 
+/// Behind the null check of a number, the bytes of the one entry of a column.
+#[tactic(auto, using(vg_flatten_shapes::proofs::Sizes::late))]
+fn load_sole(
+    alloc: Global,
+    room: Room,
+    at: u16,
+    memory: Memory,
+    place: Place,
+    home: Operand,
+    homes: Homes,
+) -> Result<Piece, Refusal<Fault>>
+    requires room { room.locals + room.temps ≤ 252 }
+    requires settled { homes.truth ≡ None }
+    ensures { Lays result at (load_sole room memory place.width place.address home homes.homes) }
+{
+    let to = temp(room, &homes)?;
+    let mut code = null_check(alloc, room, at, home)?;
+    let load = load_from(memory, place.width, to, place.address, Operand::Known(0));
+    code.push(Open::Set(Instr::Plain(load)))?;
+    let mut homes = homes;
+    homes.push(Operand::Local(to))?;
+    Ok(Piece { code, homes })
+}
+
+/// The value of an object of a column, by whether the column has others.
+fn load_entry(
+    alloc: Global,
+    room: Room,
+    at: u16,
+    memory: Memory,
+    first: u16,
+    place: Place,
+    home: Operand,
+    homes: Homes,
+) -> Result<Piece, Refusal<Fault>>
+    requires room { room.locals + room.temps ≤ 252 }
+    requires settled { homes.truth ≡ None }
+    ensures { Lays result at (load_entry room memory first place home homes.homes) }
+{
+    if place.count == 1 {
+        return load_sole(alloc, room, at, memory, place, home, homes);
+    }
+    load_placed(alloc, room, at, memory, first, place, home, homes)
+}
+
 fn load_of(
     alloc: Global,
     room: Room,
@@ -233,7 +279,7 @@ fn load_of(
     match homes.pop() {
         Some(home) => {
             if is_width(place.width) {
-                return load_placed(alloc, room, at, memory, first, place, home, homes);
+                return load_entry(alloc, room, at, memory, first, place, home, homes);
             }
             Err(Refusal::Fault(Fault::NotTaken))
         }
@@ -285,8 +331,34 @@ fn length_of(
     }
 }
 
-/// The length of an array, by the table of its type; without one there is no array.
-pub fn length(
+/// The array of a table that has no other, where the layout says it.
+pub(crate) fn lone_of(layout: &Layout, table: u16) -> Option<ArrayPlace>
+    ensures { result ≡ lone_of layout.now table }
+{
+    match layout.lone_arrays.as_slice().get(table as usize) {
+        Some(single) => *single,
+        None => None,
+    }
+}
+
+/// The length of such an array is known behind the null check.
+#[tactic(auto, using(vg_flatten_shapes::proofs::Sizes::late))]
+fn known_length(alloc: Global, at: u16, length: u16, homes: Homes) -> Result<Piece, Refusal<Fault>>
+    requires { homes.truth ≡ None }
+    ensures { Lays result at (known_length length homes.homes) }
+{
+    let mut homes = homes;
+    match homes.pop() {
+        Some(home) => {
+            let code = stop_where(alloc, at, 1, Truth::Holds(is_zero(home)))?;
+            homes.push(Operand::Known(length as u32))?;
+            Ok(Piece { code, homes })
+        }
+        None => Err(Refusal::Fault(Fault::NotTaken)),
+    }
+}
+
+fn length_by(
     alloc: Global,
     layout: &Layout,
     room: Room,
@@ -301,6 +373,25 @@ pub fn length(
     match layout.tables.as_slice().get(table as usize) {
         Some(address) => length_of(alloc, room, at, *address, homes),
         None => load_nothing(alloc, at, homes),
+    }
+}
+
+/// The length of an array, by the table of its type; without one there is no array.
+pub fn length(
+    alloc: Global,
+    layout: &Layout,
+    room: Room,
+    at: u16,
+    table: u16,
+    homes: Homes,
+) -> Result<Piece, Refusal<Fault>>
+    requires room { room.locals + room.temps ≤ 252 }
+    requires settled { homes.truth ≡ None }
+    ensures { Lays result at (array_length room (lone_of layout.now table) (slice_get layout.now.tables table) homes.homes) }
+{
+    match lone_of(layout, table) {
+        Some(array) => known_length(alloc, at, array.length, homes),
+        None => length_by(alloc, layout, room, at, table, homes),
     }
 }
 
@@ -373,8 +464,8 @@ fn put_of(
     let to = temp(room, &homes)?;
     homes.pop();
     homes.pop();
-    let check = stop_where(alloc, at, 1, Truth::Holds(is_zero(home)))?;
-    let inside = place_behind(at, 2)?;
+    let check = null_check(alloc, room, at, home)?;
+    let inside = place_behind(at, check.len())?;
     let mut rest = multiplied(alloc, inside, to, width, home)?;
     let store = store_at(width, base, multiple(to, width, home), value);
     rest.push(Open::Set(Instr::Plain(store)))?;
@@ -405,8 +496,8 @@ fn put_from(
     homes.pop();
     homes.pop();
     let number = Operand::Local(to);
-    let check = stop_where(alloc, at, 1, Truth::Holds(is_zero(home)))?;
-    let distance_at = place_behind(at, 2)?;
+    let check = null_check(alloc, room, at, home)?;
+    let distance_at = place_behind(at, check.len())?;
     let inside = place_behind(distance_at, 1)?;
     let mut rest = multiplied(alloc, inside, to, place.width, number)?;
     let index = multiple(to, place.width, number);
@@ -440,6 +531,47 @@ fn store_placed(
     put_from(alloc, room, at, first, place, value, home, homes)
 }
 
+/// Behind the null check of a number, a value goes to the bytes of the one entry of a column.
+#[tactic(auto, using(vg_flatten_shapes::proofs::Sizes::late))]
+fn put_sole(
+    alloc: Global,
+    room: Room,
+    at: u16,
+    place: Place,
+    value: Operand,
+    home: Operand,
+    homes: Homes,
+) -> Result<Piece, Refusal<Fault>>
+    requires { homes.truth ≡ None }
+    ensures { Lays result at (put_sole room place.width place.address value home homes.homes) }
+{
+    let mut code = null_check(alloc, room, at, home)?;
+    let store = store_at(place.width, place.address, Operand::Known(0), value);
+    code.push(Open::Set(Instr::Plain(store)))?;
+    Ok(Piece { code, homes })
+}
+
+/// The value of an object of a column gets another, by whether the column has others.
+fn store_entry(
+    alloc: Global,
+    room: Room,
+    at: u16,
+    first: u16,
+    place: Place,
+    value: Operand,
+    home: Operand,
+    homes: Homes,
+) -> Result<Piece, Refusal<Fault>>
+    requires room { room.locals + room.temps ≤ 252 }
+    requires settled { homes.truth ≡ None }
+    ensures { Lays result at (store_entry room first place.width place value home homes.homes) }
+{
+    if place.count == 1 {
+        return put_sole(alloc, room, at, place, value, home, homes);
+    }
+    store_placed(alloc, room, at, first, place, value, home, homes)
+}
+
 fn store_of(
     alloc: Global,
     room: Room,
@@ -457,7 +589,7 @@ fn store_of(
     match (homes.pop(), homes.pop()) {
         (Some(value), Some(home)) => {
             if is_width(width) && width == place.width {
-                return store_placed(alloc, room, at, first, place, value, home, homes);
+                return store_entry(alloc, room, at, first, place, value, home, homes);
             }
             Err(Refusal::Fault(Fault::NotTaken))
         }

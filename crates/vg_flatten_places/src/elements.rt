@@ -1,16 +1,19 @@
 // What loads of elements, and stores to them, become.
-ghost use Rattle.std.specs.Prelude.{◌≡◌, ◌+◌, ◌≤◌, ◌∷◌, Some, None, slice_get};
+ghost use Rattle.std.specs.Prelude.{◌≡◌, ◌+◌, ◌≤◌, ◌∷◌, Option, Some, None, slice_get};
+ghost use Rattle.vg_firm.specs.declared.step.ArrayPlace.{ArrayPlace};
 ghost use Rattle.vg_lin.specs.declared.instr.Operand.TheVariants.{Known};
 ghost use Rattle.vg_flatten_shapes.specs.Blocks.{open_code};
 ghost use Rattle.vg_flatten_shapes.specs.Laying.{Lays, LaysCode};
-ghost use Rattle.vg_flatten_places.specs.Places.{is_place, timed, place_of, inside, bounded, reached, element_of, load_element, load_item, places_in};
-ghost use Rattle.vg_flatten_places.specs.Places.{no_element, store_element, store_item};
+ghost use Rattle.vg_flatten_places.specs.Places.{is_place, timed, place_of, inside, bounded, reached, element_of, load_element, load_item, lone_of, places_in};
+ghost use Rattle.vg_flatten_places.specs.Places.{lone_bounded, lone_element, load_lone, load_inside, load_dropped, store_lone, store_inside, store_dropped, no_element, store_element, store_item};
 
-use crate::columns::{is_width, load_from, memory_of, places_in, store_at};
+use crate::columns::{
+    is_width, load_from, lone_of, memory_of, multiple, multiplied, places_in, store_at,
+};
 use crate::nothing::{load_no_item, store_no_item};
 use std::alloc::Global;
 use vg_base::{Refusal, Row};
-use vg_firm::Elements;
+use vg_firm::{ArrayPlace, Elements};
 use vg_flatten_shapes::{
     Fault, Homes, Layout, Open, Piece, Place, Room, Truth, append, place_behind, stop_where,
 };
@@ -184,10 +187,98 @@ fn load_element(
     Ok(Piece { code, homes })
 }
 
+/// What is done with the element of an array that is the only one of its table, behind the bounds check.
+fn lone_bounded(
+    alloc: Global,
+    at: u16,
+    length: u16,
+    width: u8,
+    to: u8,
+    index: Operand,
+    last: Plain,
+) -> Result<Row<Open>, Refusal<Fault>>
+    ensures { LaysCode result (at + 3) (open_code (lone_bounded length width to index last) at) }
+{
+    let within = test_of(Comparison::Below, index, Operand::Known(length as u32));
+    let check = stop_where(alloc, at, 2, Truth::Fails(within))?;
+    let inside = place_behind(at, 2)?;
+    let mut rest = multiplied(alloc, inside, to, width, index)?;
+    rest.push(Open::Set(Instr::Plain(last)))?;
+    Ok(append(check, rest.as_slice())?)
+}
+
+/// The same behind the null check.
+fn lone_element(
+    alloc: Global,
+    at: u16,
+    length: u16,
+    width: u8,
+    to: u8,
+    home: Operand,
+    index: Operand,
+    last: Plain,
+) -> Result<Row<Open>, Refusal<Fault>>
+    ensures { LaysCode result (at + 5) (open_code (lone_element length width to home index last) at) }
+{
+    let check = stop_where(alloc, at, 1, Truth::Holds(is_zero(home)))?;
+    let inside = place_behind(at, 2)?;
+    let rest = lone_bounded(alloc, inside, length, width, to, index, last)?;
+    Ok(append(check, rest.as_slice())?)
+}
+
+#[tactic(auto, using(vg_flatten_shapes::proofs::Sizes::late))]
+fn load_lone(
+    alloc: Global,
+    room: Room,
+    at: u16,
+    elements: Elements,
+    array: ArrayPlace,
+    home: Operand,
+    index: Operand,
+    homes: Homes,
+) -> Result<Piece, Refusal<Fault>>
+    requires room { room.locals + room.temps ≤ 252 }
+    requires settled { homes.truth ≡ None }
+    ensures { Lays result at (load_lone room elements array home index homes.homes) }
+{
+    let to = temp(room, &homes)?;
+    let width = elements.width;
+    let place = multiple(to, width, index);
+    let load = load_from(memory_of(elements.home), width, to, array.address, place);
+    let code = lone_element(alloc, at, array.length, width, to, home, index, load)?;
+    let mut homes = homes;
+    homes.push(Operand::Local(to))?;
+    Ok(Piece { code, homes })
+}
+
+/// By whether the array of the table is the only one.
+fn load_inside(
+    alloc: Global,
+    room: Room,
+    at: u16,
+    single: Option<ArrayPlace>,
+    elements: Elements,
+    table: u16,
+    home: Operand,
+    index: Operand,
+    homes: Homes,
+) -> Result<Piece, Refusal<Fault>>
+    requires room { room.locals + room.temps ≤ 252 }
+    requires settled { homes.truth ≡ None }
+    requires table { 4 ≤ table }
+    ensures { Lays result at (load_inside room single elements table home index homes.homes) }
+{
+    match single {
+        Some(array) => load_lone(alloc, room, at, elements, array, home, index, homes),
+        None => load_element(alloc, room, at, elements, table, home, index, homes),
+    }
+}
+
 fn load_item_at(
     alloc: Global,
     room: Room,
     at: u16,
+    single: Option<ArrayPlace>,
     elements: Elements,
     place: Place,
     table: u16,
@@ -195,13 +286,13 @@ fn load_item_at(
 ) -> Result<Piece, Refusal<Fault>>
     requires room { room.locals + room.temps ≤ 252 }
     requires settled { homes.truth ≡ None }
-    ensures { Lays result at (load_item room elements (Some place) (Some table) homes.homes) }
+    ensures { Lays result at (load_item room single elements (Some place) (Some table) homes.homes) }
 {
     let mut homes = homes;
     match (homes.pop(), homes.pop()) {
         (Some(index), Some(home)) => {
             if is_width(elements.width) && is_place(elements, place) && table >= 4 {
-                return load_element(alloc, room, at, elements, table, home, index, homes);
+                return load_inside(alloc, room, at, single, elements, table, home, index, homes);
             }
             Err(Refusal::Fault(Fault::NotTaken))
         }
@@ -257,7 +348,7 @@ fn load_dropped(
 ) -> Result<Piece, Refusal<Fault>>
     requires room { room.locals + room.temps ≤ 252 }
     requires settled { homes.truth ≡ None }
-    ensures { Lays result at (load_item room elements None (Some table) homes.homes) }
+    ensures { Lays result at (load_dropped room elements table homes.homes) }
 {
     let mut homes = homes;
     match (homes.pop(), homes.pop()) {
@@ -284,12 +375,30 @@ pub fn load_item(
 ) -> Result<Piece, Refusal<Fault>>
     requires room { room.locals + room.temps ≤ 252 }
     requires settled { homes.truth ≡ None }
-    ensures { Lays result at (load_item room elements (slice_get (places_in layout.now elements.home) elements.column)
+    ensures { Lays result at (load_item room (lone_of layout.now elements.table) elements (slice_get (places_in layout.now elements.home) elements.column)
+        (slice_get layout.now.tables elements.table) homes.homes) }
+{
+    let single = lone_of(layout, elements.table);
+    load_item_by(alloc, layout, room, at, single, elements, homes)
+}
+
+fn load_item_by(
+    alloc: Global,
+    layout: &Layout,
+    room: Room,
+    at: u16,
+    single: Option<ArrayPlace>,
+    elements: Elements,
+    homes: Homes,
+) -> Result<Piece, Refusal<Fault>>
+    requires room { room.locals + room.temps ≤ 252 }
+    requires settled { homes.truth ≡ None }
+    ensures { Lays result at (load_item room single elements (slice_get (places_in layout.now elements.home) elements.column)
         (slice_get layout.now.tables elements.table) homes.homes) }
 {
     match layout.tables.as_slice().get(elements.table as usize) {
         Some(table) => match places_in(layout, elements.home).get(elements.column as usize) {
-            Some(place) => load_item_at(alloc, room, at, elements, *place, *table, homes),
+            Some(place) => load_item_at(alloc, room, at, single, elements, *place, *table, homes),
             None => load_dropped(alloc, room, at, elements, *table, homes),
         },
         None => load_no_item(alloc, at, homes),
@@ -337,10 +446,64 @@ fn store_element(
     Ok(Piece { code, homes })
 }
 
+#[tactic(auto, using(vg_flatten_shapes::proofs::Sizes::late))]
+fn store_lone(
+    alloc: Global,
+    room: Room,
+    at: u16,
+    width: u8,
+    array: ArrayPlace,
+    value: Operand,
+    home: Operand,
+    index: Operand,
+    homes: Homes,
+) -> Result<Piece, Refusal<Fault>>
+    requires room { room.locals + room.temps ≤ 252 }
+    requires settled { homes.truth ≡ None }
+    ensures { Lays result at (store_lone room width array value home index homes.homes) }
+{
+    let mut homes = homes;
+    homes.push(home)?;
+    homes.push(index)?;
+    homes.push(value)?;
+    let to = temp(room, &homes)?;
+    homes.pop();
+    homes.pop();
+    homes.pop();
+    let store = store_at(width, array.address, multiple(to, width, index), value);
+    let code = lone_element(alloc, at, array.length, width, to, home, index, store)?;
+    Ok(Piece { code, homes })
+}
+
+/// By whether the array of the table is the only one.
+fn store_inside(
+    alloc: Global,
+    room: Room,
+    at: u16,
+    single: Option<ArrayPlace>,
+    width: u8,
+    table: u16,
+    value: Operand,
+    home: Operand,
+    index: Operand,
+    homes: Homes,
+) -> Result<Piece, Refusal<Fault>>
+    requires room { room.locals + room.temps ≤ 252 }
+    requires settled { homes.truth ≡ None }
+    requires table { 4 ≤ table }
+    ensures { Lays result at (store_inside room single width table value home index homes.homes) }
+{
+    match single {
+        Some(array) => store_lone(alloc, room, at, width, array, value, home, index, homes),
+        None => store_element(alloc, room, at, width, table, value, home, index, homes),
+    }
+}
+
 fn store_item_at(
     alloc: Global,
     room: Room,
     at: u16,
+    single: Option<ArrayPlace>,
     elements: Elements,
     place: Place,
     table: u16,
@@ -348,14 +511,16 @@ fn store_item_at(
 ) -> Result<Piece, Refusal<Fault>>
     requires room { room.locals + room.temps ≤ 252 }
     requires settled { homes.truth ≡ None }
-    ensures { Lays result at (store_item room elements (Some place) (Some table) homes.homes) }
+    ensures { Lays result at (store_item room single elements (Some place) (Some table) homes.homes) }
 {
     let mut homes = homes;
     match (homes.pop(), homes.pop(), homes.pop()) {
         (Some(value), Some(index), Some(home)) => {
             if is_width(elements.width) && is_place(elements, place) && table >= 4 {
                 let width = elements.width;
-                return store_element(alloc, room, at, width, table, value, home, index, homes);
+                return store_inside(
+                    alloc, room, at, single, width, table, value, home, index, homes,
+                );
             }
             Err(Refusal::Fault(Fault::NotTaken))
         }
@@ -410,7 +575,7 @@ fn store_dropped(
 ) -> Result<Piece, Refusal<Fault>>
     requires room { room.locals + room.temps ≤ 252 }
     requires settled { homes.truth ≡ None }
-    ensures { Lays result at (store_item room elements None (Some table) homes.homes) }
+    ensures { Lays result at (store_dropped room elements table homes.homes) }
 {
     let mut homes = homes;
     match (homes.pop(), homes.pop(), homes.pop()) {
@@ -437,11 +602,30 @@ pub fn store_item(
 ) -> Result<Piece, Refusal<Fault>>
     requires room { room.locals + room.temps ≤ 252 }
     requires settled { homes.truth ≡ None }
-    ensures { Lays result at (store_item room elements (slice_get layout.now.ram elements.column) (slice_get layout.now.tables elements.table) homes.homes) }
+    ensures { Lays result at (store_item room (lone_of layout.now elements.table) elements (slice_get layout.now.ram elements.column)
+        (slice_get layout.now.tables elements.table) homes.homes) }
+{
+    let single = lone_of(layout, elements.table);
+    store_item_by(alloc, layout, room, at, single, elements, homes)
+}
+
+fn store_item_by(
+    alloc: Global,
+    layout: &Layout,
+    room: Room,
+    at: u16,
+    single: Option<ArrayPlace>,
+    elements: Elements,
+    homes: Homes,
+) -> Result<Piece, Refusal<Fault>>
+    requires room { room.locals + room.temps ≤ 252 }
+    requires settled { homes.truth ≡ None }
+    ensures { Lays result at (store_item room single elements (slice_get layout.now.ram elements.column)
+        (slice_get layout.now.tables elements.table) homes.homes) }
 {
     match layout.tables.as_slice().get(elements.table as usize) {
         Some(table) => match layout.ram.as_slice().get(elements.column as usize) {
-            Some(place) => store_item_at(alloc, room, at, elements, *place, *table, homes),
+            Some(place) => store_item_at(alloc, room, at, single, elements, *place, *table, homes),
             None => store_dropped(alloc, room, at, elements, *table, homes),
         },
         None => store_no_item(alloc, at, homes),

@@ -4,7 +4,9 @@
 pub mod columns;
 pub mod elements;
 pub mod nothing;
+pub mod nulls;
 
 pub use columns::{distance, length, load, load_at, store, store_to};
 pub use elements::{load_item, store_item};
-pub use nothing::{load_nothing, store_nothing};
+pub use nothing::{load_no_field, store_no_field};
+pub use nulls::null_check;

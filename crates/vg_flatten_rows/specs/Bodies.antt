@@ -6,6 +6,7 @@ use Rattle.vg_firm.specs.declared.step.Home.TheVariants.{Ram, Flash}
 use Rattle.vg_firm.specs.declared.step.Order.TheVariants.{Signed}
 use Rattle.vg_firm.specs.declared.step.Operator.TheVariants.{Plus, Divide, Remainder, Less, Unequal, ShiftLeft, ShiftRight, Concat}
 use Rattle.vg_firm.specs.declared.step.Prefix.TheVariants.{Complement, Cut}
+use Rattle.vg_firm.specs.declared.step.ArrayPlace.{ArrayPlace}
 use Rattle.vg_firm.specs.declared.step.Elements.{Elements}
 use Rattle.vg_firm.specs.declared.step.Step.{Step}
 use Rattle.vg_firm.specs.declared.step.Step.TheVariants.{Number, Local as Get, SetLocal, Forget, Operate, Apply, ReadDevice, WriteDevice, LoadItem, StoreItem}
@@ -48,19 +49,19 @@ code_for m (Refused why) = None
 -- The code of a body with so many temporaries, where columns and tables stand so.
 abbrev pub flattened_in : Layout → (temps : ℕ) → Procedure → Option (List Instr)
 flattened_in lay temps m =
-    code_for m (flat lay (record { receiver = receivers m.receives; locals = length (own_widths m); temps = temps; result = result_width m }) m.body empty)
+    code_for m (flat lay (record { receiver = receivers m.receives; on_objects = m.on_objects; locals = length (own_widths m); temps = temps; result = result_width m }) m.body empty)
 
 -- The same without columns.
 abbrev pub flattened : (temps : ℕ) → Procedure → Option (List Instr)
-flattened temps m = flattened_in (record { ram = []; flash = []; tables = []; passing = [] }) temps m
+flattened temps m = flattened_in (record { ram = []; flash = []; tables = []; lone_arrays = []; passing = [] }) temps m
 
 -- A procedure whose locals have these widths, the first ones being its parameters.
 abbrev pub procedure : (params : ℕ) → (widths : List ℕ) → Code Step → Procedure
-procedure params widths body = record { method = 0; params = params; receives = false; widths = widths; result = 4; calls = []; body = body }
+procedure params widths body = record { method = 0; params = params; receives = false; on_objects = false; widths = widths; result = 4; calls = []; body = body }
 
 -- The same of a class.
 abbrev pub method : (params : ℕ) → (widths : List ℕ) → Code Step → Procedure
-method params widths body = record { method = 0; params = params; receives = true; widths = widths; result = 4; calls = []; body = body }
+method params widths body = record { method = 0; params = params; receives = true; on_objects = true; widths = widths; result = 4; calls = []; body = body }
 
 abbrev pub sum : (width to : ℕ) → (x y : Operand) → Instr
 sum width to x y = Plain (Compute (record { operator = Sum; width = width; to = to; left = x; right = y }))
@@ -254,8 +255,8 @@ no_field = refl
 
 -- ---- columns and tables
 
-abbrev pub place : (address width : ℕ) → Place
-place address width = record { address = address; width = width }
+abbrev pub place : (address width count : ℕ) → Place
+place address width count = record { address = address; width = width; count = count }
 
 -- How procedures are called: on no receiver, on one, and with an argument of one byte, another of four and no result.
 abbrev pub wide : Passing
@@ -267,13 +268,14 @@ received = record { receives = true; widths = TwoBytes ∷ []; result = Some Fou
 abbrev pub narrow : Passing
 narrow = record { receives = false; widths = OneByte ∷ FourBytes ∷ []; result = None }
 
--- Three columns, of entries of two bytes, one and four; a table; and five procedures.
+-- Three columns in flash, of entries of two bytes, one and four; two in RAM; a table of more than one array; and five procedures.
 abbrev pub layout : Layout
 layout =
     record {
-      ram = place 256 1 ∷ place 258 2 ∷ [];
-      flash = place 150 2 ∷ place 160 1 ∷ place 200 4 ∷ [];
+      ram = place 256 1 2 ∷ place 258 2 9 ∷ [];
+      flash = place 150 2 5 ∷ place 160 1 9 ∷ place 200 4 9 ∷ [];
       tables = 180 ∷ [];
+      lone_arrays = None ∷ [];
       passing = wide ∷ received ∷ wide ∷ wide ∷ narrow ∷ [];
     }
 
@@ -414,6 +416,55 @@ store_far_field : flattened_in layout 4 (procedure 1 (2 ∷ []) (steps (Get 0 �
     ∷ Plain (StoresBytes 1 (record { base = 256; index = Local 3 }) (Known 7)) ∷ Return 4 (Known 0) ∷ [])
 store_far_field = refl
 
+-- ---- one object and one array
+
+abbrev pub array : (address length : ℕ) → ArrayPlace
+array address length = record { address = address; length = length }
+
+-- The elements of two types, each of which has one array, and a column of one entry.
+abbrev pub alone : Layout
+alone =
+    record {
+      ram = place 256 1 5 ∷ place 262 2 3 ∷ place 268 2 1 ∷ [];
+      flash = [];
+      tables = 180 ∷ 184 ∷ [];
+      lone_arrays = Some (array 256 5) ∷ Some (array 262 3) ∷ [];
+      passing = [];
+    }
+
+-- x = o.f; and o.f = x; where one object has the field: behind the null check its place is known.
+sole_field : flattened_in alone 4 (procedure 2 (2 ∷ 2 ∷ []) (steps (Get 0 ∷ LoadAt Ram 2 7 ∷ SetLocal 1 ∷ []) Nothing))
+    ≡ Some (
+    Unless (is_zero (Local 0)) 2 ∷ Plain (Stop 1) ∷ Plain (LoadsBytes InRam 2 2 (record { base = 268; index = Known 0 })) ∷ Plain (Copy 1 (Local 2))
+    ∷ Return 4 (Known 0) ∷ [])
+sole_field = refl
+
+store_sole_field : flattened_in alone 4 (procedure 2 (2 ∷ 2 ∷ []) (steps (Get 0 ∷ Get 1 ∷ StoreAt 2 7 2 ∷ []) Nothing))
+    ≡ Some (
+    Unless (is_zero (Local 0)) 2 ∷ Plain (Stop 1) ∷ Plain (StoresBytes 2 (record { base = 268; index = Known 0 }) (Local 1)) ∷ Return 4 (Known 0) ∷ [])
+store_sole_field = refl
+
+-- n = a.length; and x = a[i]; of the only array of bytes: its length and its place are known.
+lone_length : flattened_in alone 4 (procedure 2 (2 ∷ 4 ∷ []) (steps (Get 0 ∷ Length 0 ∷ SetLocal 1 ∷ []) Nothing))
+    ≡ Some (Unless (is_zero (Local 0)) 2 ∷ Plain (Stop 1) ∷ Plain (Copy 1 (Known 5)) ∷ Return 4 (Known 0) ∷ [])
+lone_length = refl
+
+lone_element : flattened_in alone 4 (procedure 3 (2 ∷ 4 ∷ 1 ∷ []) (steps (Get 0 ∷ Get 1 ∷ LoadItem bytes ∷ SetLocal 2 ∷ []) Nothing))
+    ≡ Some (
+    Unless (is_zero (Local 0)) 2 ∷ Plain (Stop 1) ∷ When (below (Local 1) (Known 5)) 4 ∷ Plain (Stop 2)
+    ∷ Plain (LoadsBytes InRam 1 3 (record { base = 256; index = Local 1 })) ∷ Plain (Copy 2 (Local 3)) ∷ Return 4 (Known 0) ∷ [])
+lone_element = refl
+
+-- a[i] = x; of the only array of elements of two bytes
+abbrev pub words : Elements
+words = record { home = Ram; column = 1; address = 262; table = 1; width = 2 }
+
+store_lone_element : flattened_in alone 4 (procedure 3 (2 ∷ 4 ∷ 2 ∷ []) (steps (Get 0 ∷ Get 1 ∷ Get 2 ∷ StoreItem words ∷ []) Nothing))
+    ≡ Some (
+    Unless (is_zero (Local 0)) 2 ∷ Plain (Stop 1) ∷ When (below (Local 1) (Known 3)) 4 ∷ Plain (Stop 2) ∷ computes Product 2 6 (Local 1) (Known 2)
+    ∷ Plain (StoresBytes 2 (record { base = 262; index = Local 6 }) (Local 2)) ∷ Return 4 (Known 0) ∷ [])
+store_lone_element = refl
+
 -- ---- receivers, dispatch and delegates
 
 abbrev pub calls_code : Operand → Registers → (to : ℕ) → Instr
@@ -426,6 +477,28 @@ receiver = refl
 method_increment : flattened 4 (method 1 (4 ∷ []) (steps (Get 0 ∷ Number 1 ∷ Operate Plus ∷ SetLocal 0 ∷ []) Nothing))
     ≡ Some (sum 4 2 (Local 1) (Known 1) ∷ Plain (Copy 1 (Local 2)) ∷ Return 4 (Known 0) ∷ [])
 method_increment = refl
+
+-- x = this.f; and this.m(x); the receiver is an object, so there is no null check of it, as there is one of a parameter.
+own_field : flattened_in layout 4 (method 1 (2 ∷ []) (steps (This ∷ LoadAt Ram 1 1 ∷ SetLocal 0 ∷ []) Nothing))
+    ≡ Some (
+    computes Product 2 2 (Local 0) (Known 2) ∷ Plain (LoadsBytes InRam 2 2 (record { base = 256; index = Local 2 })) ∷ Plain (Copy 1 (Local 2))
+    ∷ Return 4 (Known 0) ∷ [])
+own_field = refl
+
+-- The same where one object has the field: all that is left is a load from its place, or a store to it.
+own_sole_field : flattened_in alone 4 (method 1 (2 ∷ []) (steps (This ∷ LoadAt Ram 2 7 ∷ SetLocal 0 ∷ This ∷ Get 0 ∷ StoreAt 2 7 2 ∷ []) Nothing))
+    ≡ Some (
+    Plain (LoadsBytes InRam 2 2 (record { base = 268; index = Known 0 })) ∷ Plain (Copy 1 (Local 2))
+    ∷ Plain (StoresBytes 2 (record { base = 268; index = Known 0 }) (Local 1)) ∷ Return 4 (Known 0) ∷ [])
+own_sole_field = refl
+
+own_call : flattened 4 (method 1 (4 ∷ []) (steps (This ∷ Get 0 ∷ CallFor 3 1 ∷ Forget ∷ []) Nothing))
+    ≡ Some (Plain (Find 3 4 (Local 0)) ∷ calls_code (Local 4) (Two (two (Local 0)) (four (Local 1))) 2 ∷ Return 4 (Known 0) ∷ [])
+own_call = refl
+
+own_no_field : flattened 4 (method 1 (2 ∷ []) (steps (This ∷ Number 7 ∷ StoreNothing ∷ Get 0 ∷ Number 7 ∷ StoreNothing ∷ []) Nothing))
+    ≡ Some (Unless (is_zero (Local 1)) 2 ∷ Plain (Stop 1) ∷ Return 4 (Known 0) ∷ [])
+own_no_field = refl
 
 -- o.m(5); by the dispatch 3: the receiver is the first argument, of two bytes.
 dispatch_call : flattened 4 (procedure 1 (2 ∷ []) (steps (Get 0 ∷ Number 5 ∷ CallFor 3 1 ∷ Forget ∷ []) Nothing))

@@ -39,6 +39,7 @@ fn high(alloc: Global, locals: u8, count: u8) -> Result<Procedure, NoMemory>
         method: 0,
         params: 0,
         receives: false,
+        on_objects: false,
         widths,
         result: 0,
         calls: Row::new(alloc),
@@ -51,6 +52,7 @@ fn flattened(alloc: Global, locals: u8, count: u8) -> Result<LinProc, Refusal<Fa
         ram: Row::new(alloc),
         flash: Row::new(alloc),
         tables: Row::new(alloc),
+        lone_arrays: Row::new(alloc),
         passing: Row::new(alloc),
     };
     flatten(alloc, &layout, &high(alloc, locals, count)?)
@@ -111,6 +113,7 @@ fn dividing(alloc: Global) -> Result<Procedure, NoMemory>
         method: 0,
         params: 0,
         receives: false,
+        on_objects: false,
         widths,
         result: 0,
         calls: Row::new(alloc),
@@ -147,6 +150,7 @@ fn divisions_are_calls(rt: HostRuntime) {
         ram: Row::new(alloc),
         flash: Row::new(alloc),
         tables: Row::new(alloc),
+        lone_arrays: Row::new(alloc),
         passing: Row::new(alloc),
     };
     let divisions = match dividing(alloc) {

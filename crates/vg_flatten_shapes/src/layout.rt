@@ -3,12 +3,14 @@ ghost use Rattle.std.specs.Prelude.{◌≡◌};
 ghost use Rattle.vg_flatten_shapes.specs.Widths.{bytes_of};
 
 use vg_base::Row;
+use vg_firm::ArrayPlace;
 
-/// Where a column stands: the address of its first entry, and how many bytes an entry has.
+/// Where a column stands: the address of its first entry, how many bytes an entry has, and how many entries there are.
 #[derive(Clone, Copy)]
 pub struct Place {
     pub address: u16,
     pub width: u8,
+    pub count: u16,
 }
 
 /// How many bytes an argument or a result has.
@@ -43,12 +45,13 @@ pub struct Passing {
     pub result: Option<Width>,
 }
 
-/// The columns in RAM and in flash and the tables of the arrays' places, by their numbers; a table is named by its address. And for
-/// each procedure, how it is called by its number.
+/// The columns in RAM and in flash and the tables of the arrays' places, by their numbers; a table is named by its address. Of a table with
+/// one array alone, where that stands. And for each procedure, how it is called by its number.
 #[derive(Drop)]
 pub struct Layout {
     pub ram: Row<Place>,
     pub flash: Row<Place>,
     pub tables: Row<u16>,
+    pub lone_arrays: Row<Option<ArrayPlace>>,
     pub passing: Row<Passing>,
 }

@@ -23,6 +23,7 @@ use Rattle.vg_flatten_shapes.specs.declared.open.Truth.TheVariants.{Holds}
 use Rattle.vg_flatten_shapes.specs.Shapes.{Taken, only, taken, temp}
 use Rattle.vg_flatten_shapes.specs.Blocks.{Block, One, CallTo, Both, stop_where}
 use Rattle.vg_flatten_shapes.specs.Made.{Made, Gives, Refused, by_temp, is_zero}
+use Rattle.vg_flatten_places.specs.Places.{null_check}
 
 -- Arguments in so many bytes each; where no width is known, in four.
 abbrev pub in_widths : List Width → List Operand → List Passed
@@ -85,11 +86,11 @@ abbrev pub passing_found : Callee → (to : ℕ) → List Operand → Block
 passing_found callee to xs = passing callee (Some (record { width = 4; local = to })) (in_widths (Two' ∷ []) xs)
 
 -- Behind the null check of the receiver, its procedure is found, and called on it.
-abbrev pub found_and_called : (d to code : ℕ) → Operand → List Operand → Block
-found_and_called d to code h xs = Both (stop_where 1 (Holds (is_zero h))) (Both (One (Find d code h)) (passing_found (Code (InLocal code)) to (h ∷ xs)))
+abbrev pub found_and_called : Room → (d to code : ℕ) → Operand → List Operand → Block
+found_and_called r d to code h xs = Both (null_check r h) (Both (One (Find d code h)) (passing_found (Code (InLocal code)) to (h ∷ xs)))
 
 abbrev pub called_on : Room → (d code : ℕ) → (xs rest : List Operand) → Made
-called_on r d code (h ∷ xs) rest = by_temp (temp r rest) (λ to. Gives (found_and_called d to code h xs) (only (InLocal to ∷ rest)))
+called_on r d code (h ∷ xs) rest = by_temp (temp r rest) (λ to. Gives (found_and_called r d to code h xs) (only (InLocal to ∷ rest)))
 called_on r d code [] rest = Refused NotTaken
 
 abbrev pub called_for : Room → (d count : ℕ) → List Operand → Made
@@ -114,13 +115,13 @@ abbrev pub bound : Room → (q : ℕ) → List Operand → Made
 bound r q hs = by_temp (temp r hs) (λ to. Gives (One (CodeOf q to)) (only (InLocal to ∷ hs)))
 
 -- Behind the null check of the receiver: its number goes above the code number of its procedure.
-abbrev pub found_and_bound : (d to above : ℕ) → Operand → Block
-found_and_bound d to above h =
-    Both (stop_where 1 (Holds (is_zero h)))
+abbrev pub found_and_bound : Room → (d to above : ℕ) → Operand → Block
+found_and_bound r d to above h =
+    Both (null_check r h)
     (Both (One (Compute (record { operator = LeftShift; width = 4; to = above; left = h; right = Known 16 })))
     (Both (One (Find d to h)) (One (Compute (record { operator = Sum; width = 4; to = to; left = InLocal to; right = InLocal above })))))
 
 abbrev pub bound_for : Room → (d : ℕ) → List Operand → Made
 bound_for r d (h ∷ hs) =
-    by_temp (temp r hs) (λ to. by_temp (temp r (h ∷ hs)) (λ above. Gives (found_and_bound d to above h) (only (InLocal to ∷ hs))))
+    by_temp (temp r hs) (λ to. by_temp (temp r (h ∷ hs)) (λ above. Gives (found_and_bound r d to above h) (only (InLocal to ∷ hs))))
 bound_for r d [] = Refused NotTaken

@@ -10,11 +10,11 @@ use Rattle.vg_flatten_shapes.specs.Shapes.{only}
 use Rattle.vg_flatten_shapes.specs.Blocks.{TakeInterrupt}
 use Rattle.vg_flatten_shapes.specs.Made.{Made, Gives}
 use Rattle.vg_flatten_values.specs.Values.{operated, applied}
-use Rattle.vg_flatten_places.specs.Places.{load_one, load_of, length_of, store_one, store_of, places_in, memory_of, load_item, store_item}
+use Rattle.vg_flatten_places.specs.Places.{load_one, load_of, lone_of, array_length, store_one, store_of, places_in, memory_of, load_item, store_item}
 use Rattle.vg_flatten_steps.specs.Locals.{put_number, get_local, get_receiver, set_local, forgotten, read, written}
 use Rattle.vg_flatten_steps.specs.Calls.{called, called_for, called_value, bound, bound_for}
 use Rattle.vg_flatten_steps.specs.Objects.{is_one_of, cast_to}
-use Rattle.vg_flatten_places.specs.Places.{load_nothing, store_nothing}
+use Rattle.vg_flatten_places.specs.Places.{load_no_field, store_no_field}
 
 -- Where no truth value waits as a test.
 abbrev pub stepped : Layout → Room → Step → List Operand → Made
@@ -37,10 +37,10 @@ stepped lay r (LoadOne home c) hs = load_one r (memory_of home) (slice_get (plac
 stepped lay r (LoadAt home c first) hs = load_of r (memory_of home) first (slice_get (places_in lay home) c) hs
 stepped lay r (StoreOne c width) hs = store_one width (slice_get lay.ram c) hs
 stepped lay r (StoreAt c first width) hs = store_of r first width (slice_get lay.ram c) hs
-stepped lay r (LoadItem e) hs = load_item r e (slice_get (places_in lay e.home) e.column) (slice_get lay.tables e.table) hs
-stepped lay r (StoreItem e) hs = store_item r e (slice_get lay.ram e.column) (slice_get lay.tables e.table) hs
-stepped lay r (Length table) hs = length_of r (slice_get lay.tables table) hs
-stepped lay r LoadNothing hs = load_nothing hs
-stepped lay r StoreNothing hs = store_nothing hs
+stepped lay r (LoadItem e) hs = load_item r (lone_of lay e.table) e (slice_get (places_in lay e.home) e.column) (slice_get lay.tables e.table) hs
+stepped lay r (StoreItem e) hs = store_item r (lone_of lay e.table) e (slice_get lay.ram e.column) (slice_get lay.tables e.table) hs
+stepped lay r (Length table) hs = array_length r (lone_of lay table) (slice_get lay.tables table) hs
+stepped lay r LoadNothing hs = load_no_field r hs
+stepped lay r StoreNothing hs = store_no_field r hs
 stepped lay r (IsWithin first count) hs = is_one_of r first count hs
 stepped lay r (StopUnlessWithin first count) hs = cast_to r first count hs

@@ -8,6 +8,7 @@ ghost use Rattle.vg_flatten_steps.specs.Calls.{called_for, called_on, called_val
 
 use std::alloc::Global;
 use vg_base::{NoMemory, Refusal, Row};
+use vg_flatten_places::null_check;
 use vg_flatten_shapes::{
     Fault, Homes, Layout, Open, Passing, Piece, Room, Truth, Width, place_behind, stop_where,
 };
@@ -277,9 +278,9 @@ fn called_on(
         [] => Err(Refusal::Fault(Fault::NotTaken)),
         [home, ..] => {
             let to = temp(room, &homes)?;
-            let mut all = stop_where(alloc, at, 1, Truth::Holds(is_zero(*home)))?;
+            let mut all = null_check(alloc, room, at, *home)?;
             all.push(Open::Set(Instr::Plain(Plain::Find(dispatch, code, *home))))?;
-            let call_at = place_behind(at, 3)?;
+            let call_at = place_behind(at, all.len())?;
             let callee = Callee::Code(Operand::Local(code));
             let all = passing_found(alloc, all, call_at, callee, to, args)?;
             let mut homes = homes;

@@ -6,8 +6,9 @@ ghost use Rattle.vg_flatten_steps.specs.Calls.{bound, found_and_bound, bound_for
 
 use std::alloc::Global;
 use vg_base::{Refusal, Row};
-use vg_flatten_shapes::{Fault, Homes, Open, Piece, Room, Truth, stop_where};
-use vg_flatten_values::{is_zero, put_into, temp};
+use vg_flatten_places::null_check;
+use vg_flatten_shapes::{Fault, Homes, Open, Piece, Room};
+use vg_flatten_values::{put_into, temp};
 use vg_lin::{Computation, Instr, Operand, Operator, Plain};
 
 /// A delegate of a component's method.
@@ -29,13 +30,14 @@ pub(crate) fn bound(
 /// Behind the null check of the receiver, its number goes above the code number of its procedure.
 fn found_and_bound(
     alloc: Global,
+    room: Room,
     at: u16,
     dispatch: u32,
     to: u8,
     above: u8,
     home: Operand,
 ) -> Result<Row<Open>, Refusal<Fault>>
-    ensures { LaysCode result (at + 3) (open_code (found_and_bound dispatch to above home) at) }
+    ensures { LaysCode result (at + 3) (open_code (found_and_bound room dispatch to above home) at) }
 {
     let shift = Computation {
         operator: Operator::ShiftLeft,
@@ -51,7 +53,7 @@ fn found_and_bound(
         left: Operand::Local(to),
         right: Operand::Local(above),
     };
-    let mut code = stop_where(alloc, at, 1, Truth::Holds(is_zero(home)))?;
+    let mut code = null_check(alloc, room, at, home)?;
     code.push(Open::Set(Instr::Plain(Plain::Compute(shift))))?;
     code.push(Open::Set(Instr::Plain(Plain::Find(dispatch, to, home))))?;
     code.push(Open::Set(Instr::Plain(Plain::Compute(sum))))?;
@@ -77,7 +79,7 @@ pub(crate) fn bound_for(
             let to = temp(room, &homes)?;
             homes.push(home)?;
             let above = temp(room, &homes)?;
-            let code = found_and_bound(alloc, at, dispatch, to, above, home)?;
+            let code = found_and_bound(alloc, room, at, dispatch, to, above, home)?;
             homes.pop();
             homes.push(Operand::Local(to))?;
             Ok(Piece { code, homes })

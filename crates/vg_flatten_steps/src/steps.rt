@@ -11,7 +11,7 @@ use std::alloc::Global;
 use vg_base::Refusal;
 use vg_firm::Step;
 use vg_flatten_places::{
-    length, load, load_at, load_item, load_nothing, store, store_item, store_nothing, store_to,
+    length, load, load_at, load_item, load_no_field, store, store_item, store_no_field, store_to,
 };
 use vg_flatten_shapes::{Fault, Homes, Layout, Open, Piece, Room, nothing, one};
 use vg_flatten_values::{applied, operated, put_home, put_into, temp};
@@ -57,8 +57,8 @@ pub fn stepped(
         Step::LoadItem(elements) => load_item(alloc, layout, room, at, elements, homes),
         Step::StoreItem(elements) => store_item(alloc, layout, room, at, elements, homes),
         Step::Length(table) => length(alloc, layout, room, at, table, homes),
-        Step::LoadNothing => load_nothing(alloc, at, homes),
-        Step::StoreNothing => store_nothing(alloc, at, homes),
+        Step::LoadNothing => load_no_field(alloc, room, at, homes),
+        Step::StoreNothing => store_no_field(alloc, room, at, homes),
         Step::IsWithin(first, count) => is_one_of(alloc, room, at, first, count, homes),
         Step::StopUnlessWithin(first, count) => cast_to(alloc, room, at, first, count, homes),
     }

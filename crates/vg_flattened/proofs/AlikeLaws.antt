@@ -2,13 +2,12 @@
 -- go by induction on their turns.
 use Rattle.std.specs.Prelude.{ℕ, zero, suc, Bool, true, false, List, [], ◌∷◌}
 use Rattle.vg_meaning.specs.History.{Active, History, full}
-use Rattle.vg_meaning.specs.World.{World}
-use Rattle.vg_meaning.specs.Answer.{End, OutOfDepth, Signal, Breaks, Continues, Returns, Over, Answer, Piece, go_on, over, and_then, unless, passes}
-use Rattle.vg_meaning.specs.Clock.{tick_at, ticked}
+use Rattle.vg_meaning.specs.Answer.{End, OutOfDepth, Signal, Breaks, Continues, Returns, Over, Answer, Piece, and_then, unless, passes}
+use Rattle.vg_meaning.specs.Clock.{tick_at}
 use Rattle.vg_meaning.specs.Calls.{closed, closing, unless_deep, note_call, opened, returned}
 use Rattle.vg_meaning.specs.Loops.{turned, turns}
 use Rattle.vg_meaning.specs.Interrupts.{interrupt_from, take_interrupt, idles}
-use Rattle.vg_flattened.proofs.Alike.{IsFair, Alike, gives, leaves, overs, wrong, AlikePiece, Inside}
+use Rattle.vg_flattened.proofs.Alike.{Alike, gives, leaves, overs, wrong, AlikePiece, Inside}
 
 pub alike_then : {S T : Type 0} {G J : S → T → Type 0} {L : Signal → S → T
     → Type 0} {a : Answer S History} {b : Answer T History} (f : Piece S History) (g : Piece T History)

@@ -1,8 +1,8 @@
 -- The locals of a procedure that begins: its parameters have the arguments, and behind the first instructions all others are 0.
-use Rattle.std.specs.Prelude.{ℕ, zero, suc, ◌+◌, ◌-◌, ◌<◌, ◌≤◌, ◌^◌, ◌%◌, Bool, true, false, ◌==◌, ◌&&◌, nat_lt, List, [], ◌∷◌, ◌++◌, length, replicate, Option, Some, None, slice_get}
+use Rattle.std.specs.Prelude.{ℕ, zero, suc, ◌+◌, ◌-◌, ◌<◌, ◌≤◌, ◌^◌, Bool, true, false, ◌==◌, ◌&&◌, nat_lt, List, [], ◌∷◌, ◌++◌, length, replicate, Option, Some, None, slice_get, if◌then◌else◌}
 use Rattle.std.proofs.Common.{◌≡◌, ◌≢◌, inl, inr, refl, sym, ap, ◌∙◌, subst, arith}
 use Rattle.vg_firm.specs.Meaning.{fits}
-use Rattle.vg_firm.specs.Session.{all_fit, may_receive}
+use Rattle.vg_firm.specs.Session.{all_fit, may_receive, is_object, may_be_on}
 use Rattle.vg_firm.specs.Program.{Procedure as FirmProcedure}
 use Rattle.vg_flatten.specs.Flattened.{receivers, with_receiver_width, own_widths, own_params, widened, wide_params, all_widths, IsFit}
 use Rattle.vg_flatten.proofs.Whole.{own_long, all_long}
@@ -189,7 +189,7 @@ passed_get true None args xs (inr (ea, ex)) i v h = none_is_not v (sym (ap (λ z
 -- The locals behind the first instructions are those of the packed body at its entry.
 module _ (r : Room) (m : FirmProcedure) (receiver : r.receiver ≡ receivers m.receives) (locals : r.locals ≡ length (own_widths m)) (fit : IsFit m)
     (self : Option ℕ) (args xs : List ℕ) (long : length args ≡ m.params) (fits : all_fit m.widths args ≡ true) (may : may_receive m self ≡ true)
-    (passed : ArePassed m.receives self args xs) where
+    (on : r.on_objects ≡ m.on_objects) (may_on : may_be_on m self ≡ true) (passed : ArePassed m.receives self args xs) where
   abbrev ws : List ℕ
   ws = all r m receiver locals fit
 
@@ -284,6 +284,7 @@ module _ (r : Room) (m : FirmProcedure) (receiver : r.receiver ≡ receivers m.r
   kept_at_entry =
       record {
         receiver = is_receiver self may (first_passed m.receives self passed);
+        object = λ h. sym (ap (λ z. if z then is_object self else true) (sym on ∙ h)) ∙ may_on;
         there = λ i w h. zeroed_there others (own_params m) (begun ws xs) i w (begun_there ws xs i w h);
         locals = λ i v lt h. by_place i v lt h (nat_lt i m.params) refl;
       }

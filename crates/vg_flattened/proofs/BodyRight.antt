@@ -1,34 +1,32 @@
 -- That calls of flattened procedures do what calls of packed ones do: by induction on how deep they may nest.
-use Rattle.std.specs.Prelude.{ℕ, zero, suc, ◌+◌, ◌-◌, ◌<◌, ◌≤◌, ◌^◌, Bool, true, false, ◌==◌, ◌&&◌, nat_lt, List, [], ◌∷◌, ◌++◌, length, take, drop, replicate, Option, Some, None, slice_get, if◌then◌else◌}
+use Rattle.std.specs.Prelude.{ℕ, zero, suc, ◌-◌, ◌<◌, ◌≤◌, ◌^◌, Bool, true, false, ◌==◌, ◌&&◌, nat_lt, List, [], ◌∷◌, ◌++◌, length, replicate, Option, Some, None, if◌then◌else◌}
 use Rattle.std.proofs.Common.{◌≡◌, ◌⊎◌, inl, inr, refl, sym, ap, ◌∙◌, subst, arith}
-use Rattle.vg_meaning.specs.History.{Calling, History, full}
+use Rattle.vg_meaning.specs.History.{History, full}
 use Rattle.vg_meaning.specs.World.{World}
-use Rattle.vg_meaning.specs.Answer.{Wrong, Signal, Breaks, Continues, Returns, Over, Answer, Gives, Ends, Piece, go_on, over, and_then}
-use Rattle.vg_meaning.specs.Calls.{opened, returned}
-use Rattle.vg_meaning.specs.Code.{Code, performed}
+use Rattle.vg_meaning.specs.Answer.{Wrong, Breaks, Continues, Returns, Over, Answer, Gives, Ends, Piece, go_on, over, and_then}
+use Rattle.vg_meaning.specs.Calls.{returned}
+use Rattle.vg_meaning.specs.Code.{performed}
 use Rattle.vg_codes.specs.Codes.{Codes}
 use Rattle.vg_firm.specs.Program.{Procedure as FirmProcedure, Program as FirmProgram}
-use Rattle.vg_firm.specs.Meaning.{State as Firm, Caller as FirmCaller, step as firm_step, truth as firm_truth, with_found as firm_found, checked, put, taking, take_from, of_width}
-use Rattle.vg_firm.specs.Session.{arguments, entered as firm_entered, back_in, guarded, run_procedure, may_receive, may_enter, all_fit, handled as firm_handled, called as firm_called, is_among}
-use Rattle.vg_lin.specs.declared.instr.Operand.{Operand}
+use Rattle.vg_firm.specs.Meaning.{State as Firm, Caller as FirmCaller, step as firm_step, truth as firm_truth, checked, put, taking, take_from, of_width}
+use Rattle.vg_firm.specs.Session.{arguments, entered as firm_entered, back_in, guarded, run_procedure, may_receive, may_be_on, may_enter, all_fit, handled as firm_handled, is_among}
 use Rattle.vg_lin.specs.declared.instr.Operand.TheVariants.{Known}
 use Rattle.vg_lin.specs.Program.{Procedure as LinProcedure, Program as LinProgram}
 use Rattle.vg_lin.specs.Steps.{Interrupt}
 use Rattle.vg_lin.specs.Values.{low}
 use Rattle.vg_lin.specs.State.{State}
-use Rattle.vg_lin.specs.Meaning.{language, begun, widths_of, name_of, result_of, call_of}
-use Rattle.vg_lin.specs.Structured.{Step, Deciding, fresh, Caller as LinCaller, with_found, handle as lin_handle, resumed, body as lin_body, called as lin_called, step as lin_step, truth as lin_truth}
+use Rattle.vg_lin.specs.Meaning.{language, begun, result_of}
+use Rattle.vg_lin.specs.Structured.{Deciding, fresh, Caller as LinCaller, with_found, handle as lin_handle, resumed, body as lin_body, step as lin_step, truth as lin_truth}
 use Rattle.vg_flatten_shapes.specs.declared.layout.Layout.{Layout}
-use Rattle.vg_flatten.specs.Columns.{FlashStands, RamStands}
+use Rattle.vg_flatten.specs.Columns.{RamStands}
 use Rattle.vg_flatten_shapes.specs.declared.room.Room.{Room}
-use Rattle.vg_flatten_shapes.specs.Shapes.{Shape, only, empty, is_empty}
-use Rattle.vg_flatten_shapes.specs.Blocks.{Block, Skip, GiveBack, Both, structured}
-use Rattle.vg_flatten_shapes.specs.Made.{Made, Gives as Makes}
+use Rattle.vg_flatten_shapes.specs.Shapes.{only, empty}
+use Rattle.vg_flatten_shapes.specs.Blocks.{Block, GiveBack, Both, structured}
+use Rattle.vg_flatten_shapes.specs.Made.{Gives as Makes}
 use Rattle.vg_flatten_control.specs.Flat.{flat}
-use Rattle.vg_flattened.proofs.Alike.{IsFair, Alike, gives, leaves, overs, wrong, AlikePiece}
-use Rattle.vg_flattened.proofs.AlikeLaws.{alike_opened}
-use Rattle.vg_flattened.proofs.Related.{ArePlaced, AreAt, AreWidths, AreKept, AreSame, Held, Leaves}
-use Rattle.vg_flattened.proofs.Right.{Right, Does, linear, packed}
+use Rattle.vg_flattened.proofs.Alike.{IsFair, Alike, gives, leaves, overs, wrong}
+use Rattle.vg_flattened.proofs.Related.{AreWidths, AreKept, Held, Leaves}
+use Rattle.vg_flattened.proofs.Right.{Right, packed}
 use Rattle.vg_flattened.proofs.CallRight.{Never, Returned, begins, alike_behind_both, ArePassed, Enters, AlikeCalls, AlikeHandling}
 use Rattle.vg_flattened.proofs.CodeRight.{right_code, empty_is}
 use Rattle.vg_flattened.proofs.StackedRight.{stacked_body}
@@ -36,7 +34,6 @@ use Rattle.vg_flatten_pushed.specs.Stacked.{stacked}
 use Rattle.vg_firm.specs.declared.step.Step.{Step as FirmStep}
 use Rattle.vg_firm_typed.specs.Steps.{takes}
 use Rattle.vg_firm_frames.specs.Frames.{over as over_values, Above as AboveValues}
-use Rattle.vg_flatten_shapes.proofs.Temps.{some_is}
 use Rattle.vg_flatten.specs.Flattened.{zeroes, own_params, all_widths, result_width, whole, IsFlat, IsFit, AreFlat}
 use Rattle.vg_flattened.proofs.Numbers.{low_same, low_within}
 use Rattle.vg_flattened.proofs.Begun.{low_zero, widths_are, zeroed, kept_at_entry}
@@ -183,11 +180,13 @@ module _ (k : Codes) (lay : Layout) (f : FirmProgram) (p : LinProgram) (flat_all
 
   entry_facts : (count : ℕ) (self : Option ℕ) (s : Firm) → may_enter m count self s ≡ true
       → (count ≡ m.params) × (length (arguments count s) ≡ count) × (all_fit m.widths (arguments count s) ≡ true) × (may_receive m self ≡ true)
+      × (may_be_on m self ≡ true)
   entry_facts count self s e =
-      let first = both_of ((count == m.params) && (length (arguments count s) == count) && all_fit m.widths (arguments count s)) (may_receive m self) e in
+      let first = both_of ((count == m.params) && (length (arguments count s) == count) && all_fit m.widths (arguments count s)) (may_receive m self && may_be_on m self) e in
       let second = both_of ((count == m.params) && (length (arguments count s) == count)) (all_fit m.widths (arguments count s)) first.0 in
       let third = both_of (count == m.params) (length (arguments count s) == count) second.0 in
-      (eq_of count m.params third.0, eq_of (length (arguments count s)) count third.1, second.1, first.1)
+      let received = both_of (may_receive m self) (may_be_on m self) first.1 in
+      (eq_of count m.params third.0, eq_of (length (arguments count s)) count third.1, second.1, received.0, received.1)
     where
       eq_of : (x y : ℕ) → (x == y) ≡ true → x ≡ y
       eq_of x y h = grind arith
@@ -208,6 +207,7 @@ module _ (k : Codes) (lay : Layout) (f : FirmProgram) (p : LinProgram) (flat_all
       (finished count s _ _ (by_way is.made))
     where
       facts : (count ≡ m.params) × (length (arguments count s) ≡ count) × (all_fit m.widths (arguments count s) ≡ true) × (may_receive m self ≡ true)
+          × (may_be_on m self ≡ true)
       facts = entry_facts count self s enter
 
       begun_d : Deciding State
@@ -218,7 +218,7 @@ module _ (k : Codes) (lay : Layout) (f : FirmProgram) (p : LinProgram) (flat_all
           subst (λ z. AreKept r ws self (arguments count s ++ replicate (length m.widths - z) 0) begun_d.state.locals) (sym facts.0)
           (subst (λ z. AreKept r ws self (arguments count s ++ replicate (length m.widths - m.params) 0) (zeroed
           (length m.widths - m.params) (own_params m) z.state.locals)) (sym ed)
-          (kept_at_entry r m is.receiver is.locals fit self (arguments count s) xs (facts.1 ∙ facts.0) facts.2 facts.3 passed))
+          (kept_at_entry r m is.receiver is.locals fit self (arguments count s) xs (facts.1 ∙ facts.0) facts.2 facts.3 is.on_objects facts.4 passed))
 
       begin : Held lay r ws empty (firm_entered m count self s) begun_d
       begin = record { waits = tt; kept = kept; none = ap (λ z. z.state.waiting) ed; ram = subst (λ z. RamStands lay.ram s.columns z.state.ram) (sym ed) held }

@@ -1,12 +1,11 @@
 -- That calls become blocks that do the same, where what they call does.
-use Rattle.std.specs.Prelude.{ℕ, zero, ◌+◌, ◌-◌, ◌<◌, ◌≤◌, ◌^◌, Bool, true, false, ◌==◌, ◌&&◌, nat_lt, nat_le, List, [], ◌∷◌, ◌++◌, length, reverse, take, drop, replicate, Option, Some, None}
+use Rattle.std.specs.Prelude.{ℕ, ◌+◌, ◌-◌, ◌<◌, ◌≤◌, ◌^◌, Bool, true, false, ◌==◌, ◌&&◌, nat_lt, List, [], ◌∷◌, ◌++◌, length, reverse, take, drop, replicate, Option, Some, None}
 use Rattle.std.specs.Prelude.{slice_get, if◌then◌else◌}
-use Rattle.std.proofs.Common.{◌≡◌, ◌≢◌, ◌⊎◌, inl, inr, refl, sym, ap, ◌∙◌, subst, arith}
+use Rattle.std.proofs.Common.{◌≡◌, ◌⊎◌, inl, inr, refl, sym, ap, ◌∙◌, subst, arith}
 use Rattle.std.proofs.lemmas.List.{length-drop, length-take-le}
-use Rattle.vg_meaning.specs.History.{History, full}
+use Rattle.vg_meaning.specs.History.{History}
 use Rattle.vg_meaning.specs.World.{World}
-use Rattle.vg_meaning.specs.Answer.{Wrong, Signal, Answer, Gives, Ends, Piece, go_on, over, and_then}
-use Rattle.vg_meaning.specs.Code.{performed}
+use Rattle.vg_meaning.specs.Answer.{Wrong, Signal, Answer, Gives, Piece, over, and_then}
 use Rattle.vg_codes.specs.Codes.{Codes}
 use Rattle.vg_firm.specs.Program.{Procedure as FirmProcedure, Program as FirmProgram}
 use Rattle.vg_firm.specs.Meaning.{State as Firm, Caller as FirmCaller, fits}
@@ -20,14 +19,13 @@ use Rattle.vg_lin.specs.declared.instr.Call.{Call as Calling}
 use Rattle.vg_lin.specs.Program.{Procedure as LinProcedure, Program as LinProgram}
 use Rattle.vg_lin.specs.Steps.{Entry, Result, Goes}
 use Rattle.vg_lin.specs.Values.{low}
-use Rattle.vg_lin.specs.State.{State, Waiting, value, using, sets}
+use Rattle.vg_lin.specs.State.{State, Waiting, using}
 use Rattle.vg_lin.specs.Meaning.{language, operands, values, begun, widths_of, values_of, same_widths, gives_to, with_result, called as lin_called, enter, entry_at, entry_of, entry_with, entry_by}
-use Rattle.vg_lin.specs.Structured.{Deciding, fresh, Caller as LinCaller, with_found, entered, resumed, lifted, To, step as lin_step, truth as lin_truth}
+use Rattle.vg_lin.specs.Structured.{Deciding, fresh, Caller as LinCaller, with_found, entered, resumed, lifted}
 use Rattle.vg_flatten_shapes.specs.declared.layout.Layout.{Layout}
 use Rattle.vg_flatten_shapes.specs.declared.room.Room.{Room}
-use Rattle.vg_flatten_shapes.specs.Shapes.{Shape, only, temp}
+use Rattle.vg_flatten_shapes.specs.Shapes.{only, temp}
 use Rattle.vg_flatten_shapes.specs.Blocks.{Block, CallTo}
-use Rattle.vg_flatten_shapes.specs.Made.{Made}
 use Rattle.vg_flatten_shapes.specs.declared.layout.Width.{Width}
 use Rattle.vg_flatten_shapes.specs.declared.layout.Width.TheVariants.{Two as Two'}
 use Rattle.vg_flatten_steps.specs.Calls.{in_widths, pushed_of, call_with, passing}
@@ -38,7 +36,7 @@ use Rattle.vg_flattened.proofs.Related.{ArePlaced, AreAt, AreWidths, AreKept, Ar
 use Rattle.vg_flattened.proofs.Locals.{put_temp}
 use Rattle.vg_flattened.proofs.Passed.{Valued, Passes, passes_long, passes_take, passes_drop, passes_as, passes_in, bytes_in, bytes_in_fours, Within, within_fit}
 use Rattle.vg_flattened.proofs.Passed.{IsNarrow, take_found, within_found, waits_of, waits_long, waits_values, waits_split, waits_same, registers_valued, stacked, stacked_long, stacked_taken, stacked_dropped, stacked_reversed}
-use Rattle.vg_flattened.proofs.Right.{Right, linear}
+use Rattle.vg_flattened.proofs.Right.{linear}
 
 -- A call leaves in no other way than by the end of the whole run.
 abbrev pub Never : {S T : Type 0} → Signal → S → T → Type 0

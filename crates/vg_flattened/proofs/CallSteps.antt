@@ -1,19 +1,19 @@
 -- That the steps that call, and those that make delegates, become blocks that do the same.
-use Rattle.std.specs.Prelude.{ℕ, zero, suc, ◌+◌, ◌-◌, ◌*◌, ◌/◌, ◌%◌, ◌<◌, ◌≤◌, ◌^◌, Bool, true, false, ◌==◌, ◌&&◌, nat_lt, nat_le, List, [], ◌∷◌, ◌++◌, length, reverse, take, drop, Option, Some, None}
+use Rattle.std.specs.Prelude.{ℕ, zero, suc, ◌+◌, ◌*◌, ◌/◌, ◌%◌, ◌<◌, ◌≤◌, ◌^◌, Bool, true, false, ◌==◌, ◌&&◌, nat_lt, nat_le, List, [], ◌∷◌, ◌++◌, length, reverse, take, drop, Option, Some, None}
 use Rattle.std.specs.Prelude.{slice_get, if◌then◌else◌}
-use Rattle.std.proofs.Common.{◌≡◌, ◌≢◌, ◌⊎◌, inl, inr, refl, sym, ap, ◌∙◌, subst, arith}
+use Rattle.std.proofs.Common.{◌≡◌, ◌⊎◌, inl, inr, refl, sym, ap, ◌∙◌, subst, arith}
 use Rattle.std.proofs.lemmas.List.{length-take-le}
-use Rattle.vg_meaning.specs.History.{History, full}
+use Rattle.vg_meaning.specs.History.{History}
 use Rattle.vg_meaning.specs.World.{World}
 use Rattle.vg_meaning.specs.Outside.{Outside}
-use Rattle.vg_meaning.specs.Answer.{Wrong, Signal, Answer, Gives, Ends, Piece, go_on, over, and_then}
+use Rattle.vg_meaning.specs.Answer.{Wrong, Piece, over, and_then}
 use Rattle.vg_codes.specs.Codes.{Codes, AreCodes, delegate, code_in, receiver_in}
 use Rattle.vg_codes.specs.Dispatch.{dispatched}
 use Rattle.vg_firm.specs.declared.step.Step.{Step}
 use Rattle.vg_firm.specs.declared.step.Step.TheVariants.{Bind, BindFor, Call, CallFor, CallValue}
 use Rattle.vg_firm.specs.Program.{Procedure as FirmProcedure, Program as FirmProgram}
 use Rattle.vg_firm.specs.Meaning.{State as Firm, Caller as FirmCaller, step as firm_step, with_found, not_null, checked, fits, put, put_delegate, take_from}
-use Rattle.vg_firm.specs.Session.{arguments, may_receive}
+use Rattle.vg_firm.specs.Session.{arguments}
 use Rattle.vg_lin.specs.declared.instr.Operand.{Operand}
 use Rattle.vg_lin.specs.declared.instr.Operand.TheVariants.{Local, Known}
 use Rattle.vg_lin.specs.declared.instr.Operator.TheVariants.{Plus as Sum, ShiftLeft as LeftShift, ShiftRight as RightShift}
@@ -22,32 +22,31 @@ use Rattle.vg_lin.specs.declared.instr.Callee.TheVariants.{Procedure as ByNumber
 use Rattle.vg_lin.specs.Values.{low}
 use Rattle.vg_lin.specs.Program.{Program as LinProgram}
 use Rattle.vg_lin.specs.Steps.{Goes}
-use Rattle.vg_lin.specs.State.{State, value, value_in, using, sets, plain}
+use Rattle.vg_lin.specs.State.{State, value, using, sets, plain}
 use Rattle.vg_lin.specs.declared.instr.Target.{Target}
 use Rattle.vg_lin.specs.Meaning.{with_code, gives_to}
 use Rattle.vg_lin.specs.Structured.{Deciding, Caller as LinCaller}
-use Rattle.vg_flatten_shapes.specs.declared.fault.Fault.TheVariants.{NotTaken}
-use Rattle.vg_flatten_shapes.specs.declared.open.Truth.TheVariants.{Holds}
 use Rattle.vg_flatten_shapes.specs.declared.layout.Layout.{Layout}
 use Rattle.vg_flatten_shapes.specs.declared.layout.Passing.{Passing}
 use Rattle.vg_flatten_shapes.specs.declared.layout.Width.{Width}
 use Rattle.vg_flatten_shapes.specs.declared.layout.Width.TheVariants.{Two as Two'}
 use Rattle.vg_flatten_shapes.specs.Widths.{bytes_of, result_bytes}
 use Rattle.vg_flatten_shapes.specs.declared.room.Room.{Room}
-use Rattle.vg_flatten_shapes.specs.Shapes.{Shape, Taken, only, taken, temp}
-use Rattle.vg_flatten_shapes.specs.Blocks.{Block, One, Both, stop_where}
-use Rattle.vg_flatten_shapes.specs.Made.{Made, Gives as Makes, Refused, by_temp, is_zero}
+use Rattle.vg_flatten_shapes.specs.Shapes.{Shape, only, taken, temp}
+use Rattle.vg_flatten_shapes.specs.Blocks.{Block, One, Both}
+use Rattle.vg_flatten_shapes.specs.Made.{Made, Gives as Makes, by_temp}
 use Rattle.vg_flatten_steps.specs.Calls.{in_widths, passing, with_taken, passing_of, with_receiver, resulting, called, passing_found, found_and_called, called_on, called_for, parted_and_called, called_by, called_value, bound, found_and_bound, bound_for}
 use Rattle.vg_flatten.specs.Columns.{FlashStands}
 use Rattle.vg_flatten.specs.Flattened.{receivers, own_params, all_widths, result_width, IsPassing}
 use Rattle.vg_flatten.proofs.Whole.{own_long, all_long}
-use Rattle.vg_flattened.proofs.Alike.{IsFair, Alike, gives, wrong}
+use Rattle.vg_flattened.proofs.Alike.{IsFair, Alike, wrong}
 use Rattle.vg_flattened.proofs.Related.{ArePlaced, AreAt, AreWidths, AreSame, Held, Leaves}
 use Rattle.vg_flattened.proofs.Numbers.{low_same}
 use Rattle.vg_flattened.proofs.Locals.{value_of_home, put_temp, placed_temp, value_stays}
 use Rattle.vg_flattened.proofs.Passed.{IsNarrow, Valued, bytes_in_widths, all_bytes_long, valued_homes, valued_long, valued_take, valued_reverse, split_below, without, placed_drop, at_drop}
 use Rattle.vg_flattened.proofs.Right.{Right, linear}
 use Rattle.vg_flattened.proofs.StepRight.{plain_goes, into_temp, computes_to}
+use Rattle.vg_flattened.proofs.NullRight.{checks_before}
 use Rattle.vg_flattened.proofs.ColumnRight.{null_then}
 use Rattle.vg_flattened.proofs.CallRight.{ArePassed, Enters, AlikeCalls, TakesIn, Lands, right_passing, in_temp, in_none, found_taken}
 
@@ -304,18 +303,18 @@ module _ (k : Codes) (f : FirmProgram) (m : FirmProcedure) (call : FirmCaller Hi
           → (to : ℕ) → temp r rest ≡ Some to → (s : Firm) (dd : Deciding State) (w : World History) → IsFair w → AreSame lay r ws hs s dd.state
           → count + 1 ≤ length s.values → (vs : List ℕ) → reverse (take (count + 1) s.values) ≡ vs → Valued (h ∷ xs) vs dd.state
           → Alike (Held lay r ws (only (Local to ∷ rest))) (Leaves lay r ws)
-          (with_found (slice_get s.values count) (not_null next) (without_receiver count s) w) (linear' (found_and_called d to code h xs) dd w)
+          (with_found (slice_get s.values count) (not_null next) (without_receiver count s) w) (linear' (found_and_called r d to code h xs) dd w)
       by_values code has_code h xs eh to has s dd w i same le [] ev valued = absurd valued
       by_values code has_code h xs eh to has s dd w i same le (n ∷ us) ev valued =
           subst (λ z. Alike (Held lay r ws (only (Local to ∷ rest))) (Leaves lay r ws) (with_found z (not_null next) (without_receiver count s) w)
-          (linear' (found_and_called d to code h xs) dd w)) (sym (split_below count s.values n us le ev).0)
-          (null_then k f m call handle p go lay r ws wide flash h n next (linear' (Both (One (Find d code h)) (passing_found (ByCode (Local code)) to (h ∷ xs))))
-          (without_receiver count s) dd w i valued.0 valued.1
-          (λ pos. by_found code has_code h xs eh to has s (record dd { truth = None }) w i same n us ev le valued.0 (dispatched f.dispatches d n) refl))
+          (linear' (found_and_called r d to code h xs) dd w)) (sym (split_below count s.values n us le ev).0)
+          (checks_before k f m call handle p go lay r ws wide h n next (linear' (Both (One (Find d code h)) (passing_found (ByCode (Local code)) to (h ∷ xs))))
+          (without_receiver count s) dd w i valued.0 valued.1 same.kept
+          (λ c pos. by_found code has_code h xs eh to has s (record dd { truth = c }) w i same n us ev le valued.0 (dispatched f.dispatches d n) refl))
 
       by_room : (code : ℕ) → temp r hs ≡ Some code → count + 1 ≤ length hs → (h : Operand) (xs : List Operand) → reverse (take (count + 1) hs) ≡ h ∷ xs
           → (o : Option ℕ) → temp r rest ≡ o
-          → Right' (only hs) (by_temp o (λ to. Makes (found_and_called d to code h xs) (only (Local to ∷ rest)))) (step' (CallFor d count))
+          → Right' (only hs) (by_temp o (λ to. Makes (found_and_called r d to code h xs) (only (Local to ∷ rest)))) (step' (CallFor d count))
       by_room code has_code le h xs eh None has = tt
       by_room code has_code le h xs eh (Some to) has = (
         placed_temp r rest to has placed_rest,
@@ -550,16 +549,16 @@ module _ (k : Codes) (f : FirmProgram) (m : FirmProcedure) (call : FirmCaller Hi
 
       by_values : (to above : ℕ) → temp r hs ≡ Some to → temp r (h ∷ hs) ≡ Some above → (s : Firm) (dd : Deciding State) (w : World History) → IsFair w
           → AreSame lay r ws (h ∷ hs) s dd.state → (vs : List ℕ) → s.values ≡ vs → AreAt (h ∷ hs) vs dd.state.locals
-          → Alike (Held lay r ws (only (Local to ∷ hs))) (Leaves lay r ws) (take_from vs (not_null next) s w) (linear' (found_and_bound d to above h) dd w)
+          → Alike (Held lay r ws (only (Local to ∷ hs))) (Leaves lay r ws) (take_from vs (not_null next) s w) (linear' (found_and_bound r d to above h) dd w)
       by_values to above has has_a s dd w i same [] ev at = absurd at
       by_values to above has has_a s dd w i same (n ∷ vs) ev at =
-          null_then k f m call handle p go lay r ws wide flash h n next (linear' (inside to above)) (record s { values = vs }) dd w i
-          (value_of_home h n dd.state at.0.0) at.0.1
-          (λ pos. by_found to above has has_a s (record dd { truth = None }) w i n vs
+          checks_before k f m call handle p go lay r ws wide h n next (linear' (inside to above)) (record s { values = vs }) dd w i
+          (value_of_home h n dd.state at.0.0) at.0.1 same.kept
+          (λ c pos. by_found to above has has_a s (record dd { truth = c }) w i n vs
           (record { waits = at; kept = same.kept; none = same.none; ram = same.ram }) (dispatched f.dispatches d n) refl)
 
       by_above : (to : ℕ) → temp r hs ≡ Some to → (o : Option ℕ) → temp r (h ∷ hs) ≡ o
-          → Right' (only (h ∷ hs)) (by_temp o (λ above. Makes (found_and_bound d to above h) (only (Local to ∷ hs)))) (step' (BindFor d))
+          → Right' (only (h ∷ hs)) (by_temp o (λ above. Makes (found_and_bound r d to above h) (only (Local to ∷ hs)))) (step' (BindFor d))
       by_above to has None has_a = tt
       by_above to has (Some above) has_a = (
         placed_temp r hs to has placed.1,
@@ -567,7 +566,7 @@ module _ (k : Codes) (f : FirmProgram) (m : FirmProcedure) (call : FirmCaller Hi
       )
 
       by_room : (o : Option ℕ) → temp r hs ≡ o
-          → Right' (only (h ∷ hs)) (by_temp o (λ to. by_temp (temp r (h ∷ hs)) (λ above. Makes (found_and_bound d to above h) (only (Local to ∷ hs)))))
+          → Right' (only (h ∷ hs)) (by_temp o (λ to. by_temp (temp r (h ∷ hs)) (λ above. Makes (found_and_bound r d to above h) (only (Local to ∷ hs)))))
           (step' (BindFor d))
       by_room None has = tt
       by_room (Some to) has = by_above to has (temp r (h ∷ hs)) refl

@@ -1,9 +1,9 @@
 -- That code becomes a block that does the same: steps by their lemmas, choices and loops by those of what does the same.
-use Rattle.std.specs.Prelude.{ℕ, zero, suc, ◌+◌, ◌<◌, ◌≤◌, ◌^◌, Bool, true, false, ◌==◌, ◌&&◌, List, [], ◌∷◌, length, reverse, Option, Some, None, slice_get, if◌then◌else◌}
-use Rattle.std.proofs.Common.{◌≡◌, inl, inr, refl, sym, ap, ◌∙◌, subst, arith}
+use Rattle.std.specs.Prelude.{ℕ, Bool, true, false, ◌==◌, ◌&&◌, List, [], ◌∷◌, length, reverse, Option, Some, None, slice_get, if◌then◌else◌}
+use Rattle.std.proofs.Common.{◌≡◌, refl, sym, ap, ◌∙◌, subst, arith}
 use Rattle.vg_meaning.specs.History.{History, full}
 use Rattle.vg_meaning.specs.World.{World}
-use Rattle.vg_meaning.specs.Answer.{Signal, Breaks, Continues, Returns, Over, Answer, Gives, Ends, Piece, go_on, and_then}
+use Rattle.vg_meaning.specs.Answer.{Breaks, Continues, Returns, Over, Answer, Gives, Ends, Piece, go_on, and_then}
 use Rattle.vg_meaning.specs.Loops.{Tested as Was, choose, where_holds, turns}
 use Rattle.vg_meaning.specs.Code.{Code, Nothing, Then, Do, If, Loop, Break, Continue, Return, performed}
 use Rattle.vg_codes.specs.Codes.{Codes, AreCodes}
@@ -12,13 +12,13 @@ use Rattle.vg_firm.specs.declared.step.Step.TheVariants.{Number, This, Local as 
 use Rattle.vg_firm.specs.declared.step.Step.TheVariants.{LoadAt, StoreAt, LoadNothing, StoreNothing, LoadItem, StoreItem, Length, IsWithin}
 use Rattle.vg_firm.specs.declared.step.Step.TheVariants.{StopUnlessWithin, Bind, BindFor, Call, CallFor, CallValue, Idle}
 use Rattle.vg_firm.specs.Program.{Procedure as FirmProcedure, Program as FirmProgram}
-use Rattle.vg_firm.specs.Meaning.{State as Firm, Caller as FirmCaller, step as firm_step, truth as firm_truth}
+use Rattle.vg_firm.specs.Meaning.{State as Firm, Caller as FirmCaller, truth as firm_truth}
 use Rattle.vg_lin.specs.declared.instr.Operand.{Operand}
-use Rattle.vg_lin.specs.declared.instr.Operand.TheVariants.{Local, Known}
+use Rattle.vg_lin.specs.declared.instr.Operand.TheVariants.{Local}
 use Rattle.vg_lin.specs.declared.instr.Plain.TheVariants.{Copy}
 use Rattle.vg_lin.specs.Program.{Program as LinProgram}
 use Rattle.vg_lin.specs.Steps.{Goes}
-use Rattle.vg_lin.specs.State.{State, value, using, sets}
+use Rattle.vg_lin.specs.State.{State, using, sets}
 use Rattle.vg_lin.specs.Meaning.{language, cut_to, result_of}
 use Rattle.vg_lin.specs.Structured.{Deciding, Caller as LinCaller, with_found, handle as lin_handle, lifted, step as lin_step, truth as lin_truth}
 use Rattle.vg_flatten_shapes.specs.declared.fault.Fault.TheVariants.{NotTaken}
@@ -29,8 +29,8 @@ use Rattle.vg_flatten.specs.Flattened.{IsPassing}
 use Rattle.vg_flatten_steps.specs.Calls.{passing_of}
 use Rattle.vg_flatten_shapes.specs.declared.room.Room.{Room}
 use Rattle.vg_flatten_shapes.specs.Shapes.{Shape, only, empty, is_empty, is_none, same_operand, same_homes, temp}
-use Rattle.vg_flatten_shapes.specs.Blocks.{Block, Skip, One, TakeInterrupt, GiveBack, BreakOut, GoOn, Both, Choice, Repeat, structured, picked}
-use Rattle.vg_flatten_shapes.specs.Made.{Made, Gives as Makes, Refused, behind, after, by_temp, settled, settled_as, Tested, tested}
+use Rattle.vg_flatten_shapes.specs.Blocks.{Block, Skip, One, TakeInterrupt, GiveBack, BreakOut, GoOn, Choice, Repeat, structured, picked}
+use Rattle.vg_flatten_shapes.specs.Made.{Made, Gives as Makes, Refused, behind, after, by_temp, settled, Tested, tested}
 use Rattle.vg_flatten_steps.specs.Steps.{stepped}
 use Rattle.vg_flatten_control.specs.Flat.{landed_as, landed}
 use Rattle.vg_flatten_control.specs.Flat.{joined, chosen, where_empty, repeated, repeated_test, repeated_body, repeated_next, given_back, flat}
@@ -43,11 +43,12 @@ use Rattle.vg_flattened.proofs.Free.{homes_same}
 use Rattle.vg_flattened.proofs.Right.{Right, Does, linear, packed, right_after, right_last, right_settled, IsTested, is_tested, picks, chooses, way}
 use Rattle.vg_flattened.proofs.StepRight.{right_number, right_local, right_receiver, right_set, right_forget, right_applied, right_read, right_written}
 use Rattle.vg_flattened.proofs.CombinedRight.{right_operated}
-use Rattle.vg_flattened.proofs.ObjectRight.{right_load_nothing, right_store_nothing, right_one_of, right_cast}
+use Rattle.vg_flattened.proofs.ObjectRight.{right_no_field, right_no_field_store, right_one_of, right_cast}
 use Rattle.vg_flattened.proofs.ElementRight.{right_item}
+use Rattle.vg_flattened.proofs.LoneRight.{right_length}
 use Rattle.vg_flattened.proofs.ElementStoreRight.{right_store_item}
 use Rattle.vg_flattened.proofs.StoreRight.{right_store, right_store_at}
-use Rattle.vg_flattened.proofs.ColumnRight.{right_load, right_load_at, right_length}
+use Rattle.vg_flattened.proofs.ColumnRight.{right_load, right_load_at}
 use Rattle.vg_flattened.proofs.CallRight.{AlikeCalls, AlikeHandling}
 use Rattle.vg_flattened.proofs.CallSteps.{right_called, right_called_for, right_called_value, right_bound, right_bound_for}
 
@@ -134,8 +135,8 @@ module _ (k : Codes) (f : FirmProgram) (m : FirmProcedure) (call : FirmCaller Hi
   right_stepped (Store c w) hs placed = right_store k f m call handle p go lay r ws wide flash c w hs placed
   right_stepped (LoadAt h c o) hs placed = right_load_at k f m call handle p go lay r ws wide flash h c o hs placed
   right_stepped (StoreAt c o w) hs placed = right_store_at k f m call handle p go lay r ws wide flash c o w hs placed
-  right_stepped LoadNothing hs placed = right_load_nothing k f m call handle p go lay r ws wide hs placed
-  right_stepped StoreNothing hs placed = right_store_nothing k f m call handle p go lay r ws wide hs placed
+  right_stepped LoadNothing hs placed = right_no_field k f m call handle p go lay r ws wide hs placed
+  right_stepped StoreNothing hs placed = right_no_field_store k f m call handle p go lay r ws wide hs placed
   right_stepped (LoadItem e) hs placed = right_item k f m call handle p go lay r ws wide flash e hs placed
   right_stepped (StoreItem e) hs placed = right_store_item k f m call handle p go lay r ws wide flash e hs placed
   right_stepped (Length t) hs placed = right_length k f m call handle p go lay r ws wide flash t hs placed

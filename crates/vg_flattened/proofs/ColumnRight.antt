@@ -1,14 +1,13 @@
 -- That loads from columns and tables become blocks that do the same.
-use Rattle.std.specs.Prelude.{ℕ, zero, suc, ◌+◌, ◌-◌, ◌*◌, ◌<◌, ◌≤◌, ◌^◌, Bool, true, false, ◌==◌, ◌&&◌, nat_lt, nat_le, List, [], ◌∷◌, length, Option, Some, None}
+use Rattle.std.specs.Prelude.{ℕ, zero, suc, ◌+◌, ◌-◌, ◌*◌, ◌<◌, ◌≤◌, ◌^◌, Bool, true, false, ◌==◌, nat_lt, nat_le, List, [], ◌∷◌, length, Option, Some, None}
 use Rattle.std.specs.Prelude.{slice_get, if◌then◌else◌}
 use Rattle.std.proofs.Common.{◌≡◌, refl, sym, ap, ◌∙◌, subst, arith}
-use Rattle.std.proofs.Math.Dec.{eqb-suc-zero}
 use Rattle.std.proofs.Math.Nat.{mul_comm, mul-add, mul-le-mul_left}
 use Rattle.std.proofs.lemmas.Option.{slice_get_within}
-use Rattle.vg_meaning.specs.History.{History, full}
+use Rattle.vg_meaning.specs.History.{History}
 use Rattle.vg_meaning.specs.World.{World}
 use Rattle.vg_meaning.specs.Outside.{Outside}
-use Rattle.vg_meaning.specs.Answer.{Signal, Answer, Gives, Piece, and_then, stops}
+use Rattle.vg_meaning.specs.Answer.{Signal, Gives, Piece, and_then}
 use Rattle.vg_codes.specs.Codes.{Codes}
 use Rattle.vg_firm.specs.declared.step.ArrayPlace.{ArrayPlace}
 use Rattle.vg_firm.specs.declared.step.Home.{Home}
@@ -16,7 +15,7 @@ use Rattle.vg_firm.specs.declared.step.Home.TheVariants.{Ram as InRam, Flash as 
 use Rattle.vg_firm.specs.declared.step.Step.{Step}
 use Rattle.vg_firm.specs.declared.step.Step.TheVariants.{Load as LoadOne, LoadAt, Length}
 use Rattle.vg_firm.specs.Program.{Procedure as FirmProcedure, Program as FirmProgram}
-use Rattle.vg_firm.specs.Meaning.{State as Firm, Caller as FirmCaller, step as firm_step, put, with_found, take_from, not_null, checked, columns_in, column_of, load, at_object}
+use Rattle.vg_firm.specs.Meaning.{State as Firm, Caller as FirmCaller, step as firm_step, put, with_found, take_from, not_null, checked, columns_in, column_of, load}
 use Rattle.vg_firm.specs.Meaning.{arrays_of, array_at, put_length}
 use Rattle.vg_lin.specs.declared.instr.Operand.{Operand}
 use Rattle.vg_lin.specs.declared.instr.Operand.TheVariants.{Local, Known}
@@ -37,16 +36,16 @@ use Rattle.vg_flatten_shapes.specs.declared.room.Room.{Room}
 use Rattle.vg_flatten_shapes.specs.Shapes.{Shape, only, temp}
 use Rattle.vg_flatten_shapes.specs.Blocks.{Block, Skip, One, Both, stop_where}
 use Rattle.vg_flatten_shapes.specs.Made.{Made, Gives as Makes, Refused, by_temp, is_zero}
-use Rattle.vg_flatten_places.specs.Places.{distance, fetched_from, load_placed, is_width, load_from, multiplied, multiple, fetched, load_one, load_of, length_of, places_in, memory_of}
-use Rattle.vg_flatten.specs.Columns.{ColumnStands, TableStands, FlashStands}
+use Rattle.vg_flatten_places.specs.Places.{null_check, distance, fetched_from, load_placed, is_width, load_from, multiplied, multiple, fetched, load_one, load_sole, load_entry, load_of, length_of, places_in, memory_of}
+use Rattle.vg_flatten.specs.Columns.{ColumnStands, FlashStands}
 use Rattle.vg_flattened.proofs.MissingRight.{right_no_length}
-use Rattle.vg_flattened.proofs.Alike.{IsFair, Alike, gives, wrong}
+use Rattle.vg_flattened.proofs.Alike.{IsFair, Alike, wrong}
 use Rattle.vg_flattened.proofs.Related.{ArePlaced, AreAt, AreWidths, AreSame, Held, Leaves}
 use Rattle.vg_flattened.proofs.Numbers.{low_two}
 use Rattle.vg_flattened.proofs.Locals.{value_of_home, put_temp, placed_temp}
 use Rattle.vg_flattened.proofs.Right.{Right, linear}
 use Rattle.vg_flattened.proofs.StepRight.{into_temp, computes_to, plain_goes}
-use Rattle.vg_flattened.proofs.CombinedRight.{stops_both, says_zero, stopped, passed}
+use Rattle.vg_flattened.proofs.NullRight.{stops_before, checks_before}
 
 -- ---- places
 
@@ -91,6 +90,13 @@ reached address low' h = omega (arith, h)
 pub first_is : (address low' w : ℕ) → low' ≤ address → address + 0 - low' ≡ address - low' + w * 0
 first_is address low' w h = omega (arith, h)
 
+-- the place in a column of one entry, which is the first
+pub at_first : (j n count : ℕ) → j < n → n ≡ count → count ≡ 1 → j ≡ 0
+at_first j n count lt e one = omega (arith, lt, e, one)
+
+pub sole_is : (address low' w j : ℕ) → low' ≤ address → j ≡ 0 → address + 0 - low' ≡ address - low' + w * j
+sole_is address low' w j h e = subst (λ z. address + 0 - low' ≡ address - low' + w * z) (sym e) (first_is address low' w h)
+
 module _ (k : Codes) (f : FirmProgram) (m : FirmProcedure) (call : FirmCaller History) (handle : ℕ → Piece Firm History)
     (p : LinProgram) (go : LinCaller State) (lay : Layout) (r : Room) (ws : List ℕ) (wide : AreWidths r m.widths ws)
     (flash : FlashStands lay f p) where
@@ -118,7 +124,7 @@ module _ (k : Codes) (f : FirmProgram) (m : FirmProcedure) (call : FirmCaller Hi
   bytes_same Flash to z t = refl
 
   -- the same, where a number says how far
-  does_fetched : (memory : Memory) (width by base : ℕ) (h : Operand) (hs : List Operand) → ArePlaced r.locals hs → (to : ℕ) → temp r hs ≡ Some to
+  pub does_fetched : (memory : Memory) (width by base : ℕ) (h : Operand) (hs : List Operand) → ArePlaced r.locals hs → (to : ℕ) → temp r hs ≡ Some to
       → (n j x : ℕ) (s : Firm) (d : Deciding State) (w : World History) → IsFair w → value h d.state ≡ Some n → n * by < 65536
       → AreSame lay r ws hs s d.state → first_address memory ≤ base + n * by → base + n * by - first_address memory ≡ j
       → number_at (bytes_of p memory d.state) width j ≡ Some x → x < 2 ^ 32
@@ -167,14 +173,7 @@ module _ (k : Codes) (f : FirmProgram) (m : FirmProcedure) (call : FirmCaller Hi
       (rest : Piece (Deciding State) History) (s : Firm) (d : Deciding State) (w : World History) → IsFair w → value h d.state ≡ Some x → x < 2 ^ 32
       → (0 < x → Alike G L (next x s w) (rest (record d { truth = None }) w))
       → Alike G L (not_null next x s w) (and_then (linear' (stop_where 1 (Holds (is_zero h))) d w) rest)
-  null_then {G} {L} h zero next rest s d w i at lt goes =
-      subst (λ z. Alike G L (stops 1 0 s w) (and_then z rest))
-      (sym (stopped k f m call handle p go lay r ws wide (Holds (is_zero h)) 1 d w (says_zero h 0 d.state at lt)))
-      (stops_both 1 s (record d { truth = None }) w i)
-  null_then {G} {L} h (suc n) next rest s d w i at lt goes =
-      subst (λ z. Alike G L (next (suc n) s w) (and_then z rest))
-      (sym (passed k f m call handle p go lay r ws wide (Holds (is_zero h)) 1 d w (says_zero h (suc n) d.state at lt ∙ ap Some (eqb-suc-zero n))))
-      (goes (omega arith))
+  null_then {G} {L} h x next rest s d w i at lt goes = stops_before k f m call handle p go lay r ws wide h x next rest s d w i at lt goes
 
   -- ---- the one value of a column
 
@@ -235,19 +234,20 @@ module _ (k : Codes) (f : FirmProgram) (m : FirmProcedure) (call : FirmCaller Hi
       → ((to : ℕ) → temp r hs ≡ Some to → (n : ℕ) → 0 < n → n < 2 ^ 32 → (s : Firm) (d : Deciding State) (w : World History) → IsFair w
       → value h d.state ≡ Some n → AreSame lay r ws hs s d.state
       → Alike (Held lay r ws (only (Local to ∷ hs))) (Leaves lay r ws) (next n s w) (linear' (inside to) d w))
-      → Right' (only (h ∷ hs)) (by_temp (temp r hs) (λ to. Makes (Both (stop_where 1 (Holds (is_zero h))) (inside to)) (only (Local to ∷ hs)))) (step' q')
+      → Right' (only (h ∷ hs)) (by_temp (temp r hs) (λ to. Makes (Both (null_check r h) (inside to)) (only (Local to ∷ hs)))) (step' q')
   right_checked h hs inside q' next placed is law = by_room (temp r hs) refl
     where
       block : ℕ → Block
-      block to = Both (stop_where 1 (Holds (is_zero h))) (inside to)
+      block to = Both (null_check r h) (inside to)
 
       by_values : (to : ℕ) → temp r hs ≡ Some to → (s : Firm) (d : Deciding State) (w : World History) → IsFair w → AreSame lay r ws (h ∷ hs) s d.state
           → (vs : List ℕ) → AreAt (h ∷ hs) vs d.state.locals
           → Alike (Held lay r ws (only (Local to ∷ hs))) (Leaves lay r ws) (take_from vs (not_null next) s w) (linear' (block to) d w)
       by_values to has s d w i q [] at = absurd at
       by_values to has s d w i q (n ∷ vs) at =
-          null_then h n next (linear' (inside to)) (record s { values = vs }) d w i (value_of_home h n d.state at.0.0) at.0.1
-          (λ above. law to has n above at.0.1 (record s { values = vs }) (record d { truth = None }) w i (value_of_home h n d.state at.0.0)
+          checks_before k f m call handle p go lay r ws wide h n next (linear' (inside to)) (record s { values = vs }) d w i
+          (value_of_home h n d.state at.0.0) at.0.1 q.kept
+          (λ c above. law to has n above at.0.1 (record s { values = vs }) (record d { truth = c }) w i (value_of_home h n d.state at.0.0)
           (record { waits = at.1; kept = q.kept; none = q.none; ram = q.ram }))
 
       by_room : (o : Option ℕ) → temp r hs ≡ o → Right' (only (h ∷ hs)) (by_temp o (λ to. Makes (block to) (only (Local to ∷ hs)))) (step' q')
@@ -380,6 +380,24 @@ module _ (k : Codes) (f : FirmProgram) (m : FirmProcedure) (call : FirmCaller Hi
           there : AreSame lay r ws (Local to ∷ hs) (record s { values = (n - first) ∷ s.values }) (sets to (n - first) d.state)
           there = put_temp lay r m.widths ws hs s d.state to (n - first) wide placed.1 has (less n first (2 ^ 32) small) same
 
+      -- the same, where there is one
+      inside_sole : ℕ → Block
+      inside_sole to = One (load_from (memory_of home) place.width to place.address (Known 0))
+
+      does_sole : is_width place.width ≡ true → place.count ≡ 1 → (to : ℕ) → temp r hs ≡ Some to → (n : ℕ) → (s : Firm) (d : Deciding State)
+          (w : World History) → IsFair w → AreSame lay r ws hs s d.state
+          → (vs : List ℕ) → slice_get (columns_in f home s) c ≡ Some vs → (v : ℕ) → slice_get vs (n - first) ≡ Some v
+          → Alike (Held lay r ws (only (Local to ∷ hs))) (Leaves lay r ws) (put v s w) (linear' (inside_sole to) d w)
+      does_sole is one to has n s d w i same vs hc v he =
+          let stands = stands_in home hs s d.state same c place vs e hc in
+          let zero' = at_first (n - first) (length vs) place.count (slice_get_within vs (n - first) v he) stands.counted one in
+          let stood = stands.held (n - first) v he in
+          into_temp k f m call handle p go lay r ws wide hs to v (load_from (memory_of home) place.width to place.address (Known 0)) s d w i placed.1 has
+          (four_bytes place.width v (width_high place.width is) stood.1) same
+          (loads (memory_of home) place.width to place.address 0 (place.address - first_address (memory_of home) + place.width * (n - first)) v
+          (Known 0) d.state w.outside refl (reached place.address (first_address (memory_of home)) stands.behind)
+          (sole_is place.address (first_address (memory_of home)) place.width (n - first) stands.behind zero') stood.0)
+
       next : ℕ → Piece Firm History
       next = λ n. checked (nat_le first n) (load f home c (n - first))
 
@@ -395,10 +413,18 @@ module _ (k : Codes) (f : FirmProgram) (m : FirmProcedure) (call : FirmCaller Hi
           (λ to has n above small s d w i hv same. loaded_right home c first n s d w (inside_from to)
           (λ ge vs hc v he. does_from is to has n ge small s d w i hv same vs hc v he))
 
+      by_count : is_width place.width ≡ true → (b : Bool) → (place.count == 1) ≡ b
+          → Right' (only (h ∷ hs)) (if b then load_sole r (memory_of home) place.width place.address h hs
+          else load_placed r (memory_of home) place.width first place.address h hs) (step' (LoadAt home c first))
+      by_count is true one =
+          right_checked h hs inside_sole (LoadAt home c first) next placed.1 (λ s w. refl)
+          (λ to has n above small s d w i hv same. loaded_right home c first n s d w (inside_sole to)
+          (λ ge vs hc v he. does_sole is (grind arith) to has n s d w i same vs hc v he))
+      by_count is false many = by_address is (nat_le (place.width * first) place.address) refl
+
       by_width : (b : Bool) → is_width place.width ≡ b
-          → Right' (only (h ∷ hs)) (if b then load_placed r (memory_of home) place.width first place.address h hs else Refused NotTaken)
-          (step' (LoadAt home c first))
-      by_width true is = by_address is (nat_le (place.width * first) place.address) refl
+          → Right' (only (h ∷ hs)) (if b then load_entry r (memory_of home) first place h hs else Refused NotTaken) (step' (LoadAt home c first))
+      by_width true is = by_count is (place.count == 1) refl
       by_width false is = tt
 
   pub right_load_at : (home : Home) (c first : ℕ) (hs : List Operand) → ArePlaced r.locals hs
@@ -451,5 +477,5 @@ module _ (k : Codes) (f : FirmProgram) (m : FirmProcedure) (call : FirmCaller Hi
           (λ to has n above small s d w i hv same. by_table (grind arith) to has n above s d w i hv same (slice_get f.tables t) refl)
       by_size false le = tt
 
-  pub right_length : (t : ℕ) (hs : List Operand) → ArePlaced r.locals hs → Right' (only hs) (length_of r (slice_get lay.tables t) hs) (step' (Length t))
-  right_length t hs placed = right_length_of t (slice_get lay.tables t) refl hs placed
+  pub right_by_table : (t : ℕ) (hs : List Operand) → ArePlaced r.locals hs → Right' (only hs) (length_of r (slice_get lay.tables t) hs) (step' (Length t))
+  right_by_table t hs placed = right_length_of t (slice_get lay.tables t) refl hs placed

@@ -1,11 +1,10 @@
 -- That divisions and shifts become blocks that do the same.
-use Rattle.std.specs.Prelude.{ℕ, zero, suc, ◌+◌, ◌-◌, ◌*◌, ◌/◌, ◌<◌, ◌≤◌, ◌^◌, Bool, true, false, ◌==◌, ◌&&◌, nat_lt, nat_le, List, [], ◌∷◌, Option, Some, None, if◌then◌else◌}
-use Rattle.std.specs.Prelude.{bit_and}
+use Rattle.std.specs.Prelude.{ℕ, zero, suc, ◌+◌, ◌-◌, ◌*◌, ◌<◌, ◌≤◌, ◌^◌, Bool, true, false, ◌==◌, ◌&&◌, nat_lt, nat_le, List, [], ◌∷◌, Option, Some, None, if◌then◌else◌}
 use Rattle.std.proofs.Common.{◌≡◌, refl, sym, ap, ◌∙◌, subst, arith}
 use Rattle.std.proofs.Math.Dec.{eqb-suc-zero}
-use Rattle.vg_meaning.specs.History.{History, full}
-use Rattle.vg_meaning.specs.World.{World, Running}
-use Rattle.vg_meaning.specs.Answer.{Signal, Stops, Over, Ends, Gives, Piece, and_then, over, stops, kept}
+use Rattle.vg_meaning.specs.History.{History}
+use Rattle.vg_meaning.specs.World.{World}
+use Rattle.vg_meaning.specs.Answer.{Signal, Stops, Gives, Piece, and_then, over, stops, kept}
 use Rattle.vg_codes.specs.Codes.{Codes}
 use Rattle.vg_firm.specs.declared.step.Operator.{Operator}
 use Rattle.vg_firm.specs.declared.step.Operator.TheVariants.{Plus, Minus, Times, Divide, Remainder, Less, AtMost, Greater, AtLeast, Equal, Unequal}
@@ -20,27 +19,24 @@ use Rattle.vg_lin.specs.declared.instr.Operand.TheVariants.{Local, Known}
 use Rattle.vg_lin.specs.declared.instr.Operator.{Operator as LinOperator}
 use Rattle.vg_lin.specs.declared.instr.Operator.TheVariants.{Plus as Sum, Minus as Difference, Times as Product, And as Both', Or as Either', Xor as Unlike}
 use Rattle.vg_lin.specs.declared.instr.Operator.TheVariants.{Divide as Quotient, Remainder as Rest, ShiftLeft as LeftShift, ShiftRight as RightShift}
-use Rattle.vg_lin.specs.declared.instr.Comparison.TheVariants.{Below, Same}
-use Rattle.vg_lin.specs.declared.instr.Test.{Test}
-use Rattle.vg_lin.specs.declared.instr.Plain.TheVariants.{Copy, Compute, Stop}
-use Rattle.vg_lin.specs.Values.{low, compared, computed as lin_computed}
+use Rattle.vg_lin.specs.declared.instr.Comparison.TheVariants.{Same}
+use Rattle.vg_lin.specs.declared.instr.Plain.TheVariants.{Compute, Stop}
 use Rattle.vg_lin.specs.Program.{Program as LinProgram}
 use Rattle.vg_lin.specs.State.{State, value, sets}
 use Rattle.vg_lin.specs.Structured.{Deciding, Caller as LinCaller}
-use Rattle.vg_flatten_shapes.specs.declared.fault.Fault.TheVariants.{NotTaken}
 use Rattle.vg_flatten_shapes.specs.declared.open.Truth.{Truth}
 use Rattle.vg_flatten_shapes.specs.declared.open.Truth.TheVariants.{Holds}
 use Rattle.vg_flatten_shapes.specs.declared.layout.Layout.{Layout}
 use Rattle.vg_flatten_shapes.specs.declared.room.Room.{Room}
 use Rattle.vg_flatten_shapes.specs.Shapes.{Shape, only, temp}
-use Rattle.vg_flatten_shapes.specs.Blocks.{Block, Skip, One, Both, Choice, stop_where}
-use Rattle.vg_flatten_shapes.specs.Made.{Made, Gives as Makes, Refused, is_zero}
-use Rattle.vg_flatten_values.specs.Values.{computing, comparing, test_of, computed, operated, operated_as, bytes_of, bytes_around, may_be_zero}
+use Rattle.vg_flatten_shapes.specs.Blocks.{Block, Skip, One, Both, stop_where}
+use Rattle.vg_flatten_shapes.specs.Made.{Made, Gives as Makes, is_zero}
+use Rattle.vg_flatten_values.specs.Values.{computing, comparing, computed, operated, operated_as, bytes_of, bytes_around, may_be_zero}
 use Rattle.vg_flatten_values.specs.Values.{divided, masked, shifted_left, shifted_right, bytes_for, concatenated, combined}
 use Rattle.vg_flatten_shapes.proofs.Temps.{some_is, none_is_not}
 use Rattle.vg_flattened.proofs.Alike.{IsFair, Alike, gives, overs, wrong}
 use Rattle.vg_flattened.proofs.Related.{ArePlaced, AreAt, AreWidths, AreSame, Held, Leaves, said}
-use Rattle.vg_flattened.proofs.Numbers.{low_same, same_same, below_same, quotient_same, quotient_below, remainder_same, remainder_below}
+use Rattle.vg_flattened.proofs.Numbers.{low_same, same_same, quotient_same, quotient_below, remainder_same, remainder_below}
 use Rattle.vg_flattened.proofs.Operating.{Computes, computes, holds_of}
 use Rattle.vg_flattened.proofs.Shifting.{left_in, left_in_small, left_is, left_whole, left_wide, left_wide_small, left_masked}
 use Rattle.vg_flattened.proofs.Strings.{right_string, right_nothing_left}

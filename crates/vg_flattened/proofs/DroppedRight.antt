@@ -1,6 +1,6 @@
 -- That loads of elements, and stores to them, become blocks that do the same where the elements have no column: the array is checked and
 -- the index is, and within bounds the packed program has no element.
-use Rattle.std.specs.Prelude.{ℕ, ◌+◌, ◌-◌, ◌*◌, ◌<◌, ◌≤◌, ◌^◌, Bool, true, false, not, nat_lt, nat_le, List, [], ◌∷◌, length}
+use Rattle.std.specs.Prelude.{ℕ, ◌+◌, ◌-◌, ◌*◌, ◌<◌, ◌≤◌, ◌^◌, Bool, true, false, not, nat_lt, nat_le, List, [], ◌∷◌}
 use Rattle.std.specs.Prelude.{Option, Some, None, slice_get, if◌then◌else◌}
 use Rattle.std.specs.Option.{option_map}
 use Rattle.std.proofs.Common.{◌≡◌, refl, sym, ap, ◌∙◌, subst, arith}
@@ -37,7 +37,7 @@ use Rattle.vg_flatten_shapes.specs.Shapes.{Shape, only, temp}
 use Rattle.vg_flatten_shapes.specs.Blocks.{Block, One, Both}
 use Rattle.vg_flatten_shapes.specs.Made.{Made, Gives as Makes, Refused, by_temp}
 use Rattle.vg_flatten_places.specs.declared.elements.Reach.{Reach}
-use Rattle.vg_flatten_places.specs.Places.{load_from, places_in, timed, inside, bounded, reached, element_of, no_element, load_item, store_item}
+use Rattle.vg_flatten_places.specs.Places.{load_from, places_in, timed, inside, bounded, reached, element_of, no_element, load_dropped, store_dropped}
 use Rattle.vg_flatten_values.specs.Values.{test_of}
 use Rattle.vg_flatten.specs.Columns.{TableStands, FlashStands}
 use Rattle.vg_flattened.proofs.MissingRight.{not_found}
@@ -282,7 +282,7 @@ module _ (k : Codes) (f : FirmProgram) (m : FirmProcedure) (call : FirmCaller Hi
       by_values first second has1 has2 s d w fair q (y ∷ x ∷ n ∷ vs) at = by_fit first second has1 has2 s d w fair q y x n vs at (nat_lt y (256 ^ e.width))
 
   pub right_dropped : (e : Elements) (table : ℕ) → slice_get (places_in lay e.home) e.column ≡ None → slice_get lay.tables e.table ≡ Some table
-      → (hs : List Operand) → ArePlaced r.locals hs → Right' (only hs) (load_item r e None (Some table) hs) (step' (LoadItem e))
+      → (hs : List Operand) → ArePlaced r.locals hs → Right' (only hs) (load_dropped r e table hs) (step' (LoadItem e))
   right_dropped e table lacks table_at [] placed = tt
   right_dropped e table lacks table_at (i ∷ []) placed = tt
   right_dropped e table lacks table_at (i ∷ h ∷ hs) placed = by_above (nat_le 4 table)
@@ -293,7 +293,7 @@ module _ (k : Codes) (f : FirmProgram) (m : FirmProcedure) (call : FirmCaller Hi
       by_above false = tt
 
   pub right_store_dropped : (e : Elements) (table : ℕ) → slice_get lay.ram e.column ≡ None → slice_get lay.tables e.table ≡ Some table
-      → (hs : List Operand) → ArePlaced r.locals hs → Right' (only hs) (store_item r e None (Some table) hs) (step' (StoreItem e))
+      → (hs : List Operand) → ArePlaced r.locals hs → Right' (only hs) (store_dropped r e table hs) (step' (StoreItem e))
   right_store_dropped e table lacks table_at [] placed = tt
   right_store_dropped e table lacks table_at (v ∷ []) placed = tt
   right_store_dropped e table lacks table_at (v ∷ i ∷ []) placed = tt

@@ -3,7 +3,7 @@ use Rattle.std.specs.Prelude.{ℕ, ◌+◌, ◌-◌, ◌*◌, ◌/◌, ◌%◌, 
 use Rattle.std.specs.Prelude.{Option, Some, None, slice_get, if◌then◌else◌}
 use Rattle.std.specs.Option.{option_map}
 use Rattle.std.proofs.Common.{◌≡◌, refl, sym, ap, ◌∙◌, subst, arith}
-use Rattle.std.proofs.Math.Nat.{mul_comm, mul-add, mod-add-div}
+use Rattle.std.proofs.Math.Nat.{mul_comm}
 use Rattle.std.proofs.lemmas.Option.{slice_get_within}
 use Rattle.vg_meaning.specs.History.{History}
 use Rattle.vg_meaning.specs.World.{World}
@@ -26,7 +26,7 @@ use Rattle.vg_lin.specs.declared.instr.Memory.TheVariants.{Flash}
 use Rattle.vg_lin.specs.declared.instr.Plain.{Plain}
 use Rattle.vg_lin.specs.declared.instr.Plain.TheVariants.{Compute}
 use Rattle.vg_lin.specs.Program.{Program as LinProgram}
-use Rattle.vg_lin.specs.State.{State, sets, plain, first_address, bytes_of, number_at}
+use Rattle.vg_lin.specs.State.{State, sets, first_address, bytes_of, number_at}
 use Rattle.vg_lin.specs.Structured.{Deciding, Caller as LinCaller}
 use Rattle.vg_flatten_shapes.specs.declared.fault.Fault.TheVariants.{NotTaken}
 use Rattle.vg_flatten_shapes.specs.declared.layout.Place.{Place}
@@ -37,7 +37,7 @@ use Rattle.vg_flatten_shapes.specs.Shapes.{Shape, only, temp}
 use Rattle.vg_flatten_shapes.specs.Blocks.{Block, One, Both}
 use Rattle.vg_flatten_shapes.specs.Made.{Made, Gives as Makes, Refused, by_temp}
 use Rattle.vg_flatten_places.specs.declared.elements.Reach.{Reach}
-use Rattle.vg_flatten_places.specs.Places.{is_width, load_from, places_in, memory_of, timed, place_of, bounded, reached, element_of, load_element, load_item}
+use Rattle.vg_flatten_places.specs.Places.{is_width, load_from, places_in, memory_of, timed, place_of, bounded, reached, element_of, lone_of, load_element, load_inside, load_item}
 use Rattle.vg_flatten_values.specs.Values.{test_of}
 use Rattle.vg_flatten.specs.Columns.{ColumnStands, TableStands, FlashStands}
 use Rattle.vg_flattened.proofs.MissingRight.{right_no_item}
@@ -50,31 +50,9 @@ use Rattle.vg_flattened.proofs.Locals.{value_of_home, put_temp, placed_temp}
 use Rattle.vg_flattened.proofs.Right.{Right, linear}
 use Rattle.vg_flattened.proofs.StepRight.{into_temp, computes_to}
 use Rattle.vg_flattened.proofs.CombinedRight.{stops_both, stopped, passed}
+use Rattle.vg_flattened.proofs.ElementPlace.{whole_behind, sum_small, times_small, sum_behind, sum_is}
+use Rattle.vg_flattened.proofs.LoneRight.{right_lone}
 use Rattle.vg_flattened.proofs.ColumnRight.{width_low, entry_within, width_high, four_bytes, null_then, loads, stands_in}
-
--- ---- the place of an element
-
--- The elements of an array stand in the column of its type, a whole number of them behind its first.
-pub whole_behind : (address first w i : ℕ) → first ≤ address → (address - first) % w ≡ 0 → w * ((address - first) / w + i) ≡ address - first + w * i
-whole_behind address first w i le e =
-    mul-add w ((address - first) / w) i ∙ ap (λ z. z + w * i) (sym (from_zero ((address - first) % w) (w * ((address - first) / w)) e)
-    ∙ mod-add-div (address - first) w)
-  where
-    from_zero : (a b : ℕ) → a ≡ 0 → a + b ≡ b
-    from_zero a b e1 = omega (arith, e1)
-
--- over plain numbers: d is how far the array is behind the column, t how far the element is behind the array
-pub sum_small : (address first t all : ℕ) → first ≤ address → first + all ≤ 65536 → address - first + t < all → address + t < 65536
-sum_small address first t all h1 h2 h3 = omega (arith, h1, h2, h3)
-
-pub times_small : (d t all first : ℕ) → first + all ≤ 65536 → d + t < all → t < 65536
-times_small d t all first h1 h2 = omega (arith, h1, h2)
-
-pub sum_behind : (low' address first t : ℕ) → low' ≤ first → first ≤ address → low' ≤ 0 + (address + t)
-sum_behind low' address first t h1 h2 = omega (arith, h1, h2)
-
-pub sum_is : (low' address first t : ℕ) → low' ≤ first → first ≤ address → 0 + (address + t) - low' ≡ first - low' + (address - first + t)
-sum_is low' address first t h1 h2 = omega (arith, h1, h2)
 
 module _ (k : Codes) (f : FirmProgram) (m : FirmProcedure) (call : FirmCaller History) (handle : ℕ → Piece Firm History)
     (p : LinProgram) (go : LinCaller State) (lay : Layout) (r : Room) (ws : List ℕ) (wide : AreWidths r m.widths ws)
@@ -402,12 +380,22 @@ module _ (k : Codes) (f : FirmProgram) (m : FirmProcedure) (call : FirmCaller Hi
       by_to (Some to) has0 = by_first to has0 (temp r (i ∷ h ∷ hs)) refl
       by_to None has0 = tt
 
+  -- by whether the array of the table is the only one
+  right_inside : (single : Option ArrayPlace) (e : Elements) (place : Place) (table : ℕ) → lone_of lay e.table ≡ single
+      → slice_get (places_in lay e.home) e.column ≡ Some place → slice_get lay.tables e.table ≡ Some table → e.address ≡ place.address
+      → e.width ≡ place.width → is_width e.width ≡ true → (h i : Operand) (hs : List Operand) → ArePlaced r.locals (i ∷ h ∷ hs)
+      → Right' (only (i ∷ h ∷ hs)) (load_inside r single e table h i hs) (step' (LoadItem e))
+  right_inside (Some a) e place table alone column_at table_at ea ew is h i hs placed =
+      right_lone k f m call handle p go lay r ws wide flash e a alone place column_at ea ew is h i hs placed
+  right_inside None e place table alone column_at table_at ea ew is h i hs placed = right_element e place table column_at table_at ea ew is h i hs placed
+
   pub right_item : (e : Elements) (hs : List Operand) → ArePlaced r.locals hs
-      → Right' (only hs) (load_item r e (slice_get (places_in lay e.home) e.column) (slice_get lay.tables e.table) hs) (step' (LoadItem e))
+      → Right' (only hs) (load_item r (lone_of lay e.table) e (slice_get (places_in lay e.home) e.column) (slice_get lay.tables e.table) hs)
+      (step' (LoadItem e))
   right_item e hs placed = by_found (slice_get (places_in lay e.home) e.column) refl (slice_get lay.tables e.table) refl hs placed
     where
       by_found : (o : Option Place) → slice_get (places_in lay e.home) e.column ≡ o → (u : Option ℕ) → slice_get lay.tables e.table ≡ u
-          → (gs : List Operand) → ArePlaced r.locals gs → Right' (only gs) (load_item r e o u gs) (step' (LoadItem e))
+          → (gs : List Operand) → ArePlaced r.locals gs → Right' (only gs) (load_item r (lone_of lay e.table) e o u gs) (step' (LoadItem e))
       by_found o c None d gs placed1 = right_no_item k f m call handle p go lay r ws wide flash e d gs placed1
       by_found None c (Some table) d gs placed1 = right_dropped k f m call handle p go lay r ws wide flash e table c d gs placed1
       by_found (Some place) c (Some table) d [] placed1 = tt
@@ -417,8 +405,10 @@ module _ (k : Codes) (f : FirmProgram) (m : FirmProcedure) (call : FirmCaller Hi
         where
           by_width : (b : Bool) → is_width e.width ≡ b → (b1 : Bool) → (e.address == place.address) ≡ b1 → (b2 : Bool) → (e.width == place.width) ≡ b2
               → (b3 : Bool)
-              → Right' (only (i ∷ h ∷ gs)) (if b && (b1 && b2) && b3 then load_element r e table h i gs else Refused NotTaken) (step' (LoadItem e))
-          by_width true is true ea true ew true = right_element e place table c d (grind arith) (grind arith) is h i gs placed1
+              → Right' (only (i ∷ h ∷ gs)) (if b && (b1 && b2) && b3 then load_inside r (lone_of lay e.table) e table h i gs else Refused NotTaken)
+              (step' (LoadItem e))
+          by_width true is true ea true ew true =
+              right_inside (lone_of lay e.table) e place table refl c d (grind arith) (grind arith) is h i gs placed1
           by_width true is true ea true ew false = tt
           by_width true is true ea false ew b3 = tt
           by_width true is false ea b2 ew b3 = tt

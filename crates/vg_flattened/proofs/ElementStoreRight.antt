@@ -1,13 +1,12 @@
 -- That stores to elements become blocks that do the same.
-use Rattle.std.specs.Prelude.{ℕ, zero, suc, ◌+◌, ◌-◌, ◌*◌, ◌/◌, ◌%◌, ◌<◌, ◌≤◌, ◌^◌, Bool, true, false, not, ◌==◌, ◌&&◌, nat_lt, nat_le, List, [], ◌∷◌, length}
+use Rattle.std.specs.Prelude.{ℕ, ◌+◌, ◌-◌, ◌*◌, ◌/◌, ◌%◌, ◌<◌, ◌≤◌, ◌^◌, Bool, true, false, not, ◌==◌, ◌&&◌, nat_lt, nat_le, List, [], ◌∷◌, length}
 use Rattle.std.specs.Prelude.{Option, Some, None, slice_get, if◌then◌else◌}
 use Rattle.std.specs.Option.{option_map}
 use Rattle.std.proofs.Common.{◌≡◌, refl, sym, ap, ◌∙◌, subst, arith}
-use Rattle.std.proofs.Math.Nat.{mul_comm, mul-add, mul-le-mul_left, mod-add-div}
+use Rattle.std.proofs.Math.Nat.{mul_comm}
 use Rattle.std.proofs.lemmas.Option.{slice_get_within}
-use Rattle.vg_meaning.specs.History.{History, full}
+use Rattle.vg_meaning.specs.History.{History}
 use Rattle.vg_meaning.specs.World.{World}
-use Rattle.vg_meaning.specs.Outside.{Outside}
 use Rattle.vg_meaning.specs.Answer.{Signal, Answer, Gives, Piece, and_then, stops}
 use Rattle.vg_codes.specs.Codes.{Codes}
 use Rattle.vg_firm.specs.declared.step.ArrayPlace.{ArrayPlace}
@@ -15,18 +14,17 @@ use Rattle.vg_firm.specs.declared.step.Elements.{Elements}
 use Rattle.vg_firm.specs.declared.step.Step.{Step}
 use Rattle.vg_firm.specs.declared.step.Step.TheVariants.{StoreItem}
 use Rattle.vg_firm.specs.Program.{Procedure as FirmProcedure, Program as FirmProgram}
-use Rattle.vg_firm.specs.Meaning.{State as Firm, Caller as FirmCaller, step as firm_step, put, taking, take_from, with_found, stop_unless, checked, of_width, column_of, set_entry, set_found}
+use Rattle.vg_firm.specs.Meaning.{State as Firm, Caller as FirmCaller, step as firm_step, taking, take_from, with_found, stop_unless, checked, of_width, column_of, set_entry, set_found}
 use Rattle.vg_firm.specs.Meaning.{store, arrays_of, stands_in as is_in, item_index, array_at, at_item}
 use Rattle.vg_lin.specs.declared.instr.Operand.{Operand}
-use Rattle.vg_lin.specs.declared.instr.Operand.TheVariants.{Local, Known}
-use Rattle.vg_lin.specs.declared.instr.Operator.TheVariants.{Plus as Sum, Times as Product}
+use Rattle.vg_lin.specs.declared.instr.Operand.TheVariants.{Local}
+use Rattle.vg_lin.specs.declared.instr.Operator.TheVariants.{Plus as Sum}
 use Rattle.vg_lin.specs.declared.instr.Comparison.TheVariants.{Below}
 use Rattle.vg_lin.specs.declared.instr.Memory.TheVariants.{Ram, Flash}
 use Rattle.vg_lin.specs.declared.instr.Plain.{Plain}
 use Rattle.vg_lin.specs.declared.instr.Plain.TheVariants.{Compute}
 use Rattle.vg_lin.specs.Program.{Program as LinProgram}
-use Rattle.vg_lin.specs.Steps.{Goes}
-use Rattle.vg_lin.specs.State.{State, value, holds, sets, plain, first_address, bytes_of, number_at}
+use Rattle.vg_lin.specs.State.{State, sets, first_address}
 use Rattle.vg_lin.specs.Structured.{Deciding, Caller as LinCaller}
 use Rattle.vg_flatten_shapes.specs.declared.fault.Fault.TheVariants.{NotTaken}
 use Rattle.vg_flatten_shapes.specs.declared.layout.Place.{Place}
@@ -34,25 +32,26 @@ use Rattle.vg_flatten_shapes.specs.declared.layout.Layout.{Layout}
 use Rattle.vg_flatten_shapes.specs.declared.open.Truth.TheVariants.{Fails}
 use Rattle.vg_flatten_shapes.specs.declared.room.Room.{Room}
 use Rattle.vg_flatten_shapes.specs.Shapes.{Shape, only, temp}
-use Rattle.vg_flatten_shapes.specs.Blocks.{Block, One, Both, stop_where}
+use Rattle.vg_flatten_shapes.specs.Blocks.{Block, One, Both}
 use Rattle.vg_flatten_shapes.specs.Made.{Made, Gives as Makes, Refused, by_temp}
 use Rattle.vg_flatten_places.specs.declared.elements.Reach.{Reach}
-use Rattle.vg_flatten_places.specs.Places.{is_width, load_from, places_in, memory_of, is_place, timed, place_of, bounded, reached, element_of, store_at, store_element, store_item}
+use Rattle.vg_flatten_places.specs.Places.{is_width, load_from, timed, place_of, bounded, reached, element_of, lone_of, store_at, store_element, store_inside, store_item}
 use Rattle.vg_flatten_values.specs.Values.{test_of}
 use Rattle.vg_flatten.specs.Columns.{ColumnStands, TableStands, FlashStands}
 use Rattle.vg_flattened.proofs.MissingRight.{right_no_store}
 use Rattle.vg_flattened.proofs.DroppedRight.{right_store_dropped, step_then, times_is, less}
-use Rattle.vg_flattened.proofs.Alike.{IsFair, Alike, gives, wrong}
-use Rattle.vg_flattened.proofs.Related.{ArePlaced, AreAt, AreWidths, AreSame, Held, Leaves, said}
+use Rattle.vg_flattened.proofs.Alike.{IsFair, Alike, wrong}
+use Rattle.vg_flattened.proofs.Related.{ArePlaced, AreAt, AreWidths, AreSame, Held, Leaves}
 use Rattle.vg_flattened.proofs.Numbers.{low_two, below_same}
 use Rattle.vg_flattened.proofs.Operating.{holds_of}
 use Rattle.vg_flattened.proofs.Locals.{value_of_home, put_temp, placed_temp}
 use Rattle.vg_flattened.proofs.Right.{Right, linear}
-use Rattle.vg_flattened.proofs.StepRight.{into_temp, computes_to, plain_goes}
+use Rattle.vg_flattened.proofs.StepRight.{computes_to}
 use Rattle.vg_flattened.proofs.CombinedRight.{stops_both, stopped, passed}
 use Rattle.vg_flattened.proofs.ColumnRight.{width_low, entry_within, null_then, loads}
 use Rattle.vg_flattened.proofs.StoreRight.{does_store}
-use Rattle.vg_flattened.proofs.ElementRight.{whole_behind, sum_small, times_small, sum_behind, sum_is}
+use Rattle.vg_flattened.proofs.ElementPlace.{whole_behind, sum_small, times_small, sum_behind, sum_is}
+use Rattle.vg_flattened.proofs.LoneRight.{right_lone_store}
 
 module _ (k : Codes) (f : FirmProgram) (m : FirmProcedure) (call : FirmCaller History) (handle : ℕ → Piece Firm History)
     (p : LinProgram) (go : LinCaller State) (lay : Layout) (r : Room) (ws : List ℕ) (wide : AreWidths r m.widths ws)
@@ -371,12 +370,22 @@ module _ (k : Codes) (f : FirmProgram) (m : FirmProcedure) (call : FirmCaller Hi
       by_first (Some first) has1 = by_second first has1 (temp r (Local first ∷ from ∷ i ∷ h ∷ hs)) refl
       by_first None has1 = tt
 
+  -- by whether the array of the table is the only one
+  right_inside : (single : Option ArrayPlace) (e : Elements) (place : Place) (table : ℕ) → lone_of lay e.table ≡ single → slice_get lay.ram e.column ≡ Some place
+      → slice_get lay.tables e.table ≡ Some table → e.address ≡ place.address → e.width ≡ place.width → is_width e.width ≡ true
+      → (from h i : Operand) (hs : List Operand) → ArePlaced r.locals (from ∷ i ∷ h ∷ hs)
+      → Right' (only (from ∷ i ∷ h ∷ hs)) (store_inside r single e.width table from h i hs) (step' (StoreItem e))
+  right_inside (Some a) e place table alone column_at table_at ea ew is from h i hs placed =
+      right_lone_store k f m call handle p go lay r ws wide flash e a alone place column_at ea ew is from h i hs placed
+  right_inside None e place table alone column_at table_at ea ew is from h i hs placed =
+      right_element e place table column_at table_at ea ew is from h i hs placed
+
   pub right_store_item : (e : Elements) (hs : List Operand) → ArePlaced r.locals hs
-      → Right' (only hs) (store_item r e (slice_get lay.ram e.column) (slice_get lay.tables e.table) hs) (step' (StoreItem e))
+      → Right' (only hs) (store_item r (lone_of lay e.table) e (slice_get lay.ram e.column) (slice_get lay.tables e.table) hs) (step' (StoreItem e))
   right_store_item e hs placed = by_found (slice_get lay.ram e.column) refl (slice_get lay.tables e.table) refl hs placed
     where
       by_found : (o : Option Place) → slice_get lay.ram e.column ≡ o → (u : Option ℕ) → slice_get lay.tables e.table ≡ u
-          → (gs : List Operand) → ArePlaced r.locals gs → Right' (only gs) (store_item r e o u gs) (step' (StoreItem e))
+          → (gs : List Operand) → ArePlaced r.locals gs → Right' (only gs) (store_item r (lone_of lay e.table) e o u gs) (step' (StoreItem e))
       by_found o c None d gs placed1 = right_no_store k f m call handle p go lay r ws wide flash e d gs placed1
       by_found None c (Some table) d gs placed1 = right_store_dropped k f m call handle p go lay r ws wide flash e table c d gs placed1
       by_found (Some place) c (Some table) d [] placed1 = tt
@@ -387,9 +396,10 @@ module _ (k : Codes) (f : FirmProgram) (m : FirmProcedure) (call : FirmCaller Hi
         where
           by_width : (b : Bool) → is_width e.width ≡ b → (b1 : Bool) → (e.address == place.address) ≡ b1 → (b2 : Bool) → (e.width == place.width) ≡ b2
               → (b3 : Bool)
-              → Right' (only (v ∷ i ∷ h ∷ gs)) (if b && (b1 && b2) && b3 then store_element r e.width table v h i gs else Refused NotTaken) (step'
-              (StoreItem e))
-          by_width true is true ea true ew true = right_element e place table c d (grind arith) (grind arith) is v h i gs placed1
+              → Right' (only (v ∷ i ∷ h ∷ gs)) (if b && (b1 && b2) && b3 then store_inside r (lone_of lay e.table) e.width table v h i gs
+              else Refused NotTaken) (step' (StoreItem e))
+          by_width true is true ea true ew true =
+              right_inside (lone_of lay e.table) e place table refl c d (grind arith) (grind arith) is v h i gs placed1
           by_width true is true ea true ew false = tt
           by_width true is true ea false ew b3 = tt
           by_width true is false ea b2 ew b3 = tt

@@ -1,7 +1,7 @@
 -- A local in which nothing waits may be written, and then has that value.
-use Rattle.std.specs.Prelude.{ℕ, zero, suc, ◌+◌, ◌<◌, ◌≤◌, ◌^◌, Bool, true, false, not, ◌==◌, ◌&&◌, nat_lt, List, [], ◌∷◌, ◌++◌, length, reverse, Option, Some, None}
+use Rattle.std.specs.Prelude.{ℕ, zero, suc, ◌+◌, ◌<◌, ◌^◌, Bool, true, false, not, ◌==◌, ◌&&◌, List, [], ◌∷◌, ◌++◌, reverse, Option, Some}
 use Rattle.std.specs.Prelude.{slice_get, slice_set}
-use Rattle.std.proofs.Common.{◌≡◌, ◌≢◌, ◌⊎◌, inl, inr, refl, sym, ap, ◌∙◌, subst, arith}
+use Rattle.std.proofs.Common.{◌≡◌, ◌≢◌, refl, sym, ap, ◌∙◌, subst, arith}
 use Rattle.std.proofs.lemmas.List.{reverse-append}
 use Rattle.vg_lin.specs.declared.instr.Operand.{Operand}
 use Rattle.vg_lin.specs.declared.instr.Operand.TheVariants.{Local, Known}
@@ -95,6 +95,7 @@ pub kept_behind_set : (r : Room) (ws : List ℕ) (self : Option ℕ) (vs : List 
 kept_behind_set r ws self vs ls i w v has same small kept =
     record {
       receiver = receiver_stays r self ls to v (λ n e l1 l2. let ne : 0 ≢ to = omega (arith, l1) in ne) kept.receiver;
+      object = kept.object;
       there = kept_there r ws self vs ls to v kept;
       locals = λ j x lt e. by_place j x lt e (j == i) refl;
     }

@@ -11,11 +11,14 @@ pub mod Strings
 pub mod Joined
 pub mod StepRight
 pub mod CombinedRight
+pub mod NullRight
 pub mod ObjectRight
 pub mod Writing
 pub mod MissingRight
 pub mod ColumnRight
 pub mod StoreRight
+pub mod ElementPlace
+pub mod LoneRight
 pub mod DroppedRight
 pub mod ElementRight
 pub mod ElementStoreRight

@@ -1,6 +1,6 @@
 -- Locals of linear code: what a write leaves, and where waiting values are behind it.
-use Rattle.std.specs.Prelude.{ℕ, zero, suc, ◌+◌, ◌<◌, ◌≤◌, ◌^◌, ◌%◌, Bool, true, false, ◌==◌, nat_lt, List, [], ◌∷◌, length, Option, Some, None}
-use Rattle.std.specs.Prelude.{slice_get, slice_set, if◌then◌else◌}
+use Rattle.std.specs.Prelude.{ℕ, zero, suc, ◌+◌, ◌<◌, ◌≤◌, ◌^◌, Bool, true, false, ◌==◌, List, [], ◌∷◌, length, Option, Some, None}
+use Rattle.std.specs.Prelude.{slice_get}
 use Rattle.std.proofs.Common.{◌≡◌, ◌≢◌, ◌⊎◌, inl, inr, refl, sym, ap, ◌∙◌, subst, arith}
 use Rattle.vg_firm.specs.Meaning.{State as Firm}
 use Rattle.vg_lin.specs.declared.instr.Operand.{Operand}
@@ -77,6 +77,7 @@ pub kept_behind_temp : (r : Room) (ws : List ℕ) (self : Option ℕ) (vs : List
 kept_behind_temp r ws self vs ls k x kept =
     record {
       receiver = receiver_stays r self ls (r.locals + k) x (λ n e l1 l2. let ne : 0 ≢ r.locals + k = omega (arith, l2) in ne) kept.receiver;
+      object = kept.object;
       there = kept_there r ws self vs ls (r.locals + k) x kept;
       locals = λ i v lt e. let ne : r.receiver + i ≢ r.locals + k = omega (arith, lt) in (
         ap value_in (others_stay ls (r.locals + k) (r.receiver + i) x ne) ∙ (kept.locals i v lt e).0,

@@ -1,15 +1,13 @@
 -- What the packed program and linear code compute of numbers of four bytes is the same.
-use Rattle.std.specs.Prelude.{ℕ, zero, suc, ◌+◌, ◌-◌, ◌*◌, ◌/◌, ◌%◌, ◌^◌, ◌<◌, ◌≤◌, Bool, true, false, not, ◌==◌, ◌&&◌, nat_lt, nat_le, bit_and, bit_or, bit_xor, Option, Some, None}
+use Rattle.std.specs.Prelude.{ℕ, zero, suc, ◌+◌, ◌-◌, ◌*◌, ◌/◌, ◌%◌, ◌^◌, ◌<◌, ◌≤◌, Bool, true, false, not, ◌==◌, ◌&&◌, nat_lt, nat_le, Some}
 use Rattle.std.specs.Prelude.{ℤ, pos, negsuc, neg_ℤ, int_lt, int_le, int_div, int_rem, if◌then◌else◌}
 use Rattle.std.specs.Int.{w32, cast_unsigned, cast_signed, int_wrapping_add, int_wrapping_sub, int_wrapping_mul, int_wrapping_neg, int_wrapping_div}
 use Rattle.std.proofs.Common.{◌≡◌, refl, sym, ap, ◌∙◌, subst, arith, pow-suc}
 use Rattle.std.proofs.Math.Nat.{div-le_self, mod-le, mod-eq_of_lt, lt_of_lt_of_le}
 use Rattle.std.proofs.lemmas.Int.{of_z-to_z}
-use Rattle.std.proofs.lemmas.Nat.{and_le_l, or_lt, xor_lt}
 use Rattle.vg_codes.specs.Dispatch.{is_within}
 use Rattle.vg_firm.specs.declared.step.Order.TheVariants.{Signed, Unsigned}
 use Rattle.vg_firm.specs.Operators.{on_ints, is_less, is_at_most, shifted}
-use Rattle.vg_lin.specs.declared.instr.Comparison.{Comparison}
 use Rattle.vg_lin.specs.declared.instr.Comparison.TheVariants.{Below, Less, Same}
 use Rattle.vg_lin.specs.Values.{low, signed, compared, divided}
 

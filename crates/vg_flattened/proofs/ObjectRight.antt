@@ -3,7 +3,7 @@ use Rattle.std.specs.Prelude.{ℕ, zero, suc, ◌+◌, ◌-◌, ◌<◌, ◌^◌
 use Rattle.std.specs.Option.{option_map}
 use Rattle.std.proofs.Common.{◌≡◌, refl, sym, ap, ◌∙◌, subst, arith}
 use Rattle.std.proofs.Math.Dec.{eqb-suc-zero}
-use Rattle.vg_meaning.specs.History.{History, full}
+use Rattle.vg_meaning.specs.History.{History}
 use Rattle.vg_meaning.specs.World.{World}
 use Rattle.vg_meaning.specs.Answer.{Signal, Answer, Gives, Piece, and_then, go_on, stops}
 use Rattle.vg_codes.specs.Dispatch.{is_within}
@@ -29,16 +29,16 @@ use Rattle.vg_flatten_shapes.specs.Shapes.{Shape, only, temp}
 use Rattle.vg_flatten_shapes.specs.Blocks.{Block, Skip, One, Both, Choice, stop_where}
 use Rattle.vg_flatten_shapes.specs.Made.{Made, Gives as Makes, Refused, by_temp, is_zero}
 use Rattle.vg_flatten_steps.specs.Objects.{is_near, is_one_of, cast_to}
-use Rattle.vg_flatten_places.specs.Places.{load_nothing, store_nothing}
-use Rattle.vg_flatten_places.specs.Places.{distance}
+use Rattle.vg_flatten_places.specs.Places.{null_check as checking, load_no_field, store_no_field, distance}
 use Rattle.vg_flattened.proofs.Alike.{IsFair, Alike, gives}
-use Rattle.vg_flattened.proofs.Related.{IsAt, ArePlaced, AreAt, AreWidths, AreSame, Held, Leaves, said}
+use Rattle.vg_flattened.proofs.Related.{ArePlaced, AreAt, AreWidths, AreSame, Held, Leaves, said}
 use Rattle.vg_flattened.proofs.Numbers.{low_small, near_same}
 use Rattle.vg_flattened.proofs.Operating.{holds_of}
 use Rattle.vg_flattened.proofs.Locals.{value_of_home, put_temp}
 use Rattle.vg_flattened.proofs.Right.{Right, linear, chooses}
 use Rattle.vg_flattened.proofs.StepRight.{computes_to, plain_goes}
 use Rattle.vg_flattened.proofs.CombinedRight.{stops_both, says_zero, stopped, passed}
+use Rattle.vg_flattened.proofs.NullRight.{checks_alone}
 
 module _ (k : Codes) (f : FirmProgram) (m : FirmProcedure) (call : FirmCaller History) (handle : ℕ → Piece Firm History)
     (p : LinProgram) (go : LinCaller State) (lay : Layout) (r : Room) (ws : List ℕ) (wide : AreWidths r m.widths ws) where
@@ -66,33 +66,31 @@ module _ (k : Codes) (f : FirmProgram) (m : FirmProcedure) (call : FirmCaller Hi
       (sym (passed k f m call handle p go lay r ws wide (Holds (is_zero h)) 1 d w (says_zero h (suc n) d.state at lt ∙ ap Some (eqb-suc-zero n))))
       (goes n refl)
 
-  pub right_load_nothing : (hs : List Operand) → ArePlaced r.locals hs → Right' (only hs) (load_nothing hs) (step' LoadNothing)
-  right_load_nothing [] placed = tt
-  right_load_nothing (h ∷ hs) placed = ((tt, placed.1), λ s d w i q. by_values s d w i q s.values q.waits)
+  pub right_no_field : (hs : List Operand) → ArePlaced r.locals hs → Right' (only hs) (load_no_field r hs) (step' LoadNothing)
+  right_no_field [] placed = tt
+  right_no_field (h ∷ hs) placed = ((tt, placed.1), λ s d w i q. by_values s d w i q s.values q.waits)
     where
       by_values : (s : Firm) (d : Deciding State) (w : World History) → IsFair w → AreSame lay r ws (h ∷ hs) s d.state → (vs : List ℕ)
           → AreAt (h ∷ hs) vs d.state.locals
-          → Alike (Held lay r ws (only (Known 0 ∷ hs))) (Leaves lay r ws) (take_from vs (not_null (λ n. put 0)) s w)
-          (linear' (stop_where 1 (Holds (is_zero h))) d w)
+          → Alike (Held lay r ws (only (Known 0 ∷ hs))) (Leaves lay r ws) (take_from vs (not_null (λ n. put 0)) s w) (linear' (checking r h) d w)
       by_values s d w i q [] at = absurd at
       by_values s d w i q (x ∷ vs) at =
-          null_check h x (λ n. put 0) (record s { values = vs }) d w i (value_of_home h x d.state at.0.0) at.0.1
-          (λ n e. gives i (record { waits = ((refl, omega arith), at.1); kept = q.kept; none = q.none; ram = q.ram }))
+          checks_alone k f m call handle p go lay r ws wide h x (λ n. put 0) (record s { values = vs }) d w i (value_of_home h x d.state at.0.0) at.0.1 q.kept
+          (λ c pos. gives i (record { waits = ((refl, omega arith), at.1); kept = q.kept; none = q.none; ram = q.ram }))
 
-  pub right_store_nothing : (hs : List Operand) → ArePlaced r.locals hs → Right' (only hs) (store_nothing hs) (step' StoreNothing)
-  right_store_nothing [] placed = tt
-  right_store_nothing (v ∷ []) placed = tt
-  right_store_nothing (v ∷ h ∷ hs) placed = (placed.1.1, λ s d w i q. by_values s d w i q s.values q.waits)
+  pub right_no_field_store : (hs : List Operand) → ArePlaced r.locals hs → Right' (only hs) (store_no_field r hs) (step' StoreNothing)
+  right_no_field_store [] placed = tt
+  right_no_field_store (v ∷ []) placed = tt
+  right_no_field_store (v ∷ h ∷ hs) placed = (placed.1.1, λ s d w i q. by_values s d w i q s.values q.waits)
     where
       by_values : (s : Firm) (d : Deciding State) (w : World History) → IsFair w → AreSame lay r ws (v ∷ h ∷ hs) s d.state → (vs : List ℕ)
           → AreAt (v ∷ h ∷ hs) vs d.state.locals
-          → Alike (Held lay r ws (only hs)) (Leaves lay r ws) (take_from vs (λ y. taking (not_null (λ n. go_on))) s w)
-          (linear' (stop_where 1 (Holds (is_zero h))) d w)
+          → Alike (Held lay r ws (only hs)) (Leaves lay r ws) (take_from vs (λ y. taking (not_null (λ n. go_on))) s w) (linear' (checking r h) d w)
       by_values s d w i q [] at = absurd at
       by_values s d w i q (y ∷ []) at = absurd at.1
       by_values s d w i q (y ∷ x ∷ vs) at =
-          null_check h x (λ n. go_on) (record s { values = vs }) d w i (value_of_home h x d.state at.1.0.0) at.1.0.1
-          (λ n e. gives i (record { waits = at.1.1; kept = q.kept; none = q.none; ram = q.ram }))
+          checks_alone k f m call handle p go lay r ws wide h x (λ n. go_on) (record s { values = vs }) d w i (value_of_home h x d.state at.1.0.0) at.1.0.1 q.kept
+          (λ c pos. gives i (record { waits = at.1.1; kept = q.kept; none = q.none; ram = q.ram }))
 
   -- ---- the number of an object
 

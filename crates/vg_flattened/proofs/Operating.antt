@@ -1,7 +1,7 @@
 -- Operators on both sides: what is computed, and what is compared.
-use Rattle.std.specs.Prelude.{ℕ, suc, ◌+◌, ◌-◌, ◌*◌, ◌%◌, ◌^◌, ◌<◌, ◌≤◌, Bool, true, false, not, ◌==◌, List, [], ◌∷◌, Option, Some, None, bit_and, bit_or, bit_xor}
+use Rattle.std.specs.Prelude.{ℕ, ◌+◌, ◌-◌, ◌*◌, ◌^◌, ◌<◌, Bool, not, ◌==◌, Some, bit_and, bit_or, bit_xor}
 use Rattle.std.specs.Option.{option_map}
-use Rattle.std.proofs.Common.{◌≡◌, refl, sym, ap, ◌∙◌, subst, arith}
+use Rattle.std.proofs.Common.{◌≡◌, refl, ap, ◌∙◌, subst, arith}
 use Rattle.std.proofs.lemmas.Nat.{and_le_l, or_lt, xor_lt}
 use Rattle.vg_firm.specs.declared.step.Order.{Order}
 use Rattle.vg_firm.specs.declared.step.Order.TheVariants.{Signed, Unsigned}
@@ -13,11 +13,10 @@ use Rattle.vg_lin.specs.declared.instr.Operand.{Operand}
 use Rattle.vg_lin.specs.declared.instr.Operator.{Operator as LinOperator}
 use Rattle.vg_lin.specs.declared.instr.Operator.TheVariants.{Plus as Sum, Minus as Difference, Times as Product, And as Both', Or as Either', Xor as Unlike}
 use Rattle.vg_lin.specs.declared.instr.Comparison.{Comparison}
-use Rattle.vg_lin.specs.declared.instr.Comparison.TheVariants.{Below, Less as IsLess, Same}
+use Rattle.vg_lin.specs.declared.instr.Comparison.TheVariants.{Same}
 use Rattle.vg_lin.specs.Values.{low, computed as lin_computed, compared}
 use Rattle.vg_lin.specs.State.{State, value, holds, both}
 use Rattle.vg_flatten_shapes.specs.declared.open.Truth.{Truth}
-use Rattle.vg_flatten_shapes.specs.declared.open.Truth.TheVariants.{Holds, Fails}
 use Rattle.vg_flatten_values.specs.Values.{computing, comparing, by_order, test_of}
 use Rattle.vg_flattened.proofs.Related.{said}
 use Rattle.vg_flattened.proofs.Numbers.{low_same, low_small, sum_same, difference_same, product_same, less_same, below_same, same_same, at_most_signed, at_most_unsigned}

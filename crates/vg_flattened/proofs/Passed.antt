@@ -1,7 +1,7 @@
 -- Arguments of calls: operands and their values, and what waits behind pushes.
-use Rattle.std.specs.Prelude.{ℕ, zero, suc, ◌+◌, ◌-◌, ◌<◌, ◌≤◌, ◌^◌, Bool, true, false, ◌==◌, ◌&&◌, nat_lt, List, [], ◌∷◌, ◌++◌, length, reverse, take, drop, replicate, Option, Some, None, slice_get}
+use Rattle.std.specs.Prelude.{ℕ, zero, suc, ◌+◌, ◌<◌, ◌≤◌, ◌^◌, Bool, true, false, ◌==◌, ◌&&◌, nat_lt, List, [], ◌∷◌, ◌++◌, length, reverse, take, drop, replicate, Some, slice_get}
 use Rattle.std.proofs.Common.{◌≡◌, refl, sym, ap, ◌∙◌, subst, arith}
-use Rattle.std.proofs.lemmas.List.{reverse-append, reverse-reverse, append_assoc, append-nil, take-append-drop, length-take-le}
+use Rattle.std.proofs.lemmas.List.{reverse-append, reverse-reverse, append_assoc, append-nil, length-take-le}
 use Rattle.std.proofs.Math.Nat.{mod-eq_of_lt}
 use Rattle.std.proofs.Math.Seq.{take-length, drop-length, take-append_seam, drop-append_seam}
 use Rattle.vg_lin.specs.declared.instr.Operand.{Operand}
@@ -17,9 +17,8 @@ use Rattle.vg_flatten_shapes.specs.Widths.{bytes_of, all_bytes}
 use Rattle.vg_flatten_steps.specs.Calls.{in_widths, registers_of}
 use Rattle.vg_flatten.specs.Flattened.{widened}
 use Rattle.vg_flattened.proofs.Numbers.{low_same}
-use Rattle.vg_flattened.proofs.Related.{IsPlaced, ArePlaced, AreAt}
+use Rattle.vg_flattened.proofs.Related.{ArePlaced, AreAt}
 use Rattle.vg_flattened.proofs.Locals.{value_of_home}
-use Rattle.vg_flatten_shapes.proofs.Temps.{some_is, none_is_not}
 
 -- ---- operands and their values, one by one
 

@@ -1,9 +1,9 @@
 -- What the pops of a step leave: each value is in its temporary, and all else is as it was.
-use Rattle.std.specs.Prelude.{ℕ, zero, suc, ◌+◌, ◌<◌, ◌≤◌, ◌^◌, List, [], ◌∷◌, ◌++◌, length, take, drop, Option, Some, slice_get}
-use Rattle.std.proofs.Common.{◌≡◌, ◌≢◌, inr, refl, sym, ap, ◌∙◌, subst, arith}
+use Rattle.std.specs.Prelude.{ℕ, zero, suc, ◌+◌, ◌≤◌, List, [], ◌∷◌, ◌++◌, length, take, drop, Option, Some, slice_get}
+use Rattle.std.proofs.Common.{◌≡◌, ◌≢◌, inr, refl, sym, ap, ◌∙◌, arith}
 use Rattle.vg_meaning.specs.History.{History, full}
 use Rattle.vg_meaning.specs.World.{World}
-use Rattle.vg_meaning.specs.Answer.{Answer, Gives, Piece, and_then}
+use Rattle.vg_meaning.specs.Answer.{Gives, Piece, and_then}
 use Rattle.vg_meaning.specs.Code.{performed}
 use Rattle.vg_lin.specs.Program.{Program as LinProgram}
 use Rattle.vg_lin.specs.State.{LocalState, State, value_in, with_local, pops_from}

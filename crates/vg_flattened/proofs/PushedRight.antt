@@ -1,10 +1,10 @@
 -- That a step between pops and a push does what the packed step does.
-use Rattle.std.specs.Prelude.{ℕ, zero, suc, ◌+◌, ◌<◌, ◌≤◌, ◌^◌, Bool, true, false, nat_le, List, [], ◌∷◌, ◌++◌, length, reverse, take, drop, Option, Some, None}
+use Rattle.std.specs.Prelude.{ℕ, suc, ◌+◌, ◌≤◌, Bool, true, false, nat_le, List, [], ◌∷◌, ◌++◌, length, reverse, take, drop, Option, Some, None}
 use Rattle.std.specs.Prelude.{if◌then◌else◌}
 use Rattle.std.proofs.Common.{◌≡◌, refl, sym, ap, ◌∙◌, subst, arith}
-use Rattle.vg_meaning.specs.History.{History, full}
+use Rattle.vg_meaning.specs.History.{History}
 use Rattle.vg_meaning.specs.World.{World}
-use Rattle.vg_meaning.specs.Answer.{Answer, Gives, Ends, Piece, go_on, and_then}
+use Rattle.vg_meaning.specs.Answer.{Gives, Piece, go_on, and_then}
 use Rattle.vg_codes.specs.Codes.{Codes}
 use Rattle.vg_firm.specs.declared.step.Step.{Step}
 use Rattle.vg_firm.specs.Program.{Procedure as FirmProcedure, Program as FirmProgram}
@@ -17,16 +17,16 @@ use Rattle.vg_lin.specs.declared.instr.Plain.TheVariants.{Copy, Push}
 use Rattle.vg_lin.specs.Program.{Program as LinProgram}
 use Rattle.vg_lin.specs.Steps.{Goes}
 use Rattle.vg_lin.specs.Values.{low}
-use Rattle.vg_lin.specs.State.{State, value, using, pushes}
+use Rattle.vg_lin.specs.State.{State, using, pushes}
 use Rattle.vg_lin.specs.Structured.{Deciding, Caller as LinCaller, lifted}
 use Rattle.vg_lin_frames.specs.Frames.{IsStraight, above, over}
 use Rattle.vg_lin_frames.proofs.Framed.{code_above, value_above}
-use Rattle.vg_flatten_shapes.specs.declared.fault.Fault.TheVariants.{NotTaken, TooHigh}
+use Rattle.vg_flatten_shapes.specs.declared.fault.Fault.TheVariants.{TooHigh}
 use Rattle.vg_flatten_shapes.specs.declared.open.Truth.{Truth}
 use Rattle.vg_flatten_shapes.specs.declared.open.Truth.TheVariants.{Holds, Fails}
 use Rattle.vg_flatten_shapes.specs.declared.layout.Layout.{Layout}
 use Rattle.vg_flatten_shapes.specs.declared.room.Room.{Room}
-use Rattle.vg_flatten_shapes.specs.Shapes.{Shape, Taken, only, taken, temp}
+use Rattle.vg_flatten_shapes.specs.Shapes.{Shape, only, temp}
 use Rattle.vg_flatten_shapes.specs.Blocks.{Block, Skip, One, Both, Choice, structured}
 use Rattle.vg_flatten_shapes.specs.Made.{Made, Gives as Makes, Refused, behind, after, by_temp, settled, settled_as}
 use Rattle.vg_flatten_steps.specs.Steps.{stepped}
@@ -40,7 +40,7 @@ use Rattle.vg_flattened.proofs.Right.{Right, Does, right_last, number_made, unit
 use Rattle.vg_flattened.proofs.CodeRight.{and_then-and_then}
 use Rattle.vg_flattened.proofs.Straight.{AreStraight, stepped_straight}
 use Rattle.vg_flattened.proofs.StackHeld.{in_four, AreSmall, Stands, OnStack, Higher, alike_above}
-use Rattle.vg_flattened.proofs.Popping.{popped_long, popped_placed, popped_in, laid, kept_laid, at_laid, split, take_long, drop_both, small_take, small_drop, run}
+use Rattle.vg_flattened.proofs.Popping.{popped_placed, popped_in, laid, kept_laid, at_laid, split, take_long, drop_both, small_take, small_drop, run}
 use Rattle.vg_flattened.proofs.Popping.{behind_pops, pops_do}
 
 le_of : (a b : ℕ) → nat_le a b ≡ true → a ≤ b

@@ -1,9 +1,10 @@
 -- How a state of linear code stands for one of the packed program.
-use Rattle.std.specs.Prelude.{◌≡◌, ◌⊎◌, ℕ, ◌+◌, ◌<◌, ◌≤◌, ◌^◌, Bool, not, List, [], ◌∷◌, length, Option, Some, None, slice_get}
+use Rattle.std.specs.Prelude.{◌≡◌, ◌⊎◌, ℕ, ◌+◌, ◌<◌, ◌≤◌, ◌^◌, Bool, true, not, List, [], ◌∷◌, length, Option, Some, None, slice_get}
 use Rattle.std.specs.Option.{option_map}
 use Rattle.vg_meaning.specs.Answer.{Signal, Breaks, Continues, Returns, Over}
 use Rattle.vg_firm.specs.Meaning.{State as Firm}
 use Rattle.vg_firm.specs.Operators.{as_number}
+use Rattle.vg_firm.specs.Session.{is_object}
 use Rattle.vg_lin.specs.declared.instr.Operand.{Operand}
 use Rattle.vg_lin.specs.declared.instr.Operand.TheVariants.{Local, Known}
 use Rattle.vg_lin.specs.Values.{low}
@@ -14,7 +15,7 @@ use Rattle.vg_flatten_shapes.specs.declared.open.Truth.TheVariants.{Holds, Fails
 use Rattle.vg_flatten.specs.Columns.{RamStands}
 use Rattle.vg_flatten_shapes.specs.declared.layout.Layout.{Layout}
 use Rattle.vg_flatten_shapes.specs.declared.room.Room.{Room}
-use Rattle.vg_flatten_shapes.specs.Shapes.{Shape, only, empty}
+use Rattle.vg_flatten_shapes.specs.Shapes.{Shape, empty}
 
 -- ---- homes
 
@@ -49,9 +50,10 @@ abbrev pub IsReceiver : Room → Option ℕ → List LocalState → Type 0
 IsReceiver r (Some n) ls = ((0 < r.receiver) × (0 < r.locals)) × (value_in (slice_get ls 0) ≡ Some n) × (n < 2 ^ 32)
 IsReceiver r None ls = Unit {0}
 
--- The locals have the values of the procedure's, and the widths that they were given.
+-- The locals have the values of the procedure's, and the widths that they were given; and the receiver of a method of a class is an object.
 pub record AreKept (r : Room) (ws : List ℕ) (self : Option ℕ) (vs : List ℕ) (ls : List LocalState) : Type 0 where
   pub receiver : IsReceiver r self ls
+  pub object : r.on_objects ≡ true → is_object self ≡ true
   pub there : (i w : ℕ) → slice_get ws i ≡ Some w → (o : Option ℕ) × (slice_get ls i ≡ Some (record { width = w; value = o }))
   pub locals : (i v : ℕ) → r.receiver + i < r.locals → slice_get vs i ≡ Some v → (value_in (slice_get ls (r.receiver + i)) ≡ Some v) × (v < 2 ^ 32)
 

@@ -1,14 +1,13 @@
 -- That what was made does the same: the laws that put what was made together, and the truth values that wait.
-use Rattle.std.specs.Prelude.{ℕ, zero, suc, ◌+◌, ◌<◌, ◌^◌, Bool, true, false, not, ◌==◌, ◌&&◌, nat_lt, List, [], ◌∷◌, length, reverse, Option, Some, None}
-use Rattle.std.specs.Prelude.{slice_get, if◌then◌else◌}
+use Rattle.std.specs.Prelude.{ℕ, zero, suc, ◌<◌, ◌^◌, Bool, true, false, not, ◌==◌, List, [], ◌∷◌, Option, Some, None}
 use Rattle.std.specs.Option.{option_map}
-use Rattle.std.proofs.Common.{◌≡◌, ◌≢◌, ◌⊎◌, inl, inr, refl, sym, ap, ◌∙◌, subst, arith}
+use Rattle.std.proofs.Common.{◌≡◌, refl, sym, ap, ◌∙◌, subst, arith}
 use Rattle.std.proofs.Math.Dec.{eqb-suc-zero}
 use Rattle.vg_meaning.specs.History.{History, full}
 use Rattle.vg_meaning.specs.World.{World}
-use Rattle.vg_meaning.specs.Answer.{Signal, Breaks, Continues, Returns, Over, Answer, Gives, Ends, Piece, go_on, and_then}
-use Rattle.vg_meaning.specs.Loops.{Test as Testing, Tested as Was, choose}
-use Rattle.vg_meaning.specs.Code.{Code, Then, Do, If, performed}
+use Rattle.vg_meaning.specs.Answer.{Answer, Gives, Ends, Piece, go_on, and_then}
+use Rattle.vg_meaning.specs.Loops.{Tested as Was}
+use Rattle.vg_meaning.specs.Code.{Code, If, performed}
 use Rattle.vg_codes.specs.Codes.{Codes}
 use Rattle.vg_firm.specs.declared.step.Step.{Step}
 use Rattle.vg_firm.specs.Program.{Procedure as FirmProcedure, Program as FirmProgram}
@@ -27,13 +26,13 @@ use Rattle.vg_flatten_shapes.specs.declared.open.Truth.{Truth}
 use Rattle.vg_flatten_shapes.specs.declared.open.Truth.TheVariants.{Holds, Fails}
 use Rattle.vg_flatten_shapes.specs.declared.layout.Layout.{Layout}
 use Rattle.vg_flatten_shapes.specs.declared.room.Room.{Room}
-use Rattle.vg_flatten_shapes.specs.Shapes.{Shape, only, empty, is_empty, is_none, temp}
-use Rattle.vg_flatten_shapes.specs.Blocks.{Block, Skip, One, Both, Choice, structured, picked}
+use Rattle.vg_flatten_shapes.specs.Shapes.{Shape, only, temp}
+use Rattle.vg_flatten_shapes.specs.Blocks.{Block, Skip, One, Choice, structured, picked}
 use Rattle.vg_flatten_shapes.specs.Made.{Made, Gives as Makes, Refused, behind, after, by_temp, settled, settled_as, Tested, tested, tested_as, is_zero}
-use Rattle.vg_flattened.proofs.Alike.{IsFair, Alike, gives, leaves, overs, wrong, AlikePiece}
+use Rattle.vg_flattened.proofs.Alike.{Alike, gives, AlikePiece}
 use Rattle.vg_flattened.proofs.AlikeLaws.{alike_then}
-use Rattle.vg_flattened.proofs.Related.{ArePlaced, AreAt, AreWidths, AreSame, IsSaid, said, Held, Leaves}
-use Rattle.vg_flattened.proofs.Numbers.{low_same, same_same}
+use Rattle.vg_flattened.proofs.Related.{ArePlaced, AreAt, AreWidths, AreSame, said, Held, Leaves}
+use Rattle.vg_flattened.proofs.Numbers.{same_same}
 use Rattle.vg_flatten_shapes.proofs.Temps.{some_is, none_is_not}
 use Rattle.vg_flattened.proofs.Locals.{value_of_home, put_temp, placed_temp}
 

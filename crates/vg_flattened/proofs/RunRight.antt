@@ -1,10 +1,9 @@
 -- That a flattened program does what the packed one does: its bodies stand, and its calls and its whole runs are alike.
-use Rattle.std.specs.Prelude.{ℕ, zero, suc, ◌+◌, ◌<◌, ◌≤◌, ◌^◌, Bool, true, false, ◌==◌, ◌&&◌, List, [], ◌∷◌, ◌++◌, length, map, replicate, Option, Some, None, slice_get}
+use Rattle.std.specs.Prelude.{ℕ, zero, suc, ◌+◌, Bool, true, false, ◌==◌, ◌&&◌, List, [], ◌∷◌, ◌++◌, length, map, replicate, Option, Some, None, slice_get}
 use Rattle.std.specs.Prelude.{if◌then◌else◌}
 use Rattle.std.proofs.Common.{◌≡◌, ◌⊎◌, inl, inr, refl, sym, ap, ◌∙◌, subst, arith}
-use Rattle.vg_meaning.specs.History.{Active, Calling, History, full}
+use Rattle.vg_meaning.specs.History.{Calling, History, full}
 use Rattle.vg_meaning.specs.World.{World}
-use Rattle.vg_meaning.specs.Outside.{AreReads}
 use Rattle.vg_meaning.specs.Answer.{End, OutOfClock, Wrong, Signal, Over, Answer, Gives, Ends, Piece, go_on, over, and_then}
 use Rattle.vg_meaning.specs.Calls.{opened}
 use Rattle.vg_meaning.specs.Interrupts.{idles}
@@ -12,10 +11,10 @@ use Rattle.vg_meaning.specs.Code.{Code}
 use Rattle.vg_codes.specs.Codes.{Codes}
 use Rattle.vg_firm.specs.Program.{Procedure as FirmProcedure, Program as FirmProgram}
 use Rattle.vg_firm.specs.Meaning.{State as Firm, Caller as FirmCaller, with_found as firm_found, checked, taking, take_from}
-use Rattle.vg_firm.specs.Session.{arguments, run_procedure, may_receive, may_enter, all_fit, handled as firm_handled, called as firm_called, running as firm_running, first_state as firm_first}
+use Rattle.vg_firm.specs.Session.{arguments, run_procedure, may_receive, may_be_on, may_enter, all_fit, handled as firm_handled, called as firm_called, running as firm_running, first_state as firm_first}
 use Rattle.vg_lin.specs.declared.instr.Instr.{Instr}
 use Rattle.vg_lin.specs.Program.{Procedure as LinProcedure, Program as LinProgram}
-use Rattle.vg_lin.specs.Steps.{Entry, Result, fetch}
+use Rattle.vg_lin.specs.Steps.{Entry, Result, code_of, fetch}
 use Rattle.vg_lin.specs.State.{State, Waiting}
 use Rattle.vg_lin.specs.Meaning.{language, operands, values, begun, widths_of, name_of, call_of, codes_in, values_of, same_widths, enter, entry_of, entry_with, first_state}
 use Rattle.vg_lin.specs.Structured.{Step, Deciding, fresh, Caller as LinCaller, with_found, entered, resumed, handle as lin_handle, body as lin_body, called as lin_called, running as lin_running, To, step as lin_step}
@@ -30,12 +29,12 @@ use Rattle.vg_flatten_shapes.specs.Shapes.{only}
 use Rattle.vg_flatten_shapes.specs.Blocks.{Block, Skip, structured, open_code}
 use Rattle.vg_flattened.proofs.Alike.{IsFair, Alike, gives, leaves, overs, wrong, AlikePiece}
 use Rattle.vg_flattened.proofs.AlikeLaws.{alike_then, alike_opened, alike_idles}
-use Rattle.vg_flattened.proofs.Related.{AreKept, AreSame, Held, Leaves}
+use Rattle.vg_flattened.proofs.Related.{AreKept, Held, Leaves}
 use Rattle.vg_flatten_shapes.proofs.Temps.{some_is, none_is_not}
 use Rattle.vg_flattened.proofs.CallRight.{Never, Returned, begins, alike_behind_both, ArePassed, Enters, AlikeCalls}
 use Rattle.vg_flatten_shapes.specs.Blocks.{set_in}
 use Rattle.vg_flattened.proofs.Standing.{Lies, stands}
-use Rattle.vg_flatten.specs.Flattened.{receivers, with_receiver_width, widened, wide_params, main_args, whole, calls_main, start_of, IsFlat, IsFit, AreFlat}
+use Rattle.vg_flatten.specs.Flattened.{receivers, with_receiver_width, widened, wide_params, main_args, whole, calls_main, start_of, AreFlat}
 use Rattle.vg_flatten.specs.Columns.{RamStands}
 use Rattle.vg_firm_frames.proofs.Framed.{step_stays}
 use Rattle.vg_flattened.proofs.BodyRight.{alike_handling, alike_body}
@@ -48,13 +47,13 @@ fetch_of [] q m e at = none_is_not m e
 fetch_of (a ∷ ps) zero m e at = ap (λ x. slice_get x.code at) (some_is a m e)
 fetch_of (a ∷ ps) (suc q) m e at = fetch_of ps q m e at
 
-lies_from : (g : ℕ → Option Instr) (x y : ℕ) (os : List Open) (at : ℕ) → ((i : ℕ) (z : Instr) → slice_get (map (set_in x y) os) i ≡ Some z
-    → g (at + i) ≡ Some z)
-    → Lies g x y os at
-lies_from g x y [] at h = tt
-lies_from g x y (o ∷ os) at h = (
-  ap g (omega arith) ∙ h zero (set_in x y o) refl,
-  lies_from g x y os (suc at) (λ i z e. ap g (omega arith) ∙ h (suc i) z e),
+lies_from : (code : List Instr) (x y : ℕ) (os : List Open) (at : ℕ) → ((i : ℕ) (z : Instr) → slice_get (map (set_in x y) os) i ≡ Some z
+    → slice_get code (at + i) ≡ Some z)
+    → Lies code x y os at
+lies_from code x y [] at h = tt
+lies_from code x y (o ∷ os) at h = (
+  ap (slice_get code) (omega arith) ∙ h zero (set_in x y o) refl,
+  lies_from code x y os (suc at) (λ i z e. ap (slice_get code) (omega arith) ∙ h (suc i) z e),
 )
 
 -- ---- answers
@@ -98,16 +97,16 @@ module _ (k : Codes) (lay : Layout) (f : FirmProgram) (p : LinProgram) (flat : A
   abbrev pub bodies : ℕ → Code Step
   bodies q = structured (block_at q (slice_get f.procedures q) refl)
 
-  all_stand : AllStand (fetch (codes_in p.procedures)) bodies
+  all_stand : AllStand (codes_in p.procedures) bodies
   all_stand q = by_found (slice_get f.procedures q) refl
     where
       by_found : (o : Option FirmProcedure) (e : slice_get f.procedures q ≡ o)
-          → (end : ℕ) × Stands (fetch (codes_in p.procedures) q) 0 0 (structured (block_at q o e)) 0 (Next end)
+          → (end : ℕ) × Stands (code_of (slice_get (codes_in p.procedures) q)) 0 0 (structured (block_at q o e)) 0 (Next end)
       by_found None e = (0, nothing)
       by_found (Some m) e = (
         _,
-        stands (fetch (codes_in p.procedures) q) (whole m (flat.flats q m e).3.block) 0 0 0
-            (lies_from (fetch (codes_in p.procedures) q) 0 0 (open_code (whole m (flat.flats q m e).3.block) 0) 0
+        stands (code_of (slice_get (codes_in p.procedures) q)) (whole m (flat.flats q m e).3.block) 0 0 0
+            (lies_from (code_of (slice_get (codes_in p.procedures) q)) 0 0 (open_code (whole m (flat.flats q m e).3.block) 0) 0
             (λ i z h. fetch_of p.procedures q (flat.flats q m e).0 (flat.flats q m e).1 (0 + i)
             ∙ ap (λ c. slice_get c (0 + i)) (flat.flats q m e).3.code
             ∙ ap (slice_get (map (set_in 0 0) (open_code (whole m (flat.flats q m e).3.block) 0))) (omega arith) ∙ h)),
@@ -116,7 +115,7 @@ module _ (k : Codes) (lay : Layout) (f : FirmProgram) (p : LinProgram) (flat : A
   start_fetch : (at : ℕ) → fetch (codes_in p.procedures) p.start at ≡ slice_get (start_of f.main flat.main.receives).code at
   start_fetch at = fetch_of p.procedures p.start (start_of f.main flat.main.receives) flat.start at
 
-  first : StandsFirst (fetch (codes_in p.procedures) p.start) (calls_main f.main flat.main.receives)
+  first : StandsFirst (code_of (slice_get (codes_in p.procedures) p.start)) (calls_main f.main flat.main.receives)
   first = record { first = start_fetch 0; idle = start_fetch 1; again = start_fetch 2 }
 
   -- ---- calls
@@ -153,10 +152,10 @@ module _ (k : Codes) (lay : Layout) (f : FirmProgram) (p : LinProgram) (flat : A
   facts_of : (m : FirmProcedure) (count : ℕ) (self : Option ℕ) (s : Firm) → may_enter m count self s ≡ true
       → (count ≡ m.params) × (length (arguments count s) ≡ count) × (may_receive m self ≡ true) × (all_fit m.widths (arguments count s) ≡ true)
   facts_of m count self s e =
-      let first = both_of ((count == m.params) && (length (arguments count s) == count) && all_fit m.widths (arguments count s)) (may_receive m self) e in
+      let first = both_of ((count == m.params) && (length (arguments count s) == count) && all_fit m.widths (arguments count s)) (may_receive m self && may_be_on m self) e in
       let second = both_of ((count == m.params) && (length (arguments count s) == count)) (all_fit m.widths (arguments count s)) first.0 in
       let third = both_of (count == m.params) (length (arguments count s) == count) second.0 in
-      (eq_of count m.params third.0, eq_of (length (arguments count s)) count third.1, first.1, second.1)
+      (eq_of count m.params third.0, eq_of (length (arguments count s)) count third.1, (both_of (may_receive m self) (may_be_on m self) first.1).0, second.1)
     where
       eq_of : (x y : ℕ) → (x == y) ≡ true → x ≡ y
       eq_of x y h = grind arith
@@ -237,7 +236,7 @@ module _ (k : Codes) (lay : Layout) (f : FirmProgram) (p : LinProgram) (flat : A
 
   -- the procedure with which a run begins has no locals
   abbrev bare : Room
-  bare = record { receiver = 0; locals = 0; temps = 0; result = 0 }
+  bare = record { receiver = 0; on_objects = false; locals = 0; temps = 0; result = 0 }
 
   abbrev Top : Firm → Deciding State → Type 0
   Top = Held lay bare [] (only [])
@@ -305,6 +304,7 @@ module _ (k : Codes) (lay : Layout) (f : FirmProgram) (p : LinProgram) (flat : A
             waits = q.waits;
             kept = subst (λ z. AreKept bare [] z s1.locals d.state.locals) (sym e3) (record {
               receiver = q.kept.receiver;
+              object = q.kept.object;
               there = λ j u h. none_is_not u h;
               locals = λ j u lt h. absurd (omega (arith, lt));
             });
@@ -367,6 +367,7 @@ module _ (k : Codes) (lay : Layout) (f : FirmProgram) (p : LinProgram) (flat : A
         waits = tt;
         kept = record {
           receiver = tt;
+          object = λ h. h;
           there = λ j u h. none_is_not u h;
           locals = λ j u lt h. absurd (omega (arith, lt));
         };

@@ -1,17 +1,16 @@
 -- Shifts of both sides: what is computed, by the bits that are shifted.
-use Rattle.std.specs.Prelude.{ℕ, zero, suc, ◌+◌, ◌-◌, ◌*◌, ◌/◌, ◌%◌, ◌^◌, ◌<◌, ◌≤◌, Bool, true, false, ◌==◌, nat_lt, bit_and, Option, Some, None, if◌then◌else◌}
-use Rattle.std.specs.Int.{w32, cast_signed}
+use Rattle.std.specs.Prelude.{ℕ, zero, suc, ◌+◌, ◌-◌, ◌*◌, ◌/◌, ◌%◌, ◌^◌, ◌<◌, ◌≤◌, Bool, true, false, ◌==◌, nat_lt, bit_and, Some, None, if◌then◌else◌}
 use Rattle.std.proofs.Common.{◌≡◌, refl, sym, ap, ◌∙◌, subst, arith}
 use Rattle.std.proofs.lemmas.Nat.{pow-add, pow_pos, and_mask, mod_below}
-use Rattle.std.proofs.Math.Nat.{mul_assoc, mul-mod_left, mod-add-div, add-mul-mod_self_left, mod-eq_of_lt, div-le_self, div-eq_of_lt, lt_of_lt_of_le}
+use Rattle.std.proofs.Math.Nat.{mul_assoc, mul-mod_left, mod-add-div, add-mul-mod_self_left, mod-eq_of_lt, div-le_self, lt_of_lt_of_le}
 use Rattle.std.proofs.Math.Pow.{pow_mono}
 use Rattle.vg_firm.specs.declared.step.Operator.TheVariants.{ShiftLeft}
-use Rattle.vg_firm.specs.Operators.{computed as firm_computed, shifted}
-use Rattle.vg_lin.specs.declared.instr.Operator.TheVariants.{And as Both', ShiftLeft as LeftShift}
+use Rattle.vg_firm.specs.Operators.{computed as firm_computed}
+use Rattle.vg_lin.specs.declared.instr.Operator.TheVariants.{ShiftLeft as LeftShift}
 use Rattle.vg_lin.specs.Values.{low, computed as lin_computed}
-use Rattle.vg_flatten_values.specs.Values.{bytes_of, bytes_around}
+use Rattle.vg_flatten_values.specs.Values.{bytes_of}
 use Rattle.vg_flatten_shapes.proofs.Temps.{some_is, none_is_not}
-use Rattle.vg_flattened.proofs.Numbers.{low_same, shifted_is}
+use Rattle.vg_flattened.proofs.Numbers.{shifted_is}
 use Rattle.vg_flattened.proofs.Operating.{Computes}
 
 -- ---- to the left

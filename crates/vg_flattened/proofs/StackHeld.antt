@@ -1,19 +1,18 @@
 -- How a state of linear code stands for one of the packed program where each value that waits is pushed, four bytes of it.
-use Rattle.std.specs.Prelude.{◌≡◌, ℕ, ◌<◌, ◌^◌, List, [], ◌∷◌, ◌++◌, length}
-use Rattle.std.proofs.Common.{refl, sym, ap, ◌∙◌, subst, arith}
+use Rattle.std.specs.Prelude.{◌≡◌, ℕ, ◌<◌, ◌^◌, List, [], ◌∷◌, length}
+use Rattle.std.proofs.Common.{refl, arith}
 use Rattle.vg_meaning.specs.History.{History}
-use Rattle.vg_meaning.specs.World.{World}
 use Rattle.vg_meaning.specs.Answer.{Signal, Answer}
 use Rattle.vg_firm.specs.Meaning.{State as Firm}
 use Rattle.vg_firm_frames.specs.Frames.{over as over_values, Above as AboveValues, gives as gives_values, ends as ends_values}
-use Rattle.vg_lin.specs.State.{LocalState, State, Waiting}
+use Rattle.vg_lin.specs.State.{State, Waiting}
 use Rattle.vg_lin.specs.Structured.{Deciding}
 use Rattle.vg_lin_frames.specs.Frames.{over, Above, gives as gives_above, ends as ends_above, wrong as wrong_above}
 use Rattle.vg_flatten_shapes.specs.declared.layout.Layout.{Layout}
 use Rattle.vg_flatten_shapes.specs.declared.room.Room.{Room}
 use Rattle.vg_flatten_shapes.specs.Shapes.{Shape, empty}
 use Rattle.vg_flatten.specs.Columns.{RamStands}
-use Rattle.vg_flattened.proofs.Alike.{IsFair, Alike, gives, leaves, overs, wrong}
+use Rattle.vg_flattened.proofs.Alike.{Alike, gives, leaves, overs, wrong}
 use Rattle.vg_flattened.proofs.Related.{AreAt, AreKept, AreSame, Held}
 
 abbrev pub in_four : List ℕ → List Waiting

@@ -1,12 +1,12 @@
 -- That code becomes a block that does the same, where each value that waits is pushed.
-use Rattle.std.specs.Prelude.{ℕ, zero, suc, ◌+◌, ◌<◌, ◌≤◌, ◌^◌, Bool, true, false, not, ◌==◌, nat_lt, List, [], ◌∷◌, ◌++◌, length, reverse, Option, Some, None, slice_get, if◌then◌else◌}
+use Rattle.std.specs.Prelude.{ℕ, zero, suc, ◌+◌, ◌<◌, ◌≤◌, ◌^◌, Bool, true, false, not, ◌==◌, nat_lt, List, [], ◌∷◌, length, reverse, Option, Some, None, slice_get, if◌then◌else◌}
 use Rattle.std.specs.Option.{option_map}
 use Rattle.std.proofs.Common.{◌≡◌, ◌⊎◌, inl, inr, refl, sym, ap, ◌∙◌, subst, arith}
 use Rattle.std.proofs.Math.Dec.{eqb-suc-zero}
 use Rattle.vg_meaning.specs.History.{History, full}
 use Rattle.vg_meaning.specs.World.{World}
-use Rattle.vg_meaning.specs.Answer.{Signal, Breaks, Continues, Returns, Over, Answer, Gives, Ends, Piece, go_on, and_then}
-use Rattle.vg_meaning.specs.Loops.{Tested as Was, choose, where_holds, turns}
+use Rattle.vg_meaning.specs.Answer.{Signal, Answer, Gives, Piece, go_on, and_then}
+use Rattle.vg_meaning.specs.Loops.{choose, where_holds, turns}
 use Rattle.vg_meaning.specs.Code.{Code, Nothing, Then, Do, If, Loop, Break, Continue, Return, performed}
 use Rattle.vg_codes.specs.Codes.{Codes, AreCodes}
 use Rattle.vg_firm.specs.declared.step.Step.{Step}
@@ -21,7 +21,7 @@ use Rattle.vg_lin.specs.declared.instr.Comparison.TheVariants.{Same}
 use Rattle.vg_lin.specs.Program.{Program as LinProgram}
 use Rattle.vg_lin.specs.Values.{compared}
 use Rattle.vg_lin.specs.Steps.{Goes}
-use Rattle.vg_lin.specs.State.{LocalState, State, value_in, value, using, with_local, both, sets, pushes, pops_from}
+use Rattle.vg_lin.specs.State.{State, value_in, value, using, with_local, both, sets, pushes, pops_from}
 use Rattle.vg_lin.specs.Meaning.{language}
 use Rattle.vg_lin.specs.Structured.{Deciding, Caller as LinCaller, handle as lin_handle, lifted}
 use Rattle.vg_flatten_shapes.specs.declared.fault.Fault.TheVariants.{NotTaken}
@@ -31,22 +31,21 @@ use Rattle.vg_flatten_shapes.specs.declared.layout.Layout.{Layout}
 use Rattle.vg_flatten_shapes.specs.declared.room.Room.{Room}
 use Rattle.vg_flatten_shapes.specs.Shapes.{Shape, only, empty, is_empty, same_homes, temp}
 use Rattle.vg_flatten_shapes.specs.Blocks.{Block, Skip, One, GiveBack, BreakOut, GoOn, Both, Choice, Repeat}
-use Rattle.vg_flatten_shapes.specs.Made.{Made, Gives as Makes, Refused, behind, after, by_temp, Tested, tested, is_zero}
-use Rattle.vg_flatten_steps.specs.Steps.{stepped}
+use Rattle.vg_flatten_shapes.specs.Made.{Made, Gives as Makes, Refused, behind, after, by_temp, tested, is_zero}
 use Rattle.vg_flatten_steps.specs.Calls.{passing_of}
-use Rattle.vg_flatten_control.specs.Flat.{joined, where_empty, repeated, repeated_test, repeated_body, repeated_next, given_back}
+use Rattle.vg_flatten_control.specs.Flat.{joined, where_empty, repeated, repeated_body, repeated_next, given_back}
 use Rattle.vg_flatten_pushed.specs.Pushed.{done, topped, with_newest, lowered, raised, pushed_again}
 use Rattle.vg_flatten_pushed.specs.Stacked.{levelled, ways, stacked}
 use Rattle.vg_flatten.specs.Columns.{RamStands, FlashStands}
 use Rattle.vg_flatten.specs.Flattened.{IsPassing}
-use Rattle.vg_flatten_shapes.proofs.Temps.{some_is, none_is_not, temp_is}
+use Rattle.vg_flatten_shapes.proofs.Temps.{some_is, temp_is}
 use Rattle.vg_flattened.proofs.Alike.{IsFair, Alike, gives, leaves, overs, wrong, AlikePiece}
 use Rattle.vg_flattened.proofs.AlikeLaws.{alike_then}
-use Rattle.vg_flattened.proofs.Related.{AreAt, AreWidths, AreKept, AreSame, said, Held, Leaves}
+use Rattle.vg_flattened.proofs.Related.{AreAt, AreWidths, AreKept, said, Held, Leaves}
 use Rattle.vg_flattened.proofs.Numbers.{low_same, same_same}
 use Rattle.vg_flattened.proofs.Locals.{written_is, kept_behind_temp}
 use Rattle.vg_flattened.proofs.Free.{homes_same}
-use Rattle.vg_flattened.proofs.Right.{Right, Does, chooses, way, unit_behind}
+use Rattle.vg_flattened.proofs.Right.{Does, chooses, unit_behind}
 use Rattle.vg_flattened.proofs.CallRight.{AlikeCalls, AlikeHandling}
 use Rattle.vg_flattened.proofs.CodeRight.{empty_is, right_stepped, right_loop, right_given_back}
 use Rattle.vg_flattened.proofs.StackHeld.{in_four, AreSmall, Stands, OnStack, none_is, to_held, from_held}

@@ -1,34 +1,32 @@
 -- That each step becomes a block that does the same.
-use Rattle.std.specs.Prelude.{ℕ, zero, suc, ◌+◌, ◌-◌, ◌<◌, ◌≤◌, ◌^◌, ◌%◌, Bool, true, false, not, ◌==◌, ◌&&◌, nat_lt, nat_le, List, [], ◌∷◌, ◌++◌, length, reverse, take, drop, Option, Some, None}
-use Rattle.std.specs.Prelude.{slice_get, slice_set, if◌then◌else◌}
-use Rattle.std.proofs.Common.{◌≡◌, ◌≢◌, inl, inr, refl, sym, ap, ◌∙◌, subst, arith}
-use Rattle.vg_meaning.specs.declared.event.Event.TheVariants.{Read, Write}
+use Rattle.std.specs.Prelude.{ℕ, zero, suc, ◌+◌, ◌-◌, ◌<◌, ◌≤◌, ◌^◌, ◌%◌, Bool, true, false, ◌==◌, ◌&&◌, nat_lt, nat_le, List, [], ◌∷◌, reverse, Option, Some, None}
+use Rattle.std.specs.Prelude.{slice_get, if◌then◌else◌}
+use Rattle.std.proofs.Common.{◌≡◌, inl, refl, sym, ap, ◌∙◌, subst, arith}
+use Rattle.vg_meaning.specs.declared.event.Event.TheVariants.{Write}
 use Rattle.vg_meaning.specs.Outside.{Outside, IsRead, AreReads, with_event}
-use Rattle.vg_meaning.specs.History.{History, full}
-use Rattle.vg_meaning.specs.World.{World, Phase, Running}
-use Rattle.vg_meaning.specs.Answer.{Signal, Answer, Gives, Ends, Piece, go_on, and_then}
+use Rattle.vg_meaning.specs.History.{History}
+use Rattle.vg_meaning.specs.World.{World, Running}
+use Rattle.vg_meaning.specs.Answer.{Gives, Piece, go_on}
 use Rattle.vg_meaning.specs.Devices.{read_from, write_in, write_device}
-use Rattle.vg_meaning.specs.Interrupts.{take_interrupt}
 use Rattle.vg_codes.specs.Codes.{Codes}
 use Rattle.vg_firm.specs.declared.step.Operator.{Operator}
 use Rattle.vg_firm.specs.declared.step.Prefix.{Prefix}
 use Rattle.vg_firm.specs.declared.step.Prefix.TheVariants.{Negative, Not, Complement, Cut}
 use Rattle.vg_firm.specs.declared.step.Step.{Step}
-use Rattle.vg_firm.specs.declared.step.Step.TheVariants.{Number, This, Local as GetLocal, SetLocal, Forget, Operate, Apply, ReadDevice, WriteDevice, Call, Idle}
+use Rattle.vg_firm.specs.declared.step.Step.TheVariants.{Number, This, Local as GetLocal, SetLocal, Forget, Operate, Apply, ReadDevice, WriteDevice}
 use Rattle.vg_firm.specs.Program.{Procedure as FirmProcedure, Program as FirmProgram}
 use Rattle.vg_firm.specs.Meaning.{State as Firm, Caller as FirmCaller, step as firm_step, put, put_computed, taking, take_from, with_found, of_width, checked, set_local}
-use Rattle.vg_firm.specs.Operators.{as_number, computed as firm_computed, has_strings, applied as firm_applied, has_string}
+use Rattle.vg_firm.specs.Operators.{computed as firm_computed, has_strings, applied as firm_applied, has_string}
 use Rattle.vg_lin.specs.declared.instr.Operand.{Operand}
 use Rattle.vg_lin.specs.declared.instr.Operand.TheVariants.{Local, Known}
 use Rattle.vg_lin.specs.declared.instr.Operator.{Operator as LinOperator}
 use Rattle.vg_lin.specs.declared.instr.Operator.TheVariants.{Plus as Sum, Minus as Difference, And as Both'}
-use Rattle.vg_lin.specs.declared.instr.Computation.{Computation}
 use Rattle.vg_lin.specs.declared.instr.Plain.{Plain}
 use Rattle.vg_lin.specs.declared.instr.Plain.TheVariants.{Copy, Compute, ReadDevice as ReadsDevice, WriteDevice as WritesDevice}
 use Rattle.vg_lin.specs.declared.instr.Comparison.TheVariants.{Same}
 use Rattle.vg_lin.specs.Values.{low, computed as lin_computed}
 use Rattle.vg_lin.specs.Program.{Program as LinProgram}
-use Rattle.vg_lin.specs.Steps.{Went, Goes}
+use Rattle.vg_lin.specs.Steps.{Goes}
 use Rattle.vg_lin.specs.State.{State, value, using, sets, computes as lin_computes, plain, reads_from}
 use Rattle.vg_lin.specs.Structured.{Deciding, Caller as LinCaller, lifted}
 use Rattle.vg_flatten_shapes.specs.declared.fault.Fault.TheVariants.{NotTaken}
@@ -39,18 +37,18 @@ use Rattle.vg_flatten_shapes.specs.declared.room.Room.{Room}
 use Rattle.vg_flatten_shapes.specs.Shapes.{Shape, only, is_free, temp}
 use Rattle.vg_flatten_shapes.specs.Blocks.{Block, Skip, One}
 use Rattle.vg_flatten_shapes.specs.Made.{Made, Gives as Makes, Refused, by_temp, is_zero}
-use Rattle.vg_flatten_values.specs.Values.{bytes_around, bytes_for, cut_bits, computing, comparing, computed, bytes_of, applied}
-use Rattle.vg_flatten_steps.specs.Locals.{at_local, get_receiver, put_in_local, put_number, get_local, set_local as sets_local, forgotten, read, written}
+use Rattle.vg_flatten_values.specs.Values.{bytes_around, bytes_for, cut_bits, comparing, computed, bytes_of, applied}
+use Rattle.vg_flatten_steps.specs.Locals.{at_local, get_receiver, put_number, get_local, set_local as sets_local, forgotten, read, written}
 use Rattle.vg_flatten_values.specs.Values.{cut}
-use Rattle.vg_flattened.proofs.Alike.{IsFair, Alike, gives, leaves, overs, wrong, AlikePiece}
-use Rattle.vg_flattened.proofs.Related.{IsAt, ArePlaced, AreAt, AreWidths, IsReceiver, AreSame, IsSaid, said, Held, Leaves}
-use Rattle.vg_flattened.proofs.Numbers.{low_same, low_small, low_within, opposite_same, same_same}
+use Rattle.vg_flattened.proofs.Alike.{IsFair, Alike, gives, overs, wrong}
+use Rattle.vg_flattened.proofs.Related.{ArePlaced, AreAt, AreWidths, IsReceiver, AreSame, Held, Leaves}
+use Rattle.vg_flattened.proofs.Numbers.{low_small, low_within, opposite_same, same_same}
 use Rattle.vg_flatten_shapes.proofs.Temps.{some_is, none_is_not}
 use Rattle.vg_flattened.proofs.Locals.{value_of_home, put_temp, placed_temp}
 use Rattle.vg_flattened.proofs.Free.{homes_beside, kept_behind_set}
 use Rattle.vg_flattened.proofs.Operating.{Computes, Compares, compares, holds_of}
 use Rattle.vg_flattened.proofs.Strings.{string_below, masked_is, masked_small, complement_is, complement_below}
-use Rattle.vg_flattened.proofs.Right.{Right, Does, linear}
+use Rattle.vg_flattened.proofs.Right.{Right, linear}
 use Rattle.std.proofs.Math.Nat.{mod-eq_of_lt, lt_of_lt_of_le}
 use Rattle.std.proofs.Math.Pow.{pow_mono}
 

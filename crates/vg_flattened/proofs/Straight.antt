@@ -1,6 +1,6 @@
 -- What a step becomes has no loop, and gives nothing back.
-use Rattle.std.specs.Prelude.{ℕ, zero, suc, ◌+◌, ◌<◌, ◌≤◌, List, [], ◌∷◌}
-use Rattle.std.proofs.Common.{◌≡◌, refl, sym, ap, ◌∙◌, subst, arith}
+use Rattle.std.specs.Prelude.{ℕ, ◌+◌, List, [], ◌∷◌}
+use Rattle.std.proofs.Common.{◌≡◌, refl, subst, arith}
 use Rattle.vg_firm.specs.declared.step.Step.{Step}
 use Rattle.vg_firm.specs.declared.step.Step.TheVariants.{Number, This, Local as GetLocal, SetLocal, Forget, Operate, Apply, ReadDevice, WriteDevice, Load, Store}
 use Rattle.vg_firm.specs.declared.step.Step.TheVariants.{LoadAt, StoreAt, LoadNothing, StoreNothing, LoadItem, StoreItem, Length, IsWithin}
@@ -14,11 +14,10 @@ use Rattle.vg_flatten_shapes.specs.declared.layout.Layout.{Layout}
 use Rattle.vg_flatten_shapes.specs.declared.open.Truth.{Truth}
 use Rattle.vg_flatten_shapes.specs.declared.open.Truth.TheVariants.{Holds, Fails}
 use Rattle.vg_flatten_shapes.specs.declared.room.Room.{Room}
-use Rattle.vg_flatten_shapes.specs.Shapes.{Shape}
 use Rattle.vg_flatten_shapes.specs.Blocks.{Block, Skip, One, CallTo, TakeInterrupt, GiveBack, BreakOut, GoOn, Both, Choice, Repeat, structured, picked, pushing}
-use Rattle.vg_flatten_shapes.specs.Made.{Made, Gives, Refused, after, settled}
+use Rattle.vg_flatten_shapes.specs.Made.{Made, Gives, Refused}
 use Rattle.vg_flatten_steps.specs.Steps.{stepped}
-use Rattle.vg_flatten.proofs.Sound.{AreIn, ShapeIn, BlockIn, MadeIn, in_stepped, in_settled, in_after}
+use Rattle.vg_flatten.proofs.Sound.{AreIn, BlockIn, MadeIn, in_stepped}
 
 -- the same in a room whose results have other bytes
 abbrev giving : ℕ → Room → Room

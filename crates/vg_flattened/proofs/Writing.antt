@@ -2,7 +2,7 @@
 use Rattle.std.specs.Prelude.{ℕ, zero, suc, ◌+◌, ◌-◌, ◌*◌, ◌/◌, ◌%◌, ◌^◌, ◌<◌, ◌≤◌, Bool, true, false, ◌==◌, List, [], ◌∷◌, length, Option, Some, None}
 use Rattle.std.specs.Prelude.{slice_get, slice_set}
 use Rattle.std.proofs.Common.{◌≡◌, ◌≢◌, ◌⊎◌, inl, inr, refl, sym, ap, ◌∙◌, subst, arith}
-use Rattle.std.proofs.Math.Nat.{mod-add-div, mul-le-mul_left, mul_comm}
+use Rattle.std.proofs.Math.Nat.{mod-add-div, mul-le-mul_left}
 use Rattle.std.proofs.lemmas.Nat.{div_below}
 use Rattle.std.proofs.lemmas.Option.{slice_get_within}
 use Rattle.vg_firm.specs.Meaning.{column_of, set_entry}
@@ -165,6 +165,7 @@ module _ (places : List Place) (columns : List (List ℕ)) (bytes : List ℕ) (a
   written : ColumnStands Ram new_bytes place (slice_set vs i v)
   written =
       record {
+        counted = same_length vs i v ∙ stood.counted;
         behind = stood.behind;
         short = subst (λ z. place.address + place.width * z ≤ 65536) (sym (same_length vs i v)) stood.short;
         held = λ e u h. by_entry e u h (e == i) refl;
@@ -192,6 +193,7 @@ module _ (places : List Place) (columns : List (List ℕ)) (bytes : List ℕ) (a
       → ColumnStands Ram new_bytes second us
   untouched d second us ne e h =
       record {
+        counted = other.counted;
         behind = other.behind;
         short = other.short;
         held = λ n u hu. (

@@ -9,14 +9,14 @@ use Rattle.vg_firm.specs.Program.{Program as FirmProgram}
 use Rattle.vg_firm.specs.Meaning.{State as Firm}
 use Rattle.vg_firm.specs.Session.{first_state, running}
 use Rattle.vg_lin.specs.Program.{Program}
-use Rattle.vg_lin.specs.Meaning.{run}
+use Rattle.vg_lin.specs.Meaning.{run, counted_steps}
 use Rattle.vg_lin.specs.Follows.{IsLegal}
 use Rattle.vg_lin.specs.Sessions.{world, ShowsEnd}
 
 -- Where the run of the packed program is over for a legal reason, that of linear code shows it: the same ending, the same outside,
--- the same calls open at each opening, after at least as many steps as ticks were spent. Reads are bytes.
+-- the same calls open at each opening, after at least as many steps that count as ticks were spent. Reads are bytes.
 abbrev pub FollowsPacked : Codes → FirmProgram → Program → Type 0
 FollowsPacked k f p =
     (clock : ℕ) (deepest : Option ℕ) (reads interrupts : List ℕ) (t : Firm) (v : World History) (why : End) → AreReads reads → IsLegal why
     → running full k f (length interrupts) (first_state f) (world clock deepest reads interrupts) ≡ Ends (Over why) t v
-    → (j : ℕ) × (clock ≤ v.clock + j) × ShowsEnd why v (run p j reads interrupts)
+    → (j : ℕ) × (clock ≤ v.clock + counted_steps p j reads interrupts) × ShowsEnd why v (run p j reads interrupts)

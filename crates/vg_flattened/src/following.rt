@@ -8,7 +8,8 @@ ghost use Rattle.vg_flatten.specs.Flattened.{AreFlat};
 ghost use Rattle.vg_flattened.specs.Runs.{FollowsPacked};
 
 /// A program of linear code whose procedures are packed ones, flattened, does what the packed program does: where that is over for a
-/// legal reason, it comes to the same ending in the same outside, having opened the same calls, after at least one step for each tick.
+/// legal reason, it comes to the same ending in the same outside, having opened the same calls, after at least one step
+/// that counts for each tick.
 pub fn flattened_follows()
     ensures { (k : Codes) (lay : Layout) (f : FirmProgram) (p : Program) → AreFlat k lay f p → FollowsPacked k f p }
 {}

@@ -19,7 +19,7 @@ use Rattle.vg_table_bytes.specs.Bytes.{columns_bytes, ram_widths, rows_bytes, ta
 use Rattle.vg_started_bytes.specs.Started.{address_of, bytes_in, place_of, ram_places, table_addresses, HoldsColumns, HoldsTable}
 use Rattle.vg_table_bytes.specs.Rows.{tables_in, HasRows, RowsFit}
 use Rattle.vg_started_bytes.proofs.Placed.{ram_placed, ram_sum, ram_total, flash_sum, stacked, tables_of, tables_placed, total, total_is, values_are, width_in_column, widths_are}
-use Rattle.vg_started_bytes.proofs.Whole.{body, body_length, columns_apart, columns_are, columns_between, columns_held, tables_held, HeldAt}
+use Rattle.vg_started_bytes.proofs.Whole.{body, body_length, columns_apart, columns_are, columns_between, columns_counted, columns_held, tables_held, HeldAt}
 
 module _ (k : Codes) (p : Tables) (n : Needs) (κ : List Kind) (c : Columns) (f : FirmProgram) (placed_so : ArePlaced (all_columns p n κ) c)
     (rows : HasRows k c.list f) where
@@ -78,6 +78,7 @@ module _ (k : Codes) (p : Tables) (n : Needs) (κ : List Kind) (c : Columns) (f 
       stand =
           record {
             each = λ i place vs e1 e2. record {
+              counted = columns_counted k (stacked 0x0100 cs) f.columns lengths i place vs e1 e2;
               behind = (columns_between k 0x0100 cs f.columns lengths i place vs e1 e2).0;
               short = less (place.address + place.width * length vs) (total cs) (columns_between k 0x0100 cs f.columns lengths i place vs e1 e2).1 small;
               held = subst (λ z. HeldAt k z 0x0100 place vs) (append-nil (body (stacked 0x0100 cs) f.columns))

@@ -17,6 +17,7 @@ pub columns_stand : (bytes : List ℕ) (places : List Place) (columns : List (Li
 columns_stand bytes places columns h known =
     record {
       stands = λ c place vs e1 e2. record {
+        counted = (h.each c place vs e1 e2).counted;
         behind = (h.each c place vs e1 e2).behind;
         short = (h.each c place vs e1 e2).short;
         held = (h.each c place vs e1 e2).held;

@@ -147,6 +147,16 @@ module _ (k : Codes) where
   mapped [] = refl
   mapped (x ∷ es) = ap suc (mapped es)
 
+  pub columns_counted : (cs : List Column) (rows : List (List Entry)) → map length rows ≡ map count_of cs → (c : ℕ) (place : Place) (vs : List ℕ)
+      → slice_get (map place_of cs) c ≡ Some place → slice_get (numbers rows) c ≡ Some vs → length vs ≡ place.count
+  columns_counted [] rows e c place vs e1 e2 = none_is_not place e1
+  columns_counted (c ∷ cs) [] e j place vs e1 e2 = none_is_not vs e2
+  columns_counted (c ∷ cs) (es ∷ rows) e zero place vs e1 e2 =
+      ap length (sym (some_is (map (number_in k) es) vs e2))
+      ∙ (mapped es ∙ (head_is (length es) c.count (map length rows) (map count_of cs) e ∙ ap (λ (z : Place). z.count) (some_is (place_of c) place e1)))
+  columns_counted (c ∷ cs) (es ∷ rows) e (suc j) place vs e1 e2 =
+      columns_counted cs rows (tail_is (length es) c.count (map length rows) (map count_of cs) e) j place vs e1 e2
+
   -- the first column
   first_between : (a : ℕ) (c : Column) (t : ℕ) (es : List Entry) → length es ≡ c.count → (place : Place) (vs : List ℕ)
       → place_of (at_address c a) ≡ place → map (number_in k) es ≡ vs → Between a (a + bytes_of c + t) place vs

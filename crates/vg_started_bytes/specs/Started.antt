@@ -13,7 +13,7 @@ use Rattle.vg_table_bytes.specs.Rows.{tables_in}
 -- ---- where they stand
 
 abbrev pub place_of : Column → Place
-place_of c = record { address = c.at; width = c.width }
+place_of c = record { address = c.at; width = c.width; count = c.count }
 
 -- The places of the columns in RAM, in their order.
 abbrev pub ram_places : List Column → List Place
@@ -34,6 +34,7 @@ bytes_in k ds = map (byte_of k) ds
 
 -- The bytes, the first of which has the address `first`, hold these values at a place, one behind another, each in as many bytes as an entry has.
 pub record HoldsColumn (bytes : List ℕ) (first : ℕ) (place : Place) (vs : List ℕ) : Type 0 where
+  pub counted : length vs ≡ place.count
   pub behind : first ≤ place.address
   pub short : place.address + place.width * length vs ≤ 65536
   pub held : (i v : ℕ) → slice_get vs i ≡ Some v

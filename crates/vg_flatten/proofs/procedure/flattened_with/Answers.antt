@@ -1,4 +1,4 @@
-use Rattle.std.proofs.Common.{true, false, length, map, ◌++◌, ◌+◌, ◌-◌, ◌≤◌, ◌≡◌, replicate, Some, ap, sym, subst, ◌∙◌}
+use Rattle.std.proofs.Common.{true, false, length, map, ◌++◌, ◌+◌, ◌≡◌, refl, replicate, Some, ap, sym, subst, ◌∙◌}
 use Rattle.vg_firm.specs.Held.{code_of, procedure_of}
 use Rattle.vg_lin.specs.Onward.{all_lead_on}
 use Rattle.vg_lin.specs.Sound.{IsSound}
@@ -7,6 +7,7 @@ use Rattle.vg_flatten_shapes.specs.Blocks.{set_in}
 use Rattle.vg_flatten.specs.Closing.{AllSet}
 use Rattle.vg_flatten.specs.Flattened.{IsFlat, own_params, result_width}
 use Rattle.vg_flatten.specs.Loops.{has_loop}
+use Rattle.vg_flatten.proofs.Causes.{room_of}
 use Rattle.vg_flatten.proofs.Finished.{procedure_sound, procedure_flat, procedure_onward}
 use Rattle.vg_flatten.proofs.procedure.flattened_with.Goals as goal
 
@@ -28,8 +29,8 @@ new-made-requires c =
       code = c.in_ok-instrs.instrs;
     })) (sym c.receivers-receiver.ensures)
     (procedure_sound c.args.layout.now (procedure_of c.args.procedure.now)
-    (record { receiver = c.receivers-receiver.result; locals = length c.args.own.now; temps = c.args.temps; result = c.result_width-given.result })
-    c.receivers-receiver.ensures
+    (room_of c.receivers-receiver.result c.args.procedure.now.on_objects (length c.args.own.now) c.args.temps c.result_width-given.result)
+    c.receivers-receiver.ensures refl
     (ap length own_is) c.result_width-given.ensures c.requires.room c.requires.params c.requires.widths c.requires.given c.in_ok-code.code c.in_ok-instrs.instrs
     c.in_ok-widths.widths c.in_ok-code.ensures (c.in_ok-instrs.ensures.0 ∙ ap (map (set_in 0 0)) c.as_slice.ensures)
     (subst AllSet c.as_slice.ensures c.in_ok-instrs.ensures.1)
@@ -62,8 +63,8 @@ returns c =
       flat =
           subst (IsFlat c.args.layout.now (procedure_of c.args.procedure.now)) (sym made_is)
           (procedure_flat c.args.layout.now (procedure_of c.args.procedure.now)
-          (record { receiver = c.receivers-receiver.result; locals = length c.args.own.now; temps = c.args.temps; result = c.result_width-given.result })
-          c.receivers-receiver.ensures
+          (room_of c.receivers-receiver.result c.args.procedure.now.on_objects (length c.args.own.now) c.args.temps c.result_width-given.result)
+          c.receivers-receiver.ensures refl
           (ap length own_is) c.result_width-given.ensures c.requires.room c.requires.params c.requires.widths c.requires.given c.in_ok-code.code c.in_ok-instrs.instrs
           c.in_ok-widths.widths c.in_ok-code.ensures (c.in_ok-instrs.ensures.0 ∙ ap (map (set_in 0 0)) c.as_slice.ensures)
           (subst AllSet c.as_slice.ensures c.in_ok-instrs.ensures.1)
@@ -71,8 +72,8 @@ returns c =
       onward =
           subst (λ z. has_loop (code_of c.args.procedure.now.body) ≡ false → all_lead_on 0 z.code ≡ true) (sym made_is)
           (procedure_onward c.args.layout.now (procedure_of c.args.procedure.now)
-          (record { receiver = c.receivers-receiver.result; locals = length c.args.own.now; temps = c.args.temps; result = c.result_width-given.result })
-          c.receivers-receiver.ensures
+          (room_of c.receivers-receiver.result c.args.procedure.now.on_objects (length c.args.own.now) c.args.temps c.result_width-given.result)
+          c.receivers-receiver.ensures refl
           (ap length own_is) c.result_width-given.ensures c.requires.room c.requires.params c.requires.widths c.requires.given c.in_ok-code.code c.in_ok-instrs.instrs
           c.in_ok-widths.widths c.in_ok-code.ensures (c.in_ok-instrs.ensures.0 ∙ ap (map (set_in 0 0)) c.as_slice.ensures)
           (subst AllSet c.as_slice.ensures c.in_ok-instrs.ensures.1)
