@@ -14,7 +14,7 @@ use Rattle.avr_isa.specs.Machine.{started}
 use Rattle.avr_view.specs.Run.{Run, Goes}
 use Rattle.avr_view.specs.View.{Shown}
 use Rattle.vg_lin.specs.Follows.{EndsBy, IsLegal}
-use Rattle.vg_lin.specs.Meaning.{run}
+use Rattle.vg_lin.specs.Meaning.{run, counted_steps}
 use Rattle.vg_lin.specs.Program.{Program}
 use Rattle.vg_lin.specs.Sessions.{world, ShowsEnd}
 use Rattle.vg_lin.specs.State.{State}
@@ -80,11 +80,11 @@ pub joined : (k : Codes) (lay : Layout) (f : FirmProgram) (p new : Program) → 
 joined k lay f p new flat as' e x st b memory powered clock deepest reads interrupts t v why r is legal over' whole =
     by_run (follows k lay f p flat clock deepest reads interrupts t v why r legal over')
   where
-    by_run : (j : ℕ) × (clock ≤ v.clock + j) × ShowsEnd why v (run p j reads interrupts)
+    by_run : (j : ℕ) × (clock ≤ v.clock + counted_steps p j reads interrupts) × ShowsEnd why v (run p j reads interrupts)
         → (n : ℕ) × (clock ≤ v.clock + n) × DoesAs e x new n memory reads interrupts why v
     by_run (j, spent, shows) = by_steps (as' j reads interrupts r (not_wrong why (run p j reads interrupts) legal shows.ending))
       where
-        by_steps : (m : ℕ) × (j ≤ m) × ShowsSame (run p j reads interrupts) (run new m reads interrupts)
+        by_steps : (m : ℕ) × (counted_steps p j reads interrupts ≤ m) × ShowsSame (run p j reads interrupts) (run new m reads interrupts)
             → (n : ℕ) × (clock ≤ v.clock + n) × DoesAs e x new n memory reads interrupts why v
         by_steps (m, more, same) = (
           m,

@@ -1,5 +1,5 @@
 -- The linear program does what the flattened one does.
-use Rattle.std.proofs.Common.{◌≡◌, refl, sym, ap, subst, ◌∙◌, arith, ℕ, ◌+◌, ◌≤◌, List, [], ◌∷◌, length, option_map, Option, Some, slice_get}
+use Rattle.std.proofs.Common.{◌≡◌, refl, sym, ap, subst, ◌∙◌, arith, ℕ, ◌≤◌, List, [], ◌∷◌, length, option_map, Option, Some, slice_get}
 use Rattle.std.proofs.lemmas.Option.{none-some, slice_get-map}
 use Rattle.std.proofs.lemmas.Slice.Zip.{AllZip-long}
 use Rattle.std.proofs.lemmas.List.{length-map, length-append}
@@ -8,7 +8,7 @@ use Rattle.vg_firm.specs.declared.procedure.Procedure.{Procedure as HeldProcedur
 use Rattle.vg_firm.specs.Held.{procedure_of}
 use Rattle.vg_firm.specs.Program.{Procedure as FirmProcedure}
 use Rattle.vg_lin.specs.Program.{Procedure, Program}
-use Rattle.vg_lin.specs.Meaning.{run}
+use Rattle.vg_lin.specs.Meaning.{run, counted_steps}
 use Rattle.vg_lin.specs.Sound.{IsWidth}
 use Rattle.vg_expand.specs.Expansion.{HasRoutines}
 use Rattle.vg_expand.specs.Runs.{with_procedures, AllExpand, IsClosed, RunsAs, ShowsSame}
@@ -33,6 +33,7 @@ use Rattle.vg_linear.specs.Widths.{AllHaveWidths, HasWidths}
 use Rattle.vg_linear.proofs.Lists.{from_map, get_left, get_right, one_of, zip_at}
 use Rattle.vg_linear.proofs.Called.{is_passing}
 use Rattle.vg_linear.proofs.Routined.{routine_there}
+use Rattle.vg_linear.proofs.Places.{is_lone}
 
 is_fit : (m : HeldProcedure) → HasWidths m → IsFit (procedure_of m)
 is_fit m has = record {
@@ -109,6 +110,7 @@ module _ (k : Codes) (cs : List Column) (f : FirmProgram) (l : Linear) (tables r
   flash_stands = record {
     columns = λ c place vs e g. absurd (none-some place (sym (ap (λ (z : Layout). slice_get z.flash c) whole.layout) ∙ e));
     tables = stand.arrays;
+    lone = λ t a e. is_lone f.tables t a (ap (λ (z : Layout). slice_get z.lone_arrays t) (sym whole.layout) ∙ e);
     known = stand.known;
     known_columns = λ c e. refl;
   }
@@ -173,12 +175,14 @@ module _ (k : Codes) (cs : List Column) (f : FirmProgram) (l : Linear) (tables r
   pub runs_as : RunsAsRead old (linear_program k f l tables ram handler)
   runs_as steps reads interrupts bytes legal = by (trimmed_runs steps reads interrupts bytes legal)
     where
-      by : (j : ℕ) × (steps ≤ j) × ShowsSame (run old steps reads interrupts) (run middle j reads interrupts)
-          → (j : ℕ) × (steps ≤ j) × ShowsSame (run old steps reads interrupts) (run (linear_program k f l tables ram handler) j reads interrupts)
+      by : (j : ℕ) × (counted_steps old steps reads interrupts ≤ j) × ShowsSame (run old steps reads interrupts) (run middle j reads interrupts)
+          → (j : ℕ) × (counted_steps old steps reads interrupts ≤ j)
+          × ShowsSame (run old steps reads interrupts) (run (linear_program k f l tables ram handler) j reads interrupts)
       by (j, more, same) = further (expanded_runs j reads interrupts (λ wrong. legal (sym same.ending ∙ wrong)))
         where
           further : (i : ℕ) × (j ≤ i) × ShowsSame (run middle j reads interrupts) (run (linear_program k f l tables ram handler) i reads interrupts)
-              → (i : ℕ) × (steps ≤ i) × ShowsSame (run old steps reads interrupts) (run (linear_program k f l tables ram handler) i reads interrupts)
+              → (i : ℕ) × (counted_steps old steps reads interrupts ≤ i)
+              × ShowsSame (run old steps reads interrupts) (run (linear_program k f l tables ram handler) i reads interrupts)
           further (i, on, shown) = (
             i,
             omega (arith, more, on),

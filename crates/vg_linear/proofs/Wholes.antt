@@ -12,6 +12,7 @@ use Rattle.vg_flatten.specs.Flattened.{start_of}
 use Rattle.vg_placement.specs.declared.column.Column.{Column}
 use Rattle.vg_packed.specs.declared.program.FirmProgram.{FirmProgram}
 use Rattle.vg_trimming.specs.Trimmed.{AreAllTrimmed}
+use Rattle.vg_trim.specs.Looked.{AreNoLonger}
 use Rattle.vg_linear.specs.Laying.{layout_of}
 use Rattle.vg_linear.specs.Flats.{AreAllFlat, AreTaken, AreTyped, IsRefusedFor}
 use Rattle.vg_linear.specs.Expanded.{AreAllExpanded, IsOneTooLong}
@@ -52,12 +53,12 @@ module _ (lay : Layout) (f : FirmProgram) where
       (r.0, inl r.1)
 
   module _ (flats : List Procedure) (are_flat : AreAllFlat lay (packed_of f) flats) (begun : List Procedure) (with_start : IsWithStart f flats begun) where
-    module _ (bs : List Procedure) (same : bs ≡ begun) (trimmed : List Procedure) (are_trimmed : AreAllTrimmed bs trimmed) (ms : List Procedure)
-        (e : ms ≡ trimmed) (first : ℕ) where
+    module _ (bs : List Procedure) (same : bs ≡ begun) (trimmed : List Procedure) (are_trimmed : AreAllTrimmed bs trimmed) (are_short : AreNoLonger bs trimmed)
+        (ms : List Procedure) (e : ms ≡ trimmed) (first : ℕ) where
       long : IsOneTooLong ms → IsOneTooLong flats
       long h =
           among flats (start_of f.main with_start.main.receives) (let three : 3 < 32768 = omega arith in three)
-          (subst IsOneTooLong (same ∙ with_start.behind) (long_before bs trimmed are_trimmed (subst IsOneTooLong e h)))
+          (subst IsOneTooLong (same ∙ with_start.behind) (long_before bs trimmed are_short (subst IsOneTooLong e h)))
 
       pub expanded_refused : (why : Refusal Fault) → IsExpandedOrTooLong (Err why) first ms → AreRefused (Err why) lay f
       expanded_refused Memory h = tt
@@ -83,12 +84,12 @@ module _ (lay : Layout) (f : FirmProgram) where
 
 -- ---- programs
 
-module _ (cs : List Column) (f : FirmProgram) (lay : Layout) (laid : lay ≡ layout_of cs f.procedures) where
+module _ (cs : List Column) (f : FirmProgram) (lay : Layout) (laid : lay ≡ layout_of cs f) where
   pub whole_refused : (why : Refusal Fault) → AreRefused (Err why) lay f → IsRefused (Err why) cs f
   whole_refused Memory h = tt
   whole_refused (Faulty why) h = inr (inr (subst (λ z. AreRefused (Err (Faulty why)) z f) laid h))
 
-  pub whole_left : (why : Refusal Fault) → (IsTypedIn lay f → AreTakenIn (Err why) lay f) → IsTypedIn (layout_of cs f.procedures) f
+  pub whole_left : (why : Refusal Fault) → (IsTypedIn lay f → AreTakenIn (Err why) lay f) → IsTypedIn (layout_of cs f) f
       → IsTakenFor (Err why) cs f
   whole_left Memory h t = tt
   whole_left (Faulty why) h t =

@@ -34,7 +34,7 @@ IsCauseIn why lay f = IsOneRefused why lay (packed_of f) ⊎ ((why ≡ TooLong) 
 abbrev pub IsCauseOf : Fault → List Column → FirmProgram → Type 0
 IsCauseOf why cs f =
     ((why ≡ NotTaken) × (AllHaveWidths f.procedures → ⊥))
-    ⊎ (((why ≡ TooLong) × TooMany f) ⊎ IsCauseIn why (layout_of cs f.procedures) f)
+    ⊎ (((why ≡ TooLong) × TooMany f) ⊎ IsCauseIn why (layout_of cs f) f)
 
 abbrev pub AreRefused : Result (List Procedure) (Refusal Fault) → Layout → FirmProgram → Type 0
 AreRefused (Ok all) lay f = Unit {0}
@@ -58,7 +58,7 @@ abbrev pub IsLeftIn : Fault → Layout → FirmProgram → Type 0
 IsLeftIn why lay f = (why ≡ TooLong) × (IsOneMadeTooLong lay (packed_of f) ⊎ IsFlatTooLong lay f)
 
 abbrev pub IsLeftOf : Fault → List Column → FirmProgram → Type 0
-IsLeftOf why cs f = ((why ≡ TooLong) × TooMany f) ⊎ IsLeftIn why (layout_of cs f.procedures) f
+IsLeftOf why cs f = ((why ≡ TooLong) × TooMany f) ⊎ IsLeftIn why (layout_of cs f) f
 
 abbrev pub AreTakenIn : Result (List Procedure) (Refusal Fault) → Layout → FirmProgram → Type 0
 AreTakenIn (Ok all) lay f = Unit {0}

@@ -49,7 +49,7 @@ pub record AreAllMade (lay : Layout) (f : FirmProgram) (all : List Procedure) : 
 
 pub record IsLinear (cs : List Column) (f : FirmProgram) (l : Linear) : Type 0 where
   pub widths : AllHaveWidths f.procedures
-  pub layout : l.layout ≡ layout_of cs f.procedures
+  pub layout : l.layout ≡ layout_of cs f
   pub made : AreAllMade l.layout f l.procedures
   pub start : l.start ≡ length f.procedures
 

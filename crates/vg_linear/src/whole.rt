@@ -46,7 +46,7 @@ pub fn make_linear(
     requires { firm.now.main < length firm.now.procedures }
     ensures linear { IfOk result (IsLinear columns.now firm.now) }
     ensures refusal { IsRefused result columns.now firm.now }
-    ensures typed { IsTypedIn (layout_of columns.now firm.now.procedures) firm.now → IsTakenFor result columns.now firm.now }
+    ensures typed { IsTypedIn (layout_of columns.now firm.now) firm.now → IsTakenFor result columns.now firm.now }
 {
     let procedures = firm.procedures.as_slice();
     if !all_have_widths(procedures) {
@@ -55,7 +55,7 @@ pub fn make_linear(
     if procedures.len() > 65_531 {
         return Err(Refusal::Fault(Fault::TooLong));
     }
-    let layout = layout(alloc, columns, procedures)?;
+    let layout = layout(alloc, columns, firm)?;
     let all = match all_procedures(alloc, &layout, firm) {
         Ok(all) => all,
         Err(why) => return Err(why),

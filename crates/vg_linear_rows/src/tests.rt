@@ -2,7 +2,7 @@ ghost use Rattle.std.specs.Prelude.{◌<◌, ℕ, length, IfOk};
 
 use std::alloc::Global;
 use vg_base::{NoMemory, Refusal, Row};
-use vg_firm::{Code, Home, Operator, Prefix, Procedure, Step};
+use vg_firm::{ArrayPlace, Code, Home, Operator, Prefix, Procedure, Step};
 use vg_flatten_shapes::{Fault, Layout, Width};
 use vg_lin::{
     Call, Callee, Computation, Instr, LinProc, Operand, Operator as LinOperator, Passed, Plain,
@@ -31,11 +31,22 @@ fn procedure(
         method: 0,
         params,
         receives: false,
+        on_objects: false,
         widths: Row::from_slice(alloc, widths)?,
         result: given,
         calls: Row::new(alloc),
         body: Code::Row(codes),
     })
+}
+
+// A table of one array, of three elements.
+fn one_array(alloc: Global) -> Result<Row<ArrayPlace>, NoMemory> {
+    let mut arrays = Row::new(alloc);
+    arrays.push(ArrayPlace {
+        address: 0x0102,
+        length: 3,
+    })?;
+    Ok(arrays)
 }
 
 // The port B becomes f(50), where f of a byte is its tenth part. The parameter of f has so many bytes.
@@ -52,9 +63,11 @@ fn program(alloc: Global, width: u8) -> Result<FirmProgram, NoMemory>
     let mut procedures = Row::new(alloc);
     procedures.push(procedure(alloc, 0, &[], 0, call.as_slice())?)?;
     procedures.push(procedure(alloc, 1, &[width], 1, tenth.as_slice())?)?;
+    let mut tables = Row::new(alloc);
+    tables.push(one_array(alloc)?)?;
     Ok(FirmProgram {
         columns: Row::new(alloc),
-        tables: Row::new(alloc),
+        tables,
         procedures,
         dispatches: Row::new(alloc),
         main: 0,
@@ -157,21 +170,19 @@ fn is_main(code: &[Instr]) -> bool {
     }
 }
 
-// Division is called, and its result is cut to a byte in the local that it came to. No run comes behind the return: what stands there jumps back to it.
+// Division is called, and its result is cut to a byte in the local that it came to. What no run comes to behind the return is left out.
 fn is_tenth(code: &[Instr]) -> bool {
     match code {
         [
             Instr::Call(call),
             Instr::Plain(Plain::Compute(cut)),
             Instr::Return(width, value),
-            Instr::Jump(back),
         ] => {
             is_call_of(*call, 4)
                 && is_division(*call)
                 && is_cut(*cut)
                 && *width == 1
                 && is_local(*value, 1)
-                && *back == 2
         }
         _ => false,
     }
@@ -262,17 +273,21 @@ fn is_known(value: Operand, number: u32) -> bool {
     }
 }
 
-// The field and the table are at their places, and f gets a byte and gives one back.
+// The field and the table are at their places, with one entry and one array, and f gets a byte and gives one back.
 fn is_layout(layout: &Layout) -> bool {
     match (
         layout.ram.as_slice(),
         layout.tables.as_slice(),
+        layout.lone_arrays.as_slice(),
         layout.passing.as_slice(),
     ) {
-        ([place], [table], [_, tenth]) => {
+        ([place], [table], [Some(array)], [_, tenth]) => {
             place.address == 0x0100
                 && place.width == 2
+                && place.count == 1
                 && *table == 0x008E
+                && array.address == 0x0102
+                && array.length == 3
                 && tenth.widths.as_slice() == [Width::One].as_slice()
                 && tenth.result == Some(Width::One)
                 && layout.flash.is_empty()

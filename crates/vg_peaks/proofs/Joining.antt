@@ -15,7 +15,7 @@ use Rattle.avr_isa.specs.Machine.{State as Machine, started}
 use Rattle.avr_view.specs.Run.{Run, Goes}
 use Rattle.avr_view.specs.View.{Shown}
 use Rattle.vg_lin.specs.Follows.{EndsBy, IsLegal}
-use Rattle.vg_lin.specs.Meaning.{run}
+use Rattle.vg_lin.specs.Meaning.{run, counted_steps}
 use Rattle.vg_lin.specs.Program.{Program}
 use Rattle.vg_lin.specs.Sessions.{world, ShowsEnd}
 use Rattle.vg_lin.specs.State.{State}
@@ -115,11 +115,11 @@ within_peak k lay f p new flat as' e x st b cs has memory powered clock deepest 
     ticked =
         openings_tick k f (length interrupts) (first_state f) t (world clock deepest reads interrupts) v (Over why) (λ calls h. absurd h) over'
 
-    by_run : (j : ℕ) × (clock ≤ v.clock + j) × ShowsEnd why v (run p j reads interrupts)
+    by_run : (j : ℕ) × (clock ≤ v.clock + counted_steps p j reads interrupts) × ShowsEnd why v (run p j reads interrupts)
         → (n : ℕ) × (clock ≤ v.clock + n) × DoesWithinPeak e cs n memory reads interrupts why v
     by_run (j, spent, shows) = by_steps (as' j reads interrupts r (not_wrong why (run p j reads interrupts) legal shows.ending))
       where
-        by_steps : (m : ℕ) × (j ≤ m) × ShowsSame (run p j reads interrupts) (run new m reads interrupts)
+        by_steps : (m : ℕ) × (counted_steps p j reads interrupts ≤ m) × ShowsSame (run p j reads interrupts) (run new m reads interrupts)
             → (n : ℕ) × (clock ≤ v.clock + n) × DoesWithinPeak e cs n memory reads interrupts why v
         by_steps (m, more, same) = (
           m,

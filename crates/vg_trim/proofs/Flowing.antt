@@ -1,5 +1,6 @@
--- Where a newer instruction flows as an older one, what waits is what waited, and a procedure that kept what every one keeps still does.
-use Rattle.std.specs.Prelude.{ℕ, zero, suc, ◌<◌, ◌≤◌, true, false, List, [], ◌∷◌, length, drop, Some}
+-- Where a newer instruction flows as an older one, what waits is what waited, and a procedure that kept what every one keeps still does; where nothing
+-- waits anywhere, each instruction keeps that.
+use Rattle.std.specs.Prelude.{ℕ, zero, suc, ◌<◌, ◌≤◌, ◌==◌, true, List, [], ◌∷◌, length, drop, Some}
 use Rattle.std.proofs.Common.{◌≡◌, refl, sym, ap, ◌∙◌, subst, arith}
 use Rattle.std.proofs.lemmas.Option.{same_Some, none-some}
 use Rattle.vg_lin.specs.declared.instr.Plain.{Plain as PlainInstr}
@@ -11,7 +12,7 @@ use Rattle.vg_lin.specs.Program.{Procedure}
 use Rattle.vg_lin.specs.Sound.{behind_plain, behind, GoesOn, Jumps, PlainWaits, Waits}
 use Rattle.vg_trim.specs.declared.flow.Effect.{Effect}
 use Rattle.vg_trim.specs.declared.flow.Effect.TheVariants.{Nothing, Pushes, Pops, Takes}
-use Rattle.vg_trim.specs.Flow.{effect_of_plain, effect_of, led_to, is_return, goes_next, LeadsAlong, pushes}
+use Rattle.vg_trim.specs.Flow.{effect_of_plain, effect_of, led_to, is_return, goes_next, is_idle, LeadsAlong, FlowsFreely}
 
 -- ---- what waits
 
@@ -52,15 +53,15 @@ none_left : (n : ℕ) → drop {A = ℕ} n [] ≡ []
 none_left zero = refl
 none_left (suc n) = refl
 
--- an instruction that pushes nothing leaves nothing where nothing waits
-pub none_pushed : (j : Instr) → pushes (effect_of j) ≡ false → behind j [] ≡ []
-none_pushed j e = left j [] ∙ by_effect (effect_of j) e
-  where
-    by_effect : (f : Effect) → pushes f ≡ false → left_by f [] ≡ []
-    by_effect Nothing e = refl
-    by_effect (Pushes w) e = absurd (grind arith)
-    by_effect (Pops w) e = refl
-    by_effect (Takes n) e = none_left n
+-- an instruction that changes nothing of what waits leaves nothing where nothing waits
+idle_left : (f : Effect) → is_idle f ≡ true → left_by f [] ≡ []
+idle_left Nothing e = refl
+idle_left (Pushes w) e = absurd (grind arith)
+idle_left (Pops w) e = refl
+idle_left (Takes n) e = none_left n
+
+pub none_waits : (j : Instr) → is_idle (effect_of j) ≡ true → behind j [] ≡ []
+none_waits j e = left j [] ∙ idle_left (effect_of j) e
 
 -- ---- what the older instruction keeps
 
@@ -152,3 +153,36 @@ module _ (p q : Procedure) (w : ℕ → List ℕ) (at : ℕ) (long : length q.co
   waits_too (Call c) e l r g = (subst (Gives p w at) e (gives p w at i h), g refl)
   waits_too (Return v a) e l r g = returns p w at i (r refl) h
   waits_too Idle e l r g = g refl
+
+-- ---- where nothing waits
+
+abbrev pub none : ℕ → List ℕ
+none k = []
+
+module _ (q : Procedure) (at : ℕ) where
+  plain_free : (p : PlainInstr) → is_idle (effect_of_plain p) ≡ true → (goes_next (Plain p) ≡ true → suc at < length q.code) → PlainWaits q none at p
+  plain_free (Copy to a) e g = (g refl, refl)
+  plain_free (Compute c) e g = (g refl, refl)
+  plain_free (Product to a b) e g = (g refl, refl)
+  plain_free (DivideSteps r d a) e g = (g refl, refl)
+  plain_free (Load m v to a) e g = (g refl, refl)
+  plain_free (Store v a from) e g = (g refl, refl)
+  plain_free (ReadDevice to a) e g = (g refl, refl)
+  plain_free (WriteDevice to a) e g = (g refl, refl)
+  plain_free (Push v a) e g = absurd (grind arith)
+  plain_free (Pop v to) e g = absurd (grind arith)
+  plain_free (Find d to a) e g = (g refl, refl)
+  plain_free (CodeOf n to) e g = (g refl, refl)
+  plain_free (Stop c) e g = tt {0}
+
+  none_taken : (n : ℕ) → (n == 0) ≡ true → n ≤ length {A = ℕ} []
+  none_taken n e = grind arith
+
+  pub waits_free : (j : Instr) → FlowsFreely (length q.code) at j → Waits q none at j
+  waits_free (Plain p) f = plain_free p f.waits f.next
+  waits_free (When t to) f = ((f.leads.0, (f.leads.1, refl)), (f.next refl, refl))
+  waits_free (Unless t to) f = ((f.leads.0, (f.leads.1, refl)), (f.next refl, refl))
+  waits_free (Jump to) f = (f.leads.0, (f.leads.1, refl))
+  waits_free (Call c) f = (none_taken c.pushed f.waits, (f.next refl, sym (none_left c.pushed)))
+  waits_free (Return v a) f = refl
+  waits_free Idle f = (f.next refl, refl)

@@ -1,5 +1,5 @@
 -- Where instructions lead, and what they change of what waits.
-use Rattle.std.specs.Prelude.{◌≡◌, ◌≢◌, ◌⊎◌, ℕ, suc, ◌<◌, Bool, true, false, List, length, Option, Some, None, slice_get}
+use Rattle.std.specs.Prelude.{◌≡◌, ◌≢◌, ◌⊎◌, ℕ, suc, ◌<◌, ◌==◌, Bool, true, false, List, length, Option, Some, None, slice_get}
 use Rattle.vg_lin.specs.declared.instr.Plain.{Plain as PlainInstr}
 use Rattle.vg_lin.specs.declared.instr.Plain.TheVariants.{Push, Pop, Stop}
 use Rattle.vg_lin.specs.declared.instr.Instr.{Instr}
@@ -48,20 +48,28 @@ abbrev pub ReturnsLater : (newer : List Instr) → (at : ℕ) → (old new : Ins
 ReturnsLater js at i (Jump to) = (is_return i ≡ true) × (at < to) × ReturnsThere (slice_get js to)
 ReturnsLater js at i j = ⊥
 
--- Nothing waits anywhere, and the newer one jumps to another place.
-abbrev pub JumpsFreely : (free : Bool) → (newer : List Instr) → (at : ℕ) → (new : Instr) → Type 0
-JumpsFreely b js at (Jump to) = (b ≡ true) × (to ≢ at) × (to < length js)
-JumpsFreely b js at j = ⊥
-
-abbrev pub pushes : Effect → Bool
-pushes (Pushes w) = true
-pushes f = false
-
--- The newer instruction leads only where the older one leads, or to a next one that there is, or to a return as the older one is, or anywhere in code where
--- nothing waits, and both do the same with what waits: nothing ever does where the code is free.
-pub record FlowsAs (free : Bool) (newer : List Instr) (at : ℕ) (i j : Instr) : Type 0 where
+-- The newer instruction leads only where the older one leads, or to a next one that there is, or to a return as the older one is, and both do the same with
+-- what waits.
+pub record FlowsAs (newer : List Instr) (at : ℕ) (i j : Instr) : Type 0 where
   pub effect : effect_of i ≡ effect_of j
-  pub none_waits : free ≡ true → pushes (effect_of j) ≡ false
-  pub along : LeadsAlong (led_to i) (led_to j) ⊎ (ReturnsLater newer at i j ⊎ JumpsFreely free newer at j)
+  pub along : LeadsAlong (led_to i) (led_to j) ⊎ ReturnsLater newer at i j
   pub returns : is_return j ≡ true → is_return i ≡ true
   pub next : goes_next j ≡ true → suc at < length newer
+
+-- ---- code in which nothing waits
+
+abbrev pub is_idle : Effect → Bool
+is_idle Nothing = true
+is_idle (Takes n) = n == 0
+is_idle f = false
+
+-- Another place of code with so many instructions.
+abbrev pub IsOther : (count at : ℕ) → Option ℕ → Type 0
+IsOther count at None = Unit {0}
+IsOther count at (Some to) = (to ≢ at) × (to < count)
+
+-- The instruction at a place changes nothing of what waits, and leads only to other places, or to a next one that there is.
+pub record FlowsFreely (count at : ℕ) (j : Instr) : Type 0 where
+  pub waits : is_idle (effect_of j) ≡ true
+  pub leads : IsOther count at (led_to j)
+  pub next : goes_next j ≡ true → suc at < count

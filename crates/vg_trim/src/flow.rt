@@ -1,6 +1,7 @@
 // Where instructions lead, and what they change of what waits.
 ghost use Rattle.std.specs.Prelude.{◌≡◌, ◌⊎◌, IsTrue, slice_get};
-ghost use Rattle.vg_trim.specs.Flow.{effect_of_plain, effect_of, led_to, is_return, goes_next, LeadsAlong, ReturnsThere, ReturnsLater, JumpsFreely, pushes, FlowsAs};
+ghost use Rattle.vg_trim.specs.Flow.{effect_of_plain, effect_of, led_to, is_return, goes_next, LeadsAlong, ReturnsThere, ReturnsLater, FlowsAs};
+ghost use Rattle.vg_trim.specs.Flow.{is_idle, IsOther, FlowsFreely};
 
 use vg_lin::{Instr, Plain};
 
@@ -113,50 +114,49 @@ fn returns_later(newer: &[Instr], at: u16, i: Instr, j: Instr) -> bool
     }
 }
 
-/// Whether the newer instruction jumps to another place of code where nothing waits.
-fn jumps_freely(free: bool, newer: &[Instr], at: u16, j: Instr) -> bool
-    ensures { IsTrue result → JumpsFreely free newer.now at j }
-{
-    match j {
-        Instr::Jump(to) => free && to != at && usize::from(to) < newer.len(),
-        _ => false,
-    }
-}
-
 /// Whether the newer instruction leads where it may.
-fn leads(free: bool, newer: &[Instr], at: u16, i: Instr, j: Instr) -> bool
-    ensures { IsTrue result → LeadsAlong (led_to i) (led_to j) ⊎ (ReturnsLater newer.now at i j ⊎ JumpsFreely free newer.now at j) }
+fn leads(newer: &[Instr], at: u16, i: Instr, j: Instr) -> bool
+    ensures { IsTrue result → LeadsAlong (led_to i) (led_to j) ⊎ ReturnsLater newer.now at i j }
 {
-    leads_along(i, j) || returns_later(newer, at, i, j) || jumps_freely(free, newer, at, j)
+    leads_along(i, j) || returns_later(newer, at, i, j)
 }
 
-fn pushes(effect: Effect) -> bool
-    ensures { result ≡ pushes effect }
-{
-    match effect {
-        Effect::Pushes(_) => true,
-        _ => false,
-    }
-}
-
-/// Whether no instruction lets a value wait.
-pub fn pushes_nothing(code: &[Instr]) -> bool {
-    for instr in code {
-        if pushes(effect_of(*instr)) {
-            return false;
-        }
-    }
-    true
-}
-
-/// Whether the newer instruction leads only where the older one leads, or to a next one that there is, or to a return as the older one is, or anywhere in free
-/// code, and both do the same with what waits.
-pub fn flows_as(free: bool, newer: &[Instr], at: u16, i: Instr, j: Instr) -> bool
-    ensures { IsTrue result → FlowsAs free newer.now at i j }
+/// Whether the newer instruction leads only where the older one leads, or to a next one that there is, or to a return as the older one is, and both do the
+/// same with what waits.
+pub fn flows_as(newer: &[Instr], at: u16, i: Instr, j: Instr) -> bool
+    ensures { IsTrue result → FlowsAs newer.now at i j }
 {
     same_effect(effect_of(i), effect_of(j))
-        && (!free || !pushes(effect_of(j)))
-        && leads(free, newer, at, i, j)
+        && leads(newer, at, i, j)
         && (!is_return(j) || is_return(i))
         && (!goes_next(j) || usize::from(at) + 1 < newer.len())
+}
+
+fn is_idle(effect: Effect) -> bool
+    ensures { result ≡ is_idle effect }
+{
+    match effect {
+        Effect::Nothing => true,
+        Effect::Takes(count) => count == 0,
+        _ => false,
+    }
+}
+
+// Whether this is another place of code with so many instructions, if it is one.
+fn is_other(count: usize, at: u16, to: Option<u16>) -> bool
+    ensures { IsTrue result → IsOther count at to }
+{
+    match to {
+        Some(place) => place != at && usize::from(place) < count,
+        None => true,
+    }
+}
+
+/// Whether the instruction at a place of code in which nothing waits leads only to other places, or to a next one that there is.
+pub fn flows_freely(count: usize, at: u16, instr: Instr) -> bool
+    ensures { IsTrue result → FlowsFreely count at instr }
+{
+    is_idle(effect_of(instr))
+        && is_other(count, at, led_to(instr))
+        && (!goes_next(instr) || usize::from(at) + 1 < count)
 }

@@ -1,56 +1,49 @@
 // Whether a guess stands for a procedure.
-ghost use Rattle.std.specs.Prelude.{◌≡◌, ◌<◌, ◌≤◌, ℕ, true, length, take, slice_get, IsTrue};
+ghost use Rattle.std.specs.Prelude.{◌≡◌, ◌⊎◌, ◌<◌, ◌≤◌, ℕ, length, take, slice_get, IsTrue, Some};
 ghost use Rattle.std.specs.List.{AllByRecursion};
 ghost use Rattle.vg_lin.specs.Sound.{IsWidth};
-ghost use Rattle.vg_trimming.specs.Trimming.{stands_at};
-ghost use Rattle.vg_trim.specs.Looked.{HasLocals, IsInOrder, IsLookedAt, IsLookedAtBy, IsPlaceInOrder};
+ghost use Rattle.vg_trim_pairs.specs.Views.{both_in};
+ghost use Rattle.vg_trim.specs.Looked.{HasLocals, IsInOrder, IsInFreeOrder, IsPlaceInOrder, IsPlaceFree, FlowsAlong, IsFree, IsStoodFor};
+ghost use Rattle.vg_trim.specs.Looked.{IsLookedAt, IsLookedAtBy};
 
-use crate::flow::{flows_as, pushes_nothing};
+use crate::flow::{flows_as, flows_freely};
 use crate::ranges::are_operands;
 use vg_lin::{Instr, LinProc};
-use vg_trim_pairs::{begins_with, place_stands};
+use vg_trim_pairs::{Both, begins_with, stands_at};
 use vg_trim_plan::Plan;
-use vg_trimming::Facts;
 
-/// Whether a guess stands for a procedure: it has as many instructions, at most 65,535, each of them stands for the one at the same place, and the
-/// parameters are the same.
+/// Whether a guess stands for a procedure: each instruction of it is left out or stood for, at most 65,535 of them, and the parameters are the same.
 pub fn trims(old: &LinProc, plan: &Plan) -> bool
-    ensures { IsTrue result → IsLookedAt old.now plan.now.widths plan.now.code plan.now.facts }
+    ensures { IsTrue result → IsLookedAt old.now plan.now.widths plan.now.code plan.now.facts plan.now.places }
 {
-    looks_right(
-        old.params(),
-        old.result_width(),
-        old.widths(),
-        plan.widths.as_slice(),
-        plan.facts.as_slice(),
-        old.code(),
-        plan.code.as_slice(),
-    )
+    let both = Both {
+        old: old.widths(),
+        new: plan.widths.as_slice(),
+        older: old.code(),
+        newer: plan.code.as_slice(),
+        facts: plan.facts.as_slice(),
+        places: plan.places.as_slice(),
+    };
+    looks_right(old.params(), old.result_width(), both)
 }
 
 /// The same of the parts of a procedure: how many parameters it has, how wide its result is, and its locals and code before and after.
-pub fn looks_right(
-    params: u8,
-    result_width: u8,
-    old: &[u8],
-    new: &[u8],
-    facts: &[Facts],
-    older: &[Instr],
-    newer: &[Instr],
-) -> bool
-    ensures { IsTrue result → IsLookedAtBy params result_width old.now new.now facts.now older.now newer.now }
+pub fn looks_right(params: u8, result_width: u8, both: Both<'_>) -> bool
+    ensures { IsTrue result → IsLookedAtBy params result_width (both_in both.entry) }
 {
-    if newer.len() != older.len() {
+    if !has_locals(params, both.old, both.new) {
         return false;
     }
-    if !has_locals(params, old, new) {
+    if !begins_with(params, both.facts) {
         return false;
     }
-    if !begins_with(params, facts) {
+    if !begins_at(both.places) {
         return false;
     }
-    let free = pushes_nothing(newer);
-    all_in_order(free, old, new, facts, older, newer, result_width)
+    if !all_stand(both) {
+        return false;
+    }
+    is_in_order(both, result_width)
 }
 
 fn has_locals(params: u8, old: &[u8], new: &[u8]) -> bool
@@ -88,62 +81,113 @@ fn same_front(count: usize, first: &[u8], second: &[u8]) -> bool
     }
 }
 
-fn all_in_order(
-    free: bool,
-    old: &[u8],
-    new: &[u8],
-    facts: &[Facts],
-    older: &[Instr],
-    newer: &[Instr],
-    result_width: u8,
-) -> bool
-    ensures { IsTrue result → (at : ℕ) → at < length newer.now → IsPlaceInOrder free old.now new.now facts.now older.now newer.now result_width at }
+// Whether the newer code begins at its first place.
+fn begins_at(places: &[u16]) -> bool
+    ensures { IsTrue result → slice_get places.now 0 ≡ Some 0 }
 {
-    let count = newer.len();
+    match places.get(0) {
+        Some(place) => *place == 0,
+        None => false,
+    }
+}
+
+// Whether each instruction of the older code is left out or stood for.
+fn all_stand(both: Both<'_>) -> bool
+    ensures { IsTrue result → (at : ℕ) → at < length both.entry.older.now → IsStoodFor (both_in both.entry) at }
+{
+    let count = both.older.len();
     if count > 65_535 {
         return false;
     }
     for at in 0..count as u16 {
-        if !place_in_order(free, old, new, facts, older, newer, result_width, at) {
+        if !stands_at(both, at) {
             return false;
         }
     }
     true
 }
 
-// Whether the instruction at a place of the newer code stands for the one at the same place of the older code.
-fn place_in_order(
-    free: bool,
-    old: &[u8],
-    new: &[u8],
-    facts: &[Facts],
-    older: &[Instr],
-    newer: &[Instr],
-    result_width: u8,
-    at: u16,
-) -> bool
-    ensures { IsTrue result → IsPlaceInOrder free old.now new.now facts.now older.now newer.now result_width at }
+// Whether the newer code has its operands in range and leads only where it may.
+fn is_in_order(both: Both<'_>, result_width: u8) -> bool
+    ensures { IsTrue result → IsFree result_width (both_in both.entry) ⊎ FlowsAlong result_width (both_in both.entry) }
+{
+    is_free(both, result_width) || flows_along(both, result_width)
+}
+
+// Whether nothing waits in the newer code, which is no longer than the older one.
+fn is_free(both: Both<'_>, result_width: u8) -> bool
+    ensures { IsTrue result → IsFree result_width (both_in both.entry) }
+{
+    0 < both.newer.len()
+        && both.newer.len() <= both.older.len()
+        && all_free(both.new, both.newer, result_width)
+}
+
+fn all_free(new: &[u8], newer: &[Instr], result_width: u8) -> bool
+    ensures { IsTrue result → (at : ℕ) → at < length newer.now → IsPlaceFree new.now result_width newer.now at }
+{
+    let count = newer.len();
+    if count > 65_535 {
+        return false;
+    }
+    for at in 0..count as u16 {
+        if !place_free(new, newer, result_width, at) {
+            return false;
+        }
+    }
+    true
+}
+
+fn place_free(new: &[u8], newer: &[Instr], result_width: u8, at: u16) -> bool
+    ensures { IsTrue result → IsPlaceFree new.now result_width newer.now at }
+{
+    match newer.get(usize::from(at)) {
+        Some(instr) => in_free_order(new, result_width, newer.len(), at, *instr),
+        None => false,
+    }
+}
+
+fn in_free_order(new: &[u8], result_width: u8, count: usize, at: u16, instr: Instr) -> bool
+    ensures { IsTrue result → IsInFreeOrder new.now result_width count at instr }
+{
+    are_operands(new, result_width, instr) && flows_freely(count, at, instr)
+}
+
+// Whether the newer code flows as the older one, place by place.
+fn flows_along(both: Both<'_>, result_width: u8) -> bool
+    ensures { IsTrue result → FlowsAlong result_width (both_in both.entry) }
+{
+    both.newer.len() == both.older.len()
+        && all_in_order(both.new, both.older, both.newer, result_width)
+}
+
+fn all_in_order(new: &[u8], older: &[Instr], newer: &[Instr], result_width: u8) -> bool
+    ensures { IsTrue result → (at : ℕ) → at < length newer.now → IsPlaceInOrder new.now result_width older.now newer.now at }
+{
+    let count = newer.len();
+    if count > 65_535 {
+        return false;
+    }
+    for at in 0..count as u16 {
+        if !place_in_order(new, older, newer, result_width, at) {
+            return false;
+        }
+    }
+    true
+}
+
+fn place_in_order(new: &[u8], older: &[Instr], newer: &[Instr], result_width: u8, at: u16) -> bool
+    ensures { IsTrue result → IsPlaceInOrder new.now result_width older.now newer.now at }
 {
     let place = usize::from(at);
-    match (facts.get(place), older.get(place), newer.get(place)) {
-        (Some(known), Some(i), Some(j)) => {
-            place_stands(old, new, facts, newer, at, known, *i, *j)
-                && in_order(free, new, result_width, newer, at, *i, *j)
-        }
+    match (older.get(place), newer.get(place)) {
+        (Some(i), Some(j)) => in_order(new, result_width, newer, at, *i, *j),
         _ => false,
     }
 }
 
-fn in_order(
-    free: bool,
-    new: &[u8],
-    result_width: u8,
-    newer: &[Instr],
-    at: u16,
-    i: Instr,
-    j: Instr,
-) -> bool
-    ensures { IsTrue result → IsInOrder free new.now result_width newer.now at i j }
+fn in_order(new: &[u8], result_width: u8, newer: &[Instr], at: u16, i: Instr, j: Instr) -> bool
+    ensures { IsTrue result → IsInOrder new.now result_width newer.now at i j }
 {
-    are_operands(new, result_width, j) && flows_as(free, newer, at, i, j)
+    are_operands(new, result_width, j) && flows_as(newer, at, i, j)
 }

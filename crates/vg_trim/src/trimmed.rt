@@ -1,26 +1,30 @@
 // Trimmed procedures.
-ghost use Rattle.std.specs.Prelude.{◌≡◌, length, IfOk};
+ghost use Rattle.std.specs.Prelude.{◌≡◌, ◌≤◌, length, IfOk};
 ghost use Rattle.vg_trimming.specs.Trimmed.{IsTrimmedTo, AreAllTrimmed};
-ghost use Rattle.vg_trim.specs.Looked.{IsLookedAt};
+ghost use Rattle.vg_trim.specs.Looked.{IsLookedAt, AreNoLonger};
 
 use crate::looking::trims;
 use std::alloc::Global;
 use vg_base::{NoMemory, Row};
 use vg_lin::{Instr, LinProc};
-use vg_trim_plan::{Plan, plan};
+use vg_trim_plan::{Effort, Plan, plan};
 
 /// The procedure with less to do, where a guess was right; or else as it was.
 pub fn trim(alloc: Global, old: &LinProc) -> Result<LinProc, NoMemory>
     ensures trimmed { IfOk result (λ new. IsTrimmedTo old.now new) }
-    ensures long { IfOk result (λ new. length new.code ≡ length old.now.code) }
+    ensures short { IfOk result (λ new. length new.code ≤ length old.now.code) }
 {
-    let bold = plan(alloc, old, true)?;
-    if trims(old, &bold) {
-        return Ok(trimmed(old, bold));
+    let leading = plan(alloc, old, Effort::Leading)?;
+    if trims(old, &leading) {
+        return Ok(trimmed(old, leading));
     }
-    let guess = plan(alloc, old, false)?;
-    if trims(old, &guess) {
-        Ok(trimmed(old, guess))
+    let keeping = plan(alloc, old, Effort::Keeping)?;
+    if trims(old, &keeping) {
+        return Ok(trimmed(old, keeping));
+    }
+    let careful = plan(alloc, old, Effort::Careful)?;
+    if trims(old, &careful) {
+        Ok(trimmed(old, careful))
     } else {
         copy(alloc, old)
     }
@@ -28,7 +32,8 @@ pub fn trim(alloc: Global, old: &LinProc) -> Result<LinProc, NoMemory>
 
 /// The procedures with less to do, one for one.
 pub fn trim_all(alloc: Global, procedures: &[LinProc]) -> Result<Row<LinProc>, NoMemory>
-    ensures { IfOk result (λ new. AreAllTrimmed procedures.now new) }
+    ensures trimmed { IfOk result (λ new. AreAllTrimmed procedures.now new) }
+    ensures short { IfOk result (λ new. AreNoLonger procedures.now new) }
 {
     let mut row = Row::new(alloc);
     for procedure in procedures {
@@ -42,8 +47,9 @@ pub fn trim_all(alloc: Global, procedures: &[LinProc]) -> Result<Row<LinProc>, N
 
 // The procedure of a guess that stands.
 fn trimmed(old: &LinProc, guess: Plan) -> LinProc
-    requires { IsLookedAt old.now guess.widths guess.code guess.facts }
-    ensures { IsTrimmedTo old.now result }
+    requires { IsLookedAt old.now guess.widths guess.code guess.facts guess.places }
+    ensures trimmed { IsTrimmedTo old.now result }
+    ensures short { length result.code ≤ length old.now.code }
 {
     old.keeps();
     LinProc::new(
@@ -57,7 +63,8 @@ fn trimmed(old: &LinProc, guess: Plan) -> LinProc
 
 // The procedure as it is.
 fn copy(alloc: Global, old: &LinProc) -> Result<LinProc, NoMemory>
-    ensures { IfOk result (λ new. IsTrimmedTo old.now new) }
+    ensures trimmed { IfOk result (λ new. IsTrimmedTo old.now new) }
+    ensures short { IfOk result (λ new. length new.code ≤ length old.now.code) }
 {
     old.keeps();
     let widths = Row::from_slice(alloc, old.widths())?;

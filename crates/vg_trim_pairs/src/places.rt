@@ -1,14 +1,19 @@
-// What stands at a place of the newer code.
-ghost use Rattle.std.specs.Prelude.{◌≡◌, true, length, IsTrue};
-ghost use Rattle.std.specs.Prelude.{slice_get};
-ghost use Rattle.vg_trimming.specs.Trimming.{gives_same, returns_there, stops_so, stops_there, instr_stands, is_quiet, may_stand, place_stands};
+// What stands for the instruction at a place of the older code.
+ghost use Rattle.std.specs.Prelude.{◌≡◌, ℕ, true, suc, slice_get, IsTrue, None, Some};
+ghost use Rattle.vg_lin.specs.Turns.{counts_at};
+ghost use Rattle.vg_trimming.specs.Walking.{checked};
+ghost use Rattle.vg_trimming.specs.Trimming.{gives_same, stops_so, is_there, leads_on, passed_over, instr_stands, stands_by, place_stands, stands_at};
+ghost use Rattle.vg_trim_pairs.specs.Views.{both_in};
 
-use crate::branches::{check_left_out, checked, filling, no_change, same_test};
+use crate::both::Both;
+use crate::branches::{never_holds, no_change, same_test};
 use crate::calls::{call_change, same_call};
 use crate::homes::stands_for;
 use crate::lasting::leads_at;
-use crate::plains::{plain_stands, shorter_stands};
-use vg_lin::{Instr, Operand, Plain};
+use crate::plains::{is_stop, plain_passed, plain_stands, shorter_stands, work_passed};
+use crate::turns::{counts_at, instr_at};
+use crate::walking::{Ground, checked, is_there, way_leads};
+use vg_lin::{Call, Instr, Operand, Plain, Test};
 use vg_trimming::{Facts, Twin};
 
 // Whether this instruction gives the same back, in so many bytes.
@@ -21,29 +26,6 @@ fn gives_same(twins: &[Twin], width: u8, value: Operand, instr: Option<Instr>) -
     }
 }
 
-fn instr_at(code: &[Instr], place: u16) -> Option<Instr>
-    ensures { result ≡ slice_get code.now place }
-{
-    match code.get(usize::from(place)) {
-        Some(instr) => Some(*instr),
-        None => None,
-    }
-}
-
-// Whether the newer code gives the same back at a later place.
-fn returns_there(
-    twins: &[Twin],
-    newer: &[Instr],
-    at: u16,
-    width: u8,
-    value: Operand,
-    to: u16,
-) -> bool
-    ensures { IsTrue result → returns_there twins.now newer.now at width value to ≡ true }
-{
-    at < to && gives_same(twins, width, value, instr_at(newer, to))
-}
-
 // Whether this instruction stops as the older one does.
 fn stops_so(plain: Plain, instr: Option<Instr>) -> bool
     ensures { IsTrue result → stops_so plain instr ≡ true }
@@ -54,107 +36,223 @@ fn stops_so(plain: Plain, instr: Option<Instr>) -> bool
     }
 }
 
-// Whether the newer code stops as the older one does at a later place.
-fn stops_there(newer: &[Instr], at: u16, plain: Plain, to: u16) -> bool
-    ensures { IsTrue result → stops_there newer.now at plain to ≡ true }
+// Whether a way behind a step of the older code leads to a place of the newer code.
+fn leads_on(
+    both: Both<'_>,
+    before: &Facts,
+    sure: Option<u8>,
+    spent: bool,
+    to: u16,
+    place: u16,
+) -> bool
+    ensures { IsTrue result → leads_on (both_in both.entry) before.now sure spent to place ≡ true }
 {
-    at < to && stops_so(plain, instr_at(newer, to))
+    let ground = Ground {
+        older: both.older,
+        facts: both.facts,
+        places: both.places,
+    };
+    way_leads(ground, before, sure, spent, to, place)
 }
 
-/// Whether an instruction of the newer code may stand for one of the older code, by what is known before it.
-fn instr_stands(
-    old: &[u8],
-    new: &[u8],
-    facts: &[Facts],
-    newer: &[Instr],
+// Whether the newer code stays at its place where the older one makes this plain step.
+fn is_plain_passed(both: Both<'_>, before: &Facts, at: u16, place: u16, plain: Plain) -> bool
+    ensures { IsTrue result → passed_over (both_in both.entry) before.now at place (Instr.Plain plain) ≡ true }
+{
+    if at == 65_535 || !is_there(both.places, at + 1, place) {
+        return false;
+    }
+    if plain_passed(both.old, both.new, both.facts, before, at, plain) {
+        return true;
+    }
+    match plain {
+        Plain::Compute(c) => work_passed(both.old, both.new, both.facts, before, at, c),
+        _ => false,
+    }
+}
+
+// Whether the newer code stays at its place where the older one makes this step, which doesn't count.
+fn passed_over(both: Both<'_>, before: &Facts, at: u16, place: u16, instr: Instr) -> bool
+    ensures { IsTrue result → passed_over (both_in both.entry) before.now at place instr ≡ true }
+{
+    match instr {
+        Instr::Plain(plain) => is_plain_passed(both, before, at, place, plain),
+        Instr::Unless(test, to) => {
+            !counts_at(both.older, at)
+                && never_holds(both.old, before, test)
+                && leads_on(both, before, None, true, to, place)
+        }
+        Instr::Jump(to) => leads_on(both, before, None, true, to, place),
+        _ => false,
+    }
+}
+
+// Whether the one plain instruction, at its place of the newer code, stands for the other.
+fn plains_stand(both: Both<'_>, before: &Facts, at: u16, place: u16, i: Plain, j: Plain) -> bool
+    ensures { IsTrue result → instr_stands (both_in both.entry) before.now at place (Instr.Plain i) (Instr.Plain j) ≡ true }
+{
+    if !is_stop(i) && !goes_along(both, at, place) {
+        return false;
+    }
+    plain_stands(both.old, both.new, both.facts, before, at, i, j)
+        || shorter_stands(both.old, both.new, both.facts, before, at, i, j)
+}
+
+// Whether the newer code is at the next place where the older one is at its next one.
+fn goes_along(both: Both<'_>, at: u16, place: u16) -> bool
+    ensures { IsTrue result → is_there (both_in both.entry) (suc at) (suc place) ≡ true }
+{
+    at < 65_535 && place < 65_535 && is_there(both.places, at + 1, place + 1)
+}
+
+// Whether both branches of the newer code lead where those of the older code lead: to another place, where this local is not 0, and to the next one, where
+// that one is not.
+fn both_lead(
+    both: Both<'_>,
     before: &Facts,
     at: u16,
-    i: Instr,
-    j: Instr,
+    place: u16,
+    there: (Option<u8>, u16, u16),
+    next: Option<u8>,
 ) -> bool
-    ensures { IsTrue result → instr_stands old.now new.now facts.now newer.now before.now at i j ≡ true }
+    ensures { IsTrue result
+        → (leads_on (both_in both.entry) before.now there.0 (counts_at both.entry.older.now at) there.1 there.2 ≡ true)
+        × (leads_on (both_in both.entry) before.now next (counts_at both.entry.older.now at) (suc at) (suc place) ≡ true) }
+{
+    let (sure, to, other) = there;
+    let counts = counts_at(both.older, at);
+    at < 65_535
+        && place < 65_535
+        && leads_on(both, before, sure, counts, to, other)
+        && leads_on(both, before, next, counts, at + 1, place + 1)
+}
+
+// Whether both ways of a branch of the older code lead where those of the other branch of the newer code lead: to the next place, where this local is not 0,
+// and to another one, where that one is not.
+fn both_turn(
+    both: Both<'_>,
+    before: &Facts,
+    at: u16,
+    place: u16,
+    there: (Option<u8>, u16),
+    next: (Option<u8>, u16),
+) -> bool
+    ensures { IsTrue result
+        → (leads_on (both_in both.entry) before.now there.0 (counts_at both.entry.older.now at) there.1 (suc place) ≡ true)
+        × (leads_on (both_in both.entry) before.now next.0 (counts_at both.entry.older.now at) (suc at) next.1 ≡ true) }
+{
+    let (sure, to) = there;
+    let (other, behind) = next;
+    let counts = counts_at(both.older, at);
+    at < 65_535
+        && place < 65_535
+        && leads_on(both, before, sure, counts, to, place + 1)
+        && leads_on(both, before, other, counts, at + 1, behind)
+}
+
+fn calls_stand(both: Both<'_>, before: &Facts, at: u16, place: u16, c: Call, d: Call) -> bool
+    ensures { IsTrue result → instr_stands (both_in both.entry) before.now at place (Instr.Call c) (Instr.Call d) ≡ true }
+{
+    goes_along(both, at, place)
+        && same_call(before.twins.as_slice(), c, d)
+        && leads_at(
+            both.new,
+            both.facts,
+            before,
+            call_change(both.old, both.new, c, d),
+            usize::from(at) + 1,
+        )
+}
+
+fn checks_stand(
+    both: Both<'_>,
+    before: &Facts,
+    at: u16,
+    place: u16,
+    test: Test,
+    to: u16,
+    other: u16,
+) -> bool
+    ensures { IsTrue result → instr_stands (both_in both.entry) before.now at place (Instr.Unless test to) (Instr.Jump other) ≡ true }
+{
+    let counts = counts_at(both.older, at);
+    never_holds(both.old, before, test) && leads_on(both, before, None, counts, to, other)
+}
+
+// Whether an instruction of the newer code, at its place, stands for one of the older code, by what is known before that.
+fn instr_stands(both: Both<'_>, before: &Facts, at: u16, place: u16, i: Instr, j: Instr) -> bool
+    ensures { IsTrue result → instr_stands (both_in both.entry) before.now at place i j ≡ true }
 {
     let twins = before.twins.as_slice();
-    let next = usize::from(at) + 1;
     match (i, j) {
-        (Instr::Plain(p), Instr::Plain(q)) => {
-            plain_stands(old, new, facts, before, at, p, q)
-                || shorter_stands(old, new, facts, before, at, p, q)
+        (Instr::Plain(p), Instr::Plain(q)) => plains_stand(both, before, at, place, p, q),
+        (Instr::Plain(p), Instr::Jump(to)) => stops_so(p, instr_at(both.newer, to)),
+        (Instr::When(t, to), Instr::When(u, other)) => {
+            same_test(both.new, twins, t, u)
+                && both_lead(both, before, at, place, (None, to, other), checked(t))
         }
-        (Instr::Plain(p), Instr::Jump(to)) => stops_there(newer, at, p, to),
-        (Instr::When(t, to), Instr::When(u, place)) => {
-            to == place
-                && same_test(new, twins, t, u)
-                && leads_at(new, facts, before, no_change(), usize::from(to))
-                && leads_at(new, facts, before, filling(checked(t)), next)
+        (Instr::Unless(t, to), Instr::Unless(u, other)) => {
+            same_test(both.new, twins, t, u)
+                && both_lead(both, before, at, place, (checked(t), to, other), None)
         }
-        (Instr::Unless(t, to), Instr::Unless(u, place)) => {
-            to == place
-                && same_test(new, twins, t, u)
-                && leads_at(new, facts, before, filling(checked(t)), usize::from(to))
-                && leads_at(new, facts, before, no_change(), next)
+        (Instr::When(t, to), Instr::Unless(u, other)) => {
+            same_test(both.new, twins, t, u)
+                && both_turn(both, before, at, place, (None, to), (checked(t), other))
         }
-        (Instr::Unless(t, to), Instr::Plain(q)) => {
-            check_left_out(old, new, facts, newer, before, at, t, to, q)
+        (Instr::Unless(t, to), Instr::When(u, other)) => {
+            same_test(both.new, twins, t, u)
+                && both_turn(both, before, at, place, (checked(t), to), (None, other))
         }
-        (Instr::Jump(to), Instr::Jump(place)) => {
-            to == place && leads_at(new, facts, before, no_change(), usize::from(to))
-        }
-        (Instr::Call(c), Instr::Call(d)) => {
-            same_call(twins, c, d)
-                && leads_at(new, facts, before, call_change(old, new, c, d), next)
-        }
+        (Instr::Unless(t, to), Instr::Jump(other)) => checks_stand(
+            both, before, at, place, t, to, other,
+        ),
+        (Instr::Jump(to), Instr::Jump(other)) => leads_on(both, before, None, false, to, other),
+        (Instr::Call(c), Instr::Call(d)) => calls_stand(both, before, at, place, c, d),
         (Instr::Return(w, u), Instr::Return(v, z)) => w == v && stands_for(twins, u, z),
-        (Instr::Return(w, u), Instr::Jump(to)) => returns_there(twins, newer, at, w, u, to),
-        (Instr::Idle, Instr::Idle) => leads_at(new, facts, before, no_change(), next),
-        _ => false,
-    }
-}
-
-fn is_quiet(i: Instr) -> bool
-    ensures { IsTrue result → is_quiet i ≡ true }
-{
-    match i {
-        Instr::Plain(Plain::Push(_, _)) => false,
-        Instr::Plain(Plain::Pop(_, _)) => false,
-        Instr::Call(_) => false,
-        _ => true,
-    }
-}
-
-/// Whether the second instruction may stand in place of the first where no run comes, in code of so many instructions.
-fn may_stand(count: usize, at: u16, i: Instr, j: Instr) -> bool
-    ensures { IsTrue result → may_stand count at i j ≡ true }
-{
-    match (i, j) {
-        (Instr::Plain(Plain::Push(w, _)), Instr::Plain(Plain::Push(v, _))) => w == v,
-        (Instr::Plain(Plain::Pop(w, _)), Instr::Plain(Plain::Pop(v, _))) => w == v,
-        (Instr::Call(c), Instr::Call(d)) => c.pushed == d.pushed,
-        (_, Instr::Plain(Plain::Stop(_))) => is_quiet(i),
-        (_, Instr::Plain(Plain::Copy(_, Operand::Known(_)))) => {
-            is_quiet(i) && usize::from(at) + 1 < count
+        (Instr::Return(w, u), Instr::Jump(to)) => gives_same(twins, w, u, instr_at(both.newer, to)),
+        (Instr::Idle, Instr::Idle) => {
+            goes_along(both, at, place)
+                && leads_at(
+                    both.new,
+                    both.facts,
+                    before,
+                    no_change(),
+                    usize::from(at) + 1,
+                )
         }
-        (_, Instr::Jump(_)) => is_quiet(i),
         _ => false,
     }
 }
 
-/// Whether the second instruction may stand in place of the first, by what is known there.
-pub fn place_stands(
-    old: &[u8],
-    new: &[u8],
-    facts: &[Facts],
-    newer: &[Instr],
-    at: u16,
-    known: &Facts,
-    i: Instr,
-    j: Instr,
-) -> bool
-    ensures { IsTrue result → place_stands old.now new.now facts.now newer.now at known.now i j ≡ true }
+// Whether the instruction at a place of the newer code stands for one of the older code.
+fn stands_by(both: Both<'_>, before: &Facts, at: u16, place: u16, i: Instr) -> bool
+    ensures { IsTrue result → stands_by (both_in both.entry) before.now at place i (slice_get both.entry.newer.now place) ≡ true }
 {
-    if known.reached {
-        instr_stands(old, new, facts, newer, known, at, i, j)
-    } else {
-        may_stand(newer.len(), at, i, j)
+    match both.newer.get(usize::from(place)) {
+        Some(j) => instr_stands(both, before, at, place, i, *j),
+        None => false,
+    }
+}
+
+// Whether an instruction of the older code is left out or stood for, by what is known at its place.
+fn place_stands(both: Both<'_>, known: &Facts, at: u16, place: u16, i: Instr) -> bool
+    ensures { IsTrue result → place_stands (both_in both.entry) known.now at place i ≡ true }
+{
+    !known.reached || passed_over(both, known, at, place, i) || stands_by(both, known, at, place, i)
+}
+
+/// Whether the instruction at a place of the older code is left out or stood for.
+pub fn stands_at(both: Both<'_>, at: u16) -> bool
+    ensures { IsTrue result → stands_at (both_in both.entry) at (slice_get both.entry.facts.now at) (slice_get both.entry.older.now at)
+        (slice_get both.entry.places.now at) ≡ true }
+{
+    let index = usize::from(at);
+    match (
+        both.facts.get(index),
+        both.older.get(index),
+        both.places.get(index),
+    ) {
+        (Some(known), Some(i), Some(place)) => place_stands(both, known, at, *place, *i),
+        _ => false,
     }
 }

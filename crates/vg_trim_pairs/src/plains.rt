@@ -1,11 +1,12 @@
 // Plain instructions.
-ghost use Rattle.std.specs.Prelude.{◌≡◌, ℕ, true, suc, IsTrue};
+ghost use Rattle.std.specs.Prelude.{◌≡◌, ◌&&◌, ℕ, true, suc, IsTrue, None};
+ghost use Rattle.vg_trimming.specs.Facts.{found_for, leads_at};
 ghost use Rattle.vg_lin.specs.declared.instr.Plain.TheVariants.{Compute};
 ghost use Rattle.vg_trimming.specs.Trimming.{same_memory, same_plain, target_of, result_bytes, is_paired, gain_in, keeps_operands, worked_in, both_change, is_pure};
 ghost use Rattle.vg_trimming.specs.Trimming.{copied, left_out, is_stop, plain_stands, left_out_stands, fits_result, narrower, narrower_stands};
 ghost use Rattle.vg_trimming.specs.Trimming.{found_in, reused, reuses, reused_stands, shorter_stands};
 
-use crate::homes::{bytes_of, overwrites, stands_for, width_of};
+use crate::homes::{bytes_of, is_it, overwrites, stands_for, width_of};
 use crate::lasting::leads_at;
 use crate::worked::{found_for, same_operator};
 use vg_lin::{Computation, Memory, Operand, Operator, Plain};
@@ -180,20 +181,20 @@ fn copied(old: &[u8], plain: Plain) -> Gain
     }
 }
 
-/// What changes where an instruction is left out, and a local gets a value that nobody needs.
-fn left_out(old: &[u8], plain: Plain, spoiled: u8) -> Change
+/// What changes where an instruction is left out; in its place a local of the newer code may get a value that nobody needs.
+fn left_out(old: &[u8], plain: Plain, spoiled: Option<u8>) -> Change
     ensures { result ≡ left_out old.now plain spoiled }
 {
     Change {
         old: target_of(plain),
-        new: Some(spoiled),
+        new: spoiled,
         gain: copied(old, plain),
         filled: None,
         worked: None,
     }
 }
 
-fn is_stop(plain: Plain) -> bool
+pub fn is_stop(plain: Plain) -> bool
     ensures { result ≡ is_stop plain }
 {
     match plain {
@@ -300,7 +301,7 @@ fn left_out_stands(
                     new,
                     facts,
                     before,
-                    left_out(old, p, spoiled),
+                    left_out(old, p, Some(spoiled)),
                     usize::from(at) + 1,
                 )
         }
@@ -309,12 +310,12 @@ fn left_out_stands(
 }
 
 // The local in which the newer code has the result of a computation, where the older code's local holds all of it and no other value comes there.
-fn found_in(old: &[u8], c: Computation, spoiled: u8, known: Option<Worked>) -> Option<u8>
+fn found_in(old: &[u8], c: Computation, spoiled: Option<u8>, known: Option<Worked>) -> Option<u8>
     ensures { result ≡ found_in old.now c spoiled known }
 {
     match known {
         Some(worked) => {
-            if c.width <= width_of(old, c.to, 0) && worked.home != spoiled {
+            if c.width <= width_of(old, c.to, 0) && !is_it(spoiled, worked.home) {
                 Some(worked.home)
             } else {
                 None
@@ -324,12 +325,12 @@ fn found_in(old: &[u8], c: Computation, spoiled: u8, known: Option<Worked>) -> O
     }
 }
 
-fn reused(spoiled: u8, c: Computation, home: u8) -> Change
+fn reused(spoiled: Option<u8>, c: Computation, home: u8) -> Change
     ensures { result ≡ reused spoiled c home }
 {
     Change {
         old: Some(c.to),
-        new: Some(spoiled),
+        new: spoiled,
         gain: Gain::In(home),
         filled: None,
         worked: None,
@@ -342,7 +343,7 @@ fn reuses(
     before: &Facts,
     at: u16,
     c: Computation,
-    spoiled: u8,
+    spoiled: Option<u8>,
     home: Option<u8>,
 ) -> bool
     ensures { result ≡ reuses new.now facts.now before.now at c spoiled home }
@@ -374,8 +375,8 @@ fn reused_stands(
     match (p, q) {
         (Plain::Compute(c), Plain::Copy(spoiled, Operand::Known(_))) => {
             let known = found_for(before.worked.as_slice(), c);
-            let home = found_in(old, c, spoiled, known);
-            reuses(new, facts, before, at, c, spoiled, home)
+            let home = found_in(old, c, Some(spoiled), known);
+            reuses(new, facts, before, at, c, Some(spoiled), home)
         }
         _ => false,
     }
@@ -396,4 +397,42 @@ pub fn shorter_stands(
     narrower_stands(old, new, facts, before, at, p, q)
         || left_out_stands(old, new, facts, before, at, p, q)
         || reused_stands(old, new, facts, before, at, p, q)
+}
+
+/// Whether an instruction may be left out that gives a local a value which nobody needs, or which stands elsewhere too.
+pub fn plain_passed(
+    old: &[u8],
+    new: &[u8],
+    facts: &[Facts],
+    before: &Facts,
+    at: u16,
+    p: Plain,
+) -> bool
+    ensures { IsTrue result
+        → (is_pure p && leads_at new.now facts.now before.now (left_out old.now p None) (suc at)) ≡ true }
+{
+    is_pure(p)
+        && leads_at(
+            new,
+            facts,
+            before,
+            left_out(old, p, None),
+            usize::from(at) + 1,
+        )
+}
+
+/// Whether a computation may be left out whose result is there already.
+pub fn work_passed(
+    old: &[u8],
+    new: &[u8],
+    facts: &[Facts],
+    before: &Facts,
+    at: u16,
+    c: Computation,
+) -> bool
+    ensures { IsTrue result
+        → reuses new.now facts.now before.now at c None (found_in old.now c None (found_for before.now.worked c)) ≡ true }
+{
+    let home = found_in(old, c, None, found_for(before.worked.as_slice(), c));
+    reuses(new, facts, before, at, c, None, home)
 }

@@ -60,7 +60,7 @@ fn same_worked(a: Worked, b: Worked) -> bool
         && a.home == b.home
 }
 
-fn is_worked(worked: &[Worked], known: Worked) -> bool
+pub fn is_worked(worked: &[Worked], known: Worked) -> bool
     ensures { result ≡ is_worked worked.now known }
 {
     match worked {

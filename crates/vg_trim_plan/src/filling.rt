@@ -1,19 +1,25 @@
 // Which places runs reach, and which locals are not 0 there.
-use crate::flow::{Next, at, checked, next_of, target_of};
+use crate::flow::{Next, at, checked, target_of};
 use crate::grid::Grid;
+use crate::joining::next_in;
 use crate::sizes::width_of;
 use std::alloc::Global;
 use vg_base::NoMemory;
 use vg_lin::{Instr, Plain};
 
 /// For each place the locals that are not 0 whenever a run comes there.
-pub fn filled(alloc: Global, code: &[Instr], locals: usize) -> Result<Grid, NoMemory> {
+pub fn filled(
+    alloc: Global,
+    code: &[Instr],
+    nexts: &[Next],
+    locals: usize,
+) -> Result<Grid, NoMemory> {
     let mut grid = Grid::new(alloc, code.len(), locals, true)?;
     for local in 0..locals {
         grid.put(0, local, false);
     }
     for _pass in code {
-        if !spread(&mut grid, code) {
+        if !spread(&mut grid, code, nexts) {
             return Ok(grid);
         }
     }
@@ -21,11 +27,11 @@ pub fn filled(alloc: Global, code: &[Instr], locals: usize) -> Result<Grid, NoMe
 }
 
 // Takes from the sets behind each instruction what is not sure, and says whether that changed one.
-fn spread(grid: &mut Grid, code: &[Instr]) -> bool {
+fn spread(grid: &mut Grid, code: &[Instr], nexts: &[Next]) -> bool {
     let mut is_changed = false;
     let mut place = 0usize;
     for instr in code {
-        if spread_at(grid, *instr, place) {
+        if spread_at(grid, *instr, next_in(nexts, place), place) {
             is_changed = true;
         }
         place = place.saturating_add(1);
@@ -33,8 +39,8 @@ fn spread(grid: &mut Grid, code: &[Instr]) -> bool {
     is_changed
 }
 
-fn spread_at(grid: &mut Grid, instr: Instr, place: usize) -> bool {
-    match next_of(instr, place) {
+fn spread_at(grid: &mut Grid, instr: Instr, next: Next, place: usize) -> bool {
+    match next {
         Next::Nowhere => false,
         Next::One(to) => narrow(grid, place, to, target_of(instr), None),
         Next::Two(to, behind) => {
@@ -74,15 +80,12 @@ fn is_local(some: Option<u8>, local: usize) -> bool {
     }
 }
 
-/// Whether the instruction at a place is a branch over a stop that is always taken.
+/// Whether the instruction at a place is a branch that is always taken, since its local is not 0.
 pub fn is_needless(filled: &Grid, widths: &[u8], code: &[Instr], place: usize) -> bool {
     match at(code, place) {
-        Some(Instr::Unless(test, to)) => match checked(test) {
+        Some(Instr::Unless(test, _)) => match checked(test) {
             Some(local) => {
-                filled.has(place, usize::from(local))
-                    && width_of(widths, local) <= test.width
-                    && usize::from(to) == place.saturating_add(2)
-                    && is_stop(at(code, place.saturating_add(1)))
+                filled.has(place, usize::from(local)) && width_of(widths, local) <= test.width
             }
             None => false,
         },

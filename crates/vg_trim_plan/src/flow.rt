@@ -191,6 +191,38 @@ fn is_value(passed: Passed, local: u8) -> bool {
     }
 }
 
+/// Whether the instruction at a place counts: it is a call, waits for an interrupt, or is the test of a turn.
+pub fn counts(code: &[Instr], place: usize) -> bool {
+    match at(code, place) {
+        Some(Instr::When(_, to)) => leaves_loop(code, place, to),
+        Some(Instr::Unless(_, to)) => leaves_loop(code, place, to),
+        Some(Instr::Call(_)) => true,
+        Some(Instr::Idle) => true,
+        _ => false,
+    }
+}
+
+// Whether a branch leads behind the jump back of a loop in which it stands.
+fn leaves_loop(code: &[Instr], place: usize, to: u16) -> bool {
+    if to == 0 {
+        return false;
+    }
+    match at(code, usize::from(to - 1)) {
+        Some(Instr::Jump(back)) => usize::from(back) <= place,
+        _ => false,
+    }
+}
+
+/// Whether an instruction may lead to the one behind it.
+pub fn goes_next(instr: Instr) -> bool {
+    match instr {
+        Instr::Plain(Plain::Stop(_)) => false,
+        Instr::Jump(_) => false,
+        Instr::Return(_, _) => false,
+        _ => true,
+    }
+}
+
 /// The instruction at a place.
 pub fn at(code: &[Instr], place: usize) -> Option<Instr> {
     match code.get(place) {

@@ -7,25 +7,43 @@ use vg_lin::Instr;
 /// The ways through a procedure.
 #[derive(Drop)]
 pub struct Ways {
-    /// Places of branches over a stop that are always taken.
+    /// Where the instruction at each place leads.
+    pub nexts: Vec<Next>,
+    /// Places of branches that are always taken.
     pub needless: Vec<bool>,
+    /// Locals that get numbers on ways that are left out.
+    pub walked: Vec<bool>,
+    /// Places of branches for which the other one stands, with its places the other way round.
+    pub turned: Vec<bool>,
     /// Places to which a run may come.
     pub reached: Vec<bool>,
     /// Places to which runs may come from two others, or from one behind.
     pub joins: Vec<bool>,
 }
 
-/// Where the instruction at a place leads, where needless branches are left out.
-pub fn next_in(needless: &[bool], instr: Instr, place: usize) -> Next {
-    match next_of(instr, place) {
-        Next::Two(to, behind) => {
-            if is_at(needless, place) {
-                Next::One(to)
-            } else {
-                Next::Two(to, behind)
-            }
-        }
-        next => next,
+impl Ways {
+    /// Where the instruction at a place leads.
+    pub fn next(&self, place: usize) -> Next {
+        next_in(self.nexts.as_slice(), place)
+    }
+}
+
+/// Where each instruction of code leads.
+pub fn nexts_of(alloc: Global, code: &[Instr]) -> Result<Vec<Next>, NoMemory> {
+    let mut nexts = Vec::new(alloc);
+    let mut place = 0usize;
+    for instr in code {
+        nexts.push(next_of(*instr, place))?;
+        place = place.saturating_add(1);
+    }
+    Ok(nexts)
+}
+
+/// Where the instruction at a place leads.
+pub fn next_in(nexts: &[Next], place: usize) -> Next {
+    match nexts.get(place) {
+        Some(next) => *next,
+        None => Next::Nowhere,
     }
 }
 
@@ -46,22 +64,12 @@ pub fn note(noted: &mut Vec<bool>, place: usize) -> bool {
     false
 }
 
-/// The ways through code without these branches.
-pub fn find_ways(alloc: Global, code: &[Instr], needless: Vec<bool>) -> Result<Ways, NoMemory> {
-    let reached = reach(alloc, code, needless.as_slice())?;
-    let joins = joins(alloc, code, needless.as_slice(), reached.as_slice())?;
-    Ok(Ways {
-        needless,
-        reached,
-        joins,
-    })
-}
-
-fn reach(alloc: Global, code: &[Instr], needless: &[bool]) -> Result<Vec<bool>, NoMemory> {
-    let mut reached = Vec::from_elem(alloc, false, code.len())?;
+/// Places to which a run may come.
+pub fn reach(alloc: Global, nexts: &[Next]) -> Result<Vec<bool>, NoMemory> {
+    let mut reached = Vec::from_elem(alloc, false, nexts.len())?;
     note(&mut reached, 0);
-    for _pass in code {
-        if !reach_on(&mut reached, code, needless) {
+    for _pass in nexts {
+        if !reach_on(&mut reached, nexts) {
             return Ok(reached);
         }
     }
@@ -69,12 +77,12 @@ fn reach(alloc: Global, code: &[Instr], needless: &[bool]) -> Result<Vec<bool>, 
 }
 
 // Notes the places behind those that are noted, and says whether there was a new one.
-fn reach_on(reached: &mut Vec<bool>, code: &[Instr], needless: &[bool]) -> bool {
+fn reach_on(reached: &mut Vec<bool>, nexts: &[Next]) -> bool {
     let mut is_new = false;
     let mut place = 0usize;
-    for instr in code {
+    for next in nexts {
         if is_at(reached.as_slice(), place) {
-            let more = match next_in(needless, *instr, place) {
+            let more = match *next {
                 Next::Nowhere => false,
                 Next::One(to) => note(reached, to),
                 Next::Two(to, behind) => {
@@ -90,19 +98,15 @@ fn reach_on(reached: &mut Vec<bool>, code: &[Instr], needless: &[bool]) -> bool 
     is_new
 }
 
-fn joins(
-    alloc: Global,
-    code: &[Instr],
-    needless: &[bool],
-    reached: &[bool],
-) -> Result<Vec<bool>, NoMemory> {
-    let mut once = Vec::from_elem(alloc, false, code.len())?;
-    let mut joins = Vec::from_elem(alloc, false, code.len())?;
+/// Places to which runs may come from two others, or from one behind.
+pub fn joins(alloc: Global, nexts: &[Next], reached: &[bool]) -> Result<Vec<bool>, NoMemory> {
+    let mut once = Vec::from_elem(alloc, false, nexts.len())?;
+    let mut joins = Vec::from_elem(alloc, false, nexts.len())?;
     note(&mut once, 0);
     let mut place = 0usize;
-    for instr in code {
+    for next in nexts {
         if is_at(reached, place) {
-            match next_in(needless, *instr, place) {
+            match *next {
                 Next::Nowhere => {}
                 Next::One(to) => come(&mut once, &mut joins, place, to),
                 Next::Two(to, behind) => {

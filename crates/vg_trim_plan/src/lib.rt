@@ -8,14 +8,16 @@ pub mod grid;
 pub mod guess;
 pub mod homes;
 pub mod joining;
+pub mod leading;
 pub mod living;
 pub mod making;
 pub mod mapping;
 pub mod ordering;
+pub mod placing;
 pub mod planning;
 pub mod returning;
 pub mod sizes;
 pub mod working;
 
-pub use guess::Plan;
-pub use planning::plan;
+pub use guess::{Given, Plan};
+pub use planning::{Effort, plan, plan_of};

@@ -1,7 +1,7 @@
 // Which locals are needed.
 use crate::flow::{Next, is_read, reads_of, target_of};
 use crate::grid::Grid;
-use crate::joining::{Ways, is_at, next_in};
+use crate::joining::{Ways, is_at};
 use std::alloc::Global;
 use vg_base::NoMemory;
 use vg_lin::Instr;
@@ -22,13 +22,24 @@ pub fn find_life(
     ways: &Ways,
     locals: usize,
 ) -> Result<Life, NoMemory> {
+    let live = find_live(alloc, code, ways, locals)?;
+    crossed(alloc, code, ways, live)
+}
+
+/// For each place the locals whose values are needed there or later.
+pub fn find_live(
+    alloc: Global,
+    code: &[Instr],
+    ways: &Ways,
+    locals: usize,
+) -> Result<Grid, NoMemory> {
     let mut live = Grid::new(alloc, code.len(), locals, false)?;
     for _pass in code {
         if !flow_back(&mut live, code, ways) {
-            return crossed(alloc, code, ways, live);
+            return Ok(live);
         }
     }
-    crossed(alloc, code, ways, live)
+    Ok(live)
 }
 
 // Brings what is needed behind each instruction before it, and says whether that changed a set.
@@ -45,7 +56,7 @@ fn flow_back(live: &mut Grid, code: &[Instr], ways: &Ways) -> bool {
 }
 
 fn flow_at(live: &mut Grid, instr: Instr, ways: &Ways, place: usize) -> bool {
-    let next = next_in(ways.needless.as_slice(), instr, place);
+    let next = ways.next(place);
     let reads = reads_of(instr);
     let target = target_of(instr);
     let is_left_out = is_at(ways.needless.as_slice(), place);
@@ -92,7 +103,7 @@ fn crossed(alloc: Global, code: &[Instr], ways: &Ways, live: Grid) -> Result<Lif
 }
 
 fn cross_at(live: &Grid, crossing: &mut Grid, instr: Instr, ways: &Ways, place: usize) {
-    let next = next_in(ways.needless.as_slice(), instr, place);
+    let next = ways.next(place);
     let target = target_of(instr);
     for local in 0..live.locals() {
         let number = (local % 256) as u8;

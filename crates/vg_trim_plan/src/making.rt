@@ -3,13 +3,13 @@ use crate::filling::is_stop;
 use crate::flow::{Next, at, is_pure, is_read, reads_of, target_of};
 use crate::grid::Grid;
 use crate::homes::{Homes, NoRoom, is_same};
-use crate::joining::{Ways, is_at, next_in};
+use crate::joining::{Ways, is_at};
 use crate::living::{Life, is_behind, is_crossing_behind};
-use crate::mapping::{filler, mapped, mapped_call, mapped_test};
+use crate::mapping::{mapped, mapped_call, mapped_test};
 use crate::sizes::{bytes_of, narrowed, result_bytes, width_of};
 use crate::working::{Seen, Works};
 use vg_base::Refusal;
-use vg_lin::{Call, Instr, Operand, Operator, Plain, Target};
+use vg_lin::{Call, Instr, Operand, Operator, Plain, Target, Test};
 
 /// What is known of the older code.
 #[derive(Drop)]
@@ -29,8 +29,8 @@ pub struct Older<'a> {
 }
 
 impl Older<'_> {
-    fn next(&self, instr: Instr, place: usize) -> Next {
-        next_in(self.ways.needless.as_slice(), instr, place)
+    fn next(&self, place: usize) -> Next {
+        self.ways.next(place)
     }
 
     // The kept computation that an instruction does.
@@ -89,7 +89,7 @@ fn note_bytes_at(
     bytes: &mut [u8],
 ) {
     if let Some(local) = target_of(instr) {
-        let next = next_in(ways.needless.as_slice(), instr, place);
+        let next = ways.next(place);
         let index = usize::from(local);
         let most = result_bytes(widths, instr);
         if is_crossing_behind(&life.live, &life.crossing, ways, next, index)
@@ -101,27 +101,62 @@ fn note_bytes_at(
     }
 }
 
-/// The instruction that stands for that of the older code at a place; the homes are those behind it then.
+/// The instruction that stands for that of the older code at a place, where it is not left out; the homes are those behind it then. It leads to places of the
+/// older code.
 pub fn made(
     older: &Older<'_>,
     homes: &mut Homes,
     instr: Instr,
     place: usize,
-) -> Result<Instr, Refusal<NoRoom>> {
+) -> Result<Option<Instr>, Refusal<NoRoom>> {
+    let next = older.next(place);
     match instr {
         Instr::Plain(plain) => made_plain(older, homes, plain, place),
-        Instr::When(test, to) => Ok(Instr::When(mapped_test(homes, test), to)),
-        Instr::Unless(test, to) => {
+        Instr::When(test, _) => Ok(Some(made_branch(older, mapped_test(homes, test), true, place))),
+        Instr::Unless(test, _) => {
             if is_at(older.ways.needless.as_slice(), place) {
-                Ok(filler(homes.spare()?))
+                Ok(Some(Instr::Jump(led_to(next))))
             } else {
-                Ok(Instr::Unless(mapped_test(homes, test), to))
+                Ok(Some(made_branch(older, mapped_test(homes, test), false, place)))
             }
         }
-        Instr::Jump(to) => Ok(Instr::Jump(to)),
+        Instr::Jump(_) => Ok(Some(Instr::Jump(led_to(next)))),
         Instr::Call(call) => made_call(older, homes, call, place),
-        Instr::Return(width, value) => Ok(Instr::Return(width, homes.home(value))),
-        Instr::Idle => Ok(Instr::Idle),
+        Instr::Return(width, value) => Ok(Some(Instr::Return(width, homes.home(value)))),
+        Instr::Idle => Ok(Some(Instr::Idle)),
+    }
+}
+
+// A branch that is taken where a test holds, or where it doesn't; or the other one, with its places the other way round.
+fn made_branch(older: &Older<'_>, test: Test, when: bool, place: usize) -> Instr {
+    let is_turned = is_at(older.ways.turned.as_slice(), place);
+    let next = older.next(place);
+    let to = if is_turned {
+        left_to(next)
+    } else {
+        led_to(next)
+    };
+    if when != is_turned {
+        Instr::When(test, to)
+    } else {
+        Instr::Unless(test, to)
+    }
+}
+
+// The place to which a branch or a jump leads.
+fn led_to(next: Next) -> u16 {
+    match next {
+        Next::Nowhere => 0,
+        Next::One(to) => (to % 65_536) as u16,
+        Next::Two(to, _) => (to % 65_536) as u16,
+    }
+}
+
+// The place to which a branch leads that is not taken.
+fn left_to(next: Next) -> u16 {
+    match next {
+        Next::Two(_, behind) => (behind % 65_536) as u16,
+        _ => 0,
     }
 }
 
@@ -130,20 +165,21 @@ fn made_plain(
     homes: &mut Homes,
     plain: Plain,
     place: usize,
-) -> Result<Instr, Refusal<NoRoom>> {
+) -> Result<Option<Instr>, Refusal<NoRoom>> {
     let instr = Instr::Plain(plain);
     let Some(local) = target_of(instr) else {
-        return Ok(Instr::Plain(mapped(homes, plain, 0)));
+        return Ok(Some(Instr::Plain(mapped(homes, plain, 0))));
     };
-    let next = older.next(instr, place);
+    let next = older.next(place);
     if !older.is_needed(next, local) {
+        if is_pure(plain) {
+            homes.set(local, None);
+            return Ok(None);
+        }
         let spare = homes.spare()?;
         let made = mapped(homes, plain, spare);
         homes.set(local, None);
-        if is_pure(plain) {
-            return Ok(filler(spare));
-        }
-        return Ok(Instr::Plain(made));
+        return Ok(Some(Instr::Plain(made)));
     }
     if let Some(number) = older.work_in(instr, place) {
         if number < homes.works.len() {
@@ -156,7 +192,7 @@ fn made_plain(
             let to = place_for(older, homes, instr, local, place, next)?;
             let made = mapped(homes, plain, to);
             homes.give(local, to);
-            Ok(Instr::Plain(made))
+            Ok(Some(Instr::Plain(made)))
         }
     }
 }
@@ -169,18 +205,18 @@ fn made_work(
     local: u8,
     place: usize,
     number: usize,
-) -> Result<Instr, Refusal<NoRoom>> {
+) -> Result<Option<Instr>, Refusal<NoRoom>> {
     if number >= homes.works.len() {
         return Err(Refusal::Fault(NoRoom));
     }
     let home = homes.works[number];
     if older.works.there.has(place, number) {
         homes.set(local, Some(Operand::Local(home)));
-        return Ok(filler(homes.spare()?));
+        return Ok(None);
     }
     let made = mapped(homes, plain, home);
     homes.give(local, home);
-    Ok(Instr::Plain(made))
+    Ok(Some(Instr::Plain(made)))
 }
 
 fn made_copy(
@@ -189,22 +225,22 @@ fn made_copy(
     local: u8,
     value: Operand,
     place: usize,
-) -> Result<Instr, Refusal<NoRoom>> {
+) -> Result<Option<Instr>, Refusal<NoRoom>> {
     let home = homes.home(value);
-    let next = older.next(Instr::Plain(Plain::Copy(local, value)), place);
+    let next = older.next(place);
     if older.is_crossing(next, local) {
         let own = homes.own(local, older.own_width(local))?;
         homes.give(local, own);
         if is_same(home, Operand::Local(own)) {
-            return Ok(filler(homes.spare()?));
+            return Ok(None);
         }
-        return Ok(Instr::Plain(Plain::Copy(own, home)));
+        return Ok(Some(Instr::Plain(Plain::Copy(own, home))));
     }
     let bytes = bytes_of(homes.widths.as_slice(), home);
     let width = width_of(older.widths, local);
     if bytes <= width && is_free(homes, home) {
         homes.set(local, Some(home));
-        return Ok(filler(homes.spare()?));
+        return Ok(None);
     }
     let wish = Wish {
         local,
@@ -216,7 +252,7 @@ fn made_copy(
     };
     let to = pooled(older, homes, wish)?;
     homes.give(local, to);
-    Ok(Instr::Plain(Plain::Copy(to, home)))
+    Ok(Some(Instr::Plain(Plain::Copy(to, home))))
 }
 
 // Whether a value may stand there for a second local.
@@ -232,16 +268,16 @@ fn made_call(
     homes: &mut Homes,
     call: Call,
     place: usize,
-) -> Result<Instr, Refusal<NoRoom>> {
+) -> Result<Option<Instr>, Refusal<NoRoom>> {
     let Some(target) = call.to else {
-        return Ok(Instr::Call(mapped_call(homes, call, None)));
+        return Ok(Some(Instr::Call(mapped_call(homes, call, None))));
     };
     let instr = Instr::Call(call);
-    let next = older.next(instr, place);
+    let next = older.next(place);
     if !older.is_needed(next, target.local) {
         let made = mapped_call(homes, call, None);
         homes.set(target.local, None);
-        return Ok(Instr::Call(made));
+        return Ok(Some(Instr::Call(made)));
     }
     let to = place_for(older, homes, instr, target.local, place, next)?;
     let made = mapped_call(
@@ -253,7 +289,7 @@ fn made_call(
         }),
     );
     homes.give(target.local, to);
-    Ok(Instr::Call(made))
+    Ok(Some(Instr::Call(made)))
 }
 
 // The local of the newer code that gets the result of an instruction.
@@ -485,14 +521,24 @@ fn onward(older: &Older<'_>, instr: Instr, place: usize) -> Option<usize> {
         Instr::Plain(Plain::Stop(_)) => None,
         Instr::Plain(_) => Some(behind),
         Instr::Call(_) => Some(behind),
-        Instr::Unless(_, to) => {
-            if usize::from(to) == behind.saturating_add(1) && is_stop(at(older.code, behind)) {
-                Some(usize::from(to))
+        Instr::Unless(_, _) => {
+            let to = behind.saturating_add(1);
+            if leads_to(older.next(place), to, behind) && is_stop(at(older.code, behind)) {
+                Some(to)
             } else {
                 None
             }
         }
         _ => None,
+    }
+}
+
+// Whether a branch leads to the one place, and else to the other, if anywhere.
+fn leads_to(next: Next, to: usize, behind: usize) -> bool {
+    match next {
+        Next::Nowhere => false,
+        Next::One(place) => place == to,
+        Next::Two(place, other) => place == to && other == behind,
     }
 }
 

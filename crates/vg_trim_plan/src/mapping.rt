@@ -114,8 +114,8 @@ fn passed(homes: &Homes, value: Passed) -> Passed {
     }
 }
 
-/// What stands at a place where no run comes: where no value ever waits a jump, which takes fewer words than a stop.
-pub fn stand_in(instr: Instr, spare: u8, place: usize, is_free: bool) -> Instr {
+/// What stands at a place where no run comes: it does the same with what waits.
+pub fn stand_in(instr: Instr, spare: u8) -> Instr {
     match instr {
         Instr::Plain(Plain::Push(width, _)) => Instr::Plain(Plain::Push(width, Operand::Known(0))),
         Instr::Plain(Plain::Pop(width, _)) => Instr::Plain(Plain::Pop(width, spare)),
@@ -129,13 +129,7 @@ pub fn stand_in(instr: Instr, spare: u8, place: usize, is_free: bool) -> Instr {
             to: None,
         }),
         Instr::Jump(to) => Instr::Jump(to),
-        _ => {
-            if is_free && 0 < place && place < 65_536 {
-                Instr::Jump((place - 1) as u16)
-            } else {
-                Instr::Plain(Plain::Stop(0))
-            }
-        }
+        _ => Instr::Plain(Plain::Stop(0)),
     }
 }
 

@@ -1,14 +1,16 @@
 // A guess at a trimmed procedure.
-use crate::filling::{filled, is_needless};
-use crate::flow::{Next, at, is_known};
+use crate::filling::{filled, is_needless, is_stop};
+use crate::flow::{Next, at, checked, is_known};
 use crate::grid::Grid;
-use crate::guess::Plan;
+use crate::guess::{Given, Plan};
 use crate::homes::{Homes, NoRoom};
-use crate::joining::{find_ways, is_at, next_in};
-use crate::living::find_life;
+use crate::joining::{Ways, is_at, joins, next_in, nexts_of, reach};
+use crate::leading::{Led, lead, may_lead, unled};
+use crate::living::{Life, find_life, find_live};
 use crate::making::{Older, is_filled, is_live, made, note_bytes};
 use crate::mapping::{filler, stand_in};
 use crate::ordering::ordered;
+use crate::placing::{Placed, close_up, in_place};
 use crate::returning::{Shape, shared};
 use crate::working::{Seen, Works, find_works};
 use std::alloc::Global;
@@ -16,18 +18,39 @@ use vg_base::{NoMemory, Refusal, Row};
 use vg_lin::{Instr, LinProc, Operand, Operator, Plain};
 use vg_trimming::{Facts, Twin, Worked};
 
-/// A guess at the trimmed procedure; a bold one keeps results of computations that are done again. Where there is none nothing is known at any place.
-pub fn plan(alloc: Global, procedure: &LinProc, is_bold: bool) -> Result<Plan, NoMemory> {
-    if are_known(procedure.code()) {
-        if is_bold {
-            if let Some(plan) = plan_within(alloc, procedure, Manner::Bold)? {
+/// How much a guess tries.
+#[derive(Clone, Copy, PartialEq, Eq)]
+pub enum Effort {
+    /// Branches are led past others that are decided, and results of computations are kept.
+    Leading,
+    /// Results of computations that are done again are kept.
+    Keeping,
+    Careful,
+}
+
+/// A guess at the trimmed procedure. Where there is none nothing is known at any place.
+pub fn plan(alloc: Global, procedure: &LinProc, effort: Effort) -> Result<Plan, NoMemory> {
+    let given = Given {
+        params: procedure.params(),
+        widths: procedure.widths(),
+        code: procedure.code(),
+    };
+    plan_of(alloc, given, effort)
+}
+
+/// The same for the parts of a procedure.
+pub fn plan_of(alloc: Global, given: Given<'_>, effort: Effort) -> Result<Plan, NoMemory> {
+    let leads = effort == Effort::Leading;
+    if are_known(given.code) && given.code.len() < 65_536 {
+        if effort != Effort::Careful {
+            if let Some(plan) = plan_within(alloc, given, leads, Manner::Bold)? {
                 return Ok(plan);
             }
         }
-        if let Some(plan) = plan_within(alloc, procedure, Manner::Plain)? {
+        if let Some(plan) = plan_within(alloc, given, leads, Manner::Plain)? {
             return Ok(plan);
         }
-        if let Some(plan) = plan_within(alloc, procedure, Manner::Tight)? {
+        if let Some(plan) = plan_within(alloc, given, leads, Manner::Tight)? {
             return Ok(plan);
         }
     }
@@ -47,12 +70,13 @@ enum Manner {
 // A guess whose locals take few bytes, if there is one.
 fn plan_within(
     alloc: Global,
-    procedure: &LinProc,
+    given: Given<'_>,
+    leads: bool,
     manner: Manner,
 ) -> Result<Option<Plan>, NoMemory> {
-    match planned(alloc, procedure, manner) {
+    match planned(alloc, given, leads, manner) {
         Ok(plan) => {
-            if sum_of(plan.widths.as_slice()) <= most_of(procedure) {
+            if sum_of(plan.widths.as_slice()) <= most_of(given) {
                 Ok(Some(plan))
             } else {
                 Ok(None)
@@ -74,9 +98,9 @@ fn are_known(code: &[Instr]) -> bool {
 
 // How many bytes the locals of a guess may take: those of the procedure, and four more where nothing waits for a call and no routine is called. Such a method
 // costs some 20 bytes more than it takes, if it has no more temporaries than nodes.
-fn most_of(procedure: &LinProc) -> usize {
-    let most = sum_of(procedure.widths());
-    for instr in procedure.code() {
+fn most_of(given: Given<'_>) -> usize {
+    let most = sum_of(given.widths);
+    for instr in given.code {
         if is_dear(*instr) {
             return most;
         }
@@ -128,16 +152,22 @@ fn as_it_is(alloc: Global) -> Result<Plan, NoMemory> {
         widths: Row::new(alloc),
         code: Row::new(alloc),
         facts: Row::new(alloc),
+        places: Row::new(alloc),
     })
 }
 
-fn planned(alloc: Global, procedure: &LinProc, manner: Manner) -> Result<Plan, Refusal<NoRoom>> {
-    let code = procedure.code();
-    let widths = procedure.widths();
-    let filled = filled(alloc, code, widths.len())?;
-    let needless = needless(alloc, &filled, widths, code)?;
-    let ways = find_ways(alloc, code, needless)?;
-    let life = find_life(alloc, code, &ways, widths.len())?;
+fn planned(
+    alloc: Global,
+    given: Given<'_>,
+    leads: bool,
+    manner: Manner,
+) -> Result<Plan, Refusal<NoRoom>> {
+    let code = given.code;
+    let widths = given.widths;
+    let is_free = pushes_nothing(code);
+    let led = led_ways(alloc, code, widths.len(), leads && is_free)?;
+    let filled = filled(alloc, code, led.nexts.as_slice(), widths.len())?;
+    let (ways, life) = lived(alloc, code, widths, &filled, &led)?;
     let mut bytes = Vec::from_elem(alloc, 0u8, widths.len())?;
     note_bytes(code, widths, &ways, &life, bytes.as_mut_slice());
     let works = if manner == Manner::Bold {
@@ -159,9 +189,9 @@ fn planned(alloc: Global, procedure: &LinProc, manner: Manner) -> Result<Plan, R
         bytes: bytes.as_slice(),
         is_tight: manner == Manner::Tight,
         works: &works,
-        is_free: pushes_nothing(code),
+        is_free,
     };
-    let params = usize::from(procedure.params());
+    let params = usize::from(given.params);
     let plan = laid(alloc, &older, &filled, params)?;
     Ok(ordered(alloc, plan, params)?)
 }
@@ -176,24 +206,92 @@ fn pushes_nothing(code: &[Instr]) -> bool {
     true
 }
 
-fn needless(
+// The ways through code, led on or not.
+fn led_ways(alloc: Global, code: &[Instr], locals: usize, leads: bool) -> Result<Led, NoMemory> {
+    let mut led = unled(alloc, nexts_of(alloc, code)?, locals)?;
+    if leads && may_lead(code, led.nexts.as_slice()) {
+        let ways = ways_of(alloc, &led, Vec::new(alloc))?;
+        let live = find_live(alloc, code, &ways, locals)?;
+        lead(alloc, code, &live, &mut led)?;
+    }
+    Ok(led)
+}
+
+// The ways where needless branches are left out, and the life of locals there. A branch stays whose local is needed for nothing else: that it is not 0 is known
+// only where it is needed.
+fn lived(
     alloc: Global,
-    filled: &Grid,
-    widths: &[u8],
     code: &[Instr],
-) -> Result<Vec<bool>, NoMemory> {
+    widths: &[u8],
+    filled: &Grid,
+    led: &Led,
+) -> Result<(Ways, Life), NoMemory> {
     let mut needless = Vec::new(alloc);
     for place in 0..code.len() {
-        needless.push(is_needless(filled, widths, code, place))?;
+        let is = is_needless(filled, widths, code, place);
+        needless.push(is && !is_at(led.paid.as_slice(), place))?;
     }
-    Ok(needless)
+    for _round in 0..3u8 {
+        let ways = ways_of(alloc, led, copy_of(alloc, needless.as_slice())?)?;
+        let life = find_life(alloc, code, &ways, widths.len())?;
+        if !take_back(code, &life, &mut needless) {
+            return Ok((ways, life));
+        }
+    }
+    let ways = ways_of(alloc, led, Vec::from_elem(alloc, false, code.len())?)?;
+    let life = find_life(alloc, code, &ways, widths.len())?;
+    Ok((ways, life))
+}
+
+fn copy_of(alloc: Global, noted: &[bool]) -> Result<Vec<bool>, NoMemory> {
+    Ok(Vec::from_slice(alloc, noted)?)
+}
+
+// Whether there was a needless branch whose local is needed for nothing else; it is needless no longer.
+fn take_back(code: &[Instr], life: &Life, needless: &mut Vec<bool>) -> bool {
+    let mut is_changed = false;
+    for place in 0..needless.len() {
+        if let Some(Instr::Unless(test, _)) = at(code, place) {
+            if let Some(local) = checked(test) {
+                let is_needed = life.live.has(place, usize::from(local));
+                if place < needless.len() && needless[place] && !is_needed {
+                    needless[place] = false;
+                    is_changed = true;
+                }
+            }
+        }
+    }
+    is_changed
+}
+
+// The ways that are led so, where needless branches are left out.
+fn ways_of(alloc: Global, led: &Led, needless: Vec<bool>) -> Result<Ways, NoMemory> {
+    let mut nexts = Vec::from_slice(alloc, led.nexts.as_slice())?;
+    for place in 0..nexts.len() {
+        if let Next::Two(to, _) = next_in(nexts.as_slice(), place) {
+            if is_at(needless.as_slice(), place) && place < nexts.len() {
+                nexts[place] = Next::One(to);
+            }
+        }
+    }
+    let reached = reach(alloc, nexts.as_slice())?;
+    let joins = joins(alloc, nexts.as_slice(), reached.as_slice())?;
+    Ok(Ways {
+        nexts,
+        needless,
+        walked: copy_of(alloc, led.walked.as_slice())?,
+        turned: copy_of(alloc, led.turned.as_slice())?,
+        reached,
+        joins,
+    })
 }
 
 // The newer code, and what is known.
 #[derive(Drop)]
 struct Work {
     homes: Homes,
-    code: Row<Instr>,
+    // for each place the instruction that stands for the one there, where it is not left out; it leads to places of the older code
+    made: Vec<Option<Instr>>,
     facts: Row<Facts>,
     // for each place where values stand when a run comes there by a branch
     entries: Vec<Row<Twin>>,
@@ -211,7 +309,7 @@ fn laid(
     }
     let mut work = Work {
         homes: Homes::new(alloc, older.widths, params)?,
-        code: Row::new(alloc),
+        made: Vec::new(alloc),
         facts: Row::new(alloc),
         entries,
     };
@@ -230,12 +328,36 @@ fn laid(
         bytes: sum_of(widths.as_slice()),
         is_free: older.is_free,
     };
-    let code = shared(alloc, work.code, shape)?;
+    let Work {
+        homes: _homes,
+        made,
+        facts,
+        entries: _entries,
+    } = work;
+    let placed = if older.is_free {
+        close_up(alloc, older.code, made, shape)?
+    } else {
+        let code = all_made(alloc, made)?;
+        in_place(alloc, shared(alloc, code, shape)?)?
+    };
+    let Placed { code, places } = placed;
     Ok(Plan {
         widths,
         code,
-        facts: work.facts,
+        facts,
+        places,
     })
+}
+
+// All instructions, where none is left out.
+fn all_made(alloc: Global, made: Vec<Option<Instr>>) -> Result<Row<Instr>, NoMemory> {
+    let mut code = Row::new(alloc);
+    for one in made {
+        if let Some(instr) = one {
+            code.push(instr)?;
+        }
+    }
+    Ok(code)
 }
 
 // Each needed local of a place stands where it is kept.
@@ -266,13 +388,8 @@ fn lay(
         return Ok(false);
     };
     if !is_at(older.ways.reached.as_slice(), place) {
-        let is_passed = place > 0 && is_at(older.ways.needless.as_slice(), place - 1);
-        let stands = if is_passed {
-            filler(work.homes.spare()?)
-        } else {
-            unreached_instr(older, &mut work.homes, instr, place)?
-        };
-        work.code.push(stands)?;
+        let stands = unreached_instr(older, &mut work.homes, instr, place)?;
+        work.made.push(stands)?;
         work.facts.push(unreached(alloc))?;
         return Ok(false);
     }
@@ -284,22 +401,33 @@ fn lay(
     let facts = known(alloc, older, filled, &work.homes, place)?;
     work.facts.push(facts)?;
     let made = made(older, &mut work.homes, instr, place)?;
-    work.code.push(made)?;
-    leave(alloc, older, work, instr, place)
+    let stands = if made.is_none() && !older.is_free {
+        Some(filler(work.homes.spare()?))
+    } else {
+        made
+    };
+    work.made.push(stands)?;
+    leave(alloc, older, work, place)
 }
 
-// What stands where no run comes.
+// What stands where no run comes: nothing, where nothing ever waits.
 fn unreached_instr(
     older: &Older<'_>,
     homes: &mut Homes,
     instr: Instr,
     place: usize,
-) -> Result<Instr, Refusal<NoRoom>> {
+) -> Result<Option<Instr>, Refusal<NoRoom>> {
+    if older.is_free {
+        return Ok(None);
+    }
+    if place > 0 && is_at(older.ways.needless.as_slice(), place - 1) && is_stop(Some(instr)) {
+        return Ok(Some(filler(homes.spare()?)));
+    }
     let spare = match instr {
         Instr::Plain(Plain::Pop(_, _)) => homes.spare()?,
         _ => 0,
     };
-    Ok(stand_in(instr, spare, place, older.is_free))
+    Ok(Some(stand_in(instr, spare)))
 }
 
 fn unreached(alloc: Global) -> Facts {
@@ -395,11 +523,10 @@ fn leave(
     alloc: Global,
     older: &Older<'_>,
     work: &mut Work,
-    instr: Instr,
     place: usize,
 ) -> Result<bool, Refusal<NoRoom>> {
     let behind = place.saturating_add(1);
-    match next_in(older.ways.needless.as_slice(), instr, place) {
+    match older.ways.next(place) {
         Next::Nowhere => Ok(false),
         Next::One(to) => {
             if to != behind {
@@ -407,9 +534,12 @@ fn leave(
             }
             Ok(to == behind)
         }
-        Next::Two(to, _) => {
+        Next::Two(to, next) => {
             enter(alloc, older, work, to)?;
-            Ok(true)
+            if next != behind {
+                enter(alloc, older, work, next)?;
+            }
+            Ok(next == behind)
         }
     }
 }

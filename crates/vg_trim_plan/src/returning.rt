@@ -4,12 +4,12 @@ use std::alloc::Global;
 use vg_base::{NoMemory, Row};
 use vg_lin::{Instr, Operand, Plain};
 
-// How code ends.
+/// How code ends.
 #[derive(Clone, Copy)]
-enum Ending {
-    // it gives so many bytes of a value back
+pub enum Ending {
+    /// It gives so many bytes of a value back.
     Gives(u8, Operand),
-    // it stops with this code
+    /// It stops with this code.
     Stops(u8),
 }
 
@@ -31,24 +31,52 @@ pub struct Shape {
     pub is_free: bool,
 }
 
-/// The code of a procedure in which a return or a stop becomes a jump to a later one that does the same, where that is shorter. The last ones of 16 kinds
-/// are jumped to.
+/// Places where code ends, at most 16, each with another ending.
+#[derive(Drop)]
+pub struct Ends {
+    ends: Vec<End>,
+}
+
+impl Ends {
+    /// None.
+    pub fn new(alloc: Global) -> Self {
+        Ends {
+            ends: Vec::new(alloc),
+        }
+    }
+
+    /// The place with this ending.
+    pub fn place_of(&self, ending: Ending) -> Option<u16> {
+        for end in self.ends.as_slice() {
+            if is_ending(end.ending, ending) {
+                return Some(end.place);
+            }
+        }
+        None
+    }
+
+    /// Notes one more, where there is room.
+    pub fn note(&mut self, ending: Ending, place: usize) -> Result<(), NoMemory> {
+        if self.ends.len() < 16 && place < 65_536 {
+            let place = place as u16;
+            self.ends.push(End { ending, place })?;
+        }
+        Ok(())
+    }
+}
+
+/// The code of a procedure in which a return becomes a jump to a later one that does the same, where that is shorter. The last ones of 16 kinds are jumped to.
 pub fn shared(alloc: Global, code: Row<Instr>, shape: Shape) -> Result<Row<Instr>, NoMemory> {
     let mut instrs = code.into_vec();
-    let mut ends: Vec<End> = Vec::new(alloc);
+    let mut ends = Ends::new(alloc);
     let count = instrs.len();
     for step in 0..count {
         let place = count - 1 - step;
-        if place < instrs.len() && place < 65_536 {
+        if place < instrs.len() {
             if let Some(ending) = long_ending(instrs[place], shape) {
-                match place_of(ends.as_slice(), ending) {
+                match ends.place_of(ending) {
                     Some(to) => instrs[place] = Instr::Jump(to),
-                    None => {
-                        if ends.len() < 16 {
-                            let place = place as u16;
-                            ends.push(End { ending, place })?;
-                        }
-                    }
+                    None => ends.note(ending, place)?,
                 }
             }
         }
@@ -56,8 +84,8 @@ pub fn shared(alloc: Global, code: Row<Instr>, shape: Shape) -> Result<Row<Instr
     Ok(Row::from_vec(instrs))
 }
 
-// How an instruction ends code, if it takes more words than a jump and may be one.
-fn long_ending(instr: Instr, shape: Shape) -> Option<Ending> {
+/// How an instruction ends code, if it takes more words than a jump and may be one.
+pub fn long_ending(instr: Instr, shape: Shape) -> Option<Ending> {
     match instr {
         Instr::Return(width, value) => {
             if is_long(width, shape) {
@@ -80,15 +108,6 @@ fn long_ending(instr: Instr, shape: Shape) -> Option<Ending> {
 // Whether a return of so many bytes takes more words than a jump: those that load its value, and those that take down the frame or the saved registers.
 fn is_long(width: u8, shape: Shape) -> bool {
     shape.has_params || usize::from(width).saturating_add(shape.bytes) >= 2
-}
-
-fn place_of(ends: &[End], ending: Ending) -> Option<u16> {
-    for end in ends {
-        if is_ending(end.ending, ending) {
-            return Some(end.place);
-        }
-    }
-    None
 }
 
 fn is_ending(first: Ending, second: Ending) -> bool {

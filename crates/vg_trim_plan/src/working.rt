@@ -2,7 +2,7 @@
 use crate::flow::{Next, target_of};
 use crate::grid::Grid;
 use crate::homes::is_same;
-use crate::joining::{Ways, is_at, next_in};
+use crate::joining::{Ways, is_at};
 use crate::living::{Life, is_behind, is_crossing_behind};
 use crate::sizes::width_of;
 use std::alloc::Global;
@@ -74,10 +74,12 @@ impl Seen<'_> {
         let Instr::Plain(Plain::Compute(c)) = instr else {
             return None;
         };
-        let next = next_in(self.ways.needless.as_slice(), instr, place);
+        let next = self.ways.next(place);
         let local = usize::from(c.to);
         let is_kept = is_operator(c.operator, c.operator)
             && !is_known(c)
+            && !is_walked(self.ways, c.left)
+            && !is_walked(self.ways, c.right)
             && !is_operand(c, c.to)
             && c.width <= width_of(self.widths, c.to)
             && is_behind(&self.life.live, next, local)
@@ -91,6 +93,14 @@ impl Seen<'_> {
             Some(c) => kind_in(works.kinds.as_slice(), c),
             None => None,
         }
+    }
+}
+
+// Whether an operand gets a number on a way that is left out.
+fn is_walked(ways: &Ways, value: Operand) -> bool {
+    match value {
+        Operand::Local(local) => is_at(ways.walked.as_slice(), usize::from(local)),
+        Operand::Known(_) => false,
     }
 }
 
@@ -218,7 +228,7 @@ fn spread(there: &mut Grid, seen: &Seen<'_>, works: &Works) -> bool {
 }
 
 fn spread_at(there: &mut Grid, seen: &Seen<'_>, works: &Works, instr: Instr, place: usize) -> bool {
-    match next_in(seen.ways.needless.as_slice(), instr, place) {
+    match seen.ways.next(place) {
         Next::Nowhere => false,
         Next::One(to) => narrow(there, seen, works, instr, place, to),
         Next::Two(to, behind) => {

@@ -1,5 +1,7 @@
-//! Guesses at trimmed procedures, made by hand, and whether they stand.
+//! Guesses at trimmed procedures, and whether they stand: some made by hand, and those that are made of programs.
 #![tactic(auto)]
 
+#[cfg(test)]
+mod programs;
 #[cfg(test)]
 mod tests;

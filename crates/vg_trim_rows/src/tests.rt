@@ -1,7 +1,10 @@
 use std::alloc::Global;
 use vg_base::{NoMemory, Row};
-use vg_lin::{Comparison, Computation, Instr, Operand, Operator, Plain, Test};
+use vg_lin::{
+    Call, Callee, Comparison, Computation, Instr, Operand, Operator, Plain, Registers, Test,
+};
 use vg_trim::looks_right;
+use vg_trim_pairs::Both;
 use vg_trimming::{Facts, Twin, Worked};
 
 // A branch over a stop, which is taken where the first local is not 0.
@@ -76,39 +79,46 @@ fn all_facts(alloc: Global, all: &[Known]) -> Result<Row<Facts>, NoMemory> {
     Ok(row)
 }
 
-// Whether the newer code stands for the older one, with one parameter, three locals of two bytes and a result of two bytes.
+// Whether the newer code stands for the older one, with one parameter, three locals of two bytes and a result of two bytes. The newer code is at these places
+// where the older one is at its places.
 fn stands(
     alloc: Global,
     older: &[Instr],
     newer: &[Instr],
     known: &[Known],
+    places: &[u16],
 ) -> Result<bool, NoMemory> {
     let facts = all_facts(alloc, known)?;
-    Ok(stands_by(older, newer, facts.as_slice()))
+    Ok(stands_at(older, newer, facts.as_slice(), places))
 }
 
-fn stands_by(older: &[Instr], newer: &[Instr], facts: &[Facts]) -> bool {
+fn stands_at(older: &[Instr], newer: &[Instr], facts: &[Facts], places: &[u16]) -> bool {
     let widths: [u8; 3] = [2, 2, 2];
-    looks_right(
-        1,
-        2,
-        widths.as_slice(),
-        widths.as_slice(),
-        facts,
+    let both = Both {
+        old: widths.as_slice(),
+        new: widths.as_slice(),
         older,
         newer,
-    )
+        facts,
+        places,
+    };
+    looks_right(1, 2, both)
 }
 
-// The first local is checked, copied to the second, and checked again. The copy and the second check are left out, with this local in their place. This is
-// known before and behind the copy.
+// The same where each instruction stands at the place of the older one.
+fn stands_by(older: &[Instr], newer: &[Instr], facts: &[Facts]) -> bool {
+    let places: [u16; 7] = [0, 1, 2, 3, 4, 5, 6];
+    stands_at(older, newer, facts, places.as_slice())
+}
+
+// The first local is checked, copied to the second, and checked again. In place of the copy this local gets a number, and the second check is left out. This
+// is known before and behind the copy.
 fn checked_twice(
     alloc: Global,
     spoiled: u8,
     before: Known,
     behind: Known,
 ) -> Result<bool, NoMemory> {
-    let left_out = copy(spoiled, Operand::Known(0));
     let older = [
         check(2),
         stop(),
@@ -117,7 +127,7 @@ fn checked_twice(
         stop(),
         give(1),
     ];
-    let newer = [check(2), stop(), left_out, left_out, left_out, give(0)];
+    let newer = [check(2), stop(), copy(spoiled, Operand::Known(0)), give(0)];
     let known = [
         Known::First,
         Known::First,
@@ -126,15 +136,21 @@ fn checked_twice(
         Known::Unreached,
         Known::Copied,
     ];
-    stands(alloc, older.as_slice(), newer.as_slice(), known.as_slice())
+    let places: [u16; 6] = [0, 1, 2, 3, 3, 3];
+    stands(
+        alloc,
+        older.as_slice(),
+        newer.as_slice(),
+        known.as_slice(),
+        places.as_slice(),
+    )
 }
 
 // The same where the first local gets a value between both checks, behind which this is known.
 fn set_between(alloc: Global, behind: Known) -> Result<bool, NoMemory> {
-    let left_out = copy(2, Operand::Known(0));
     let set = copy(0, Operand::Local(0));
     let older = [check(2), stop(), set, check(5), stop(), give(0)];
-    let newer = [check(2), stop(), set, left_out, left_out, give(0)];
+    let newer = [check(2), stop(), set, give(0)];
     let known = [
         Known::First,
         Known::First,
@@ -143,16 +159,37 @@ fn set_between(alloc: Global, behind: Known) -> Result<bool, NoMemory> {
         Known::Unreached,
         Known::First,
     ];
-    stands(alloc, older.as_slice(), newer.as_slice(), known.as_slice())
+    let places: [u16; 6] = [0, 1, 2, 3, 3, 3];
+    stands(
+        alloc,
+        older.as_slice(),
+        newer.as_slice(),
+        known.as_slice(),
+        places.as_slice(),
+    )
 }
 
-// Where no run comes, a value waits, or an instruction stands in place of that.
+// A value waits for a while. Where no run comes, another one waits, or an instruction stands in place of that.
 fn never_pushed(alloc: Global, instead: Instr) -> Result<bool, NoMemory> {
     let push = Instr::Plain(Plain::Push(2, Operand::Local(0)));
-    let older = [Instr::Jump(2), push, give(0)];
-    let newer = [Instr::Jump(2), instead, give(0)];
-    let known = [Known::First, Known::Unreached, Known::First];
-    stands(alloc, older.as_slice(), newer.as_slice(), known.as_slice())
+    let pop = Instr::Plain(Plain::Pop(2, 2));
+    let older = [push, pop, Instr::Jump(4), push, give(0)];
+    let newer = [push, pop, Instr::Jump(4), instead, give(0)];
+    let known = [
+        Known::First,
+        Known::First,
+        Known::First,
+        Known::Unreached,
+        Known::First,
+    ];
+    let places: [u16; 5] = [0, 1, 2, 3, 4];
+    stands(
+        alloc,
+        older.as_slice(),
+        newer.as_slice(),
+        known.as_slice(),
+        places.as_slice(),
+    )
 }
 
 // A check of what was checked before may be left out, but not with the local in its place that has the value from then on.
@@ -342,7 +379,14 @@ fn never_returned(alloc: Global, to: u16) -> Result<bool, NoMemory> {
     let older = [Instr::Jump(2), give(0), give(0)];
     let newer = [Instr::Jump(2), Instr::Jump(to), give(0)];
     let known = [Known::First, Known::Unreached, Known::First];
-    stands(alloc, older.as_slice(), newer.as_slice(), known.as_slice())
+    let places: [u16; 3] = [0, 1, 2];
+    stands(
+        alloc,
+        older.as_slice(),
+        newer.as_slice(),
+        known.as_slice(),
+        places.as_slice(),
+    )
 }
 
 // Where no run comes may stand a jump to any other place.
@@ -353,4 +397,130 @@ fn jumps_stand_where_no_run_comes(rt: HostRuntime) {
     let itself = never_returned(alloc, 1);
     let beyond = never_returned(alloc, 3);
     assert!(rt; back == Ok(true) && itself == Ok(false) && beyond == Ok(false));
+}
+
+// An instruction before a return of the first local is left out.
+fn left_out(alloc: Global, instr: Instr) -> Result<bool, NoMemory> {
+    let older = [instr, give(0)];
+    let newer = [give(0)];
+    let known = [Known::First, Known::First];
+    let places: [u16; 2] = [0, 0];
+    stands(
+        alloc,
+        older.as_slice(),
+        newer.as_slice(),
+        known.as_slice(),
+        places.as_slice(),
+    )
+}
+
+// A copy that nobody needs is left out; a read of a device, a call and an interrupt are not.
+#[test]
+fn only_what_shows_nothing_is_left_out(rt: HostRuntime) {
+    let alloc = rt.alloc();
+    let call = Call {
+        callee: Callee::Procedure(0),
+        pushed: 0,
+        registers: Registers::Empty,
+        to: None,
+    };
+    let copied = left_out(alloc, copy(2, Operand::Known(7)));
+    let spoiled = left_out(alloc, copy(0, Operand::Known(7)));
+    let read = left_out(alloc, Instr::Plain(Plain::ReadDevice(2, 0x36)));
+    let called = left_out(alloc, Instr::Call(call));
+    let idled = left_out(alloc, Instr::Idle);
+    assert!(rt; copied == Ok(true) && spoiled == Ok(false));
+    assert!(rt; read == Ok(false) && called == Ok(false) && idled == Ok(false));
+}
+
+// A branch where the second local is 0.
+fn where_none(to: u16) -> Instr {
+    Instr::When(
+        Test {
+            comparison: Comparison::Same,
+            width: 2,
+            left: Operand::Local(1),
+            right: Operand::Known(0),
+        },
+        to,
+    )
+}
+
+// The first loop, which ends where the first local is 0, is left for the second one, which ends at once, since the second local is 0 then; the jump to this
+// place ends the second loop. The newer code leaves the first loop for what is behind both.
+fn left_for_another(alloc: Global, back: u16) -> Result<bool, NoMemory> {
+    let first = Instr::When(
+        Test {
+            comparison: Comparison::Same,
+            width: 2,
+            left: Operand::Local(0),
+            right: Operand::Known(0),
+        },
+        2,
+    );
+    let older = [
+        first,
+        Instr::Jump(0),
+        copy(1, Operand::Known(0)),
+        where_none(5),
+        Instr::Jump(back),
+        give(0),
+    ];
+    let newer = [first, Instr::Jump(0), give(0)];
+    let known = [
+        Known::First,
+        Known::First,
+        Known::Unreached,
+        Known::Unreached,
+        Known::Unreached,
+        Known::First,
+    ];
+    let places: [u16; 6] = [0, 1, 2, 2, 2, 2];
+    stands(
+        alloc,
+        older.as_slice(),
+        newer.as_slice(),
+        known.as_slice(),
+        places.as_slice(),
+    )
+}
+
+// A branch that is the test of a turn leads past one that is none, but not past the test of another turn.
+#[test]
+fn one_test_of_a_turn_is_enough(rt: HostRuntime) {
+    let alloc = rt.alloc();
+    let past = left_for_another(alloc, 5);
+    let past_a_test = left_for_another(alloc, 3);
+    assert!(rt; past == Ok(true) && past_a_test == Ok(false));
+}
+
+// A branch to this place stands for a check before a stop and a return, with the stop behind the return.
+fn turned(alloc: Global, branch: Instr) -> Result<bool, NoMemory> {
+    let older = [check(2), stop(), give(0)];
+    let newer = [branch, give(0), stop()];
+    let known = [Known::First, Known::First, Known::First];
+    let places: [u16; 3] = [0, 2, 1];
+    stands(
+        alloc,
+        older.as_slice(),
+        newer.as_slice(),
+        known.as_slice(),
+        places.as_slice(),
+    )
+}
+
+// The other branch may stand for one, with its places the other way round; the same one may not, nor one to another place.
+#[test]
+fn branches_may_be_turned(rt: HostRuntime) {
+    let alloc = rt.alloc();
+    let test = Test {
+        comparison: Comparison::Same,
+        width: 2,
+        left: Operand::Local(0),
+        right: Operand::Known(0),
+    };
+    let other = turned(alloc, Instr::When(test, 2));
+    let same = turned(alloc, Instr::Unless(test, 2));
+    let elsewhere = turned(alloc, Instr::When(test, 1));
+    assert!(rt; other == Ok(true) && same == Ok(false) && elsewhere == Ok(false));
 }

@@ -15,7 +15,8 @@ use Rattle.vg_lin.specs.Sound.{IsTest}
 use Rattle.vg_lin.specs.State.{State, value, both, holds}
 use Rattle.vg_trimming.specs.declared.facts.Facts.{Facts}
 use Rattle.vg_trimming.specs.Facts.{is_filled, bytes_of, stands_for, is_it}
-use Rattle.vg_trimming.specs.Trimming.{same_comparison, is_signed, sees_as_much, same_test, checked, filled_in, never_holds}
+use Rattle.vg_trimming.specs.Trimming.{same_comparison, is_signed, sees_as_much, same_test, filled_in, never_holds}
+use Rattle.vg_trimming.specs.Walking.{checked}
 use Rattle.vg_trimming.proofs.Homes.{no, same_number, at_most, local, held_value, low_small, fits_bytes, Agree, stands}
 use Rattle.vg_trimming.proofs.Places.{same_comparison_is}
 

@@ -24,37 +24,39 @@ use Rattle.vg_expand.proofs.Holding.{begun_holds, resume_holds}
 use Rattle.vg_trimming.specs.declared.facts.Twin.{Twin}
 use Rattle.vg_trimming.specs.declared.facts.Facts.{Facts}
 use Rattle.vg_trimming.specs.declared.facts.Worked.{Worked}
-use Rattle.vg_trimming.specs.Facts.{same_home, is_twin, stands_for, is_filled, leads_in, begins_so, is_none_filled, is_none_worked, begins_with}
+use Rattle.vg_trimming.specs.Facts.{same_home, is_twin, stands_for, is_filled, is_it, leads_in, begins_so, is_none_filled, is_none_worked, begins_with}
 use Rattle.vg_trimming.specs.Trimming.{gain_in, same_callee, same_passed, same_registers, same_target, local_of, call_change, same_call}
 use Rattle.vg_trimming.specs.Trimmed.{Trims, IsTrimmedTo}
 use Rattle.vg_trimming.specs.Runs.{AreBytes}
-use Rattle.vg_trimming.proofs.Homes.{no, same_number, same_home_is, local, other_local, Twinned, AreThere, Steady, Agree, stands, Changed, behind}
+use Rattle.vg_trimming.proofs.Homes.{no, same_number, is_named, same_home_is, local, other_local, Twinned, AreThere, Steady, Agree, stands, Changed, behind}
 use Rattle.vg_trimming.proofs.Places.{none_changed, both_changed}
 
 -- ---- at a place
 
--- both are at a place: of a procedure that is as it was, in the same state, or of one that is trimmed, where what is known there holds
-pub data AtPlace (old now : Procedure) (pc : ℕ) (s u : State) : Type 0 where
-  same : now ≡ old → u ≡ s → AreBytes s.ram → AtPlace old now pc s u
-  trimmed : (fs : List Facts) → Trims fs old now → (a : Facts) → slice_get fs pc ≡ Some a → Agree old.widths now.widths a s u → AtPlace old now pc s u
+-- the older code is at one place and the newer one at the other: of a procedure that is as it was, in the same state, or of one that is trimmed,
+-- where what is known there holds
+pub data AtPlace (old now : Procedure) (pc at : ℕ) (s u : State) : Type 0 where
+  same : now ≡ old → at ≡ pc → u ≡ s → AreBytes s.ram → AtPlace old now pc at s u
+  trimmed : (fs : List Facts) (ps : List ℕ) → Trims fs ps old now → (a : Facts) → slice_get fs pc ≡ Some a → slice_get ps pc ≡ Some at
+      → Agree old.widths now.widths a s u → AtPlace old now pc at s u
 
 -- behind a change
-pub led : (fs : List Facts) (old now : Procedure) (trim : Trims fs old now) (a : Facts) (to : ℕ) (s u s1 u1 : State) (c : _)
+pub led : (fs : List Facts) (ps : List ℕ) (old now : Procedure) (trim : Trims fs ps old now) (a : Facts) (to at : ℕ) (s u s1 u1 : State) (c : _)
     → Agree old.widths now.widths a s u → Changed now.widths a c s u s1 u1 → Steady old.widths now.widths s1 u1
-    → leads_in now.widths a c (slice_get fs to) ≡ true → AtPlace old now to s1 u1
-led fs old now trim a to s u s1 u1 c g ch st e = by_facts (slice_get fs to) refl e
+    → is_it (slice_get ps to) at ≡ true → leads_in now.widths a c (slice_get fs to) ≡ true → AtPlace old now to at s1 u1
+led fs ps old now trim a to at s u s1 u1 c g ch st there e = by_facts (slice_get fs to) refl e
   where
-    by_facts : (k : Option Facts) → slice_get fs to ≡ k → leads_in now.widths a c k ≡ true → AtPlace old now to s1 u1
-    by_facts (Some b) f e = trimmed fs trim b f (behind old.widths now.widths a b c s u s1 u1 e g ch st)
+    by_facts : (k : Option Facts) → slice_get fs to ≡ k → leads_in now.widths a c k ≡ true → AtPlace old now to at s1 u1
+    by_facts (Some b) f e = trimmed fs ps trim b f (is_named (slice_get ps to) at there) (behind old.widths now.widths a b c s u s1 u1 e g ch st)
     by_facts None f e = no e
 
 -- other bytes in RAM, the same in both
-pub with_ram : (old now : Procedure) (pc : ℕ) (s u : State) (r r' : List ℕ) → r' ≡ r → AreBytes r → AtPlace old now pc s u
-    → AtPlace old now pc (record s { ram = r }) (record u { ram = r' })
-with_ram old now pc s u r r' e h (same en eu k) =
-    same en (ap {A = State} (λ z. record z { ram = r' }) eu ∙ ap (λ z. record s { ram = z }) e) h
-with_ram old now pc s u r r' e h (trimmed fs trim a f g) =
-    trimmed fs trim a f
+pub with_ram : (old now : Procedure) (pc at : ℕ) (s u : State) (r r' : List ℕ) → r' ≡ r → AreBytes r → AtPlace old now pc at s u
+    → AtPlace old now pc at (record s { ram = r }) (record u { ram = r' })
+with_ram old now pc at s u r r' e h (same en ep eu k) =
+    same en ep (ap {A = State} (λ z. record z { ram = r' }) eu ∙ ap (λ z. record s { ram = z }) e) h
+with_ram old now pc at s u r r' e h (trimmed fs ps trim a f k g) =
+    trimmed fs ps trim a f k
     (record {
       reached = g.reached;
       twins = twins;
@@ -144,7 +146,7 @@ pub record Alike (m n : Procedure) : Type 0 where
 pub alike : (m n : Procedure) → IsTrimmedTo m n → Alike m n
 alike m n is = by_how is.how
   where
-    by_how : (n ≡ m) ⊎ ((fs : List Facts) × Trims fs m n) → Alike m n
+    by_how : (n ≡ m) ⊎ ((fs : List Facts) × (ps : List ℕ) × Trims fs ps m n) → Alike m n
     by_how (inl e) =
         record {
           method = ap (λ k. k.method) e;
@@ -152,7 +154,7 @@ alike m n is = by_how is.how
           result = ap (λ k. k.result) e;
           widths = ap (λ k. take m.params k.widths) e;
         }
-    by_how (inr (fs, trim)) = record { method = trim.method; params = trim.params; result = trim.result; widths = trim.widths }
+    by_how (inr (fs, ps, trim)) = record { method = trim.method; params = trim.params; result = trim.result; widths = trim.widths }
 
 none_worked : (ws : List Worked) (s u : State) → is_none_worked ws ≡ true → AreThere ws s u
 none_worked [] s u e = tt {0}
@@ -163,13 +165,13 @@ abbrev pub fresh : Procedure → (xs ram : List ℕ) → State
 fresh m xs r = record { locals = begun m.widths xs; waiting = []; ram = r }
 
 pub begins_at : (m n : Procedure) → IsTrimmedTo m n → (xs r r' : List ℕ) → r' ≡ r → AreBytes r → length xs ≤ m.params
-    → AtPlace m n 0 (fresh m xs r) (fresh n xs r')
+    → AtPlace m n 0 0 (fresh m xs r) (fresh n xs r')
 begins_at m n is xs r r' e h le = by_how is.how
   where
-    by_facts : (fs : List Facts) → Trims fs m n → (o : Option Facts) → slice_get fs 0 ≡ o → begins_with m.params o ≡ true
-        → AtPlace m n 0 (fresh m xs r) (fresh n xs r')
-    by_facts fs trim (Some a) f k =
-        trimmed fs trim a f
+    by_facts : (fs : List Facts) (ps : List ℕ) → Trims fs ps m n → (o : Option Facts) → slice_get fs 0 ≡ o → begins_with m.params o ≡ true
+        → AtPlace m n 0 0 (fresh m xs r) (fresh n xs r')
+    by_facts fs ps trim (Some a) f k =
+        trimmed fs ps trim a f trim.begins_at
         (record {
           reached = z1.0;
           twins = twins;
@@ -194,16 +196,16 @@ begins_at m n is xs r r' e h le = by_how is.how
             let few = begun_few m.widths xs x v w in
             subst (λ g. value g (fresh n xs r') ≡ Some v) (begins_twin m.params a.twins x g z1.1 q (omega (arith, few, le)))
             (begun_same m.params m.widths n.widths xs x le trim.widths ∙ w)
-    by_facts fs trim None f k = no k
+    by_facts fs ps trim None f k = no k
 
-    by_how : (n ≡ m) ⊎ ((fs : List Facts) × Trims fs m n) → AtPlace m n 0 (fresh m xs r) (fresh n xs r')
-    by_how (inl k) = same k (ap (λ z. fresh z xs r') k ∙ ap (fresh m xs) e) h
-    by_how (inr (fs, trim)) = by_facts fs trim (slice_get fs 0) refl trim.begins
+    by_how : (n ≡ m) ⊎ ((fs : List Facts) × (ps : List ℕ) × Trims fs ps m n) → AtPlace m n 0 0 (fresh m xs r) (fresh n xs r')
+    by_how (inl k) = same k refl (ap (λ z. fresh z xs r') k ∙ ap (fresh m xs) e) h
+    by_how (inr (fs, ps, trim)) = by_facts fs ps trim (slice_get fs 0) refl trim.begins
 
 -- ---- entries
 
 pub data BothEnter (m n : Procedure) (r : ℕ) (kept kept' : State) : Option (Entry State) → Option (Entry State) → Type 0 where
-  entered : (t t' : State) → AtPlace m n 0 t t'
+  entered : (t t' : State) → AtPlace m n 0 0 t t'
       → BothEnter m n r kept kept' (Some (record { proc = r; state = t; kept = kept })) (Some (record { proc = r; state = t'; kept = kept' }))
   no_entry : (z : Option (Entry State)) → BothEnter m n r kept kept' None z
 
@@ -247,7 +249,7 @@ entry_both m n is r to to' kept kept' xs er h gives =
         (ap (λ w. gives_to w to') k.result ∙ gives m.result (parts e).2)
 
 -- a call is the same, and what is known behind it holds, whatever it gives back
-pub record SameCall (p : Program) (old now : Procedure) (pc : ℕ) (c d : Calling) (s u : State) : Type 0 where
+pub record SameCall (p : Program) (old now : Procedure) (pc at : ℕ) (c d : Calling) (s u : State) : Type 0 where
   pub callee : (r : ℕ) → called p c.callee s ≡ Some r → called p d.callee u ≡ Some r
   pub pushed : d.pushed ≡ c.pushed
   pub registers : (xs : List Waiting) → values (operands c.registers) s ≡ Some xs → values (operands d.registers) u ≡ Some xs
@@ -256,14 +258,14 @@ pub record SameCall (p : Program) (old now : Procedure) (pc : ℕ) (c d : Callin
   pub bytes : AreBytes s.ram
   pub gives : (w : ℕ) → gives_to w c.to ≡ true → gives_to w d.to ≡ true
   pub onward : (v : ℕ) (t t' : State) → t'.ram ≡ t.ram → AreBytes t.ram
-      → AtPlace old now (suc pc) (resume (Result c) (record s { waiting = drop c.pushed s.waiting }) t v)
+      → AtPlace old now (suc pc) (suc at) (resume (Result c) (record s { waiting = drop c.pushed s.waiting }) t v)
       (resume (Result d) (record u { waiting = drop d.pushed u.waiting }) t' v)
 
-pub entries : (p : Program) (old now : Procedure) (pc : ℕ) (c d : Calling) (s u : State) → SameCall p old now pc c d s u
+pub entries : (p : Program) (old now : Procedure) (pc at : ℕ) (c d : Calling) (s u : State) → SameCall p old now pc at c d s u
     → (m n : Procedure) → IsTrimmedTo m n → (r : ℕ)
     → BothEnter m n r (record s { waiting = drop c.pushed s.waiting }) (record u { waiting = drop d.pushed u.waiting })
     (entry_of r (Some m) c s) (entry_of r (Some n) d u)
-entries p old now pc c d s u h m n is r =
+entries p old now pc at c d s u h m n is r =
     subst (λ k. BothEnter m n r kept (record u { waiting = drop k u.waiting }) (entry_of r (Some m) c s) (newer k u.waiting)) (sym h.pushed)
     (subst (λ ws. BothEnter m n r kept (record u { waiting = drop c.pushed ws }) (entry_of r (Some m) c s) (newer c.pushed ws)) (sym h.waiting)
     (if_both m n r kept (record u { waiting = drop c.pushed s.waiting }) (length (take c.pushed s.waiting) == c.pushed)
@@ -342,7 +344,7 @@ module _ (p : Program) (tables : AreBytes p.tables) (old now : Procedure) (sound
       → Changed now.widths a
       (record { old = local_of x; new = local_of y; gain = gain_in old.widths now.widths (local_of x) (local_of y) 5; filled = None; worked = None })
       s u (with_result x v (record s { waiting = ws; ram = r })) (with_result y v (record u { waiting = ws'; ram = r' }))
-  given_back None None ws ws' r r' v e h ew er = none_changed p tables old now sound a s u g None _ _ refl refl ew er (λ y v e. no e)
+  given_back None None ws ws' r r' v e h ew er = none_changed p tables old now sound a s u g _ _ refl refl ew er
   given_back None (Some t') ws ws' r r' v e h ew er = no e
   given_back (Some t) None ws ws' r r' v e h ew er =
       record {
@@ -361,9 +363,10 @@ module _ (p : Program) (tables : AreBytes p.tables) (old now : Procedure) (sound
   given_back (Some t) (Some t') ws ws' r r' v e h ew er =
       both_changed p tables old now sound a s u g t.local t'.local 5 v _ _ h.1 (λ k. absurd (omega (arith, k))) refl refl ew er
 
-  pub calls_same : (fs : List Facts) (trim : Trims fs old now) (pc : ℕ) (c d : Calling) → same_call a.twins c d ≡ true → IsTo now d.to
-      → leads_in now.widths a (call_change old.widths now.widths c d) (slice_get fs (suc pc)) ≡ true → SameCall p old now pc c d s u
-  calls_same fs trim pc c d e h l =
+  pub calls_same : (fs : List Facts) (ps : List ℕ) (trim : Trims fs ps old now) (pc at : ℕ) (c d : Calling) → same_call a.twins c d ≡ true → IsTo now d.to
+      → is_it (slice_get ps (suc pc)) (suc at) ≡ true → leads_in now.widths a (call_change old.widths now.widths c d) (slice_get fs (suc pc)) ≡ true
+      → SameCall p old now pc at c d s u
+  calls_same fs ps trim pc at c d e h there l =
       record {
         callee = callee_same c.callee d.callee z2.0;
         pushed = sym pushed;
@@ -393,14 +396,14 @@ module _ (p : Program) (tables : AreBytes p.tables) (old now : Procedure) (sound
       bytes None ws r v k = k
 
       onward : (v : ℕ) (t t' : State) → t'.ram ≡ t.ram → AreBytes t.ram
-          → AtPlace old now (suc pc) (resume (Result c) (record s { waiting = drop c.pushed s.waiting }) t v)
+          → AtPlace old now (suc pc) (suc at) (resume (Result c) (record s { waiting = drop c.pushed s.waiting }) t v)
           (resume (Result d) (record u { waiting = drop d.pushed u.waiting }) t' v)
       onward v t t' er k =
-          led fs old now trim a (suc pc) s u _ _ (call_change old.widths now.widths c d) g
+          led fs ps old now trim a (suc pc) (suc at) s u _ _ (call_change old.widths now.widths c d) g
           (given_back c.to d.to (drop c.pushed s.waiting) (drop d.pushed u.waiting) t.ram t'.ram v z0.1 h
           (ap (λ k. drop k u.waiting) (sym pushed) ∙ ap (drop c.pushed) g.waiting) er)
           (record {
             held = resume_holds old.widths (Result c) (record s { waiting = drop c.pushed s.waiting }) t v g.steady.held;
             held_too = resume_holds now.widths (Result d) (record u { waiting = drop d.pushed u.waiting }) t' v g.steady.held_too;
             bytes = bytes c.to (drop c.pushed s.waiting) t.ram v k;
-          }) l
+          }) there l

@@ -41,6 +41,11 @@ same_home_is (Local i) (Known w) e = no e
 same_home_is (Known v) (Local j) e = no e
 same_home_is (Known v) (Known w) e = ap Known (same_number v w e)
 
+-- the local that is named
+pub is_named : (o : Option ℕ) (x : ℕ) → is_it o x ≡ true → o ≡ Some x
+is_named (Some y) x e = ap Some (same_number y x e)
+is_named None x e = no e
+
 pub same_operator_is : (a b : Operator) → same_operator a b ≡ true → a ≡ b
 same_operator_is Plus Plus e = refl
 same_operator_is Minus Minus e = refl

@@ -3,6 +3,7 @@ pub mod Values
 pub mod Places
 pub mod Branches
 pub mod Calls
+pub mod Walks
 pub mod Standing
 pub mod Simulated
 pub mod Runs

@@ -1,5 +1,5 @@
 -- Plain instructions and branches: where one stands for another one, both do the same, and what is known behind them holds.
-use Rattle.std.specs.Prelude.{◌≢◌, ℕ, zero, suc, ◌+◌, ◌*◌, ◌<◌, ◌≤◌, ◌^◌, bit_and, bit_or, bit_xor, Bool, true, false, ◌==◌, ◌&&◌, not, nat_le, List, [], ◌∷◌, length}
+use Rattle.std.specs.Prelude.{ℕ, zero, suc, ◌+◌, ◌*◌, ◌<◌, ◌≤◌, ◌^◌, bit_and, bit_or, bit_xor, Bool, true, false, ◌==◌, ◌&&◌, not, nat_le, List, [], ◌∷◌, length}
 use Rattle.std.specs.Prelude.{Option, Some, None, get_or, if◌then◌else◌}
 use Rattle.std.proofs.Common.{◌≡◌, refl, sym, ap, ◌∙◌, subst, arith, inl, inr, ◌⊎◌}
 use Rattle.std.proofs.Common.{pow-add}
@@ -32,9 +32,9 @@ use Rattle.vg_trimming.specs.declared.facts.Gain.{Gain}
 use Rattle.vg_trimming.specs.declared.facts.Gain.TheVariants.{Nothing, In, Copied}
 use Rattle.vg_trimming.specs.declared.facts.Worked.{Worked}
 use Rattle.vg_trimming.specs.declared.facts.Change.{Change}
-use Rattle.vg_trimming.specs.Facts.{same_operator, found_for, bytes_of, stands_for, is_it, overwrites, gains, filling, spoiling}
+use Rattle.vg_trimming.specs.Facts.{same_operator, found_for, bytes_of, stands_for, is_it, overwrites, gains, no_change}
 use Rattle.vg_trimming.specs.Trimming.{same_memory, same_plain, is_paired, gain_in, keeps_operands, worked_in, both_change, is_pure, left_out, is_stop}
-use Rattle.vg_trimming.specs.Trimming.{same_comparison, fits_result, narrower, target_of, result_bytes, found_in, reused}
+use Rattle.vg_trimming.specs.Trimming.{same_comparison, fits_result, narrower, found_in, reused}
 use Rattle.vg_trimming.specs.Runs.{AreBytes}
 use Rattle.vg_trimming.proofs.Homes.{no, same_number, at_most, same_operator_is, local, own_value, gets_value, other_local, same_default, few_bytes}
 use Rattle.vg_trimming.proofs.Homes.{low_small, fits_bytes, IsThere, found_there, Agree, stands, same_home_is, Changed}
@@ -54,10 +54,30 @@ using_same : (C : State → State → Outside → Type 0) (x y : Option ℕ) (go
 using_same C (Some v) y go go' f g = subst (λ k. SameWent C (go v) (using k go')) (sym (f v refl)) (g v refl (f v refl))
 using_same C None y go go' f g = wrong (using y go')
 
-using_alone : (C : State → State → Outside → Type 0) (x : Option ℕ) (go : ℕ → Went State) (z : Went State)
-    → ((v : ℕ) → x ≡ Some v → SameWent C (go v) z) → SameWent C (using x go) z
-using_alone C (Some v) go z g = g v refl
-using_alone C None go z g = wrong z
+-- the first one goes on alone, with the same outside; nothing is asked where it fails
+pub data Alone (C : State → Type 0) (o : Outside) : Went State → Type 0 where
+  alone_goes : (s1 : State) → C s1 → Alone C o (Goes s1 o)
+  alone_fails : Alone C o Fails
+
+using_alone : (C : State → Type 0) (o : Outside) (x : Option ℕ) (go : ℕ → Went State) → ((v : ℕ) → x ≡ Some v → Alone C o (go v)) → Alone C o (using x go)
+using_alone C o (Some v) go g = g v refl
+using_alone C o None go g = alone_fails
+
+-- nothing but a local changes that may be named
+pub record Spoils (new : Option ℕ) (u u1 : State) : Type 0 where
+  pub kept : (h : Operand) → overwrites new h ≡ false → value h u1 ≡ value h u
+  pub waiting : u1.waiting ≡ u.waiting
+  pub ram : u1.ram ≡ u.ram
+
+pub spoils_none : (u : State) → Spoils None u u
+spoils_none u = record { kept = λ h e. refl; waiting = refl; ram = refl }
+
+pub spoils_one : (z v : ℕ) (u : State) → Spoils (Some z) u (sets z v u)
+spoils_one z v u = record { kept = kept; waiting = refl; ram = refl }
+  where
+    kept : (h : Operand) → overwrites (Some z) h ≡ false → value h (sets z v u) ≡ value h u
+    kept (Local i) e = other_local u.locals z i v e
+    kept (Known w) e = refl
 
 same_memory_is : (a b : Memory) → same_memory a b ≡ true → a ≡ b
 same_memory_is Ram Ram e = refl
@@ -89,14 +109,14 @@ module _ (p : Program) (tables : AreBytes p.tables) (old now : Procedure) (sound
   value_kept y v (Known w) u1 u2 q e = refl
 
   -- neither code gives a local a value
-  pub none_changed : (x : Option ℕ) (s1 u1 : State) → s1.locals ≡ s.locals → u1.locals ≡ u.locals → u1.waiting ≡ s1.waiting → u1.ram ≡ s1.ram
-      → ((y v : ℕ) → is_it x y ≡ true → value (Local y) s ≡ Some v → v ≢ 0) → Changed n a (filling x) s u s1 u1
-  none_changed x s1 u1 es eu ew er f =
+  pub none_changed : (s1 u1 : State) → s1.locals ≡ s.locals → u1.locals ≡ u.locals → u1.waiting ≡ s1.waiting → u1.ram ≡ s1.ram
+      → Changed n a no_change s u s1 u1
+  none_changed s1 u1 es eu ew er =
       record {
         old_kept = λ y e. ap (λ k. local k y) es;
         new_kept = new_kept;
         gained = λ y h v e k q. no e;
-        filled = λ y v e q. f y v e (sym (ap (λ k. local k y) es) ∙ q);
+        filled = λ y v e q. no e;
         worked = λ w e. absurd (none-some w e);
         waiting = ew;
         ram = er;
@@ -267,9 +287,6 @@ module _ (p : Program) (tables : AreBytes p.tables) (old now : Procedure) (sound
       here [] h = both_lack b
       here (v ∷ vs) (h, k) = both_go _ _ _ (refl, both_changed x y 1 v (sets x v s) (sets y v u) lt (λ z. h) refl refl g.waiting g.ram)
 
-  no_local : (x v : ℕ) → is_it None x ≡ true → value (Local x) s ≡ Some v → v ≢ 0
-  no_local x v e = no e
-
   pub plain_follows : (i j : PlainInstr) (o1 : Outside) → AreReads o1.reads → IsPlain now j → same_plain a.twins i j ≡ true
       → SameWent (BothGo i j) (plain p i s o1) (plain p j u o1)
   plain_follows (Copy x b) (Copy y c) o1 reads h e =
@@ -315,7 +332,7 @@ module _ (p : Program) (tables : AreBytes p.tables) (old now : Procedure) (sound
       using_same C (value b.index s) (value b'.index u) _ _ (λ v. operand b.index b'.index v z1.1) (λ i f f'.
       using_same C (value t s) (value t' u) _ _ (λ v. operand t t' v z0.1) (λ x k k'.
       stores_same C w w' x (index_of Ram (b.base + i)) (index_of Ram (b'.base + i)) o1 (same_number w w' z2.0)
-      (ap (λ k. index_of Ram (k + i)) (same_number b.base b'.base z2.1)) (λ s1 u1 es eu ew er. (refl, none_changed None s1 u1 es eu ew er no_local))))
+      (ap (λ k. index_of Ram (k + i)) (same_number b.base b'.base z2.1)) (λ s1 u1 es eu ew er. (refl, none_changed s1 u1 es eu ew er))))
     where
       C : State → State → Outside → Type 0
       C = BothGo (Store w b t) (Store w' b' t')
@@ -324,7 +341,7 @@ module _ (p : Program) (tables : AreBytes p.tables) (old now : Procedure) (sound
       let z0 = and_parts (b == b') (stands_for a.twins t t') e in
       using_same C (value t s) (value t' u) _ _ (λ v. operand t t' v z0.1) (λ v f f'.
       subst (λ k. SameWent C (Goes s (with_event o1 (Write b (low 1 v)))) (Goes u (with_event o1 (Write k (low 1 v))))) (same_number b b' z0.0)
-      (both_go s u _ (refl, none_changed None s u refl refl g.waiting g.ram no_local)))
+      (both_go s u _ (refl, none_changed s u refl refl g.waiting g.ram)))
     where
       C : State → State → Outside → Type 0
       C = BothGo (WriteDevice b t) (WriteDevice b' t')
@@ -334,8 +351,8 @@ module _ (p : Program) (tables : AreBytes p.tables) (old now : Procedure) (sound
       subst (λ k. SameWent C (Goes (pushes w v s) o1) (Goes (pushes k v u) o1)) (same_number w w' z0.0)
       (both_go (pushes w v s) (pushes w v u) o1 (
         refl,
-        none_changed None (pushes w v s) (pushes w v u) refl refl
-            (ap (λ ws. record { width = w; value = low w v } ∷ ws) g.waiting) g.ram no_local,
+        none_changed (pushes w v s) (pushes w v u) refl refl
+            (ap (λ ws. record { width = w; value = low w v } ∷ ws) g.waiting) g.ram,
       )))
     where
       C : State → State → Outside → Type 0
@@ -368,19 +385,19 @@ module _ (p : Program) (tables : AreBytes p.tables) (old now : Procedure) (sound
 
   -- ---- instructions that are left out
 
-  -- the older code gives a local a value, the newer one another local one that nobody needs
-  alone_changed : (x z v k : ℕ) (gain : Gain)
-      → ((h : Operand) (r : ℕ) → gains n a.twins (Some z) gain h ≡ true → local (with_local s.locals x k) x ≡ Some r → value h (sets z v u) ≡ Some r)
-      → Changed n a (record { old = Some x; new = Some z; gain = gain; filled = None; worked = None }) s u (sets x k s) (sets z v u)
-  alone_changed x z v k gain f =
+  -- the older code gives a local a value, the newer one at most another local one that nobody needs
+  alone_changed : (x k : ℕ) (new : Option ℕ) (u1 : State) (gain : Gain) → Spoils new u u1
+      → ((h : Operand) (r : ℕ) → gains n a.twins new gain h ≡ true → local (with_local s.locals x k) x ≡ Some r → value h u1 ≡ Some r)
+      → Changed n a (record { old = Some x; new = new; gain = gain; filled = None; worked = None }) s u (sets x k s) u1
+  alone_changed x k new u1 gain sp f =
       record {
         old_kept = λ y e. other_local s.locals x y k e;
-        new_kept = λ h e. value_kept z v h u (sets z v u) refl e;
+        new_kept = sp.kept;
         gained = λ y h r e q w. f h r q (ap (λ i. local (with_local s.locals x k) i) (same_number x y e) ∙ w);
         filled = λ y r e q. no e;
         worked = λ w e. absurd (none-some w e);
-        waiting = g.waiting;
-        ram = g.ram;
+        waiting = sp.waiting ∙ g.waiting;
+        ram = sp.ram ∙ g.ram;
       }
 
   -- ---- fewer bytes of a result
@@ -461,88 +478,77 @@ module _ (p : Program) (tables : AreBytes p.tables) (old now : Procedure) (sound
   narrower_follows (Compute c) (Compute d) o1 h e = computed_narrower c d o1 h e
   narrower_follows i j o1 h e = no e
 
-  pub left_follows : (i : PlainInstr) (z v : ℕ) (o1 : Outside) → is_pure i ≡ true
-      → SameWent (λ s1 u1 o2. Changed n a (left_out o i z) s u s1 u1) (plain p i s o1) (Goes (sets z v u) o1)
-  left_follows (Copy x b) z v o1 e =
-      using_alone C (value b s) _ _ (λ k f. both_go (sets x k s) (sets z v u) o1 (alone_changed x z v k (Copied b (get_or o x 0)) (stays k f)))
+  pub left_follows : (i : PlainInstr) (new : Option ℕ) (u1 : State) (o1 : Outside) → Spoils new u u1 → is_pure i ≡ true
+      → Alone (λ s1. Changed n a (left_out o i new) s u s1 u1) o1 (plain p i s o1)
+  left_follows (Copy x b) new u1 o1 sp e =
+      using_alone C o1 (value b s) _ (λ k f. alone_goes (sets x k s) (alone_changed x k new u1 (Copied b (get_or o x 0)) sp (stays k f)))
     where
-      C : State → State → Outside → Type 0
-      C s1 u1 o2 = Changed n a (left_out o (Copy x b) z) s u s1 u1
+      C : State → Type 0
+      C s1 = Changed n a (left_out o (Copy x b) new) s u s1 u1
 
-      stays : (k : ℕ) → value b s ≡ Some k → (h : Operand) (r : ℕ) → gains n a.twins (Some z) (Copied b (get_or o x 0)) h ≡ true
-          → local (with_local s.locals x k) x ≡ Some r → value h (sets z v u) ≡ Some r
+      stays : (k : ℕ) → value b s ≡ Some k → (h : Operand) (r : ℕ) → gains n a.twins new (Copied b (get_or o x 0)) h ≡ true
+          → local (with_local s.locals x k) x ≡ Some r → value h u1 ≡ Some r
       stays k f h r q w =
-          let z0 = and_parts (stands_for a.twins b h && nat_le (bytes_of n h) (get_or o x 0)) (not (overwrites (Some z) h)) q in
+          let z0 = and_parts (stands_for a.twins b h && nat_le (bytes_of n h) (get_or o x 0)) (not (overwrites new h)) q in
           let z1 = and_parts (stands_for a.twins b h) (nat_le (bytes_of n h) (get_or o x 0)) z0.0 in
           let few = few_bytes o x sound.widths in
           let wide = at_most (bytes_of n h) (get_or o x 0) z1.1 in
           let stood = operand b h k z1.0 f in
           let small = fits_bytes n h u k g.steady.held_too stood (omega (arith, few, wide)) in
-          value_kept z v h u (sets z v u) refl (not-true (overwrites (Some z) h) z0.1)
+          sp.kept h (not-true (overwrites new h) z0.1)
           ∙ (stood ∙ ap Some (sym (low_small (get_or o x 0) k (bytes_of n h) small wide) ∙ sym (own_value o s.locals x k r 0 g.steady.held w)))
-  left_follows (Compute c) z v o1 e =
-      using_alone C (value c.left s) _ _ (λ x f. using_alone C (value c.right s) _ _ (λ y k. using_alone C (computed c.operator c.width x y) _ _
-      (λ r q. both_go (sets c.to r s) (sets z v u) o1 (alone_changed c.to z v r Nothing (λ h r k. no k)))))
+  left_follows (Compute c) new u1 o1 sp e =
+      using_alone C o1 (value c.left s) _ (λ x f. using_alone C o1 (value c.right s) _ (λ y k. using_alone C o1 (computed c.operator c.width x y) _
+      (λ r q. alone_goes (sets c.to r s) (alone_changed c.to r new u1 Nothing sp (λ h r k. no k)))))
     where
-      C : State → State → Outside → Type 0
-      C s1 u1 o2 = Changed n a (left_out o (Compute c) z) s u s1 u1
-  left_follows (Load m w x b) z v o1 e =
-      using_alone C (value b.index s) _ _ (λ i f. using_alone C (loaded p m s w (index_of m (b.base + i))) _ _
-      (λ r q. both_go (sets x r s) (sets z v u) o1 (alone_changed x z v r Nothing (λ h r k. no k))))
+      C : State → Type 0
+      C s1 = Changed n a (left_out o (Compute c) new) s u s1 u1
+  left_follows (Load m w x b) new u1 o1 sp e =
+      using_alone C o1 (value b.index s) _ (λ i f. using_alone C o1 (loaded p m s w (index_of m (b.base + i))) _
+      (λ r q. alone_goes (sets x r s) (alone_changed x r new u1 Nothing sp (λ h r k. no k))))
     where
-      C : State → State → Outside → Type 0
-      C s1 u1 o2 = Changed n a (left_out o (Load m w x b) z) s u s1 u1
-  left_follows (Find d x t) z v o1 e =
-      using_alone C (value t s) _ _ (λ i f. using_alone C (dispatched p.dispatches d i) _ _
-      (λ r q. both_go _ (sets z v u) o1 (alone_changed x z v (p.codes.code r) Nothing (λ h r k. no k))))
+      C : State → Type 0
+      C s1 = Changed n a (left_out o (Load m w x b) new) s u s1 u1
+  left_follows (Find d x t) new u1 o1 sp e =
+      using_alone C o1 (value t s) _ (λ i f. using_alone C o1 (dispatched p.dispatches d i) _
+      (λ r q. alone_goes (sets x (p.codes.code r) s) (alone_changed x (p.codes.code r) new u1 Nothing sp (λ h r k. no k))))
     where
-      C : State → State → Outside → Type 0
-      C s1 u1 o2 = Changed n a (left_out o (Find d x t) z) s u s1 u1
-  left_follows (CodeOf q x) z v o1 e = both_go _ (sets z v u) o1 (alone_changed x z v (p.codes.code q) Nothing (λ h r k. no k))
-  left_follows _ z v o1 e = no e
+      C : State → Type 0
+      C s1 = Changed n a (left_out o (Find d x t) new) s u s1 u1
+  left_follows (CodeOf q x) new u1 o1 sp e =
+      alone_goes (sets x (p.codes.code q) s) (alone_changed x (p.codes.code q) new u1 Nothing sp (λ h r k. no k))
+  left_follows _ new u1 o1 sp e = no e
 
   -- what is computed is there already
-  pub reused_follows : (c : Computation) (z v h : ℕ) (o1 : Outside) → found_in o c z (found_for a.worked c) ≡ Some h
-      → SameWent (λ s1 u1 o2. Changed n a (reused z c h) s u s1 u1) (plain p (Compute c) s o1) (Goes (sets z v u) o1)
-  reused_follows c z v h o1 e =
-      using_alone C (value c.left s) _ _ (λ x f. using_alone C (value c.right s) _ _ (λ y k. using_alone C (computed c.operator c.width x y) _ _
-      (λ r q. both_go (sets c.to r s) (sets z v u) o1 (alone_changed c.to z v r (In h) (gains_it x y r f k q (found_for a.worked c) refl e)))))
+  pub reused_follows : (c : Computation) (new : Option ℕ) (u1 : State) (h : ℕ) (o1 : Outside) → Spoils new u u1
+      → found_in o c new (found_for a.worked c) ≡ Some h
+      → Alone (λ s1. Changed n a (reused new c h) s u s1 u1) o1 (plain p (Compute c) s o1)
+  reused_follows c new u1 h o1 sp e =
+      using_alone C o1 (value c.left s) _ (λ x f. using_alone C o1 (value c.right s) _ (λ y k. using_alone C o1 (computed c.operator c.width x y) _
+      (λ r q. alone_goes (sets c.to r s) (alone_changed c.to r new u1 (In h) sp (gains_it x y r f k q (found_for a.worked c) refl e)))))
     where
-      C : State → State → Outside → Type 0
-      C s1 u1 o2 = Changed n a (reused z c h) s u s1 u1
+      C : State → Type 0
+      C s1 = Changed n a (reused new c h) s u s1 u1
+
+      apart : (z : Option ℕ) (y : ℕ) → is_it z y ≡ false → overwrites z (Local y) ≡ false
+      apart (Some z) y e = e
+      apart None y e = refl
 
       gains_it : (x y r : ℕ) → value c.left s ≡ Some x → value c.right s ≡ Some y → computed c.operator c.width x y ≡ Some r
-          → (k : Option Worked) → found_for a.worked c ≡ k → found_in o c z k ≡ Some h
-          → (i : Operand) (r' : ℕ) → gains n a.twins (Some z) (In h) i ≡ true → local (with_local s.locals c.to r) c.to ≡ Some r' → value i (sets z v u) ≡ Some r'
+          → (k : Option Worked) → found_for a.worked c ≡ k → found_in o c new k ≡ Some h
+          → (i : Operand) (r' : ℕ) → gains n a.twins new (In h) i ≡ true → local (with_local s.locals c.to r) c.to ≡ Some r' → value i u1 ≡ Some r'
       gains_it x y r f k q None i e i' r' j l = absurd (none-some h e)
-      gains_it x y r f k q (Some w) i e i' r' j l = by_test (nat_le c.width (get_or o c.to 0) && not (w.home == z)) refl e
+      gains_it x y r f k q (Some w) i e i' r' j l = by_test (nat_le c.width (get_or o c.to 0) && not (is_it new w.home)) refl e
         where
-          by_test : (b : Bool) → (nat_le c.width (get_or o c.to 0) && not (w.home == z)) ≡ b → (if b then Some w.home else None) ≡ Some h
-              → value i' (sets z v u) ≡ Some r'
+          by_test : (b : Bool) → (nat_le c.width (get_or o c.to 0) && not (is_it new w.home)) ≡ b → (if b then Some w.home else None) ≡ Some h
+              → value i' u1 ≡ Some r'
           by_test false m e = absurd (none-some h e)
           by_test true m e =
-              let z0 = and_parts (nat_le c.width (get_or o c.to 0)) (not (w.home == z)) m in
+              let z0 = and_parts (nat_le c.width (get_or o c.to 0)) (not (is_it new w.home)) m in
               let is = same_Some w.home h e in
               let stood = found_there a.worked c w s u x y r g.worked i f k q in
               let small = low_small (get_or o c.to 0) r c.width (computed_below c.operator c.width x y r q) (at_most c.width (get_or o c.to 0) z0.0) in
-              subst (λ t. value t (sets z v u) ≡ Some r') (same_home_is (Local h) i' j)
-              (subst (λ t. value (Local t) (sets z v u) ≡ Some r') is
-              (value_kept z v (Local w.home) u (sets z v u) refl (apart w.home (not-true (w.home == z) z0.1))
+              subst (λ t. value t u1 ≡ Some r') (same_home_is (Local h) i' j)
+              (subst (λ t. value (Local t) u1 ≡ Some r') is
+              (sp.kept (Local w.home) (apart new w.home (not-true (is_it new w.home) z0.1))
               ∙ (stood ∙ ap Some (sym small ∙ sym (own_value o s.locals c.to r r' 0 g.steady.held l)))))
-            where
-              apart : (y : ℕ) → (y == z) ≡ false → overwrites (Some z) (Local y) ≡ false
-              apart y e = grind arith
-
-  -- the newer code alone gives one local two values, one after the other
-  pub spoiled : (z v v' : ℕ) → Changed n a (spoiling z) s u s (sets z v' (sets z v u))
-  spoiled z v v' =
-      record {
-        old_kept = λ y e. refl;
-        new_kept = λ h e. value_kept z v' h (sets z v u) (sets z v' (sets z v u)) refl e
-            ∙ value_kept z v h u (sets z v u) refl e;
-        gained = λ y h r e q w. no e;
-        filled = λ y r e q. no e;
-        worked = λ w e. absurd (none-some w e);
-        waiting = g.waiting;
-        ram = g.ram;
-      }

@@ -1,86 +1,124 @@
 -- That whole runs of a program with trimmed procedures show what those of the program showed.
-use Rattle.std.specs.Prelude.{◌≢◌, ℕ, zero, suc, ◌+◌, ◌≤◌, List, [], Some, slice_get}
+use Rattle.std.specs.Prelude.{◌≢◌, ℕ, zero, suc, ◌+◌, ◌≤◌, Bool, true, false, List, [], Some, slice_get}
 use Rattle.std.proofs.Common.{◌≡◌, refl, sym, ap, ◌∙◌, subst, arith}
 use Rattle.vg_meaning.specs.Outside.{Outside, before}
 use Rattle.vg_meaning.specs.Answer.{End, Wrong}
 use Rattle.vg_lin.specs.Program.{Procedure, Program}
 use Rattle.vg_lin.specs.State.{State}
-use Rattle.vg_lin.specs.Meaning.{language, codes_in, first_state, at_start}
+use Rattle.vg_lin.specs.Meaning.{language, codes_in, first_state, at_start, run, counted_steps}
+use Rattle.vg_lin.specs.Turns.{next_counts, step_counts, one_more, counted}
 use Rattle.vg_lin.specs.Steps.{Config, stepped, step, steps}
 use Rattle.vg_expand.specs.Runs.{with_procedures, IsClosed, ShowsSame}
 use Rattle.vg_expand.proofs.Simulated.{within}
 use Rattle.vg_trimming.specs.Trimmed.{IsTrimmedTo, AreAllTrimmed}
 use Rattle.vg_trimming.specs.Runs.{AreBytes, RunsAsRead}
-use Rattle.vg_trimming.proofs.Simulated.{newer, Related, at_place, taken, Stepped, goes, stops, fails, wakes, step_related}
+use Rattle.vg_trimming.proofs.Walks.{there}
+use Rattle.vg_trimming.proofs.Simulated.{credit, newer, Related, at_place, taken, Stepped, goes, stops, fails, wakes, step_related}
 
 module _ (p : Program) (ms : List Procedure) (all : AreAllTrimmed p.procedures ms) (closed : IsClosed p) (ram : AreBytes p.ram)
     (tables : AreBytes p.tables) where
   abbrev newer_program : Program
   newer_program = with_procedures p ms
 
-  abbrev Comes : Config State → Config State → Type 0
-  Comes c d = Related p ms all closed tables c d
+  abbrev Comes : (spent : Bool) → Config State → Config State → Type 0
+  Comes spent c d = Related p ms all closed tables spent c d
 
-  -- where the first program comes to c, the second one comes from d in as many steps, and shows the same
-  abbrev Shows : (n : ℕ) → (d c : Config State) → Type 0
-  Shows n d c = c.ending ≢ Some Wrong → (j : ℕ) × (n ≤ j) × ShowsSame c (steps (language newer_program) (codes_in ms) j d)
+  -- so many steps of the first program
+  abbrev after : (n : ℕ) → Config State → Config State
+  after n c = steps (language p) (codes_in p.procedures) n c
 
-  shows_here : (c d : Config State) → Comes c d → ShowsSame c d
-  shows_here _ _ (at_place q pc s u fs gs o opens st h r) = record { outside = refl; openings = refl; ending = refl }
-  shows_here _ _ (taken v q pc s u fs gs o opens st h r) = record { outside = refl; openings = refl; ending = refl }
+  abbrev after_newer : (n : ℕ) → Config State → Config State
+  after_newer n d = steps (language newer_program) (codes_in ms) n d
 
-  -- a run that has ended stays as it is
-  stays : (k : Program) (n : ℕ) (c : Config State) (why : End) → c.ending ≡ Some why → steps (language k) (codes_in k.procedures) n c ≡ c
-  stays k zero c why e = refl
-  stays k (suc n) c why e =
-      ap (λ x. steps (language k) (codes_in k.procedures) n (stepped (language k) (codes_in k.procedures) c x c.woken)) e ∙ stays k n c why e
+  -- where the first program comes in n steps from c, the second one comes from d, and shows the same; it makes at least as many steps as count, but for one
+  -- where that is not spent
+  abbrev Shows : (spent : Bool) (n : ℕ) (c d : Config State) → Type 0
+  Shows spent n c d =
+      (after n c).ending ≢ Some Wrong
+      → (j : ℕ) × (counted (language p) (codes_in p.procedures) n c ≤ j + credit spent) × ShowsSame (after n c) (after_newer j d)
 
-  runs_on : (n : ℕ) (c d : Config State) → Comes c d → Shows n d (steps (language p) (codes_in p.procedures) n c)
-  runs_on zero x e r = λ legal. (0, omega arith, shows_here x e r)
-  runs_on (suc n) y u r =
-      by_step (λ x e g. runs_on n x e g) (step (language p) (codes_in p.procedures) y) (step_related p ms all closed tables y u r)
+  shows_here : (spent : Bool) (c d : Config State) → Comes spent c d → ShowsSame c d
+  shows_here _ _ _ (at_place spent q pc at s u fs gs o opens st h r) = record { outside = refl; openings = refl; ending = refl }
+  shows_here _ _ _ (taken v q pc at s u fs gs o opens st h r) = record { outside = refl; openings = refl; ending = refl }
+
+  -- a run that has ended stays as it is, and no step of it counts
+  stays : (c : Config State) (why : End) → c.ending ≡ Some why → step (language p) (codes_in p.procedures) c ≡ c
+  stays c why e = ap (λ x. stepped (language p) (codes_in p.procedures) c x c.woken) e
+
+  stays_so : (n : ℕ) (c : Config State) (why : End) → c.ending ≡ Some why → after n c ≡ c
+  stays_so zero c why e = refl
+  stays_so (suc n) c why e = ap (after n) (stays c why e) ∙ stays_so n c why e
+
+  none_counted : (n : ℕ) (c : Config State) (why : End) → c.ending ≡ Some why → counted (language p) (codes_in p.procedures) n c ≡ 0
+  none_counted zero c why e = refl
+  none_counted (suc n) c why e =
+      ap (λ b. one_more b (counted (language p) (codes_in p.procedures) n (step (language p) (codes_in p.procedures) c)))
+      (ap (λ x. next_counts (codes_in p.procedures) c x c.woken) e)
+      ∙ (ap (counted (language p) (codes_in p.procedures) n) (stays c why e) ∙ none_counted n c why e)
+
+  runs_on : (n : ℕ) (spent : Bool) (c d : Config State) → Comes spent c d → Shows spent n c d
+  runs_on zero spent c d r = λ legal. (0, omega arith, shows_here spent c d r)
+  runs_on (suc n) spent c d r =
+      by_step (λ spent' x e g. runs_on n spent' x e g) (step (language p) (codes_in p.procedures) c) (step_related p ms all closed tables spent c d r)
     where
-      by_step : ((x e : Config State) → Comes x e → Shows n e (steps (language p) (codes_in p.procedures) n x))
-          → (x : Config State) → Stepped p ms all closed tables u x → Shows (suc n) u (steps (language p) (codes_in p.procedures) n x)
-      by_step runs x (goes e t g) legal = onto (runs x e g legal)
+      counts : Bool
+      counts = step_counts (codes_in p.procedures) c
+
+      -- with those of the first step
+      AllShown : Config State → Type 0
+      AllShown x =
+          (j : ℕ) × (one_more counts (counted (language p) (codes_in p.procedures) n x) ≤ j + credit spent) × ShowsSame (after n x) (after_newer j d)
+
+      paid : (b : Bool) (k left j t i : ℕ) → k ≤ j + left → one_more b left ≤ t + credit spent → j + t ≤ i → one_more b k ≤ i + credit spent
+      paid true k left j t i f g h = omega (arith, f, g, h)
+      paid false k left j t i f g h = omega (arith, f, g, h)
+
+      at_most_one : (b : Bool) (k i : ℕ) → k ≡ 0 → 0 + 1 ≤ i → one_more b k ≤ i + credit spent
+      at_most_one true k i e h = omega (arith, e, h)
+      at_most_one false k i e h = omega (arith, e, h)
+
+      by_step : ((spent' : Bool) (x e : Config State) → Comes spent' x e → Shows spent' n x e)
+          → (x : Config State) → Stepped p ms all closed tables spent counts d x → (after n x).ending ≢ Some Wrong → AllShown x
+      by_step runs x (goes e t spent' k le g) legal = onto (runs spent' x e g legal)
         where
-          onto : (j : ℕ) × (n ≤ j) × ShowsSame (steps (language p) (codes_in p.procedures) n x) (steps (language newer_program) (codes_in ms) j e)
-              → (j : ℕ) × (suc n ≤ j) × ShowsSame (steps (language p) (codes_in p.procedures) n x) (steps (language newer_program) (codes_in ms) j u)
-          onto (j, h, sh) = further (t.by j)
+          onto : (j : ℕ) × (counted (language p) (codes_in p.procedures) n x ≤ j + credit spent') × ShowsSame (after n x) (after_newer j e) → AllShown x
+          onto (j, h, sh) = further (k.by j)
             where
-              further : (i : ℕ) × (j + 1 ≤ i) × (steps (language newer_program) (codes_in ms) i u ≡ steps (language newer_program) (codes_in ms) j e)
-                  → (i : ℕ) × (suc n ≤ i) × ShowsSame (steps (language p) (codes_in p.procedures) n x) (steps (language newer_program) (codes_in ms) i u)
-              further (i, g, q) = (i, omega (arith, h, g), subst (ShowsSame (steps (language p) (codes_in p.procedures) n x)) (sym q) sh)
-      by_step runs x (stops e why t f g a o) legal = ended (t.by n)
+              further : (i : ℕ) × (j + t ≤ i) × (after_newer i d ≡ after_newer j e) → AllShown x
+              further (i, g, q) =
+                  (i, paid counts (counted (language p) (codes_in p.procedures) n x) (credit spent') j t i h le g, subst (ShowsSame (after n x)) (sym q) sh)
+      by_step runs x (stops e why t f g a o) legal = ended (t.by 0)
         where
-          ended : (i : ℕ) × (n + 1 ≤ i) × (steps (language newer_program) (codes_in ms) i u ≡ steps (language newer_program) (codes_in ms) n e)
-              → (i : ℕ) × (suc n ≤ i) × ShowsSame (steps (language p) (codes_in p.procedures) n x) (steps (language newer_program) (codes_in ms) i u)
+          ended : (i : ℕ) × (0 + 1 ≤ i) × (after_newer i d ≡ after_newer 0 e) → AllShown x
           ended (i, h, q) = (
             i,
-            omega (arith, h),
-            subst (λ z. ShowsSame z (steps (language newer_program) (codes_in ms) i u)) (sym (stays p n x why f))
-                (subst (ShowsSame x) (sym (q ∙ stays newer_program n e why g)) (record { outside = a; openings = o; ending = g ∙ sym f })),
+            at_most_one counts (counted (language p) (codes_in p.procedures) n x) i (none_counted n x why f) h,
+            subst (λ z. ShowsSame z (after_newer i d)) (sym (stays_so n x why f))
+                (subst (ShowsSame x) (sym q) (record { outside = a; openings = o; ending = g ∙ sym f })),
           )
-      by_step runs x (fails f) legal = absurd (legal (ap (λ z. z.ending) (stays p n x Wrong f) ∙ f))
+      by_step runs x (fails f) legal = absurd (legal (ap (λ z. z.ending) (stays_so n x Wrong f) ∙ f))
 
   pub runs_same : RunsAsRead p newer_program
-  runs_same n reads interrupts are =
-      runs_on n (at_start p (before reads interrupts)) (at_start newer_program (before reads interrupts)) (starts (within p.procedures p.start closed.start))
+  runs_same n reads interrupts are legal = in_all (runs_on n true (at_start p o) (at_start newer_program o) (starts (within p.procedures p.start closed.start)) legal)
     where
       o : Outside
       o = before reads interrupts
 
-      starts : (m : Procedure) × (slice_get p.procedures p.start ≡ Some m) → Comes (at_start p o) (at_start newer_program o)
+      starts : (m : Procedure) × (slice_get p.procedures p.start ≡ Some m) → Comes true (at_start p o) (at_start newer_program o)
       starts (m, e) = with_new (newer p ms all closed tables p.start m e)
         where
-          with_new : (n : Procedure) × (slice_get ms p.start ≡ Some n) × IsTrimmedTo m n → Comes (at_start p o) (at_start newer_program o)
+          with_new : (n : Procedure) × (slice_get ms p.start ≡ Some n) × IsTrimmedTo m n → Comes true (at_start p o) (at_start newer_program o)
           with_new (n, g, is) =
-              at_place p.start 0 (first_state p) (first_state newer_program) [] [] o []
+              at_place true p.start 0 0 (first_state p) (first_state newer_program) [] [] o []
               (record {
                 old = m;
                 now = n;
                 has = e;
                 has_now = g;
                 is = is;
-                here = wakes p ms all closed tables p.start m n e g is (first_state p) (first_state newer_program) refl ram;
+                here = there (wakes p ms all closed tables p.start m n e g is (first_state p) (first_state newer_program) refl ram);
               }) (tt {0}) are
+
+      in_all : (j : ℕ) × (counted_steps p n reads interrupts ≤ j + 0) × ShowsSame (after n (at_start p o)) (after_newer j (at_start newer_program o))
+          → (j : ℕ) × (counted_steps p n reads interrupts ≤ j) × ShowsSame (run p n reads interrupts) (run newer_program j reads interrupts)
+      in_all (j, h, sh) = (j, omega (arith, h), sh)

@@ -135,14 +135,6 @@ leads_at ws fs a c to = leads_in ws a c (slice_get fs to)
 abbrev pub no_change : Change
 no_change = record { old = None; new = None; gain = Nothing; filled = None; worked = None }
 
--- A test that a local is not 0 came out so.
-abbrev pub filling : Option ℕ → Change
-filling x = record { old = None; new = None; gain = Nothing; filled = x; worked = None }
-
--- The newer code alone gives a local a value that nobody needs.
-abbrev pub spoiling : (local : ℕ) → Change
-spoiling z = record { old = None; new = Some z; gain = Nothing; filled = None; worked = None }
-
 -- ---- where a procedure begins
 
 -- A parameter stands where it stood; no other local has a value.

@@ -1,4 +1,5 @@
 pub mod Facts
+pub mod Walking
 pub mod Trimming
 pub mod Trimmed
 pub mod Runs

@@ -1,8 +1,8 @@
--- When an instruction of the newer code may stand for that of the older code at the same place, by what is known at places.
-use Rattle.std.specs.Prelude.{ℕ, suc, Bool, true, false, ◌==◌, ◌&&◌, ◌||◌, not, nat_lt, nat_le, List}
-use Rattle.std.specs.Prelude.{length, Option, Some, None, slice_get, get_or, if◌then◌else◌}
+-- When an instruction of the newer code may stand for one of the older code, or one of the older code be left out, by what is known at places.
+use Rattle.std.specs.Prelude.{ℕ, suc, Bool, true, false, ◌==◌, ◌&&◌, ◌||◌, not, nat_le, List}
+use Rattle.std.specs.Prelude.{Option, Some, None, slice_get, get_or, if◌then◌else◌}
 use Rattle.vg_lin.specs.declared.instr.Operand.{Operand}
-use Rattle.vg_lin.specs.declared.instr.Operand.TheVariants.{Local, Known}
+use Rattle.vg_lin.specs.declared.instr.Operand.TheVariants.{Known}
 use Rattle.vg_lin.specs.declared.instr.Operator.{Operator}
 use Rattle.vg_lin.specs.declared.instr.Operator.TheVariants.{And, Or, Xor}
 use Rattle.vg_lin.specs.declared.instr.Computation.{Computation}
@@ -28,7 +28,9 @@ use Rattle.vg_trimming.specs.declared.facts.Gain.{Gain}
 use Rattle.vg_trimming.specs.declared.facts.Gain.TheVariants.{Nothing, In, Copied}
 use Rattle.vg_trimming.specs.declared.facts.Change.{Change}
 use Rattle.vg_trimming.specs.declared.facts.Worked.{Worked}
-use Rattle.vg_trimming.specs.Facts.{same_operator, overwrites, stands_for, bytes_of, is_filled, found_for, leads_at, no_change, filling, spoiling}
+use Rattle.vg_lin.specs.Turns.{counts_at}
+use Rattle.vg_trimming.specs.Facts.{same_operator, overwrites, stands_for, bytes_of, is_it, is_filled, found_for, leads_at, no_change}
+use Rattle.vg_trimming.specs.Walking.{checked, way_leads}
 
 -- ---- plain instructions
 
@@ -114,9 +116,9 @@ abbrev pub copied : (old : List ℕ) → PlainInstr → Gain
 copied o (Copy x a) = Copied a (get_or o x 0)
 copied o _ = Nothing
 
--- In its place a local gets a value that nobody needs.
-abbrev pub left_out : (old : List ℕ) → PlainInstr → (z : ℕ) → Change
-left_out o p z = record { old = target_of p; new = Some z; gain = copied o p; filled = None; worked = None }
+-- It is left out; in its place a local of the newer code may get a value that nobody needs.
+abbrev pub left_out : (old : List ℕ) → PlainInstr → (new : Option ℕ) → Change
+left_out o p new = record { old = target_of p; new = new; gain = copied o p; filled = None; worked = None }
 
 abbrev pub is_stop : PlainInstr → Bool
 is_stop (Stop c) = true
@@ -143,24 +145,24 @@ abbrev pub narrower_stands : (old new : List ℕ) → List Facts → Facts → (
 narrower_stands o n fs a at p q = narrower n a.twins p q && leads_at n fs a (both_change o n p q) (suc at)
 
 abbrev pub left_out_stands : (old new : List ℕ) → List Facts → Facts → (at : ℕ) → PlainInstr → PlainInstr → Bool
-left_out_stands o n fs a at p (Copy z (Known v)) = is_pure p && leads_at n fs a (left_out o p z) (suc at)
+left_out_stands o n fs a at p (Copy z (Known v)) = is_pure p && leads_at n fs a (left_out o p (Some z)) (suc at)
 left_out_stands o n fs a at p _ = false
 
 -- The local in which the newer code has the result of a computation, where the older code's local holds all of it and no other value comes there.
-abbrev pub found_in : (old : List ℕ) → Computation → (z : ℕ) → Option Worked → Option ℕ
-found_in o c z (Some w) = if nat_le c.width (get_or o c.to 0) && not (w.home == z) then Some w.home else None
-found_in o c z None = None
+abbrev pub found_in : (old : List ℕ) → Computation → (new : Option ℕ) → Option Worked → Option ℕ
+found_in o c new (Some w) = if nat_le c.width (get_or o c.to 0) && not (is_it new w.home) then Some w.home else None
+found_in o c new None = None
 
-abbrev pub reused : (z : ℕ) → Computation → (home : ℕ) → Change
-reused z c h = record { old = Some c.to; new = Some z; gain = In h; filled = None; worked = None }
+abbrev pub reused : (new : Option ℕ) → Computation → (home : ℕ) → Change
+reused new c h = record { old = Some c.to; new = new; gain = In h; filled = None; worked = None }
 
-abbrev pub reuses : (new : List ℕ) → List Facts → Facts → (at : ℕ) → Computation → (z : ℕ) → Option ℕ → Bool
-reuses n fs a at c z (Some h) = leads_at n fs a (reused z c h) (suc at)
-reuses n fs a at c z None = false
+abbrev pub reuses : (widths : List ℕ) → List Facts → Facts → (at : ℕ) → Computation → (new : Option ℕ) → (home : Option ℕ) → Bool
+reuses n fs a at c new (Some h) = leads_at n fs a (reused new c h) (suc at)
+reuses n fs a at c new None = false
 
--- What is computed is there already: in place of the computation a local gets a value that nobody needs.
+-- What is computed is there already: in place of the computation a local may get a value that nobody needs.
 abbrev pub reused_stands : (old new : List ℕ) → List Facts → Facts → (at : ℕ) → PlainInstr → PlainInstr → Bool
-reused_stands o n fs a at (Compute c) (Copy z (Known v)) = reuses n fs a at c z (found_in o c z (found_for a.worked c))
+reused_stands o n fs a at (Compute c) (Copy z (Known v)) = reuses n fs a at c (Some z) (found_in o c (Some z) (found_for a.worked c))
 reused_stands o n fs a at _ _ = false
 
 -- It does with less.
@@ -188,18 +190,6 @@ sees_as_much n t u =
 abbrev pub same_test : (new : List ℕ) → List Twin → Test → Test → Bool
 same_test n ts t u = same_comparison t.comparison u.comparison && stands_for ts t.left u.left && stands_for ts t.right u.right && sees_as_much n t u
 
--- The local that a test compares with 0.
-abbrev pub zero_operand : Operand → Operand → Option ℕ
-zero_operand (Local x) (Known v) = if v == 0 then Some x else None
-zero_operand _ _ = None
-
-abbrev pub checked_by : Comparison → Test → Option ℕ
-checked_by Same t = zero_operand t.left t.right
-checked_by _ t = None
-
-abbrev pub checked : Test → Option ℕ
-checked t = checked_by t.comparison t
-
 abbrev pub filled_in : (old : List ℕ) → List ℕ → (width : ℕ) → Option ℕ → Bool
 filled_in o xs w (Some x) = is_filled xs x && nat_le (get_or o x 5) w
 filled_in o xs w None = false
@@ -207,26 +197,6 @@ filled_in o xs w None = false
 -- The test compares with 0 a local that is known not to be 0.
 abbrev pub never_holds : (old : List ℕ) → Facts → Test → Bool
 never_holds o a t = filled_in o a.filled t.width (checked t)
-
-abbrev pub is_unreached : Option Facts → Bool
-is_unreached (Some f) = not f.reached
-is_unreached None = false
-
--- The local that gets a value which nobody needs.
-abbrev pub fills : Option Instr → Option ℕ
-fills (Some (Plain (Copy z (Known v)))) = Some z
-fills _ = None
-
-abbrev pub is_same_local : Option ℕ → (local : ℕ) → Bool
-is_same_local (Some y) z = y == z
-is_same_local None z = false
-
--- A branch over one instruction that is always taken, and that instruction, are left out: in place of both a local gets a value.
-abbrev pub check_left_out : (old new : List ℕ) → List Facts → List Instr → Facts → (at : ℕ) → Test → (to : ℕ) → PlainInstr → Bool
-check_left_out o n fs js a at t to (Copy z (Known v)) =
-    never_holds o a t && (to == suc (suc at)) && is_unreached (slice_get fs (suc at)) && is_same_local (fills (slice_get js (suc at))) z
-    && leads_at n fs a (spoiling z) to
-check_left_out o n fs js a at t to _ = false
 
 -- ---- calls
 
@@ -266,62 +236,91 @@ same_call ts c d = same_callee ts c.callee d.callee && (c.pushed == d.pushed) &&
 
 -- ---- returns
 
--- At a later place the newer code gives the same back.
+-- The newer code gives the same back.
 abbrev pub gives_same : List Twin → (width : ℕ) → Operand → Option Instr → Bool
 gives_same ts w u (Some (Return v z)) = (w == v) && stands_for ts u z
 gives_same ts w u _ = false
 
-abbrev pub returns_there : List Twin → List Instr → (at width : ℕ) → Operand → (to : ℕ) → Bool
-returns_there ts js at w u to = nat_lt at to && gives_same ts w u (slice_get js to)
-
 -- ---- stops
 
+-- The newer code stops as the older one does.
 abbrev pub stops_so : PlainInstr → Option Instr → Bool
 stops_so (Stop c) (Some (Plain (Stop d))) = c == d
 stops_so p _ = false
 
--- At a later place the newer code stops as the older one does.
-abbrev pub stops_there : List Instr → (at : ℕ) → PlainInstr → (to : ℕ) → Bool
-stops_there js at p to = nat_lt at to && stops_so p (slice_get js to)
+-- ---- places
+
+-- What both codes are, with what is known at places of the older one, and where the newer code is when the older one is at a place.
+pub record Both : Type 0 where
+  pub old : List ℕ  -- the widths of the locals
+  pub new : List ℕ
+  pub older : List Instr
+  pub newer : List Instr
+  pub facts : List Facts
+  pub places : List ℕ
+
+-- The newer code is at this place where the older one is at that.
+abbrev pub is_there : Both → (to place : ℕ) → Bool
+is_there b to p = is_it (slice_get b.places to) p
+
+-- Behind a step of the older code that may count, or may not, a way leads to a place of the newer code.
+abbrev pub leads_on : Both → Facts → (filled : Option ℕ) → (spent : Bool) → (to place : ℕ) → Bool
+leads_on b a f c to p = way_leads b.older b.facts b.places a f c to p
+
+-- ---- what is left out
+
+abbrev pub plain_passed : Both → Facts → (at : ℕ) → PlainInstr → Bool
+plain_passed b a at i = is_pure i && leads_at b.new b.facts a (left_out b.old i None) (suc at)
+
+abbrev pub work_passed : Both → Facts → (at : ℕ) → PlainInstr → Bool
+work_passed b a at (Compute c) = reuses b.new b.facts a at c None (found_in b.old c None (found_for a.worked c))
+work_passed b a at _ = false
+
+-- The newer code stays at its place where the older one makes this step, which doesn't count.
+abbrev pub passed_over : Both → Facts → (at place : ℕ) → Instr → Bool
+passed_over b a at p (Plain i) = is_there b (suc at) p && (plain_passed b a at i || work_passed b a at i)
+passed_over b a at p (Unless t to) = not (counts_at b.older at) && never_holds b.old a t && leads_on b a None true to p
+passed_over b a at p (Jump to) = leads_on b a None true to p
+passed_over b a at p _ = false
 
 -- ---- instructions
 
-abbrev pub instr_stands : (old new : List ℕ) → List Facts → (newer : List Instr) → Facts → (at : ℕ) → Instr → Instr → Bool
-instr_stands o n fs js a at (Plain p) (Plain q) =
-    plain_stands o n fs a at p q || shorter_stands o n fs a at p q
-instr_stands o n fs js a at (Plain p) (Jump to) = stops_there js at p to
-instr_stands o n fs js a at (When t to) (When u to') =
-    (to == to') && same_test n a.twins t u && leads_at n fs a no_change to && leads_at n fs a (filling (checked t)) (suc at)
-instr_stands o n fs js a at (Unless t to) (Unless u to') =
-    (to == to') && same_test n a.twins t u && leads_at n fs a (filling (checked t)) to && leads_at n fs a no_change (suc at)
-instr_stands o n fs js a at (Unless t to) (Plain q) = check_left_out o n fs js a at t to q
-instr_stands o n fs js a at (Jump to) (Jump to') = (to == to') && leads_at n fs a no_change to
-instr_stands o n fs js a at (Call c) (Call d) = same_call a.twins c d && leads_at n fs a (call_change o n c d) (suc at)
-instr_stands o n fs js a at (Return w u) (Return v z) = (w == v) && stands_for a.twins u z
-instr_stands o n fs js a at (Return w u) (Jump to) = returns_there a.twins js at w u to
-instr_stands o n fs js a at Idle Idle = leads_at n fs a no_change (suc at)
-instr_stands o n fs js a at _ _ = false
+-- The instruction of the newer code, at this place, stands for that of the older code at its place. The other branch may stand for a branch, with its places
+-- the other way round.
+abbrev pub instr_stands : Both → Facts → (at place : ℕ) → Instr → Instr → Bool
+instr_stands b a at p (Plain i) (Plain j) =
+    (is_stop i || is_there b (suc at) (suc p))
+    && (plain_stands b.old b.new b.facts a at i j || shorter_stands b.old b.new b.facts a at i j)
+instr_stands b a at p (Plain i) (Jump to) = stops_so i (slice_get b.newer to)
+instr_stands b a at p (When t to) (When u to') =
+    same_test b.new a.twins t u && leads_on b a None (counts_at b.older at) to to'
+    && leads_on b a (checked t) (counts_at b.older at) (suc at) (suc p)
+instr_stands b a at p (Unless t to) (Unless u to') =
+    same_test b.new a.twins t u && leads_on b a (checked t) (counts_at b.older at) to to'
+    && leads_on b a None (counts_at b.older at) (suc at) (suc p)
+instr_stands b a at p (When t to) (Unless u to') =
+    same_test b.new a.twins t u && leads_on b a None (counts_at b.older at) to (suc p)
+    && leads_on b a (checked t) (counts_at b.older at) (suc at) to'
+instr_stands b a at p (Unless t to) (When u to') =
+    same_test b.new a.twins t u && leads_on b a (checked t) (counts_at b.older at) to (suc p)
+    && leads_on b a None (counts_at b.older at) (suc at) to'
+instr_stands b a at p (Unless t to) (Jump to') = never_holds b.old a t && leads_on b a None (counts_at b.older at) to to'
+instr_stands b a at p (Jump to) (Jump to') = leads_on b a None false to to'
+instr_stands b a at p (Call c) (Call d) =
+    is_there b (suc at) (suc p) && same_call a.twins c d && leads_at b.new b.facts a (call_change b.old b.new c d) (suc at)
+instr_stands b a at p (Return w u) (Return v z) = (w == v) && stands_for a.twins u z
+instr_stands b a at p (Return w u) (Jump to) = gives_same a.twins w u (slice_get b.newer to)
+instr_stands b a at p Idle Idle = is_there b (suc at) (suc p) && leads_at b.new b.facts a no_change (suc at)
+instr_stands b a at p _ _ = false
 
--- Where no run comes, the newer code may stop, jump, give a local a value, or do what the older one does with what waits.
-abbrev pub is_quiet : Instr → Bool
-is_quiet (Plain (Push w u)) = false
-is_quiet (Plain (Pop w x)) = false
-is_quiet (Call c) = false
-is_quiet i = true
+abbrev pub stands_by : Both → Facts → (at place : ℕ) → Instr → Option Instr → Bool
+stands_by b a at p i (Some j) = instr_stands b a at p i j
+stands_by b a at p i None = false
 
-abbrev pub may_stand : (count : ℕ) → (at : ℕ) → Instr → Instr → Bool
-may_stand n at (Plain (Push w u)) (Plain (Push v z)) = w == v
-may_stand n at (Plain (Pop w x)) (Plain (Pop v y)) = w == v
-may_stand n at (Call c) (Call d) = c.pushed == d.pushed
-may_stand n at i (Plain (Stop c)) = is_quiet i
-may_stand n at i (Plain (Copy z (Known v))) = is_quiet i && nat_lt (suc at) n
-may_stand n at i (Jump to) = is_quiet i
-may_stand n at _ _ = false
+-- What is known at a place of the older code is kept by both instructions; where no run comes there is nothing to keep.
+abbrev pub place_stands : Both → Facts → (at place : ℕ) → Instr → Bool
+place_stands b a at p i = if a.reached then passed_over b a at p i || stands_by b a at p i (slice_get b.newer p) else true
 
--- What stands at a place of the newer code, by what is known there.
-abbrev pub place_stands : (old new : List ℕ) → List Facts → (newer : List Instr) → (at : ℕ) → Facts → Instr → Instr → Bool
-place_stands o n fs js at a i j = if a.reached then instr_stands o n fs js a at i j else may_stand (length js) at i j
-
-abbrev pub stands_at : (old new : List ℕ) → List Facts → (newer : List Instr) → (at : ℕ) → Option Facts → Option Instr → Option Instr → Bool
-stands_at o n fs js at (Some a) (Some i) (Some j) = place_stands o n fs js at a i j
-stands_at o n fs js at _ _ _ = false
+abbrev pub stands_at : Both → (at : ℕ) → Option Facts → Option Instr → (place : Option ℕ) → Bool
+stands_at b at (Some a) (Some i) (Some p) = place_stands b a at p i
+stands_at b at _ _ _ = false

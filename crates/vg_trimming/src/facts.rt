@@ -62,3 +62,17 @@ pub struct Change {
     /// A computation of which the newer code then has the result.
     pub worked: Option<Worked>,
 }
+
+/// On a walk through the older code: the local that got a known number last.
+#[derive(Clone, Copy)]
+pub struct Met {
+    pub local: u8,
+    pub number: u32,
+}
+
+/// On a walk through the older code: the locals that got known numbers, at most two.
+#[derive(Clone, Copy)]
+pub struct Sets {
+    pub first: Option<u8>,
+    pub second: Option<u8>,
+}

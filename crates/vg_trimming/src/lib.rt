@@ -1,8 +1,8 @@
-//! When a procedure of linear code is another one with less to do: its values stand elsewhere, and what is not needed is left out. A program with such
-//! procedures does what it did. It is said by facts at each place, which are looked at place by place.
+//! When a procedure of linear code is another one with less to do: its values stand elsewhere, what is not needed is left out, and a branch leads past others
+//! that are decided. A program with such procedures does what it did. It is said by facts at each place, which are looked at place by place.
 #![tactic(auto)]
 
 pub mod facts;
 pub mod laws;
 
-pub use facts::{Change, Facts, Gain, Twin, Worked};
+pub use facts::{Change, Facts, Gain, Met, Sets, Twin, Worked};

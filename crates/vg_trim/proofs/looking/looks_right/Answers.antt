@@ -5,8 +5,8 @@ pub returns : goal.returns
 returns c h =
     record {
       locals = c.has_locals.ensures c.if-not-has_locals.false;
-      free = c.pushes_nothing-free.result;
-      long = c.if-newer-older.false;
       begins = sym c.begins_with.ensures ∙ c.if-not-begins_with.false;
-      each = c.all_in_order.ensures h;
+      begins_at = c.begins_at.ensures c.if-not-begins_at.false;
+      each = c.all_stand.ensures c.if-not-all_stand.false;
+      order = c.is_in_order.ensures h;
     }
