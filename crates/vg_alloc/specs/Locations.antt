@@ -1,5 +1,5 @@
 -- Locations, and the layout that they stand for.
-use Rattle.std.specs.Prelude.{ℕ, ◌+◌, ◌≤◌, Bool, List, length, nat_lt, Option, Some, None, slice_get}
+use Rattle.std.specs.Prelude.{ℕ, ◌+◌, ◌≤◌, Bool, List, Option, Some, None, slice_get}
 use Rattle.vg_templates.specs.Spots.{Spot as Place, InFrame, InRegisters}
 use Rattle.vg_templates.specs.Layouts.{Layout}
 use Rattle.vg_alloc.specs.declared.spot.Spot.{Spot}
@@ -23,25 +23,23 @@ abbrev pub place : Spot → Place
 place (Frame at) = InFrame at
 place (Registers first) = InRegisters first
 
--- behind the last local there is none: the byte behind the slots stands for its place
-abbrev pub place_in : (slots : ℕ) → Option Spot → Place
-place_in slots (Some s) = place s
-place_in slots None = InFrame slots
+-- behind the last local there is none: the first byte of the frame stands for its place
+abbrev pub place_in : Option Spot → Place
+place_in (Some s) = place s
+place_in None = InFrame 0
 
--- Each local counts as live everywhere.
 abbrev pub layout : Located → Layout
 layout l =
     record {
       widths = l.widths;
-      spots = λ k. place_in l.slots (slice_get l.spots k);
+      spots = λ k. place_in (slice_get l.spots k);
       slots = l.slots;
       saved = l.saved;
       pointed = l.pointed;
       pushed = l.pushed;
-      live = λ at k. nat_lt k (length l.widths);
     }
 
--- A spot in registers is within those that outlive calls, from r2 to r17.
+-- A spot in registers is within those of locals, from r2 to r17.
 abbrev pub IsWithin : Spot → (width : ℕ) → Type 0
 IsWithin (Frame at) w = Unit {0}
 IsWithin (Registers r) w = (2 ≤ r) × (r + w ≤ 18)

@@ -1,110 +1,95 @@
-// The first locals behind the parameters in registers, and all others in the frame.
+// Where all locals of a procedure lie.
 ghost use Rattle.std.specs.Prelude.{◌≡◌, ◌+◌, ◌<◌, ◌≤◌, ◌++◌, IfOk, OnOk, drop, length, take};
 ghost use Rattle.vg_templates.specs.Calls.{sum_of};
 ghost use Rattle.vg_templates.specs.Layouts.{IsLayout};
-ghost use Rattle.vg_templates.specs.Framed.{fitting, registers_from, register_bytes, slot_bytes, saved_for, framed};
-ghost use Rattle.vg_alloc.specs.Frames.{pushed_spots, slot_spots, register_spots, located_with, all_located};
+ghost use Rattle.vg_templates.specs.Living.{lasts};
+ghost use Rattle.vg_templates.specs.Framed.{taken, registers_from, is_pointed, all_taken, saved_for, framed};
+ghost use Rattle.vg_alloc.specs.Frames.{taken_of, pushed_spots, held_spots, all_located};
 ghost use Rattle.vg_alloc.specs.Locations.{layout};
 
 use crate::locations::Locations;
+use crate::seats::{Taken, put_seats};
 use crate::spot::Spot;
 use avr_instr::Register;
 use std::alloc::Global;
 use vg_base::{NoMemory, Row};
-use vg_lin::LinProc;
+use vg_lin::{Instr, LinProc};
 
-/// The locations that keep each local of a procedure in bytes that it shares with no other one. Behind the parameters, the locals from the first on that have
-/// at most sixteen bytes together lie in registers, one behind the other from r2 on. All others lie in the frame: parameters where they were pushed, and the
-/// rest in slots, one behind the other. The error is want of memory.
+/// The locations that keep each local of a procedure in bytes that it shares with no other one. Parameters lie where they were pushed. Of the others, those
+/// whose values are wanted behind a call lie in r2 to r7, and the rest in r8 to r17 or, where there is no more room, in r2 to r7 as well; and where there is none
+/// there either they lie in slots of the frame, one behind the other. The error is want of memory.
 pub fn frames(alloc: Global, procedure: &LinProc) -> Result<Locations, NoMemory>
-    ensures layout { IfOk result (λ l. layout l ≡ framed procedure.now.widths procedure.now.params) }
+    ensures layout { IfOk result (λ l. layout l ≡ framed procedure.now) }
     ensures widths { IfOk result (λ l. l.widths ≡ procedure.now.widths) }
 {
     procedure.keeps();
-    located(alloc, procedure.widths(), usize::from(procedure.params()))
+    located(
+        alloc,
+        procedure.code(),
+        procedure.widths(),
+        procedure.params(),
+    )
 }
 
-fn located(alloc: Global, widths: &[u8], params: usize) -> Result<Locations, NoMemory>
+fn located(alloc: Global, code: &[Instr], widths: &[u8], params: u8) -> Result<Locations, NoMemory>
     requires params { params ≤ length widths.now }
+    requires few { length widths.now < 256 }
     requires all { sum_of widths.now < 0x1000 }
-    requires sound { IsLayout (layout (all_located widths.now params)) }
-    ensures { IfOk result (λ l. l ≡ all_located widths.now params) }
-{
-    let kept = fitting(&widths[params..], 16);
-    located_with(alloc, widths, params, kept)
-}
-
-// How many locals, from the first on, have at most so many bytes together.
-fn fitting(widths: &[u8], room: u8) -> usize
-    ensures count { result ≡ fitting room widths.now }
-    ensures within { result ≤ length widths.now }
-{
-    match widths {
-        [] => 0,
-        [width, rest @ ..] => {
-            if room < *width {
-                0
-            } else {
-                fitting(rest, room - *width) + 1
-            }
-        }
-    }
-}
-
-// The locations with so many locals in registers.
-fn located_with(
-    alloc: Global,
-    widths: &[u8],
-    params: usize,
-    kept: usize,
-) -> Result<Locations, NoMemory>
-    requires params { params ≤ length widths.now }
-    requires kept { kept ≤ length (drop params widths.now) }
-    requires few { register_bytes kept widths.now params < 17 }
-    requires slots { slot_bytes kept widths.now params < 0x1000 }
     requires pushed { sum_of (take params widths.now) < 0x1000 }
-    requires sound { IsLayout (layout (located_with kept widths.now params)) }
-    ensures { IfOk result (λ l. l ≡ located_with kept widths.now params) }
+    requires others { sum_of (drop params widths.now) < 0x1000 }
+    requires sound { IsLayout (layout (all_located (lasts code.now) widths.now params)) }
+    ensures { IfOk result (λ l. l ≡ all_located (lasts code.now) widths.now params) }
 {
-    let others = &widths[params..];
-    let in_registers = &others[..kept];
-    let in_slots = &others[kept..];
-    let parameters = &widths[..params];
-    let spots = all_spots(alloc, parameters, in_registers, in_slots)?;
-    let pointed = kept < widths.len();
-    let saved = saved_registers(alloc, pointed, bytes_of(in_registers))?;
+    let count = usize::from(params);
+    let parameters = &widths[..count];
+    let mut others = Row::new(alloc);
+    let none = Taken {
+        lasting: 0,
+        passing: 0,
+        slots: 0,
+    };
+    let taken = put_seats(alloc, &mut others, code, params, &widths[count..], none)?;
+    let spots = all_spots(alloc, taken, parameters, others.as_slice())?;
+    let pointed = is_pointed(params, taken.slots);
+    let saved = saved_registers(alloc, pointed, taken.lasting)?;
     let copy = Row::from_slice(alloc, widths)?;
-    let slots = bytes_of(in_slots);
     let pushed = bytes_of(parameters);
-    Ok(Locations::new(copy, spots, slots, saved, pointed, pushed))
+    Ok(Locations::new(copy, spots, taken.slots, saved, pointed, pushed))
 }
 
-// The spots of all locals: those that were pushed, those in registers, and those in slots.
+// Whether Y is the frame pointer.
+fn is_pointed(params: u8, slots: u16) -> bool
+    ensures { result ≡ is_pointed params slots }
+{
+    params > 0 || slots > 0
+}
+
+// The spots of all locals: those that were pushed, and the others.
 fn all_spots(
     alloc: Global,
+    taken: Taken,
     parameters: &[u8],
-    in_registers: &[u8],
-    in_slots: &[u8],
+    others: &[Spot],
 ) -> Result<Row<Spot>, NoMemory>
     requires pushed { sum_of parameters.now < 0x1000 }
-    requires few { sum_of in_registers.now < 17 }
-    requires slots { sum_of in_slots.now < 0x1000 }
-    ensures { IfOk result (λ spots. spots ≡ pushed_spots (sum_of in_slots.now + sum_of in_registers.now + 4) parameters.now
-        ++ (register_spots 2 in_registers.now ++ slot_spots 0 in_slots.now)) }
+    requires few { taken.lasting < 7 }
+    requires slots { taken.slots < 0x1000 }
+    ensures { IfOk result (λ spots. spots ≡ pushed_spots (taken.slots + taken.lasting + 4) parameters.now ++ others.now) }
 {
     let mut spots = Row::new(alloc);
     put_parameters(
         &mut spots,
-        bytes_of(in_slots) + bytes_of(in_registers) + 4,
+        taken.slots + u16::from(taken.lasting) + 4,
         parameters,
     )?;
-    put_register_spots(&mut spots, 2, in_registers)?;
-    put_slots(&mut spots, 0, in_slots)?;
+    for spot in others {
+        spots.push(*spot)?;
+    }
     Ok(spots)
 }
 
-// The saved registers: those of Y, where it is the frame pointer, and those of the locals, so many.
-fn saved_registers(alloc: Global, pointed: bool, count: u16) -> Result<Row<Register>, NoMemory>
+// The saved registers: those of Y, where it is the frame pointer, and those of locals, so many.
+fn saved_registers(alloc: Global, pointed: bool, count: u8) -> Result<Row<Register>, NoMemory>
     requires { count < 17 }
     ensures { IfOk result (λ saved. saved ≡ saved_for pointed count) }
 {
@@ -117,22 +102,8 @@ fn saved_registers(alloc: Global, pointed: bool, count: u16) -> Result<Row<Regis
     Ok(saved)
 }
 
-// The spots of locals in registers, from this one on.
-fn put_register_spots(spots: &mut Row<Spot>, first: u8, widths: &[u8]) -> Result<(), NoMemory>
-    requires { first + sum_of widths.now < 32 }
-    ensures { OnOk result (spots.new ≡ spots.old ++ register_spots first widths.now) }
-{
-    match widths {
-        [] => Ok(()),
-        [width, rest @ ..] => {
-            spots.push(Spot::Registers(first))?;
-            put_register_spots(spots, first + *width, rest)
-        }
-    }
-}
-
 // So many registers, from this one on.
-fn put_registers(registers: &mut Row<Register>, first: u8, count: u16) -> Result<(), NoMemory>
+fn put_registers(registers: &mut Row<Register>, first: u8, count: u8) -> Result<(), NoMemory>
     requires { first + count < 32 }
     ensures { OnOk result (registers.new ≡ registers.old ++ registers_from first count) }
 {
@@ -165,20 +136,6 @@ fn put_parameters(spots: &mut Row<Spot>, front: u16, widths: &[u8]) -> Result<()
         [_, rest @ ..] => {
             spots.push(Spot::Frame(front + bytes_of(rest)))?;
             put_parameters(spots, front, rest)
-        }
-    }
-}
-
-// The spots of other locals, which lie behind so many bytes of the frame.
-fn put_slots(spots: &mut Row<Spot>, front: u16, widths: &[u8]) -> Result<(), NoMemory>
-    requires { front + sum_of widths.now < 0x1000 }
-    ensures { OnOk result (spots.new ≡ spots.old ++ slot_spots front widths.now) }
-{
-    match widths {
-        [] => Ok(()),
-        [width, rest @ ..] => {
-            spots.push(Spot::Frame(front))?;
-            put_slots(spots, front + u16::from(*width), rest)
         }
     }
 }

@@ -2,8 +2,11 @@
 #![tactic(auto)]
 
 pub mod framing;
+pub mod living;
 pub mod locations;
+pub mod needs;
 pub mod premises;
+pub mod seats;
 pub mod spot;
 
 pub use framing::frames;

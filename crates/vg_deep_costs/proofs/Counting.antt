@@ -74,14 +74,14 @@ same_pushed (Stop code) = refl
 module _ (x : Links) (p : Program) (cs : List ℕ) (ready : IsReady p) (has : HasFitFrames x p cs) where
   few_frame : (m : ℕ) (procedure : Procedure) → slice_get p.procedures m ≡ Some procedure → frame_size (x.places.layouts m) ≤ frame_of p m
   few_frame m procedure e =
-      let few = framed-bytes procedure.widths procedure.params in
+      let few = framed-bytes procedure in
       let own = same_sum procedure.widths in
       let there : frame_of p m ≡ bytes_of procedure.widths + 4 = ap frame_in e in
       subst (λ l. frame_size l ≤ frame_of p m) (sym (has.layouts m procedure e)) (omega (arith, few, own, there))
 
   few_opening : (m : ℕ) (procedure : Procedure) → slice_get p.procedures m ≡ Some procedure → opening_bytes x.places m ≤ opening_of p m
   few_opening m procedure e =
-      let few = framed-taken procedure.widths procedure.params in
+      let few = framed-taken procedure in
       let own = same_sum (drop procedure.params procedure.widths) in
       let there : opening_of p m ≡ bytes_of (drop procedure.params procedure.widths) + 4 = ap opening_in e in
       subst (λ (l : Layout). 2 + length l.saved + l.slots ≤ opening_of p m) (sym (has.layouts m procedure e)) (omega (arith, few, own, there))

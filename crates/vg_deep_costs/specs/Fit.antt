@@ -12,6 +12,6 @@ use Rattle.vg_open_costs.specs.Taken.{LeadBefore}
 pub record HasFitFrames (x : Links) (p : Program) (costs : List ℕ) : Type 0 where
   pub sound : (m : ℕ) (procedure : Procedure) → slice_get p.procedures m ≡ Some procedure → IsSound procedure
   pub layouts : (m : ℕ) (procedure : Procedure) → slice_get p.procedures m ≡ Some procedure
-      → x.places.layouts m ≡ framed procedure.widths procedure.params
+      → x.places.layouts m ≡ framed procedure
   pub fit : FramesFit p.procedures p.start costs
   pub before : LeadBefore p

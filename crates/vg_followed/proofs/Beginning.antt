@@ -49,7 +49,7 @@ module _ (e : Run) (x : Links) (p : Program) (st : Stands e x p) (deep : Type 0)
       let to = x.entry q + widths (prologue l) in
       let empty : l.pushed ≡ 0 = ps.arguments.bytes ∙ ap (λ n. sum_of (take n l.widths)) none in
       let state_is : begun_with l.widths p.ram ≡ first_state p = ap (λ ws. begun_with ws p.ram) (sym (ap widths_of there ∙ sym ps.locals)) in
-      let K = λ (z : State). Lies x.places q (l.live 0) z [] v.out in
+      let K = λ (z : State). Lies x.places q (x.places.live q 0) z [] v.out in
       goes_wider e deep 0 s (Entered e l to v) (Related e x p (at_start p v.out))
       (λ t n. (
         record { waits = sym ps.waits; callers = tt; vectors = vectors },
@@ -59,7 +59,7 @@ module _ (e : Run) (x : Links) (p : Program) (st : Stands e x p) (deep : Type 0)
     where
       lies : (t : MachineState) → (let l = x.places.layouts p.start in
           Entered e l (x.entry p.start + widths (prologue l)) v t → l.pushed ≡ 0
-          → Sees e (Lies x.places p.start (l.live 0) (begun_with l.widths p.ram) [] v.out) (x.entry p.start + widths (prologue l)) t)
+          → Sees e (Lies x.places p.start (x.places.live p.start 0) (begun_with l.widths p.ram) [] v.out) (x.entry p.start + widths (prologue l)) t)
       lies t n empty =
           let l = x.places.layouts p.start in
           let saved = map v.regs.of l.saved in

@@ -28,9 +28,9 @@ use Rattle.avr_view.specs.Registers.{pair, put}
 use Rattle.avr_view.specs.Run.{Run, Goes}
 use Rattle.avr_view.specs.View.{View}
 use Rattle.avr_view.proofs.Going.{goes_then, goes_fewer, goes_wider}
-use Rattle.vg_templates.specs.Layouts.{IsReliable}
+use Rattle.vg_templates.specs.Layouts.{IsOwned}
 use Rattle.vg_templates.specs.Linkage.{prologue}
-use Rattle.vg_templates.specs.Frames.{bytes_of}
+use Rattle.vg_templates.specs.Frames.{bytes_of, wanted}
 use Rattle.vg_templates.proofs.Numbers.{put_other, put_same}
 use Rattle.vg_templates.specs.Pieces.{Sees, Takes}
 use Rattle.vg_templates.specs.Held.{Held, brings, Brought}
@@ -310,7 +310,7 @@ module _ (e : Run) (x : Links) (p : Program) (st : Stands e x p) (deep : Type 0)
           other : (u : View) (r : ℕ) → r < 30 → (put (put u.regs 30 (u.regs.of 26)) 31 (u.regs.of 27)).of r ≡ u.regs.of r
           other u r h = put_other (put u.regs 30 _) 31 _ r (let ne : r ≢ 31 = omega arith in ne) ∙ put_other u.regs 30 _ r (let ne : r ≢ 30 = omega arith in ne)
 
-          still : (u : View) (r : ℕ) → IsReliable r → (put (put u.regs 30 (u.regs.of 26)) 31 (u.regs.of 27)).of r ≡ u.regs.of r
+          still : (u : View) (r : ℕ) → IsOwned r → (put (put u.regs 30 (u.regs.of 26)) 31 (u.regs.of 27)).of r ≡ u.regs.of r
           still u r (inl h) = let up = h.1 in other u r (omega arith)
           still u r (inr h) = other u r h.1
 
@@ -345,7 +345,7 @@ module _ (e : Run) (x : Links) (p : Program) (st : Stands e x p) (deep : Type 0)
       let m = c.proc in
       let k = (placed e x p st m c.pc (Call call) h).instr in
       let l = x.places.layouts m in
-      let live = l.live c.pc in
+      let live = x.places.live m c.pc in
       let v = g.view in
       let d = entered p call c.state en made in
       let q = d.proc in
@@ -391,7 +391,7 @@ module _ (e : Run) (x : Links) (p : Program) (st : Stands e x p) (deep : Type 0)
       (x.place m c.pc) s (front_stands e.flash (x.place m c.pc) (call_front l call) rest k.stands) (omega (arith, room, wide)) g.at)
       (λ t z.
       let size = stacked_bytes x.places m live s1 c.frames z.view.stack z.view.regs z.kind.lies.held.stacked in
-      goes_wider e deep 1 t (Sees e (Lies x.places q (lq.live 0) (begins_with lq n s1) (f ∷ c.frames) z.view.out) to) goal
+      goes_wider e deep 1 t (Sees e (Lies x.places q (x.places.live q 0) (begins_with lq n s1) (f ∷ c.frames) z.view.out) to) goal
       (λ r b. (
         record {
           waits = ap (λ (w : State). wait_widths w.waiting) d.state_is ∙ sym ps.waits ∙ ap (λ w. x.waits w 0) (sym d.proc_is);
@@ -419,20 +419,24 @@ module _ (e : Run) (x : Links) (p : Program) (st : Stands e x p) (deep : Type 0)
           );
           vectors = settled.vectors;
         },
-        subst (λ w. Sees e (Lies x.places w ((x.places.layouts w).live 0) en.state (f1 ∷ c.frames) c.outside) (x.place w 0) r) (sym d.proc_is)
-            (subst (λ w. Sees e (Lies x.places q (lq.live 0) w (f1 ∷ c.frames) c.outside) (x.place q 0) r) (sym d.state_is)
-            (subst (λ w. Sees e (Lies x.places q (lq.live 0) start (w ∷ c.frames) c.outside) (x.place q 0) r) f_is
-            (subst (λ w. Sees e (Lies x.places q (lq.live 0) start (f ∷ c.frames) w) (x.place q 0) r) (z.kind.lies.out ∙ g.kind.out)
-            (subst (λ w. Sees e (Lies x.places q (lq.live 0) start (f ∷ c.frames) z.view.out) w r) (sym ps.begins)
-            (subst (λ w. Sees e (Lies x.places q (lq.live 0) w (f ∷ c.frames) z.view.out) to r) start_is b))))),
+        subst (λ w. Sees e (Lies x.places w (x.places.live w 0) en.state (f1 ∷ c.frames) c.outside) (x.place w 0) r) (sym d.proc_is)
+            (subst (λ w. Sees e (Lies x.places q (x.places.live q 0) w (f1 ∷ c.frames) c.outside) (x.place q 0) r) (sym d.state_is)
+            (subst (λ w. Sees e (Lies x.places q (x.places.live q 0) start (w ∷ c.frames) c.outside) (x.place q 0) r) f_is
+            (subst (λ w. Sees e (Lies x.places q (x.places.live q 0) start (f ∷ c.frames) w) (x.place q 0) r) (z.kind.lies.out ∙ g.kind.out)
+            (subst (λ w. Sees e (Lies x.places q (x.places.live q 0) start (f ∷ c.frames) z.view.out) w r) (sym ps.begins)
+            (subst (λ w. Sees e (Lies x.places q (x.places.live q 0) w (f ∷ c.frames) z.view.out) to r) start_is b))))),
       ))
-      (goes_enters x.places st.layouts e deep way q m c.pc cp n (x.entry q) call live (lq.live 0) s1 c.frames z.view t
+      (goes_enters x.places st.layouts e deep way q m c.pc cp n (x.entry q) call live (x.places.live q 0) s1 c.frames z.view t
       (call_stands way cp back (back_stands e.flash (x.place m c.pc) (call_front l call) rest k.stands)) (omega (arith, room, wide, one)) k.leads.1.0
       (leads_there call.callee (x.call m c.pc) s1 cp q z.view k.leads.1.1 (called_waiting call.callee c.state (pushed_on xs c.state.waiting) q d.found) z.kind.aimed)
       ps.prologue_stands ps.room
-      (ap (same_widths lq.widths) taken_is ∙ ap (λ w. same_widths w all) ps.locals ∙ d.same) (subst (HasPushed lq) (sym count) ps.arguments) k.covers.kept
+      (ap (same_widths lq.widths) taken_is ∙ ap (λ w. same_widths w all) ps.locals ∙ d.same) (subst (HasPushed lq) (sym count) ps.arguments) (λ j need. k.covers.kept j (first_holds (wanted (x.places.live m) (Result call) c.pc j) _ need))
       z.kind.lies.held (λ more. full (omega (arith, more, size, grown, passed_bytes_is, opening))) z.at)))
     where
+      first_holds : (b d : Bool) → (b && d) ≡ true → b ≡ true
+      first_holds true d e1 = refl
+      first_holds false d e1 = e1
+
       same_procedure : (a b : Procedure) (q : ℕ) → slice_get p.procedures q ≡ Some a → slice_get p.procedures q ≡ Some b → a ≡ b
       same_procedure a b q f g' = some_procedure a b (sym f ∙ g')
         where

@@ -22,7 +22,7 @@ use Rattle.avr_view.proofs.JumpSteps.{goes_brbc}
 use Rattle.avr_view.proofs.Rows.{carry_set}
 use Rattle.avr_view.proofs.Steps.{register_below}
 use Rattle.vg_templates.specs.Spots.{Spot, InFrame, InRegisters, number}
-use Rattle.vg_templates.specs.Layouts.{IsLayout, IsReliable, width_of}
+use Rattle.vg_templates.specs.Layouts.{IsLayout, IsOwned, width_of}
 use Rattle.vg_templates.specs.Frames.{Places}
 use Rattle.vg_templates.proofs.Numbers.{put_other, put_same}
 use Rattle.vg_templates.specs.Pieces.{Sees, Takes}
@@ -148,7 +148,7 @@ module _ (i : Places) (ok : (m : ℕ) → IsLayout (i.layouts m)) (m : ℕ) (fra
       → u ≡ record v { regs = u.regs } → Held i m live s frames v → Held i m live s frames u
   by_scratch live s v u others same k = held_scratch i ok m frames live s v u same agree (others 1 (inl (omega arith)) (omega arith)) k
     where
-      agree : (r : ℕ) → IsReliable r → u.regs.of r ≡ v.regs.of r
+      agree : (r : ℕ) → IsOwned r → u.regs.of r ≡ v.regs.of r
       agree r (inl h) = let up = h.1 in others r (inl (omega arith)) (omega arith)
       agree r (inr h) = others r (inr h.0) h.1
 

@@ -99,9 +99,9 @@ module _ (e : Run) (x : Links) (p : Program) (st : Stands e x p) (deep : Type 0)
       let k = pl.instr in
       let v = g.view in
       let l = x.places.layouts c.proc in
-      let size = stacked_bytes x.places c.proc (l.live c.pc) c.state c.frames v.stack v.regs g.kind.held.stacked in
+      let size = stacked_bytes x.places c.proc (x.places.live c.proc c.pc) c.state c.frames v.stack v.regs g.kind.held.stacked in
       let made' : plain p q c.state v.out ≡ GoesOn s' o' = ap (plain p q c.state) g.kind.out ∙ made in
-      let K = Lies x.places c.proc (l.live (suc c.pc)) s' c.frames o' in
+      let K = Lies x.places c.proc (x.places.live c.proc (suc c.pc)) s' c.frames o' in
       let known : Did q c.state c.outside (GoesOn s' o') = subst (Did q c.state c.outside) made (did p q c.state c.outside) in
       goes_wider e deep 1 s (Sees e K (x.place c.proc c.pc + widths (plain_template l p q))) (Related e x p (went (at_rest c) (GoesOn s' o')))
       (λ t z. (
@@ -114,7 +114,7 @@ module _ (e : Run) (x : Links) (p : Program) (st : Stands e x p) (deep : Type 0)
         },
         subst (λ n. Sees e K n t) (sym k.leads) z,
       ))
-      (goes_plain x.places st.layouts c.proc c.frames e deep p st.tables (l.live c.pc) (l.live (suc c.pc)) q c.state s' o' v (x.place c.proc c.pc) s made'
+      (goes_plain x.places st.layouts c.proc c.frames e deep p st.tables (x.places.live c.proc c.pc) (x.places.live c.proc (suc c.pc)) q c.state s' o' v (x.place c.proc c.pc) s made'
       k.covers front (λ more. full (omega (arith, more, size))) g.kind.held k.stands k.room k.some g.at)
   goes_on_plain c q s h settled g full (Raises code) made legal front =
       let k = (placed e x p st c.proc c.pc (Plain q) h).instr in
@@ -132,7 +132,7 @@ module _ (e : Run) (x : Links) (p : Program) (st : Stands e x p) (deep : Type 0)
       let to = lacks.0 in
       let known = lacks.1.0 in
       let stand = subst (λ z. AllStandAt e.flash (x.place c.proc c.pc) (plain_template l p z)) known k.stands in
-      let can = subst (λ z. Covers l p (placed e x p st c.proc c.pc (Plain q) h).procedure.result c.pc (Plain z)) known k.covers in
+      let can = subst (λ z. Covers l (x.places.live c.proc) p (placed e x p st c.proc c.pc (Plain q) h).procedure.result c.pc (Plain z)) known k.covers in
       goes_wider e deep 1 s (Ended e (machine_end.Wants address) g.view.out) (Related e x p (went (at_rest c) (Lacks address)))
       (λ t z. subst (λ o. Ended e (machine_end.Wants address) o t) g.kind.out z)
       (ends_reads_device e deep l to address (x.place c.proc c.pc) g.view s can.0 stand (ap (λ (o : Outside). o.reads) g.kind.out ∙ lacks.1.1) g.at)
@@ -234,14 +234,14 @@ module _ (e : Run) (x : Links) (p : Program) (st : Stands e x p) (deep : Type 0)
 
   turned : (c : Config State) (to : ℕ) (taken : Bool) (next : ℕ) (s : MachineState) → Settled x p c → x.waits c.proc to ≡ x.waits c.proc c.pc
       → x.waits c.proc (suc c.pc) ≡ x.waits c.proc c.pc → x.place c.proc (suc c.pc) ≡ next
-      → Branched e x.places c.proc (λ k. if k then (x.places.layouts c.proc).live to else (x.places.layouts c.proc).live (suc c.pc)) c.state c.frames c.outside taken
+      → Branched e x.places c.proc (λ k. if k then x.places.live c.proc to else x.places.live c.proc (suc c.pc)) c.state c.frames c.outside taken
       (x.place c.proc to) next s
       → Related e x p (Turned c to taken) s
   turned c to true next s settled there on place b =
       (record { waits = settled.waits ∙ sym there; callers = settled.callers; vectors = settled.vectors }, b)
   turned c to false next s settled there on place b = (
     record { waits = settled.waits ∙ sym on; callers = settled.callers; vectors = settled.vectors },
-    subst (λ n. Sees e (Lies x.places c.proc ((x.places.layouts c.proc).live (suc c.pc)) c.state c.frames c.outside) n s) (sym place) b,
+    subst (λ n. Sees e (Lies x.places c.proc (x.places.live c.proc (suc c.pc)) c.state c.frames c.outside) n s) (sym place) b,
   )
 
   kept_both : (live first second : ℕ → Bool) → IsKept live first → IsKept live second → (k : Bool) → IsKept live (if k then first else second)
@@ -262,7 +262,7 @@ module _ (e : Run) (x : Links) (p : Program) (st : Stands e x p) (deep : Type 0)
       let k = (placed e x p st c.proc c.pc (When t to) h).instr in
       let l = x.places.layouts c.proc in
       let d = tested (value t.left c.state) (value t.right c.state) (compared t.comparison t.width) truth made in
-      let behind = λ (k : Bool). if k then l.live to else l.live (suc c.pc) in
+      let behind = λ (k : Bool). if k then x.places.live c.proc to else x.places.live c.proc (suc c.pc) in
       let code = template x p c.proc c.pc (When t to) in
       let next = x.place c.proc c.pc + widths code in
       subst (λ z. Goes e deep 1 s (Related e x p z)) (sym (branched_is c true truth to))
@@ -272,8 +272,8 @@ module _ (e : Run) (x : Links) (p : Program) (st : Stands e x p) (deep : Type 0)
       (λ r z. turned c to (is_taken true truth) next r settled k.waits.0 k.waits.1 k.leads.0
       (subst (λ o. Branched e x.places c.proc behind c.state c.frames o (is_taken true truth) (x.place c.proc to) next r) g.kind.out
       (subst (λ b. Branched e x.places c.proc behind c.state c.frames g.view.out (is_taken true b) (x.place c.proc to) next r) d.told z)))
-      (goes_turn c.proc c.frames (x.branch c.proc c.pc) (l.live c.pc) behind c.state t true d.left d.right (x.place c.proc to) (x.place c.proc c.pc) g.view s
-      k.covers.0 (kept_both (l.live c.pc) (l.live to) (l.live (suc c.pc)) k.covers.1.0 k.covers.1.1) d.got_left d.got_right g.kind.held k.stands k.room k.leads.1 g.at))
+      (goes_turn c.proc c.frames (x.branch c.proc c.pc) (x.places.live c.proc c.pc) behind c.state t true d.left d.right (x.place c.proc to) (x.place c.proc c.pc) g.view s
+      k.covers.0 (kept_both (x.places.live c.proc c.pc) (x.places.live c.proc to) (x.places.live c.proc (suc c.pc)) k.covers.1.0 k.covers.1.1) d.got_left d.got_right g.kind.held k.stands k.room k.leads.1 g.at))
 
   pub goes_on_unless : (c : Config State) (t : Test) (to : ℕ) (s : MachineState) → fetch (codes_in p.procedures) c.proc c.pc ≡ Some (Unless t to)
       → Settled x p c → Going e x c s → (b : Option Bool) → holds t c.state ≡ b → IsLegal (branched (at_rest c) false to b)
@@ -283,7 +283,7 @@ module _ (e : Run) (x : Links) (p : Program) (st : Stands e x p) (deep : Type 0)
       let k = (placed e x p st c.proc c.pc (Unless t to) h).instr in
       let l = x.places.layouts c.proc in
       let d = tested (value t.left c.state) (value t.right c.state) (compared t.comparison t.width) truth made in
-      let behind = λ (k : Bool). if k then l.live to else l.live (suc c.pc) in
+      let behind = λ (k : Bool). if k then x.places.live c.proc to else x.places.live c.proc (suc c.pc) in
       let code = template x p c.proc c.pc (Unless t to) in
       let next = x.place c.proc c.pc + widths code in
       subst (λ z. Goes e deep 1 s (Related e x p z)) (sym (branched_is c false truth to))
@@ -293,8 +293,8 @@ module _ (e : Run) (x : Links) (p : Program) (st : Stands e x p) (deep : Type 0)
       (λ r z. turned c to (is_taken false truth) next r settled k.waits.0 k.waits.1 k.leads.0
       (subst (λ o. Branched e x.places c.proc behind c.state c.frames o (is_taken false truth) (x.place c.proc to) next r) g.kind.out
       (subst (λ b. Branched e x.places c.proc behind c.state c.frames g.view.out (is_taken false b) (x.place c.proc to) next r) d.told z)))
-      (goes_turn c.proc c.frames (x.branch c.proc c.pc) (l.live c.pc) behind c.state t false d.left d.right (x.place c.proc to) (x.place c.proc c.pc) g.view s
-      k.covers.0 (kept_both (l.live c.pc) (l.live to) (l.live (suc c.pc)) k.covers.1.0 k.covers.1.1) d.got_left d.got_right g.kind.held k.stands k.room k.leads.1 g.at))
+      (goes_turn c.proc c.frames (x.branch c.proc c.pc) (x.places.live c.proc c.pc) behind c.state t false d.left d.right (x.place c.proc to) (x.place c.proc c.pc) g.view s
+      k.covers.0 (kept_both (x.places.live c.proc c.pc) (x.places.live c.proc to) (x.places.live c.proc (suc c.pc)) k.covers.1.0 k.covers.1.1) d.got_left d.got_right g.kind.held k.stands k.room k.leads.1 g.at))
 
   -- ---- jumps
 
@@ -311,10 +311,10 @@ module _ (e : Run) (x : Links) (p : Program) (st : Stands e x p) (deep : Type 0)
   goes_on_jump c to s h settled g =
       let k = (placed e x p st c.proc c.pc (Jump to) h).instr in
       let l = x.places.layouts c.proc in
-      goes_wider e deep 1 s (Sees e (Lies x.places c.proc (l.live to) c.state c.frames g.view.out) (x.place c.proc to)) (Related e x p (record (at_rest c) { pc = to }))
+      goes_wider e deep 1 s (Sees e (Lies x.places c.proc (x.places.live c.proc to) c.state c.frames g.view.out) (x.place c.proc to)) (Related e x p (record (at_rest c) { pc = to }))
       (λ r z. (
         record { waits = settled.waits ∙ sym k.waits; callers = settled.callers; vectors = settled.vectors },
-        subst (λ o. Sees e (Lies x.places c.proc (l.live to) c.state c.frames o) (x.place c.proc to) r) g.kind.out z,
+        subst (λ o. Sees e (Lies x.places c.proc (x.places.live c.proc to) c.state c.frames o) (x.place c.proc to) r) g.kind.out z,
       ))
-      (goes_hop (x.jump c.proc c.pc) c.proc c.frames (l.live c.pc) (l.live to) c.state (x.place c.proc to) (x.place c.proc c.pc) g.view s k.covers g.kind.held
+      (goes_hop (x.jump c.proc c.pc) c.proc c.frames (x.places.live c.proc c.pc) (x.places.live c.proc to) c.state (x.place c.proc to) (x.place c.proc c.pc) g.view s k.covers g.kind.held
       k.stands k.leads g.at)

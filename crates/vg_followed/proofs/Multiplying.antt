@@ -12,7 +12,7 @@ use Rattle.avr_view.specs.Registers.{Regs, put, does_all}
 use Rattle.avr_view.specs.Run.{Run}
 use Rattle.avr_view.specs.View.{View}
 use Rattle.vg_templates.specs.Spots.{number}
-use Rattle.vg_templates.specs.Layouts.{IsLayout, IsReliable}
+use Rattle.vg_templates.specs.Layouts.{IsLayout, IsOwned}
 use Rattle.vg_templates.specs.Frames.{Places}
 use Rattle.vg_templates.proofs.Numbers.{put_other, put_same}
 use Rattle.vg_templates.specs.Pieces.{Takes}
@@ -119,6 +119,6 @@ module _ (i : Places) (ok : (m : ℕ) → IsLayout (i.layouts m)) (m : ℕ) (fra
       (takes_gives i ok m frames e deep live behind s to 22 2 w can (omega arith) (omega arith) held_w)))))
     where
       agree : (t : View) (p q : ℕ) → Made (t.regs.of p * t.regs.of q) t.regs (does_all e.flash (Mul p q ∷ Movw 22 0 ∷ Eor 1 1 ∷ []) t.regs)
-          → (r : ℕ) → IsReliable r → (does_all e.flash (Mul p q ∷ Movw 22 0 ∷ Eor 1 1 ∷ []) t.regs).of r ≡ t.regs.of r
+          → (r : ℕ) → IsOwned r → (does_all e.flash (Mul p q ∷ Movw 22 0 ∷ Eor 1 1 ∷ []) t.regs).of r ≡ t.regs.of r
       agree t p q d r (inl h) = let up = h.1 in d.others r h.0 (inl (omega arith))
       agree t p q d r (inr h) = let low' = h.0 in d.others r (omega arith) (inr (omega arith))

@@ -9,7 +9,7 @@ use Rattle.avr_view.specs.Run.{Run}
 use Rattle.avr_view.specs.View.{View}
 use Rattle.avr_view.proofs.StackSteps.{goes_pop}
 use Rattle.vg_templates.specs.Spots.{number, read}
-use Rattle.vg_templates.specs.Layouts.{IsLayout, IsReliable}
+use Rattle.vg_templates.specs.Layouts.{IsLayout, IsOwned}
 use Rattle.vg_templates.specs.Frames.{Waits, Places, Stacked}
 use Rattle.vg_templates.proofs.Arguments.{read-back}
 use Rattle.vg_templates.proofs.Numbers.{put_other, put_same}
@@ -112,6 +112,6 @@ module _ (i : Places) (ok : (m : ℕ) → IsLayout (i.layouts m)) (m : ℕ) (fra
       })
       (takes_gives i ok m frames e deep live behind s1 to 22 w u can (omega arith) (omega (arith, small)) held))
     where
-      apart : (bytes : List ℕ) (r : ℕ) → length bytes ≤ 4 → IsReliable r → (r < 22) ⊎ (22 + length bytes ≤ r)
+      apart : (bytes : List ℕ) (r : ℕ) → length bytes ≤ 4 → IsOwned r → (r < 22) ⊎ (22 + length bytes ≤ r)
       apart bytes r h (inl k) = let up = k.1 in inl (omega arith)
       apart bytes r h (inr k) = let low = k.0 in inr (omega arith)

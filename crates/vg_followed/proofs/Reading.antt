@@ -13,7 +13,7 @@ use Rattle.avr_view.specs.Registers.{Regs, pair, put, put_next, does_all, ArePla
 use Rattle.avr_view.specs.Run.{Run}
 use Rattle.avr_view.specs.View.{View}
 use Rattle.vg_templates.specs.Spots.{number, read}
-use Rattle.vg_templates.specs.Layouts.{IsLayout, IsReliable}
+use Rattle.vg_templates.specs.Layouts.{IsLayout, IsOwned}
 use Rattle.vg_templates.specs.Frames.{Places}
 use Rattle.vg_templates.proofs.Linking.{borrowed}
 use Rattle.vg_templates.proofs.Numbers.{put_other, put_same}
@@ -103,7 +103,7 @@ module _ (i : Places) (ok : (m : ℕ) → IsLayout (i.layouts m)) (m : ℕ) (fra
       → u ≡ record v { regs = u.regs } → Held i m live s frames v → Held i m live s frames u
   by_scratch live s v u others same k = held_scratch i ok m frames live s v u same agree (others 1 (omega arith) (inl (omega arith))) k
     where
-      agree : (r : ℕ) → IsReliable r → u.regs.of r ≡ v.regs.of r
+      agree : (r : ℕ) → IsOwned r → u.regs.of r ≡ v.regs.of r
       agree r (inl h) = let up = h.1 in others r (omega arith) (inl up)
       agree r (inr h) = others r h.1 (inr h.0)
 
@@ -226,7 +226,7 @@ module _ (i : Places) (ok : (m : ℕ) → IsLayout (i.layouts m)) (m : ℕ) (fra
         static = refl;
       })))))
     where
-      below : (r : ℕ) → (r ≡ 1) ⊎ IsReliable r → r < 30
+      below : (r : ℕ) → (r ≡ 1) ⊎ IsOwned r → r < 30
       below r (inl one) = omega arith
       below r (inr (inl k')) = let up = k'.1 in omega arith
       below r (inr (inr k')) = k'.1

@@ -19,7 +19,7 @@ use Rattle.avr_view.specs.Run.{Run, Goes}
 use Rattle.avr_view.specs.View.{View, At}
 use Rattle.avr_view.proofs.Going.{goes_then, goes_fewer, goes_wider}
 use Rattle.vg_templates.specs.Layouts.{Layout, IsReliable}
-use Rattle.vg_templates.specs.Frames.{needed}
+use Rattle.vg_templates.specs.Frames.{Places, wanted, needed, AllOutlive}
 use Rattle.vg_templates.proofs.Saving.{fits_fewer}
 use Rattle.vg_templates.specs.Pieces.{Sees}
 use Rattle.vg_templates.specs.Held.{Held}
@@ -90,13 +90,18 @@ call_width (Far n) is = refl
 call_width (Near n) is = refl
 call_width ByZ is = refl
 
--- what is needed behind an instruction that idles
-idle_needed : (l : Layout) (pc k : ℕ) → l.live (suc pc) k ≡ true → needed l Interrupt pc k ≡ true
-idle_needed l pc k h = both (l.live (suc pc) k) h
+-- what is live behind an instruction that idles is found again, where it outlives what is called there
+idle_needed : (i : Places) (m pc k : ℕ) → AllOutlive (i.layouts m) (i.live m) Interrupt pc → i.live m (suc pc) k ≡ true → needed i m Interrupt pc k ≡ true
+idle_needed i m pc k all h =
+    let want = wanted_back (i.live m (suc pc) k) h in both (wanted (i.live m) Interrupt pc k) _ want (all k want)
   where
-    both : (b : Bool) → b ≡ true → (b && not false) ≡ true
-    both true e1 = refl
-    both false e1 = e1
+    wanted_back : (b : Bool) → b ≡ true → (b && not false) ≡ true
+    wanted_back true e1 = refl
+    wanted_back false e1 = e1
+
+    both : (b d : Bool) → b ≡ true → d ≡ true → (b && d) ≡ true
+    both true d e1 e2 = e2
+    both false d e1 e2 = e1
 
 module _ (e : Run) (x : Links) (p : Program) (st : Stands e x p) (deep : Type 0) where
   -- the configuration behind a return to a frame
@@ -135,7 +140,7 @@ module _ (e : Run) (x : Links) (p : Program) (st : Stands e x p) (deep : Type 0)
       ap (λ z. x.places.behind m pc + widths (behind_call l at_once z call.to)) is.passed ∙ next in
       let state = with_result call.to (low w y) (record kept { ram = c.state.ram }) in
       goes_wider e deep 0 s
-      (Sees e (Lies x.places m (l.live (suc pc)) state fs c.outside)
+      (Sees e (Lies x.places m (x.places.live m (suc pc)) state fs c.outside)
       (x.places.behind m pc + widths (behind_call l at_once (x.places.layouts c.proc).pushed call.to)))
       (Related e x p (Back' c (record { proc = m; pc = pc; kept = kept; awaits = Result call }) fs (low w y)))
       (λ t z. (
@@ -144,10 +149,10 @@ module _ (e : Run) (x : Links) (p : Program) (st : Stands e x p) (deep : Type 0)
           callers = rest;
           vectors = settled.vectors;
         },
-        subst (λ b. Sees e (Lies x.places m (l.live (suc pc)) state fs c.outside) b t) to z,
+        subst (λ b. Sees e (Lies x.places m (x.places.live m (suc pc)) state fs c.outside) b t) to z,
       ))
       (goes_on x.places st.layouts e deep c.proc m pc kept call fs w y c.state.ram c.outside at_once s small (can_drop l ns n kept is.waits at_once refl)
-      (can_land l (l.live (suc pc)) call.to w procedure.result k.covers.takes same (is.results procedure there)) stand
+      (can_land l (x.places.live m (suc pc)) call.to w procedure.result k.covers.takes same (is.results procedure there)) k.covers.outlive stand
       (subst (λ z. x.places.behind m pc + widths (behind_call l at_once z call.to) < 65536) (sym is.passed) inside) r)
     where
       past : (way : Way) (js : List Avr) (at : ℕ) → AllStandAt e.flash at (call_code way ∷ js) → AllStandAt e.flash (at + call_words way) js
@@ -185,7 +190,7 @@ module _ (e : Run) (x : Links) (p : Program) (st : Stands e x p) (deep : Type 0)
                             points = z.points;
                             waits = z.waits;
                             fits =
-                                (let fits = fits_fewer l (needed l Interrupt pc) (l.live (suc pc)) kept.locals z.own b.regs (λ j alive. idle_needed l pc j alive) z.fits in
+                                (let fits = fits_fewer l (needed x.places m Interrupt pc) (x.places.live m (suc pc)) kept.locals z.own b.regs (λ j alive. idle_needed x.places m pc j k.covers.1 alive) z.fits in
                                 record { each = fits.each; widths = fits.widths; long = fits.long });
                             callers = z.callers;
                           };
@@ -219,10 +224,10 @@ module _ (e : Run) (x : Links) (p : Program) (st : Stands e x p) (deep : Type 0)
       let small : w ≤ 4 = omega (arith, narrow, same) in
       let v = g.view in
       let callers : AreCallers x p (f ∷ fs) c.proc = subst (λ q. AreCallers x p q c.proc) are settled.callers in
-      let held : Held x.places c.proc (l.live c.pc) c.state (f ∷ fs) v = subst (λ q. Held x.places c.proc (l.live c.pc) c.state q v) are g.kind.held in
+      let held : Held x.places c.proc (x.places.live c.proc c.pc) c.state (f ∷ fs) v = subst (λ q. Held x.places c.proc (x.places.live c.proc c.pc) c.state q v) are g.kind.held in
       let goal = Related e x p (Back' c f fs z) in
       goes_then e deep 1 0 s (Returned e x.places c.proc f fs w d.all c.state.ram v.out) goal
-      (goes_returns x.places st.layouts e deep c.proc f fs (l.live c.pc) c.state a w d.all (x.place c.proc c.pc) v s small k.covers.1 d.got d.nothing held k.stands
+      (goes_returns x.places st.layouts e deep c.proc f fs (x.places.live c.proc c.pc) c.state a w d.all (x.place c.proc c.pc) v s small k.covers.1 d.got d.nothing held k.stands
       k.room g.at)
       (λ t r. subst (λ n. Goes e deep 0 t (Related e x p (Back' c f fs n))) d.low_bytes
       (goes_to_caller c w d.all f.proc f.pc f.kept f.awaits fs pl.procedure t small pl.there same callers.0 callers.1 settled

@@ -11,7 +11,7 @@ use Rattle.avr_view.specs.Registers.{Regs}
 use Rattle.avr_view.specs.Run.{Run}
 use Rattle.avr_view.specs.View.{View}
 use Rattle.vg_templates.specs.Spots.{number, put_number}
-use Rattle.vg_templates.specs.Layouts.{IsLayout, IsReliable, width_of}
+use Rattle.vg_templates.specs.Layouts.{IsLayout, IsOwned, width_of}
 use Rattle.vg_templates.specs.Frames.{Places}
 use Rattle.vg_templates.proofs.Numbers.{number-put, put_number-beside}
 use Rattle.vg_templates.specs.Pieces.{Takes}
@@ -57,7 +57,7 @@ module _ (i : Places) (ok : (m : ℕ) → IsLayout (i.layouts m)) (m : ℕ) (fra
       → Held i m live s frames u
   held_changed live s d n x v u low high c k = held_scratch i ok m frames live s v u c.same agree (c.others 1 (inl (omega arith))) k
     where
-      agree : (r : ℕ) → IsReliable r → u.regs.of r ≡ v.regs.of r
+      agree : (r : ℕ) → IsOwned r → u.regs.of r ≡ v.regs.of r
       agree r (inl h) = let up = h.1 in c.others r (inl (omega arith))
       agree r (inr h) = let down = h.0 in c.others r (inr (omega arith))
 

@@ -15,7 +15,7 @@ use Rattle.avr_view.specs.Run.{Run, Goes, Front, Ended}
 use Rattle.avr_view.specs.View.{View, At}
 use Rattle.avr_view.proofs.Going.{goes_fewer, goes_wider}
 use Rattle.vg_templates.specs.Layouts.{Layout, frame_size}
-use Rattle.vg_templates.specs.Frames.{Places, word_bytes, back_to, needed}
+use Rattle.vg_templates.specs.Frames.{Places, word_bytes, back_to, wanted, needed}
 use Rattle.vg_templates.specs.CallOutcomes.{Begun}
 use Rattle.vg_templates.specs.Linkage.{prologue}
 use Rattle.vg_templates.proofs.Openings.{saved-length}
@@ -87,12 +87,13 @@ lies_begun e i q f frames pc v t live ram one columns none b =
     }
 
 -- what an instruction that idles needs behind it was needed before
-idle_needs : (l : Layout) (pc : ℕ) → ((k : ℕ) → l.live (suc pc) k ≡ true → l.live pc k ≡ true) → (k : ℕ) → needed l Interrupt pc k ≡ true → l.live pc k ≡ true
-idle_needs l pc h k e = h k (first (l.live (suc pc) k) e)
+idle_needs : (i : Places) (m pc : ℕ) → ((k : ℕ) → i.live m (suc pc) k ≡ true → i.live m pc k ≡ true) → (k : ℕ) → needed i m Interrupt pc k ≡ true
+    → i.live m pc k ≡ true
+idle_needs i m pc h k e = h k (first (i.live m (suc pc) k) (not false) (first (wanted (i.live m) Interrupt pc k) _ e))
   where
-    first : (b : Bool) → (b && not false) ≡ true → b ≡ true
-    first true e1 = refl
-    first false e1 = e1
+    first : (b d : Bool) → (b && d) ≡ true → b ≡ true
+    first true d e1 = refl
+    first false d e1 = e1
 
 -- a configuration whose interrupt waits for its handler
 abbrev pub woken_by : (vector : ℕ) → Config State → Config State
@@ -107,7 +108,7 @@ module _ (e : Run) (x : Links) (p : Program) (st : Stands e x p) (deep : Type 0)
       let v = g.view in
       let l = x.places.layouts c.proc in
       let room : x.place c.proc c.pc + 2 < 65536 = k.room in
-      let size = stacked_bytes x.places c.proc (l.live c.pc) c.state c.frames v.stack v.regs g.kind.held.stacked in
+      let size = stacked_bytes x.places c.proc (x.places.live c.proc c.pc) c.state c.frames v.stack v.regs g.kind.held.stacked in
       goes_wider e deep 1 s (Ended e machine_end.Idle v.out) (Related e x p (takes (at_rest c) []))
       (λ t z. subst (λ o. Ended e machine_end.Idle o t) g.kind.out z)
       (ends_waiting e deep x.places x.idle st.idle (x.place c.proc c.pc) v s k.stands.0 (omega (arith, room)) (ap (λ (o : Outside). o.interrupts) g.kind.out ∙ left)
@@ -117,7 +118,7 @@ module _ (e : Run) (x : Links) (p : Program) (st : Stands e x p) (deep : Type 0)
       let v = g.view in
       let l = x.places.layouts c.proc in
       let room : x.place c.proc c.pc + 2 < 65536 = k.room in
-      let size = stacked_bytes x.places c.proc (l.live c.pc) c.state c.frames v.stack v.regs g.kind.held.stacked in
+      let size = stacked_bytes x.places c.proc (x.places.live c.proc c.pc) c.state c.frames v.stack v.regs g.kind.held.stacked in
       let place = x.place c.proc c.pc in
       let there : v.out.interrupts ≡ vector ∷ ks = ap (λ (o : Outside). o.interrupts) g.kind.out ∙ left in
       let o = entered v.out vector ks in
@@ -130,7 +131,7 @@ module _ (e : Run) (x : Links) (p : Program) (st : Stands e x p) (deep : Type 0)
           is_vector = vectors.0;
           idles = h;
           view = record v { out = o };
-          held = held_out x.places c.proc (l.live c.pc) c.state c.frames v o g.kind.held;
+          held = held_out x.places c.proc (x.places.live c.proc c.pc) c.state c.frames v o g.kind.held;
           out = same;
           at = b;
         },
@@ -154,7 +155,7 @@ module _ (e : Run) (x : Links) (p : Program) (st : Stands e x p) (deep : Type 0)
         record { waits = settled.waits ∙ sym k.waits; callers = settled.callers; vectors = settled.vectors },
         record {
           view = v;
-          kind = record { held = held_fewer x.places c.proc (l.live c.pc) (l.live (suc c.pc)) c.state c.frames v k.covers w.held; out = w.out };
+          kind = record { held = held_fewer x.places c.proc (x.places.live c.proc c.pc) (x.places.live c.proc (suc c.pc)) c.state c.frames v k.covers.0 w.held; out = w.out };
           at = subst (λ n. At e n v t) next b;
         },
       ))
@@ -174,7 +175,7 @@ module _ (e : Run) (x : Links) (p : Program) (st : Stands e x p) (deep : Type 0)
       let none : (x.places.layouts q).pushed ≡ 0 = ps.arguments.bytes ∙ ap (λ n. sum_of (take n (x.places.layouts q).widths)) hs.no_params in
       let locals : widths_of (slice_get p.procedures q) ≡ (x.places.layouts q).widths = ap widths_of hs.there ∙ sym ps.locals in
       let state_is : begun_with (x.places.layouts q).widths c.state.ram ≡ wake p q c.state = ap (λ ws. begun_with ws c.state.ram) (sym locals) in
-      let size = stacked_bytes x.places c.proc (l.live c.pc) c.state c.frames v.stack v.regs t in
+      let size = stacked_bytes x.places c.proc (x.places.live c.proc c.pc) c.state c.frames v.stack v.regs t in
       let goal = Related e x p (handles (language p) (woken_by vector c) (Some q)) in
       let need : handler_bytes x.places (p.handler vector) ≡ handler_bytes x.places (Some q) = ap (handler_bytes x.places) some in
       let to = x.entry q + widths (prologue (x.places.layouts q)) in
@@ -195,12 +196,12 @@ module _ (e : Run) (x : Links) (p : Program) (st : Stands e x p) (deep : Type 0)
           );
           vectors = settled.vectors;
         },
-        subst (λ n. Sees e (Lies x.places q ((x.places.layouts q).live 0) (wake p q c.state) (f ∷ c.frames) c.outside) n r) (sym ps.begins)
-            (subst (λ o. Sees e (Lies x.places q ((x.places.layouts q).live 0) (wake p q c.state) (f ∷ c.frames) o) to r) w.out
-            (subst (λ z. Sees e (Lies x.places q ((x.places.layouts q).live 0) z (f ∷ c.frames) v.out) to r) state_is
-            (lies_begun e x.places q f c.frames to v r ((x.places.layouts q).live 0) c.state.ram w.held.r1 w.held.ram none b))),
+        subst (λ n. Sees e (Lies x.places q (x.places.live q 0) (wake p q c.state) (f ∷ c.frames) c.outside) n r) (sym ps.begins)
+            (subst (λ o. Sees e (Lies x.places q (x.places.live q 0) (wake p q c.state) (f ∷ c.frames) o) to r) w.out
+            (subst (λ z. Sees e (Lies x.places q (x.places.live q 0) z (f ∷ c.frames) v.out) to r) state_is
+            (lies_begun e x.places q f c.frames to v r (x.places.live q 0) c.state.ram w.held.r1 w.held.ram none b))),
       ))
       (goes_from_slot e deep x.places x.idle st.idle st.layouts place vector q hs.stub (x.entry q) c.proc c.pc c.state c.frames t.wait t.own t.under v s hs.handled
       k.leads.1 ps.prologue_stands ps.room t.cut t.points t.waits
-      (fits_fewer l (l.live c.pc) (needed l Interrupt c.pc) c.state.locals t.own v.regs (idle_needs l c.pc k.covers) t.fits) t.callers
+      (fits_fewer l (x.places.live c.proc c.pc) (needed x.places c.proc Interrupt c.pc) c.state.locals t.own v.regs (idle_needs x.places c.proc c.pc k.covers.0) t.fits) t.callers
       (λ more. full (omega (arith, more, size, need))) w.at))

@@ -9,7 +9,7 @@ use Rattle.avr_view.specs.Registers.{Regs, does_all, ArePlain}
 use Rattle.avr_view.specs.Run.{Run}
 use Rattle.avr_view.specs.View.{View}
 use Rattle.vg_templates.specs.Spots.{number}
-use Rattle.vg_templates.specs.Layouts.{IsLayout, IsReliable}
+use Rattle.vg_templates.specs.Layouts.{IsLayout, IsOwned}
 use Rattle.vg_templates.specs.Frames.{Places}
 use Rattle.vg_templates.specs.Pieces.{Takes}
 use Rattle.vg_templates.specs.Held.{Held, IsReady, IsSet, brings, gives, Brought, Given}
@@ -51,7 +51,7 @@ module _ (i : Places) (ok : (m : ℕ) → IsLayout (i.layouts m)) (m : ℕ) (fra
             out = w.out;
           }
         where
-          agree : SameBut 18 10 v.regs (does_all e.flash is v.regs) → (r : ℕ) → IsReliable r → (does_all e.flash is v.regs).of r ≡ v.regs.of r
+          agree : SameBut 18 10 v.regs (does_all e.flash is v.regs) → (r : ℕ) → IsOwned r → (does_all e.flash is v.regs).of r ≡ v.regs.of r
           agree h r (inl k) = let up = k.1 in h r (omega arith) (inl up)
           agree h r (inr k) = h r k.1 (inr k.0)
 

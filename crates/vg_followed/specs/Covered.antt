@@ -21,8 +21,8 @@ use Rattle.vg_lin.specs.declared.instr.Instr.TheVariants.{Plain, When, Unless, J
 use Rattle.vg_lin.specs.Meaning.{operands}
 use Rattle.vg_lin.specs.Program.{Program}
 use Rattle.vg_lin.specs.Sound.{IsWidth}
-use Rattle.vg_lin.specs.Steps.{Result}
-use Rattle.vg_templates.specs.Frames.{needed}
+use Rattle.vg_lin.specs.Steps.{Result, Interrupt}
+use Rattle.vg_templates.specs.Frames.{wanted, AllOutlive}
 use Rattle.vg_templates.specs.Layouts.{Layout}
 use Rattle.vg_templates.specs.Held.{IsReady, IsSet}
 use Rattle.vg_templates.specs.Outcomes.{IsKept}
@@ -81,18 +81,19 @@ abbrev pub CanTake : Layout → (behind : ℕ → Bool) → Option Target → Ty
 CanTake l behind None = Unit {0}
 CanTake l behind (Some to) = IsTarget l behind to.width to
 
-pub record CanCall (l : Layout) (pc : ℕ) (c : Calling) : Type 0 where
-  pub arguments : AllByRecursion (CanPass l (l.live pc)) (operands c.registers)
-  pub callee : CanAim l (l.live pc) c.callee
-  pub kept : (k : ℕ) → needed l (Result c) pc k ≡ true → l.live pc k ≡ true
-  pub takes : CanTake l (l.live (suc pc)) c.to
+pub record CanCall (l : Layout) (live : (place local : ℕ) → Bool) (pc : ℕ) (c : Calling) : Type 0 where
+  pub arguments : AllByRecursion (CanPass l (live pc)) (operands c.registers)
+  pub callee : CanAim l (live pc) c.callee
+  pub kept : (k : ℕ) → wanted live (Result c) pc k ≡ true → live pc k ≡ true
+  pub outlive : AllOutlive l live (Result c) pc
+  pub takes : CanTake l (live (suc pc)) c.to
 
 -- the instruction that stands at a place of a procedure whose results have so many bytes
-abbrev pub Covers : Layout → Program → (result pc : ℕ) → Instr → Type 0
-Covers l p result pc (Plain q) = CanBeCoded l p (l.live pc) (l.live (suc pc)) q
-Covers l p result pc (When t to) = CanTest l (l.live pc) t × (IsKept (l.live pc) (l.live to) × IsKept (l.live pc) (l.live (suc pc)))
-Covers l p result pc (Unless t to) = CanTest l (l.live pc) t × (IsKept (l.live pc) (l.live to) × IsKept (l.live pc) (l.live (suc pc)))
-Covers l p result pc (Jump to) = IsKept (l.live pc) (l.live to)
-Covers l p result pc (Call c) = CanCall l pc c
-Covers l p result pc (Return w a) = (w ≡ result) × IsReady l (l.live pc) a
-Covers l p result pc Idle = IsKept (l.live pc) (l.live (suc pc))
+abbrev pub Covers : Layout → (live : (place local : ℕ) → Bool) → Program → (result pc : ℕ) → Instr → Type 0
+Covers l live p result pc (Plain q) = CanBeCoded l p (live pc) (live (suc pc)) q
+Covers l live p result pc (When t to) = CanTest l (live pc) t × (IsKept (live pc) (live to) × IsKept (live pc) (live (suc pc)))
+Covers l live p result pc (Unless t to) = CanTest l (live pc) t × (IsKept (live pc) (live to) × IsKept (live pc) (live (suc pc)))
+Covers l live p result pc (Jump to) = IsKept (live pc) (live to)
+Covers l live p result pc (Call c) = CanCall l live pc c
+Covers l live p result pc (Return w a) = (w ≡ result) × IsReady l (live pc) a
+Covers l live p result pc Idle = IsKept (live pc) (live (suc pc)) × AllOutlive l live Interrupt pc

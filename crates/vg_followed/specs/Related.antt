@@ -68,14 +68,14 @@ pub record Settled (x : Links) (p : Program) (c : Config State) : Type 0 where
 -- between two instructions: the procedure lies where its next instruction stands
 abbrev pub Going : (e : Run) (x : Links) (c : Config State) → MachineState → Type 0
 Going e x c s =
-    Sees e (Lies x.places c.proc ((x.places.layouts c.proc).live c.pc) c.state c.frames c.outside) (x.place c.proc c.pc) s
+    Sees e (Lies x.places c.proc (x.places.live c.proc c.pc) c.state c.frames c.outside) (x.place c.proc c.pc) s
 
 -- an interrupt was taken: the machine is at the slot of its vector, with two return addresses in front of the procedure that idles
 pub record Woken (e : Run) (x : Links) (p : Program) (c : Config State) (vector : ℕ) (s : MachineState) : Type 0 where
   pub is_vector : IsVector vector
   pub idles : fetch (codes_in p.procedures) c.proc c.pc ≡ Some Idle
   pub view : View
-  pub held : Held x.places c.proc ((x.places.layouts c.proc).live c.pc) c.state c.frames view
+  pub held : Held x.places c.proc (x.places.live c.proc c.pc) c.state c.frames view
   pub out : view.out ≡ c.outside
   pub at : At e (2 * vector) (record view {
     stack = word_bytes (x.idle + 2) ++ (word_bytes (x.place c.proc c.pc + 2) ++ view.stack);

@@ -94,7 +94,7 @@ pub record InstrStands (e : Run) (x : Links) (p : Program) (m : ℕ) (procedure 
   pub some : 1 ≤ length (template x p m pc i)
   pub leads : Leads x p m pc i
   pub waits : WaitsLead x m pc i
-  pub covers : Covers (x.places.layouts m) p procedure.result pc i
+  pub covers : Covers (x.places.layouts m) (x.places.live m) p procedure.result pc i
 
 -- the procedure with a number stands
 pub record ProcedureStands (e : Run) (x : Links) (p : Program) (m : ℕ) (procedure : Procedure) : Type 0 where

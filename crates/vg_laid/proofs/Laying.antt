@@ -74,7 +74,7 @@ pub piece_size : (entries guessed codes places : List ℕ) (idle : ℕ) (codes' 
     → widths (piece_of (sites entries guessed codes places idle) ds o) ≡ widths (piece_of (sites entries guessed codes' places' idle') ds o)
 piece_size entries guessed codes places idle codes' places' idle' ds None = refl
 piece_size entries guessed codes places idle codes' places' idle' ds (Some m) =
-    let l = framed m.widths m.params in
+    let l = framed m in
     let x = sites entries guessed codes places idle in let y = sites entries guessed codes' places' idle' in
     let f = leads_by l x m.code in let g = leads_by l y m.code in
     let p = with_codes (code_from codes) ds in let q = with_codes (code_from codes') ds in
@@ -85,7 +85,7 @@ piece_size entries guessed codes places idle codes' places' idle' ds (Some m) =
 piece_less : (x : Sites) (ds : List (List Case)) (o : Option Procedure) → widths (piece_of x ds o) ≤ widths (piece_of nowhere ds o)
 piece_less x ds None = omega arith
 piece_less x ds (Some m) =
-    let l = framed m.widths m.params in let f = leads_by l x m.code in let g = leads_by l nowhere m.code in
+    let l = framed m in let f = leads_by l x m.code in let g = leads_by l nowhere m.code in
     let p = with_codes (code_from x.codes) ds in let q = with_codes (code_from []) ds in
     both_less (prologue l) (body_code l p f m.code) (prologue l) (body_code l q g m.code) (omega arith)
     (upto_less l p q refl f g m.code (length m.code) (λ pc low.
@@ -100,7 +100,7 @@ pub placed_place : (entry : ℕ) (x : Sites) (ds : List (List Case)) (o : Option
     ≡ place_of (layout_of o) (with_codes (code_from x.codes) ds) (leads_by (layout_of o) x (instrs_of o)) (instrs_of o)
     (entry + widths (prologue (layout_of o))) pc
 placed_place entry x ds (Some m) pc h =
-    let l = framed m.widths m.params in let p = with_codes (code_from x.codes) ds in
+    let l = framed m in let p = with_codes (code_from x.codes) ds in
     let f = leads_by l x m.code in let start = entry + widths (prologue l) in
     got_or (place_of l p f m.code start) (places_upto l p f m.code start) refl (λ k. refl) 0 (length m.code) pc h
 placed_place entry x ds None pc h = absurd (omega (arith, h))
@@ -116,7 +116,7 @@ pub piece_is : (x : Sites) (p : Program) (o : Option Procedure) (m : Procedure) 
     → piece_of x p.dispatches o ≡ prologue (layout_of o) ++ body_code (layout_of o) p (lead_at (layout_of o) x (instrs_of o)) (instrs_of o)
 piece_is x p None m ec e = absurd (none-some _ e)
 piece_is x p (Some k) m ec e =
-    let l = framed k.widths k.params in
+    let l = framed k in
     ap (λ z. prologue l ++ z)
     (upto_same l (with_codes (code_from x.codes) p.dispatches) p (sym ec) refl (leads_by l x k.code) (lead_at l x k.code) k.code (length k.code)
     (λ pc low. leads_are l x k.code pc low))

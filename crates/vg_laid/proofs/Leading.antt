@@ -34,7 +34,7 @@ use Rattle.vg_put_procedures.specs.Emitted.{code_of, code_at, code_upto, body_co
 use Rattle.vg_put_programs.specs.declared.reach.Reach.{Reach}
 use Rattle.vg_put_programs.specs.Programs.{turn_of, aim_in, behind_in, callee_in, reach_in, Emission, piece_at, pieces_upto}
 use Rattle.vg_laid.specs.Linked.{HasPiece, Targets, ProcedureLinked}
-use Rattle.vg_laid.specs.Laid.{unknown, known, reach_of, behind_hop, aim_of, hop_by, turn_by, way_by, layout_of, instrs_of, behind_of, layout_at, instrs_at}
+use Rattle.vg_laid.specs.Laid.{unknown, known, reach_of, behind_hop, aim_of, hop_by, turn_by, way_by, layout_of, live_of, instrs_of, behind_of, layout_at, instrs_at}
 use Rattle.vg_laid.specs.Laid.{known_places, guessed_places, sites_of, leads_at, place_at, links_of}
 use Rattle.vg_laid.proofs.Sizes.{turn_words, turn_takes}
 use Rattle.vg_laid.proofs.Reaching.{InReach, Nearer, reached, still_in_reach, hop_leads, way_leads, turn_leads}
@@ -376,6 +376,7 @@ module _ (ms : List Procedure) (s : ℕ) (ds : List (List Case)) (first : ℕ) (
   procedure_linked fit start code front rest cut begins =
       record {
         layout = ap layout_of is_there;
+        live = ap live_of is_there;
         stands = subst (λ z. HasPiece start code (code_from e.codes m) (prologue l ++ body_code l p (leads_at e p m) z)) is_is
             (has_piece start code front rest cut begins);
         room = subst (λ z. code_from e.codes m + widths (prologue l ++ body_code l p (leads_at e p m) z) < 65536) is_is inside;

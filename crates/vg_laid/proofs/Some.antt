@@ -192,7 +192,7 @@ spot_some (InRegisters r) w d n h = padded_some r w n h
 
 module _ (m : Procedure) (s : IsSound m) where
   abbrev l : Layout
-  l = framed m.widths m.params
+  l = framed m
 
   gives_some : (to r n : ℕ) → to < length m.widths → 1 ≤ length (gives l to r n)
   gives_some to r n h = keep_some (l.spots to) (width_of l to) r n (wide_at m.widths to s.widths h)

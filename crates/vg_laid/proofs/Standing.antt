@@ -17,6 +17,7 @@ use Rattle.vg_lin.specs.Sound.{waits_in, waits_of, GoesOn, Jumps, IsSound}
 use Rattle.vg_lin.specs.Sound as sound
 use Rattle.vg_templates.specs.Layouts.{Layout}
 use Rattle.vg_templates.specs.Linkage.{prologue}
+use Rattle.vg_templates.specs.Framed.{framed}
 use Rattle.vg_templates.proofs.Framing.{framed-pushed}
 use Rattle.vg_alloc.proofs.Spotting.{can_be_framed}
 use Rattle.vg_templates.specs.Calls.{HasPushed}
@@ -161,7 +162,9 @@ module _ (e : Run) (x : Links) (p : Program) (start : ℕ) (code : List Avr) (m 
         some = each.some;
         leads = leading pc i (next pc i q) each.targets;
         waits = waits_lead pc i (s.goes_on pc i q);
-        covers = subst (λ z. Covers z p procedure.result pc i) (sym h.layout) (covered procedure s pc p i (s.operands pc i q) each.fit);
+        covers =
+            subst (λ z. Covers z (x.places.live m) p procedure.result pc i) (sym h.layout)
+            (subst (λ z. Covers (framed procedure) z p procedure.result pc i) (sym h.live) (covered procedure s pc p i q (s.operands pc i q) each.fit));
       }
 
   pub procedure_stands : ProcedureStands e x p m procedure
@@ -171,7 +174,7 @@ module _ (e : Run) (x : Links) (p : Program) (start : ℕ) (code : List Avr) (m 
         room = let r = room in omega (arith, r);
         begins = h.places 0 ∙ (let z : first + 0 ≡ first = omega arith in z);
         locals = ap (λ (z : Layout). z.widths) h.layout;
-        arguments = subst (λ z. HasPushed z procedure.params) (sym h.layout) (framed-pushed procedure.widths procedure.params (can_be_framed procedure s));
+        arguments = subst (λ z. HasPushed z procedure.params) (sym h.layout) (framed-pushed procedure (can_be_framed procedure s));
         result = s.result;
         waits = h.waits 0;
         each = instr_stands;

@@ -21,7 +21,7 @@ use Rattle.vg_put_operations.specs.Coded.{code_from}
 use Rattle.vg_select.specs.Selected.{Leading, selected}
 use Rattle.vg_put_procedures.specs.Emitted.{code_of, code_at, code_upto, body_code}
 use Rattle.vg_put_programs.specs.Programs.{in_turn, turn_of, entry_in, codes_upto, Emission, piece_at, pieces_upto}
-use Rattle.vg_laid.specs.Laid.{placed_from, known, codes_from, layout_of, instrs_of, index_in, stubs_code, found_from, codes_by, layout_at, instrs_at, leads_at, AreSound}
+use Rattle.vg_laid.specs.Laid.{placed_from, known, codes_from, no_procedure, layout_of, instrs_of, index_in, stubs_code, found_from, codes_by, layout_at, instrs_at, leads_at, AreSound}
 use Rattle.vg_laid.proofs.Some.{selected_some, words_some, front, back}
 use Rattle.vg_laid.proofs.Standing.{upto_parts}
 use Rattle.vg_laid.proofs.Turns.{counted, turned, turn_low}
@@ -108,17 +108,17 @@ found_back q (x ∷ xs) (suc k) h others =
 -- ---- layouts
 
 layout_stands : (o : Option Procedure) → ((m : Procedure) → o ≡ Some m → IsSound m) → IsLayout (layout_of o)
-layout_stands (Some m) h = framed-layout m.widths m.params (can_be_framed m (h m refl))
+layout_stands (Some m) h = framed-layout m (can_be_framed m (h m refl))
 layout_stands None h =
-    framed-layout [] 0 (record { narrow = λ k low. absurd (omega (arith, low)); params = omega arith; small = omega arith })
+    framed-layout no_procedure (record { narrow = λ k low. absurd (omega (arith, low)); params = omega arith; small = omega arith })
 
 pub layouts_stand : (e : Emission) (p : Program) (ds : List (List Case)) → AreSound e.procedures ds → (m : ℕ) → IsLayout (layout_at e p m)
 layouts_stand e p ds h m = layout_stands (slice_get e.procedures m) (λ procedure is. h.sound m procedure is)
 
 -- A sound procedure has code: that of its first instruction.
-body_some : (m : Procedure) → IsSound m → (p : Program) (leads : ℕ → Leading) → 1 ≤ length (body_code (framed m.widths m.params) p leads m.code)
+body_some : (m : Procedure) → IsSound m → (p : Program) (leads : ℕ → Leading) → 1 ≤ length (body_code (framed m) p leads m.code)
 body_some m s p leads =
-    let l = framed m.widths m.params in
+    let l = framed m in
     let t = there m.code 0 s.begins.0 in
     let r = upto_parts l p leads m.code (length m.code) 0 s.begins.0 in
     let ws = waits_in [] m.code 0 in

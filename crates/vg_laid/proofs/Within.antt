@@ -29,7 +29,7 @@ use Rattle.vg_laid.specs.Laid.{AreSound}
 
 module _ (m : Procedure) where
   abbrev l : Layout
-  l = framed m.widths m.params
+  l = framed m
 
   there : (a : Operand) → IsOperand m a → IsThere l a
   there (Local k) h = h

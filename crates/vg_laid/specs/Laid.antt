@@ -1,6 +1,6 @@
 -- Programs that are put three times: with far jumps, branches and calls alone, to learn how far off each of them leads; with near ones where these reach, to learn
 -- where all code stands; and then so that it leads there.
-use Rattle.std.specs.Prelude.{ℕ, suc, ◌≡◌, ◌+◌, ◌*◌, ◌%◌, ◌<◌, ◌==◌, if◌then◌else◌, List, [], ◌∷◌, ◌++◌, length, Option, Some, None, slice_get}
+use Rattle.std.specs.Prelude.{ℕ, suc, ◌≡◌, ◌+◌, ◌*◌, ◌%◌, ◌<◌, ◌==◌, if◌then◌else◌, Bool, List, [], ◌∷◌, ◌++◌, length, Option, Some, None, slice_get}
 use Rattle.avr_instr.specs.declared.instr.Instr.{Instr as Avr}
 use Rattle.avr_isa.specs.Standing.{widths}
 use Rattle.vg_codes.specs.declared.case.Case.{Case}
@@ -11,7 +11,7 @@ use Rattle.vg_lin.specs.Program.{Procedure, Program}
 use Rattle.vg_lin.specs.Sound.{IsSound, waits_in}
 use Rattle.vg_templates.specs.Layouts.{Layout}
 use Rattle.vg_templates.specs.Linkage.{prologue}
-use Rattle.vg_templates.specs.Framed.{framed}
+use Rattle.vg_templates.specs.Framed.{framed, live_in}
 use Rattle.vg_templates.specs.Calls.{call_words}
 use Rattle.vg_templates.specs.Calls as calls
 use Rattle.vg_templates.specs.Idle.{stub}
@@ -101,9 +101,16 @@ lead_at l x is pc = lead_of l x pc (slice_get is pc)
 
 -- ---- where it stands
 
+abbrev pub no_procedure : Procedure
+no_procedure = record { method = None; params = 0; result = 0; widths = []; code = [] }
+
 abbrev pub layout_of : Option Procedure → Layout
-layout_of (Some m) = framed m.widths m.params
-layout_of None = framed [] 0
+layout_of (Some m) = framed m
+layout_of None = framed no_procedure
+
+abbrev pub live_of : Option Procedure → (place local : ℕ) → Bool
+live_of (Some m) = live_in m
+live_of None = live_in no_procedure
 
 abbrev pub instrs_of : Option Procedure → List Instr
 instrs_of (Some m) = m.code
@@ -157,6 +164,7 @@ module _ (e : Emission) (p : Program) where
       record {
         places = record {
           layouts = layout_at;
+          live = λ m. live_of (slice_get e.procedures m);
           behind = λ m pc. behind_of (layout_at m) (place_at m pc) (leads_at m pc) (slice_get (instrs_at m) pc);
           woken = e.idle + 2;
           stub_end = λ m. stub_at stubs (e.idle + 4) m + 2;

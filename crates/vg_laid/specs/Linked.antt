@@ -7,7 +7,7 @@ use Rattle.vg_lin.specs.declared.instr.Instr.TheVariants.{Plain, When, Unless, J
 use Rattle.vg_lin.specs.Program.{Procedure, Program}
 use Rattle.vg_lin.specs.Sound.{waits_of}
 use Rattle.vg_templates.specs.Linkage.{prologue}
-use Rattle.vg_templates.specs.Framed.{framed}
+use Rattle.vg_templates.specs.Framed.{framed, live_in}
 use Rattle.vg_templates.specs.Branches.{tests}
 use Rattle.vg_templates.specs.Calls.{call_words}
 use Rattle.vg_templates.specs.Flow.{way_of}
@@ -45,9 +45,10 @@ pub record InstrLinked (x : Links) (p : Program) (m pc : ℕ) (i : Instr) : Type
   pub targets : Targets x m pc i
   pub fit : IsFit p i
 
--- Its locals lie where its layout says; its code stands from its entry on, and each instruction's where the code before it ends.
+-- Its locals lie where its layout says, and are live where its code needs them; its code stands from its entry on, and each instruction's where the code before it ends.
 pub record ProcedureLinked (x : Links) (p : Program) (start : ℕ) (code : List Avr) (m : ℕ) (procedure : Procedure) : Type 0 where
-  pub layout : x.places.layouts m ≡ framed procedure.widths procedure.params
+  pub layout : x.places.layouts m ≡ framed procedure
+  pub live : x.places.live m ≡ live_in procedure
   pub stands : HasPiece start code (x.entry m) (prologue (x.places.layouts m) ++ body_code (x.places.layouts m) p (leading_of x m) procedure.code)
   pub room : x.entry m + widths (prologue (x.places.layouts m) ++ body_code (x.places.layouts m) p (leading_of x m) procedure.code) < 65536
   pub places : (pc : ℕ) → x.place m pc

@@ -38,7 +38,7 @@ module _ (entry : ℕ) (x : Sites) (ds : List (List Case)) where
 
   -- what stands of one procedure, by its layout and by where its instructions lead
   pub one_placed : (m : Procedure) (l : Layout) (is : List Instr) (given leadings : List Held) (none begins : List ℕ) (end : ℕ)
-      → is ≡ m.code → l ≡ framed m.widths m.params → leading_in given ≡ leads_by l x is → leadings ≡ given → none ≡ []
+      → is ≡ m.code → l ≡ framed m → leading_in given ≡ leads_by l x is → leadings ≡ given → none ≡ []
       → begins ≡ none ++ places_upto l p (leading_in leadings) is (entry + widths (prologue l)) (length is)
       → end ≡ place_of l p (leading_in leadings) is (entry + widths (prologue l)) (length is)
       → record { entry = entry; places = begins; end = end } ≡ placed_of entry x ds (Some m)
@@ -47,7 +47,7 @@ module _ (entry : ℕ) (x : Sites) (ds : List (List Case)) where
       (eb ∙ ap (λ z. z ++ places_upto l p (leading_in leadings) is (entry + widths (prologue l)) (length is)) en) (ee ∙ all_words)
       ∙ ap (λ f. placed_by l f is) (ap leading_in es ∙ eg)
       ∙ ap (λ k. placed_by k (leads_by k x is) is) el
-      ∙ ap (λ z. placed_by (framed m.widths m.params) (leads_by (framed m.widths m.params) x z) z) ei
+      ∙ ap (λ z. placed_by (framed m) (leads_by (framed m) x z) z) ei
     where
       all_words : place_of l p (leading_in leadings) is (entry + widths (prologue l)) (length is)
           ≡ entry + widths (prologue l ++ body_code l p (leading_in leadings) is)
@@ -55,12 +55,12 @@ module _ (entry : ℕ) (x : Sites) (ds : List (List Case)) where
 
   -- its code
   pub one_piece : (m : Procedure) (l : Layout) (is : List Instr) (given leadings : List Held) (code code' : List Avr) → is ≡ m.code
-      → l ≡ framed m.widths m.params → leading_in given ≡ leads_by l x is → leadings ≡ given
+      → l ≡ framed m → leading_in given ≡ leads_by l x is → leadings ≡ given
       → code' ≡ code ++ (prologue l ++ body_code l p (leading_in leadings) is) → code' ≡ code ++ piece_of x ds (Some m)
   one_piece m l is given leadings code code' ei el eg es ec =
       ec ∙ ap (λ z. code ++ z) (
       ap (λ f. prologue l ++ body_code l p f is) (ap leading_in es ∙ eg) ∙ ap (λ k. prologue k ++ body_code k p (leads_by k x is) is) el
-      ∙ ap (λ z. prologue (framed m.widths m.params) ++ body_code (framed m.widths m.params) p (leads_by (framed m.widths m.params) x z) z) ei)
+      ∙ ap (λ z. prologue (framed m) ++ body_code (framed m) p (leads_by (framed m) x z) z) ei)
 
 pub done_next : (e : Emission) (first : ℕ) (before : List Avr) (k : ℕ) (code code' : List Avr) (placed placed' : List Placed) (end : ℕ) (m : Procedure)
     (gs ps : List ℕ) (one : Placed) → Done e first before k code placed end → procedure_in e k ≡ Some m → gs ≡ places_at e.guess k

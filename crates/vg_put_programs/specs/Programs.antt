@@ -168,10 +168,10 @@ emission ms s ds guess entries known codes idle =
 
 abbrev pub procedure_code : (codes : ℕ → ℕ) → List (List Case) → (leads : ℕ → Leading) → Procedure → List Avr
 procedure_code codes ds leads m =
-    prologue (framed m.widths m.params) ++ body_code (framed m.widths m.params) (with_codes codes ds) leads m.code
+    prologue (framed m) ++ body_code (framed m) (with_codes codes ds) leads m.code
 
 abbrev pub piece_of : Sites → List (List Case) → Option Procedure → List Avr
-piece_of x ds (Some m) = procedure_code (code_from x.codes) ds (leads_by (framed m.widths m.params) x m.code) m
+piece_of x ds (Some m) = procedure_code (code_from x.codes) ds (leads_by (framed m) x m.code) m
 piece_of x ds None = []
 
 -- where it stands, from its entry on
@@ -180,9 +180,9 @@ placed_of entry x ds (Some m) =
     record {
       entry = entry;
       places =
-          places_upto (framed m.widths m.params) (with_codes (code_from x.codes) ds) (leads_by (framed m.widths m.params) x m.code) m.code
-          (entry + widths (prologue (framed m.widths m.params))) (length m.code);
-      end = entry + widths (procedure_code (code_from x.codes) ds (leads_by (framed m.widths m.params) x m.code) m);
+          places_upto (framed m) (with_codes (code_from x.codes) ds) (leads_by (framed m) x m.code) m.code
+          (entry + widths (prologue (framed m))) (length m.code);
+      end = entry + widths (procedure_code (code_from x.codes) ds (leads_by (framed m) x m.code) m);
     }
 placed_of entry x ds None = record { entry = entry; places = []; end = entry }
 
@@ -214,4 +214,4 @@ placed_upto e first (suc k) = placed_upto e first k ++ placed_at e first k ∷ [
 abbrev pub AreWithin : List Procedure → Type 0
 AreWithin ms =
     (m : ℕ) (procedure : Procedure) → slice_get ms m ≡ Some procedure → (pc : ℕ) (i : Instr) → slice_get procedure.code pc ≡ Some i
-    → IsWithin (framed procedure.widths procedure.params) i
+    → IsWithin (framed procedure) i

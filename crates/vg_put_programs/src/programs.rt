@@ -30,7 +30,7 @@ fn put_one(
     idle: u16,
     entry: u32,
 ) -> Result<Placed, NoMemory>
-    requires { (pc : ℕ) (i : InstrValue) → slice_get procedure.now.code pc ≡ Some i → IsWithin (framed procedure.now.widths procedure.now.params) i }
+    requires { (pc : ℕ) (i : InstrValue) → slice_get procedure.now.code pc ≡ Some i → IsWithin (framed procedure.now) i }
     ensures code { OnOk result (code.new ≡ code.old ++ piece_of (sites entries.now guessed.now codes.now places.now idle) dispatches.now (Some procedure.now)) }
     ensures placed { IfOk result (λ placed. placed ≡ placed_of entry (sites entries.now guessed.now codes.now places.now idle) dispatches.now
         (Some procedure.now)) }

@@ -1,16 +1,18 @@
 -- That the small procedures keep what every procedure keeps.
-use Rattle.std.specs.Prelude.{ℕ, zero, suc, ◌≤◌, [], ◌∷◌, List, Some, None, slice_get, length}
+use Rattle.std.specs.Prelude.{ℕ, zero, suc, ◌≤◌, ◌<◌, [], ◌∷◌, List, Some, None, slice_get, length}
 use Rattle.std.specs.List.{AllByRecursion}
 use Rattle.std.proofs.Common.{◌≡◌, refl, sym, subst, arith}
 use Rattle.vg_lin.specs.declared.instr.Instr.{Instr}
-use Rattle.vg_lin.specs.declared.instr.Instr.TheVariants.{Idle, Jump}
+use Rattle.vg_lin.specs.declared.instr.Operand.TheVariants.{Local}
+use Rattle.vg_lin.specs.declared.instr.Plain.TheVariants.{WriteDevice}
+use Rattle.vg_lin.specs.declared.instr.Instr.TheVariants.{Plain, Idle, Jump}
 use Rattle.vg_lin.specs.Sound.{IsWidth, AreOperands, Waits, IsSound, waits_of}
-use Rattle.vg_put_rows.specs.Sample.{idling, sample, wide}
+use Rattle.vg_put_rows.specs.Sample.{idling, sample, lasting, wide}
 
 same : (x y : Instr) → Some x ≡ Some y → x ≡ y
 same x y e = cc
 
-module _ (n : ℕ) (ws : List ℕ) (low : n ≤ length ws) (few : length ws ≤ 6) (all : AllByRecursion IsWidth ws) where
+module _ (n : ℕ) (ws : List ℕ) (low : n ≤ length ws) (few : length ws ≤ 7) (all : AllByRecursion IsWidth ws) where
   operands : (at : ℕ) (i : Instr) → slice_get (idling n ws).code at ≡ Some i → AreOperands (idling n ws) i
   operands zero i e = subst (AreOperands (idling n ws)) (same Idle i e) (tt {0})
   operands (suc zero) i e = subst (AreOperands (idling n ws)) (same (Jump 0) i e) (tt {0})
@@ -45,7 +47,7 @@ sound_as n low = sound_of n (2 ∷ 1 ∷ []) low (omega arith) ((omega arith, om
 
 pub sound_wide : (ws : List ℕ) (code : List Instr) → ws ≡ wide.widths → code ≡ (sample 0).code
     → IsSound (record { method = None; params = 1; result = 0; widths = ws; code = code })
-sound_wide = sound_of 1 wide.widths (omega arith) (omega arith) (one, (four, (four, (four, (four, (two, tt {0}))))))
+sound_wide = sound_of 1 wide.widths (omega arith) (omega arith) (one, (four, (four, (two, (four, (two, (two, tt {0})))))))
   where
     one : IsWidth 1
     one = (omega arith, omega arith)
@@ -55,3 +57,33 @@ sound_wide = sound_of 1 wide.widths (omega arith) (omega arith) (one, (four, (fo
 
     four : IsWidth 4
     four = (omega arith, omega arith)
+
+lasting_operands : (at : ℕ) (i : Instr) → slice_get lasting.code at ≡ Some i → AreOperands lasting i
+lasting_operands zero i e = subst (AreOperands lasting) (same Idle i e) (tt {0})
+lasting_operands (suc zero) i e = subst (AreOperands lasting) (same (Plain (WriteDevice 0x38 (Local 1))) i e) (let low : 1 < 2 = omega arith in low)
+lasting_operands (suc (suc zero)) i e = subst (AreOperands lasting) (same (Jump 0) i e) (tt {0})
+lasting_operands (suc (suc (suc at))) i e = grind arith
+
+lasting_goes_on : (at : ℕ) (i : Instr) → slice_get lasting.code at ≡ Some i → Waits lasting (waits_of lasting) at i
+lasting_goes_on zero i e = subst (Waits lasting (waits_of lasting) 0) (same Idle i e) (omega arith, refl)
+lasting_goes_on (suc zero) i e = subst (Waits lasting (waits_of lasting) 1) (same (Plain (WriteDevice 0x38 (Local 1))) i e) (omega arith, refl)
+lasting_goes_on (suc (suc zero)) i e = subst (Waits lasting (waits_of lasting) 2) (same (Jump 0) i e) (omega arith, (omega arith, refl))
+lasting_goes_on (suc (suc (suc at))) i e = grind arith
+
+lasting_sound : IsSound lasting
+lasting_sound =
+    record {
+      few = omega arith;
+      params = omega arith;
+      result = omega arith;
+      widths = ((omega arith, omega arith), ((omega arith, omega arith), tt {0}));
+      operands = lasting_operands;
+      begins = (omega arith, refl);
+      goes_on = lasting_goes_on;
+    }
+
+pub lasting_as : (ws : List ℕ) (code : List Instr) → ws ≡ lasting.widths → code ≡ lasting.code
+    → IsSound (record { method = None; params = 0; result = 0; widths = ws; code = code })
+lasting_as ws code e h =
+    subst (λ z. IsSound (record { method = None; params = 0; result = 0; widths = z; code = code })) (sym e)
+    (subst (λ z. IsSound (record { method = None; params = 0; result = 0; widths = lasting.widths; code = z })) (sym h) lasting_sound)

@@ -1,11 +1,11 @@
 // Small procedures and their locations.
 ghost use Rattle.std.specs.Prelude.{◌≡◌, ◌≤◌, IfOk};
-ghost use Rattle.vg_put_rows.specs.Sample.{sample, wide};
+ghost use Rattle.vg_put_rows.specs.Sample.{sample, lasting, wide};
 
 use std::alloc::Global;
 use vg_alloc::{Locations, frames};
 use vg_base::{NoMemory, Row};
-use vg_lin::{Instr, LinProc};
+use vg_lin::{Instr, LinProc, Operand, Plain};
 
 /// The small procedure, of whose locals so many are parameters.
 pub fn sample_procedure(alloc: Global, params: u8) -> Result<LinProc, NoMemory>
@@ -35,14 +35,41 @@ fn sample_code(alloc: Global) -> Result<Row<Instr>, NoMemory>
     Ok(code)
 }
 
-/// Its locations. Where the first local is a parameter, the other one is in r2; the frame has the saved Y, the saved r2 and the return address, and then the
-/// parameter. Where both are parameters, behind Y and the return address lies the byte of the other one, and then the first. Where there are no parameters,
-/// the first local is in r2 and r3, and the other one in r4.
+/// Its locations. Nothing is wanted behind a call. Where the first local is a parameter, the other one is in r8; the frame has the saved Y and the return
+/// address, and then the parameter. Where both are parameters, behind Y and the return address lies the byte of the other one, and then the first. Where there
+/// are no parameters, the first local is in r8 and r9, and the other one in r10.
 pub fn sample_locations(alloc: Global, params: u8) -> Result<Locations, NoMemory>
     requires { params ≤ 2 }
     ensures { IfOk result (λ l. l.widths ≡ (sample params).widths) }
 {
     let procedure = sample_procedure(alloc, params)?;
+    frames(alloc, &procedure)
+}
+
+/// A procedure that waits for interrupts and then writes the last of its two locals to a device.
+pub fn lasting_procedure(alloc: Global) -> Result<LinProc, NoMemory>
+    ensures { IfOk result (λ p. p ≡ lasting) }
+{
+    let widths = sample_widths(alloc)?;
+    let code = lasting_code(alloc)?;
+    Ok(LinProc::new(None, 0, 0, widths, code))
+}
+
+fn lasting_code(alloc: Global) -> Result<Row<Instr>, NoMemory>
+    ensures { IfOk result (λ code. code ≡ lasting.code) }
+{
+    let mut code = Row::new(alloc);
+    code.push(Instr::Idle)?;
+    code.push(Instr::Plain(Plain::WriteDevice(0x38, Operand::Local(1))))?;
+    code.push(Instr::Jump(0))?;
+    Ok(code)
+}
+
+/// Its locations. The first local is in r8 and r9, and the other one, whose value is wanted behind the interrupt, in r2, which is saved.
+pub fn lasting_locations(alloc: Global) -> Result<Locations, NoMemory>
+    ensures { IfOk result (λ l. l.widths ≡ lasting.widths) }
+{
+    let procedure = lasting_procedure(alloc)?;
     frames(alloc, &procedure)
 }
 
@@ -62,14 +89,15 @@ fn wide_widths(alloc: Global) -> Result<Row<u8>, NoMemory>
     widths.push(1)?;
     widths.push(4)?;
     widths.push(4)?;
+    widths.push(2)?;
     widths.push(4)?;
-    widths.push(4)?;
+    widths.push(2)?;
     widths.push(2)?;
     Ok(widths)
 }
 
-/// Its locations. The sixteen bytes behind the parameter are in r2 to r17, and the last local has the two newest bytes of the frame; behind it lie the saved Y,
-/// what was saved of r2 to r17 and the return address, and then the parameter.
+/// Its locations. Of the sixteen bytes behind the parameter the first ten are in r8 to r17 and the others in r2 to r7, and the last local has the two newest
+/// bytes of the frame; behind it lie the saved Y, what was saved of r2 to r7 and the return address, and then the parameter.
 pub fn wide_locations(alloc: Global) -> Result<Locations, NoMemory>
     ensures { IfOk result (λ l. l.widths ≡ wide.widths) }
 {

@@ -1,6 +1,6 @@
 ghost use Rattle.std.specs.Prelude.{◌≡◌, ◌≤◌};
 
-use crate::sample::{sample_locations, wide_locations};
+use crate::sample::{lasting_locations, sample_locations, wide_locations};
 use avr_instr::{FlagBit, Instr, NearOffset, encode};
 use std::alloc::Global;
 use vg_base::{NoMemory, Row};
@@ -49,15 +49,15 @@ fn entered(alloc: Global) -> Result<Row<Instr>, NoMemory> {
     Ok(code)
 }
 
-// The register of a local is saved, and Y, which becomes the frame pointer; the low byte of the parameter goes to the local, which is returned.
+// Y is saved, and becomes the frame pointer; the low byte of the parameter goes to the local, which is returned.
 #[test]
 fn a_procedure_enters_and_returns(rt: HostRuntime) {
     let alloc = rt.alloc();
     let code = entered(alloc);
     let expected = [
-        0x922F, 0x93DF, 0x93CF, 0xB7CD, 0xB7DE, // PUSH r2; PUSH r29; PUSH r28; IN r28, SPL; IN r29, SPH
-        0x802E, // LDD r2, Y+6
-        0x2D62, 0x91CF, 0x91DF, 0x902F, 0x9508, // MOV r22, r2; POP r28; POP r29; POP r2; RET
+        0x93DF, 0x93CF, 0xB7CD, 0xB7DE, // PUSH r29; PUSH r28; IN r28, SPL; IN r29, SPH
+        0x808D, // LDD r8, Y+5
+        0x2D68, 0x91CF, 0x91DF, 0x9508, // MOV r22, r8; POP r28; POP r29; RET
     ];
     let holds = is_spelled(alloc, &code, &expected);
     assert!(rt; holds);
@@ -183,7 +183,7 @@ fn branches_are_put(rt: HostRuntime) {
     let alloc = rt.alloc();
     let code = branched(alloc);
     let expected = [
-        0x816E, 0x817F, 0x2B67, // LDD r22, Y+6; LDD r23, Y+7; OR r22, r23
+        0x816D, 0x817E, 0x2B67, // LDD r22, Y+5; LDD r23, Y+6; OR r22, r23
         0xF029, // BREQ by 5 words
         0xF411, 0x940C, 0x1234, // BRNE by 2 words; JMP 0x1234
     ];
@@ -288,10 +288,10 @@ fn dispatches_are_put(rt: HostRuntime) {
     let alloc = rt.alloc();
     let code = dispatched(alloc);
     let expected = [
-        0x818E, 0x819F, 0xE263, 0xE071, // LDD r24, Y+6; LDD r25, Y+7; LDI r22, 0x23; LDI r23, 0x01
+        0x818D, 0x819E, 0xE263, 0xE071, // LDD r24, Y+5; LDD r25, Y+6; LDI r22, 0x23; LDI r23, 0x01
         0x01DC, 0x50A3, 0x40B0, 0x50A1, 0x40B0, // MOVW r26, r24; SUBI r26, 3; SBCI r27, 0; SUBI r26, 1; SBCI r27, 0
         0xF410, 0xE566, 0xE074, // BRCC by 2 words; LDI r22, 0x56; LDI r23, 0x04
-        0x836E, 0x837F, // STD Y+6, r22; STD Y+7, r23
+        0x836D, 0x837E, // STD Y+5, r22; STD Y+6, r23
     ];
     let holds = is_spelled(alloc, &code, &expected);
     assert!(rt; holds);
@@ -307,16 +307,37 @@ fn entered_in_registers(alloc: Global) -> Result<Row<Instr>, NoMemory> {
     Ok(code)
 }
 
-// Without parameters locals are in registers, which are saved; there is no frame pointer.
+// Without parameters locals are in registers; those that are wanted behind no call are not saved, and there is no frame pointer.
 #[test]
 fn locals_are_in_registers(rt: HostRuntime) {
     let alloc = rt.alloc();
     let code = entered_in_registers(alloc);
     let expected = [
-        0x924F, 0x923F, 0x922F, // PUSH r4; PUSH r3; PUSH r2
-        0x2C42, // MOV r4, r2
-        0xE263, 0xE071, 0x011B, // LDI r22, 0x23; LDI r23, 0x01; MOVW r2, r22
-        0x2D64, 0x902F, 0x903F, 0x904F, 0x9508, // MOV r22, r4; POP r2; POP r3; POP r4; RET
+        0x2CA8, // MOV r10, r8
+        0xE263, 0xE071, 0x014B, // LDI r22, 0x23; LDI r23, 0x01; MOVW r8, r22
+        0x2D6A, 0x9508, // MOV r22, r10; RET
+    ];
+    let holds = is_spelled(alloc, &code, &expected);
+    assert!(rt; holds);
+}
+
+fn entered_and_waited(alloc: Global) -> Result<Row<Instr>, NoMemory> {
+    let locations = lasting_locations(alloc)?;
+    let mut code = Row::new(alloc);
+    put_prologue(&mut code, &locations)?;
+    put_copies(&mut code, &locations, 1, Operand::Local(0))?;
+    put_returns_value(&mut code, &locations, Operand::Local(1), 1)?;
+    Ok(code)
+}
+
+// The register of a local that is wanted behind a call is saved.
+#[test]
+fn lasting_locals_are_saved(rt: HostRuntime) {
+    let alloc = rt.alloc();
+    let code = entered_and_waited(alloc);
+    let expected = [
+        0x922F, 0x2C28, // PUSH r2; MOV r2, r8
+        0x2D62, 0x902F, 0x9508, // MOV r22, r2; POP r2; RET
     ];
     let holds = is_spelled(alloc, &code, &expected);
     assert!(rt; holds);
@@ -326,9 +347,9 @@ fn entered_wide(alloc: Global) -> Result<Row<Instr>, NoMemory> {
     let locations = wide_locations(alloc)?;
     let mut code = Row::new(alloc);
     put_prologue(&mut code, &locations)?;
-    put_copies(&mut code, &locations, 5, Operand::Local(0))?;
+    put_copies(&mut code, &locations, 6, Operand::Local(0))?;
     put_copies(&mut code, &locations, 2, Operand::Local(1))?;
-    put_returns_value(&mut code, &locations, Operand::Local(5), 1)?;
+    put_returns_value(&mut code, &locations, Operand::Local(6), 1)?;
     Ok(code)
 }
 
@@ -338,16 +359,14 @@ fn other_locals_are_in_slots(rt: HostRuntime) {
     let alloc = rt.alloc();
     let code = entered_wide(alloc);
     let expected = [
-        0x931F, 0x930F, 0x92FF, 0x92EF, 0x92DF, 0x92CF, 0x92BF, 0x92AF, // PUSH r17; and so to r10
-        0x929F, 0x928F, 0x927F, 0x926F, 0x925F, 0x924F, 0x923F, 0x922F, // PUSH r9; and so to r2
+        0x927F, 0x926F, 0x925F, 0x924F, 0x923F, 0x922F, // PUSH r7; and so to r2
         0x93DF, 0x93CF, 0xB7CD, 0xB7DE, // PUSH r29; PUSH r28; IN r28, SPL; IN r29, SPH
         0x9722, 0xBFDE, 0xBFCD, // SBIW r28, 2; OUT SPH, r29; OUT SPL, r28
-        0x896F, 0x2D71, 0x8369, 0x837A, // LDD r22, Y+23; MOV r23, r1; STD Y+1, r22; STD Y+2, r23
-        0x0131, 0x0142, // MOVW r6, r2; MOVW r8, r4
+        0x856D, 0x2D71, 0x8369, 0x837A, // LDD r22, Y+13; MOV r23, r1; STD Y+1, r22; STD Y+2, r23
+        0x0164, 0x0175, // MOVW r12, r8; MOVW r14, r10
         0x8169, 0x9622, 0xBFDE, 0xBFCD, // LDD r22, Y+1; ADIW r28, 2; OUT SPH, r29; OUT SPL, r28
         0x91CF, 0x91DF, // POP r28; POP r29
-        0x902F, 0x903F, 0x904F, 0x905F, 0x906F, 0x907F, 0x908F, 0x909F, // POP r2; and so to r9
-        0x90AF, 0x90BF, 0x90CF, 0x90DF, 0x90EF, 0x90FF, 0x910F, 0x911F, // POP r10; and so to r17
+        0x902F, 0x903F, 0x904F, 0x905F, 0x906F, 0x907F, // POP r2; and so to r7
         0x9508, // RET
     ];
     let holds = is_spelled(alloc, &code, &expected);
@@ -377,9 +396,9 @@ fn zeros_are_not_loaded(rt: HostRuntime) {
     ];
     let in_registers = copied(alloc, 0);
     let expected_in_registers = [
-        0x2C41, // MOV r4, r1
-        0xE065, 0x2E26, 0x2C31, // LDI r22, 5; MOV r2, r22; MOV r3, r1
-        0xE065, 0xE070, 0x011B, // LDI r22, 5; LDI r23, 0; MOVW r2, r22
+        0x2CA1, // MOV r10, r1
+        0xE065, 0x2E86, 0x2C91, // LDI r22, 5; MOV r8, r22; MOV r9, r1
+        0xE065, 0xE070, 0x014B, // LDI r22, 5; LDI r23, 0; MOVW r8, r22
     ];
     let holds = is_spelled(alloc, &in_frame, &expected_in_frame)
         && is_spelled(alloc, &in_registers, &expected_in_registers);
@@ -428,12 +447,12 @@ fn columns_are_stored(rt: HostRuntime) {
     ];
     let in_registers = stored(alloc, 0);
     let expected_in_registers = [
-        0x01D1, 0x50A0, 0x4FBF, // MOVW r26, r2; SUBI r26, 0; SBCI r27, 0xFF
+        0x01D4, 0x50A0, 0x4FBF, // MOVW r26, r8; SUBI r26, 0; SBCI r27, 0xFF
         0xE065, 0x936D, 0x921D, // LDI r22, 5; ST X+, r22; ST X+, r1
-        0x9220, 0x0104, 0x9230, 0x0105, // STS 0x104, r2; STS 0x105, r3
+        0x9280, 0x0104, 0x9290, 0x0105, // STS 0x104, r8; STS 0x105, r9
         0xE0A4, 0xE0B1, 0xE081, // LDI r26, 4; LDI r27, 1; LDI r24, 1
         0x921D, 0x921D, 0x938D, 0x921D, // ST X+, r1; ST X+, r1; ST X+, r24; ST X+, r1
-        0x9040, 0x0104, // LDS r4, 0x104
+        0x90A0, 0x0104, // LDS r10, 0x104
     ];
     let holds = is_spelled(alloc, &in_frame, &expected_in_frame)
         && is_spelled(alloc, &in_registers, &expected_in_registers);
@@ -463,10 +482,10 @@ fn registers_are_loaded(rt: HostRuntime) {
     let alloc = rt.alloc();
     let code = loaded_in_registers(alloc);
     let expected = [
-        0x01D1, 0x50A0, 0x4FBF, // MOVW r26, r2; SUBI r26, 0; SBCI r27, 0xFF
-        0x904D, // LD r4, X+
-        0xE9E0, 0xE0F0, 0x9025, 0x9035, // LDI r30, 0x90; LDI r31, 0; LPM r2, Z+; LPM r3, Z+
-        0xB226, 0x2C31, // IN r2, 0x16; MOV r3, r1
+        0x01D4, 0x50A0, 0x4FBF, // MOVW r26, r8; SUBI r26, 0; SBCI r27, 0xFF
+        0x90AD, // LD r10, X+
+        0xE9E0, 0xE0F0, 0x9085, 0x9095, // LDI r30, 0x90; LDI r31, 0; LPM r8, Z+; LPM r9, Z+
+        0xB286, 0x2C91, // IN r8, 0x16; MOV r9, r1
     ];
     let holds = is_spelled(alloc, &code, &expected);
     assert!(rt; holds);
@@ -475,7 +494,7 @@ fn registers_are_loaded(rt: HostRuntime) {
 fn copied_to_the_frame(alloc: Global) -> Result<Row<Instr>, NoMemory> {
     let locations = wide_locations(alloc)?;
     let mut code = Row::new(alloc);
-    put_copies(&mut code, &locations, 5, Operand::Local(1))?;
+    put_copies(&mut code, &locations, 6, Operand::Local(1))?;
     Ok(code)
 }
 
@@ -484,7 +503,7 @@ fn copied_to_the_frame(alloc: Global) -> Result<Row<Instr>, NoMemory> {
 fn registers_go_to_the_frame(rt: HostRuntime) {
     let alloc = rt.alloc();
     let code = copied_to_the_frame(alloc);
-    let expected = [0x8229, 0x823A]; // STD Y+1, r2; STD Y+2, r3
+    let expected = [0x8289, 0x829A]; // STD Y+1, r8; STD Y+2, r9
     let holds = is_spelled(alloc, &code, &expected);
     assert!(rt; holds);
 }
@@ -518,10 +537,10 @@ fn registers_are_found(rt: HostRuntime) {
     let alloc = rt.alloc();
     let code = computed_in_registers(alloc);
     let expected = [
-        0xE023, 0x0E42, // LDI r18, 3; ADD r4, r18
-        0x923F, 0x922F, // PUSH r3; PUSH r2
-        0xBA48, // OUT 0x18, r4
-        0x1421, 0x0431, // CP r2, r1; CPC r3, r1
+        0xE023, 0x0EA2, // LDI r18, 3; ADD r10, r18
+        0x929F, 0x928F, // PUSH r9; PUSH r8
+        0xBAA8, // OUT 0x18, r10
+        0x1481, 0x0491, // CP r8, r1; CPC r9, r1
     ];
     let holds = is_spelled(alloc, &code, &expected);
     assert!(rt; holds);
@@ -535,7 +554,7 @@ fn computed_in_place(alloc: Global) -> Result<Row<Instr>, NoMemory> {
         width: 4,
         to: 2,
         left: Operand::Local(1),
-        right: Operand::Local(3),
+        right: Operand::Local(4),
     };
     let difference = Computation {
         operator: Operator::Minus,
@@ -555,11 +574,11 @@ fn results_are_made_in_place(rt: HostRuntime) {
     let alloc = rt.alloc();
     let code = computed_in_place(alloc);
     let expected = [
-        0x0131, 0x0142, // MOVW r6, r2; MOVW r8, r4
-        0x0C6A, 0x1C7B, 0x1C8C, 0x1C9D, // ADD r6, r10; ADC r7, r11; and so to r9
-        0x01B1, 0x01C2, // MOVW r22, r2; MOVW r24, r4
-        0x1966, 0x0977, 0x0988, 0x0999, // SUB r22, r6; SBC r23, r7; and so to r25
-        0x013B, 0x014C, // MOVW r6, r22; MOVW r8, r24
+        0x0164, 0x0175, // MOVW r12, r8; MOVW r14, r10
+        0x0CC2, 0x1CD3, 0x1CE4, 0x1CF5, // ADD r12, r2; ADC r13, r3; and so to r15
+        0x01B4, 0x01C5, // MOVW r22, r8; MOVW r24, r10
+        0x196C, 0x097D, 0x098E, 0x099F, // SUB r22, r12; SBC r23, r13; and so to r25
+        0x016B, 0x017C, // MOVW r12, r22; MOVW r14, r24
     ];
     let holds = is_spelled(alloc, &code, &expected);
     assert!(rt; holds);

@@ -13,7 +13,7 @@ use Rattle.avr_view.specs.Run.{Run, Goes}
 use Rattle.avr_view.specs.View.{View, At}
 use Rattle.avr_view.proofs.Going.{below_or_not, goes_then, goes_fewer, goes_wider}
 use Rattle.avr_view.proofs.CallSteps.{goes_call}
-use Rattle.vg_templates.specs.Layouts.{Layout, IsLayout, IsReliable, IsIn, Agree}
+use Rattle.vg_templates.specs.Layouts.{Layout, IsLayout, IsReliable, IsIn, Outlive}
 use Rattle.vg_templates.specs.Linkage.{prologue, epilogue, AreOthers, Entered, Left}
 use Rattle.vg_templates.specs.Frames.{Fits, Waits, restored, saved_bytes, found, Places, word_bytes, between, back_to, needed, Points, Callers, Stacked}
 use Rattle.vg_templates.specs.CallOutcomes.{Begun, Resumed}
@@ -61,7 +61,7 @@ module _ (e : Run) (deep : Type 0) (i : Places) (ok : (m : ℕ) → IsLayout (i.
       → AllStandAt e.flash entry (prologue (i.layouts q)) → entry + widths (prologue (i.layouts q)) < 65536
       → v.stack ≡ args ++ (between i f.awaits f.proc f.pc ++ (wait ++ (own ++ under))) → Points (i.layouts f.proc) own under v.regs
       → Waits f.kept.waiting wait
-      → Fits (i.layouts f.proc) (needed (i.layouts f.proc) f.awaits f.pc) f.kept.locals own v.regs → Callers i frames f.proc own under v.regs
+      → Fits (i.layouts f.proc) (needed i f.proc f.awaits f.pc) f.kept.locals own v.regs → Callers i frames f.proc own under v.regs
       → (0x1100 < e.floor + length v.stack + 2 + length (i.layouts q).saved + (i.layouts q).slots → deep)
       → Goes e deep 1 s (Begun e i q f frames args (entry + widths (prologue (i.layouts q))) v)
   goes_begin_from q entry f frames args wait own under v s first code low cut points waits fits more full =
@@ -99,7 +99,7 @@ module _ (e : Run) (deep : Type 0) (i : Places) (ok : (m : ℕ) → IsLayout (i.
       → AllStandAt e.flash entry (prologue (i.layouts q)) → entry + widths (prologue (i.layouts q)) < 65536
       → v.stack ≡ args ++ (between i f.awaits f.proc f.pc ++ (wait ++ (own ++ under))) → Points (i.layouts f.proc) own under v.regs
       → Waits f.kept.waiting wait
-      → Fits (i.layouts f.proc) (needed (i.layouts f.proc) f.awaits f.pc) f.kept.locals own v.regs → Callers i frames f.proc own under v.regs
+      → Fits (i.layouts f.proc) (needed i f.proc f.awaits f.pc) f.kept.locals own v.regs → Callers i frames f.proc own under v.regs
       → (0x1100 < e.floor + length v.stack + 2 + length (i.layouts q).saved + (i.layouts q).slots → deep) → At e pc v s
       → Goes e deep 1 s (Begun e i q f frames args (entry + widths (prologue (i.layouts q))) v)
   goes_begin q pc entry f frames args wait own under v s call room back code low cut points waits fits more full a =
@@ -146,7 +146,7 @@ module _ (e : Run) (deep : Type 0) (i : Places) (ok : (m : ℕ) → IsLayout (i.
       (λ t n.
       let new = restored l.saved bytes n.regs in
       let still = reliable_still_back l v.regs n.regs (ok q) n.others n.all in
-      let agree : Agree (found l own v.regs) new = λ d r. restored_still l.saved bytes v.regs n.regs d saved (still d r) in
+      let agree : Outlive (found l own v.regs) new = λ d r. restored_still l.saved bytes v.regs n.regs d saved (still d r) in
       record {
         args = args;
         rest = rest;

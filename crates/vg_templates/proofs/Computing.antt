@@ -17,7 +17,7 @@ use Rattle.avr_view.specs.Registers.{Regs, does_all, ArePlain}
 use Rattle.avr_view.specs.Run.{Run}
 use Rattle.avr_view.specs.View.{View}
 use Rattle.vg_templates.specs.Spots.{Spot, InFrame, InRegisters, Apart, number, value_at}
-use Rattle.vg_templates.specs.Layouts.{Layout, IsLayout, IsSpot, IsReliable, Agree, width_of}
+use Rattle.vg_templates.specs.Layouts.{Layout, IsLayout, IsSpot, IsOwned, Agree, width_of}
 use Rattle.vg_templates.specs.Frames.{Places}
 use Rattle.vg_templates.specs.Pieces.{Takes}
 use Rattle.vg_templates.specs.Held.{Held, IsReady, IsSet, brings, gives, Brought, Given}
@@ -26,7 +26,7 @@ use Rattle.vg_templates.proofs.Holding.{usable, held_scratch, takes_brings, take
 use Rattle.vg_templates.proofs.Settings.{with_local-beside}
 use Rattle.vg_templates.proofs.Spotting.{IsClear, takes_fetch_clear}
 use Rattle.vg_templates.proofs.Settling.{Made, home_is, tested_clear, held_own, takes_settles}
-use Rattle.vg_templates.specs.Homes.{home_of, made_in, settles, is_clear, IsHome}
+use Rattle.vg_templates.specs.Homes.{home_of, settles, IsHome}
 use Rattle.vg_templates.specs.Transfers.{fetch}
 use Rattle.vg_templates.specs.Transferred.{Fetched}
 use Rattle.vg_templates.specs.Numbers.{number_in, HoldBytes, AreBeside}
@@ -504,7 +504,7 @@ module _ (i : Places) (ok : (m : ℕ) → IsLayout (i.layouts m)) (m : ℕ) (fra
       (λ q g. record { held = g.held; out = g.out ∙ made.1 })
       (takes_settles i ok m frames e deep live behind s c.to n (z % 256 ^ n) (Some r) v t can home few k made.0))))
     where
-      low : (q : ℕ) → (q ≡ 1) ⊎ IsReliable q → q < 30
+      low : (q : ℕ) → (q ≡ 1) ⊎ IsOwned q → q < 30
       low q (inl one) = omega arith
       low q (inr (inl h)) = let top = h.1 in omega arith
       low q (inr (inr h)) = h.1
@@ -513,7 +513,7 @@ module _ (i : Places) (ok : (m : ℕ) → IsLayout (i.layouts m)) (m : ℕ) (fra
       nearer r n w q less (inl h) = inl h
       nearer r n w q less (inr h) = inr (omega arith)
 
-      scratch : (n q : ℕ) → n ≤ 4 → (q ≡ 1) ⊎ IsReliable q → (q < 18) ⊎ (18 + n ≤ q)
+      scratch : (n q : ℕ) → n ≤ 4 → (q ≡ 1) ⊎ IsOwned q → (q < 18) ⊎ (18 + n ≤ q)
       scratch n q few (inl one) = inl (omega arith)
       scratch n q few (inr (inl h)) = inl h.1
       scratch n q few (inr (inr h)) = let up = h.0 in inr (omega arith)

@@ -160,7 +160,7 @@ module _ (i : Places) (ok : (m : ℕ) → IsLayout (i.layouts m)) (e : Run) (dee
       (t : MachineState) → StandsAt e.flash place (call_code way) → place + call_words way < 65536 → i.behind m pc ≡ place + call_words way
       → leads_to way place v.regs ≡ entry → AllStandAt e.flash entry (prologue (i.layouts q)) → entry + widths (prologue (i.layouts q)) < 65536
       → same_widths (i.layouts q).widths (taken_by n s) ≡ true → HasPushed (i.layouts q) (length (taken_by n s))
-      → ((k : ℕ) → needed (i.layouts m) (Result call) pc k ≡ true → live k ≡ true) → Held i m live s frames v
+      → ((k : ℕ) → needed i m (Result call) pc k ≡ true → live k ≡ true) → Held i m live s frames v
       → (0x1100 < e.floor + length v.stack + 2 + length (i.layouts q).saved + (i.layouts q).slots → deep) → At e place v t
       → Goes e deep 1 t
       (Sees e (Lies i q live' (begins_with (i.layouts q) n s) (record { proc = m; pc = pc; kept = kept_by n s; awaits = Result call } ∷ frames) v.out)
@@ -181,7 +181,7 @@ module _ (i : Places) (ok : (m : ℕ) → IsLayout (i.layouts m)) (e : Run) (dee
       (goes_way way place v t stand room (λ x. full (omega arith)) a)) in
       goes_wider e deep 1 t (Begun e i q f frames c.front to v) goal (λ u b. entered u c.front c.first small b)
       (goes_begin_from e deep i ok q entry f frames c.front c.back h.own h.under v t first code low cut h.points c.rest
-      (fits_fewer (i.layouts m) live (needed (i.layouts m) (Result call) pc) s.locals h.own v.regs fewer h.fits) h.callers full)
+      (fits_fewer (i.layouts m) live (needed i m (Result call) pc) s.locals h.own v.regs fewer h.fits) h.callers full)
     where
       f : Frame State
       f = record { proc = m; pc = pc; kept = kept_by n s; awaits = Result call }

@@ -8,9 +8,9 @@ use Rattle.avr_view.specs.Registers.{Regs}
 use Rattle.avr_view.specs.Run.{Run}
 use Rattle.avr_view.specs.View.{View}
 use Rattle.vg_templates.specs.Spots.{Spot, InFrame, InRegisters, number, value_at, frame_with, registers_with}
-use Rattle.vg_templates.specs.Layouts.{Layout, IsLayout, IsSpot, IsReliable, Agree, frame_size, width_of}
+use Rattle.vg_templates.specs.Layouts.{Layout, IsLayout, IsSpot, IsOwned, Agree, frame_size, width_of}
 use Rattle.vg_templates.specs.Frames.{Places, Points, Stacked}
-use Rattle.vg_templates.proofs.Saving.{fits_agree, points_agree, callers_still, saved_long}
+use Rattle.vg_templates.proofs.Saving.{owned, fits_agree, points_outlive, callers_still, saved_long}
 use Rattle.vg_templates.proofs.Settings.{fits_set, callers_set, points_set}
 use Rattle.vg_templates.proofs.Numbers.{put_number-beside}
 use Rattle.vg_templates.specs.Pieces.{Takes}
@@ -35,10 +35,10 @@ module _ (i : Places) (ok : (m : ℕ) → IsLayout (i.layouts m)) (m : ℕ) (fra
         own = k.own;
         under = k.under;
         cut = k.cut;
-        points = points_agree (i.layouts m) k.own k.under old new h k.points;
+        points = points_outlive (i.layouts m) k.own k.under old new (λ d r. h d (owned d r)) k.points;
         waits = k.waits;
         fits = fits_agree (i.layouts m) live s.locals k.own old new (ok m) h k.fits;
-        callers = callers_still i ok frames m k.own k.under old new (saved_long (i.layouts m) k.own k.fits.long) (λ d r. inr (h d r)) k.callers;
+        callers = callers_still i ok frames m k.own k.under old new (saved_long (i.layouts m) k.own k.fits.long) (λ d r. inr (h d (owned d r))) k.callers;
       }
 
   -- scratch registers change
@@ -59,7 +59,7 @@ module _ (i : Places) (ok : (m : ℕ) → IsLayout (i.layouts m)) (m : ℕ) (fra
         fetched = f;
       }
     where
-      agree : (r : ℕ) → IsReliable r → u.regs.of r ≡ v.regs.of r
+      agree : (r : ℕ) → IsOwned r → u.regs.of r ≡ v.regs.of r
       agree r (inl h) = let top' = h.1 in f.others r (omega arith) (inl (omega arith))
       agree r (inr h) = let low' = h.0 in let top' = h.1 in f.others r (omega arith) (inr (omega arith))
 
@@ -111,7 +111,7 @@ module _ (i : Places) (ok : (m : ℕ) → IsLayout (i.layouts m)) (m : ℕ) (fra
         out = ap (λ (y : View). y.out) kept.same;
       }
     where
-      below : (d : ℕ) → IsReliable d → d < 30
+      below : (d : ℕ) → IsOwned d → d < 30
       below d (inl h) = let top' = h.1 in omega arith
       below d (inr h) = h.1
 

@@ -29,6 +29,7 @@ pub mod Joining
 pub mod Ranging
 pub mod Ordered
 pub mod Testing
+pub mod Living
 pub mod Framing
 pub mod Returning
 pub mod Entering

@@ -5,9 +5,9 @@ use Rattle.std.specs.Prelude.{map, take, drop}
 use Rattle.vg_lin.specs.Steps.{Awaits, Frame}
 use Rattle.vg_lin.specs.State.{State}
 use Rattle.avr_view.specs.Registers.{Regs}
-use Rattle.vg_templates.specs.Layouts.{Layout, IsLayout, IsReliable, IsIn, Agree}
+use Rattle.vg_templates.specs.Layouts.{Layout, IsLayout, IsReliable, IsIn, Outlive}
 use Rattle.vg_templates.specs.Frames.{Fits, Waits, restored, saved_bytes, found, Places, word_bytes, between, back_to, needed, Points, Caller, Callers, Stacked}
-use Rattle.vg_templates.proofs.Saving.{restored_back, fits_agree, points_agree, callers_still, saved_long}
+use Rattle.vg_templates.proofs.Saving.{restored_back, fits_outlive, needed_outlives, points_outlive, callers_still, saved_long}
 
 -- cuts of a list by the length of its front
 drop_front : {A : Type 0} (xs ys : List A) (n : ℕ) → length xs ≡ n → drop n (xs ++ ys) ≡ ys
@@ -46,7 +46,7 @@ module _ (i : Places) (ok : (m : ℕ) → IsLayout (i.layouts m)) where
   pub callers_begin : (q m pc : ℕ) (a : Awaits) (kept : State) (frames : List (Frame State)) (slots args wait own under : List ℕ) (old new : Regs)
       → length slots ≡ (i.layouts q).slots
       → ((d : ℕ) → IsReliable d → IsIn d (i.layouts q).saved ⊎ (new.of d ≡ old.of d))
-      → Points (i.layouts m) own under old → Waits kept.waiting wait → Fits (i.layouts m) (needed (i.layouts m) a pc) kept.locals own old
+      → Points (i.layouts m) own under old → Waits kept.waiting wait → Fits (i.layouts m) (needed i m a pc) kept.locals own old
       → Callers i frames m own under old
       → Callers i (record { proc = m; pc = pc; kept = kept; awaits = a } ∷ frames) q (opened slots old (i.layouts q).saved (back_to i a q m pc) args)
       (between i a m pc ++ (wait ++ (own ++ under))) new
@@ -54,7 +54,7 @@ module _ (i : Places) (ok : (m : ℕ) → IsLayout (i.layouts m)) where
       let l = i.layouts q in
       let back = back_to i a q m pc in
       let frame = opened slots old l.saved back args in
-      let agree : Agree old (found l frame new) =
+      let agree : Outlive old (found l frame new) =
       λ d r. ap (λ bs. (restored l.saved bs new).of d) (opened-saved l slots old back args enough) ∙ restored_back l.saved old new d (still d r) in
       let caller : Caller i (record { proc = m; pc = pc; kept = kept; awaits = a }) q frame (between i a m pc ++ (wait ++ (own ++ under))) (found l frame new) =
       record {
@@ -63,9 +63,10 @@ module _ (i : Places) (ok : (m : ℕ) → IsLayout (i.layouts m)) where
         under = under;
         cut = refl;
         link = opened-link l slots old back args enough;
-        points = points_agree (i.layouts m) own under old (found l frame new) agree points;
+        points = points_outlive (i.layouts m) own under old (found l frame new) agree points;
         waits = waits;
-        fits = fits_agree (i.layouts m) (needed (i.layouts m) a pc) kept.locals own old (found l frame new) (ok m) agree fits;
+        fits =
+            fits_outlive (i.layouts m) (needed i m a pc) kept.locals own old (found l frame new) (ok m) agree (needed_outlives i m pc a) fits;
       } in (
         caller,
         callers_still i ok frames m own under old (found l frame new) (saved_long (i.layouts m) own fits.long) (λ d r. inr (agree d r)) more,
@@ -73,8 +74,8 @@ module _ (i : Places) (ok : (m : ℕ) → IsLayout (i.layouts m)) where
 
   -- the procedure q goes back to the newest frame, which finds its registers, what waits and its locals again
   pub callers_resume : (q : ℕ) (f : Frame State) (frames : List (Frame State)) (own under : List ℕ) (old new : Regs)
-      → Agree (found (i.layouts q) own old) new → (k : Callers i (f ∷ frames) q own under old)
-      → Stacked i f.proc (needed (i.layouts f.proc) f.awaits f.pc) f.kept frames (k.0.wait ++ (k.0.own ++ k.0.under)) new
+      → Outlive (found (i.layouts q) own old) new → (k : Callers i (f ∷ frames) q own under old)
+      → Stacked i f.proc (needed i f.proc f.awaits f.pc) f.kept frames (k.0.wait ++ (k.0.own ++ k.0.under)) new
   callers_resume q f frames own under old new agree (c, more) =
       let back = found (i.layouts q) own old in
       record {
@@ -82,8 +83,10 @@ module _ (i : Places) (ok : (m : ℕ) → IsLayout (i.layouts m)) where
         own = c.own;
         under = c.under;
         cut = refl;
-        points = points_agree (i.layouts f.proc) c.own c.under back new agree c.points;
+        points = points_outlive (i.layouts f.proc) c.own c.under back new agree c.points;
         waits = c.waits;
-        fits = fits_agree (i.layouts f.proc) (needed (i.layouts f.proc) f.awaits f.pc) f.kept.locals c.own back new (ok f.proc) agree c.fits;
+        fits =
+            fits_outlive (i.layouts f.proc) (needed i f.proc f.awaits f.pc) f.kept.locals c.own back new (ok f.proc) agree
+            (needed_outlives i f.proc f.pc f.awaits) c.fits;
         callers = callers_still i ok frames f.proc c.own c.under back new (saved_long (i.layouts f.proc) c.own c.fits.long) (λ d r. inr (agree d r)) more;
       }

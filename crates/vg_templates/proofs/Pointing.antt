@@ -15,7 +15,7 @@ use Rattle.avr_view.specs.Run.{Run}
 use Rattle.avr_view.specs.View.{View}
 use Rattle.avr_view.proofs.MemorySteps.{goes_lds, goes_ldx_after, goes_sts, goes_stx_after}
 use Rattle.vg_templates.specs.Spots.{number, read, written}
-use Rattle.vg_templates.specs.Layouts.{IsLayout, IsReliable}
+use Rattle.vg_templates.specs.Layouts.{IsLayout, IsOwned}
 use Rattle.vg_templates.specs.Frames.{Places}
 use Rattle.vg_templates.proofs.Linking.{borrowed}
 use Rattle.vg_templates.proofs.Numbers.{cut, put_other, put_same}
@@ -262,7 +262,7 @@ module _ (i : Places) (ok : (m : ℕ) → IsLayout (i.layouts m)) (m : ℕ) (fra
       → u ≡ record v { regs = u.regs } → Held i m live s frames v → Held i m live s frames u
   by_x live s v u below above same k = held_scratch i ok m frames live s v u same agree (below 1 (omega arith)) k
     where
-      agree : (r : ℕ) → IsReliable r → u.regs.of r ≡ v.regs.of r
+      agree : (r : ℕ) → IsOwned r → u.regs.of r ≡ v.regs.of r
       agree r (inl h) = below r h.1
       agree r (inr h) = above r h.0 h.1
 
@@ -366,7 +366,7 @@ module _ (i : Places) (ok : (m : ℕ) → IsLayout (i.layouts m)) (m : ℕ) (fra
         static = ap (λ (y : View). y.static) d.same;
       }))
     where
-      beside_x : (r : ℕ) → (r ≡ 1) ⊎ IsReliable r → (r < 26) ⊎ (28 ≤ r)
+      beside_x : (r : ℕ) → (r ≡ 1) ⊎ IsOwned r → (r < 26) ⊎ (28 ≤ r)
       beside_x r (inl one) = inl (omega arith)
       beside_x r (inr (inl k')) = let up = k'.1 in inl (omega arith)
       beside_x r (inr (inr k')) = inr k'.0

@@ -19,9 +19,9 @@ use Rattle.avr_view.specs.View.{View, At}
 use Rattle.avr_view.proofs.Going.{goes_then, goes_fewer, goes_wider}
 use Rattle.avr_view.proofs.StackSteps.{goes_pop, goes_raise}
 use Rattle.vg_templates.specs.Spots.{number}
-use Rattle.vg_templates.specs.Layouts.{IsLayout, IsReliable}
+use Rattle.vg_templates.specs.Layouts.{IsLayout, IsOwned, IsReliable, width_of, outlives}
 use Rattle.vg_templates.specs.Linkage.{epilogue, sp_is_y}
-use Rattle.vg_templates.specs.Frames.{Waits, Places, needed, gets, Stacked}
+use Rattle.vg_templates.specs.Frames.{Waits, Places, wanted, needed, AllOutlive, gets, Stacked}
 use Rattle.vg_templates.specs.CallOutcomes.{Resumed}
 use Rattle.vg_templates.proofs.Calling.{goes_resume}
 use Rattle.vg_templates.proofs.Numbers.{put_other}
@@ -92,18 +92,18 @@ module _ (i : Places) (ok : (m : ℕ) → IsLayout (i.layouts m)) (e : Run) (dee
 
   -- behind the drop of the arguments, the caller lies there with its result in r22 and those behind it
   record Dropped (f : Frame State) (frames : List (Frame State)) (n x : ℕ) (ram : List ℕ) (o : Outside) (v : View) : Type 0 where
-    pub held : Held i f.proc (needed (i.layouts f.proc) f.awaits f.pc) (record f.kept { ram = ram }) frames v
+    pub held : Held i f.proc (needed i f.proc f.awaits f.pc) (record f.kept { ram = ram }) frames v
     pub result : number v.regs 22 n ≡ x % 256 ^ n
     pub out : v.out ≡ o
 
   -- the view of a caller whose arguments have been dropped
   dropped : (f : Frame State) (frames : List (Frame State)) (n x : ℕ) (ram rest : List ℕ) (o : Outside) (v u : View)
-      → Stacked i f.proc (needed (i.layouts f.proc) f.awaits f.pc) f.kept frames rest v.regs → ((d : ℕ) → 0 < d → u.regs.of d ≡ v.regs.of d)
+      → Stacked i f.proc (needed i f.proc f.awaits f.pc) f.kept frames rest v.regs → ((d : ℕ) → 0 < d → u.regs.of d ≡ v.regs.of d)
       → u ≡ record v { regs = u.regs; stack = rest } → v.regs.of 1 ≡ 0 → number v.regs 22 n ≡ x % 256 ^ n → v.static ≡ ram → v.out ≡ o → n ≤ 4
       → Dropped f frames n x ram o u
   dropped f frames n x ram rest o v u k same shape one result columns out small =
       let middle : View = record v { stack = rest } in
-      let live = needed (i.layouts f.proc) f.awaits f.pc in
+      let live = needed i f.proc f.awaits f.pc in
       let now : State = record f.kept { ram = ram } in
       let before : Held i f.proc live now frames middle =
       record {
@@ -127,11 +127,16 @@ module _ (i : Places) (ok : (m : ℕ) → IsLayout (i.layouts m)) (e : Run) (dee
         out = ap (λ (y : View). y.out) shape ∙ out;
       }
     where
-      some : (r : ℕ) → IsReliable r → 0 < r
+      some : (r : ℕ) → IsOwned r → 0 < r
       some r (inl h) = let lo = h.0 in omega arith
       some r (inr h) = let lo = h.0 in omega arith
 
   -- ---- and the result goes to its local
+
+  both_hold : (a b : Bool) → a ≡ true → b ≡ true → (a && b) ≡ true
+  both_hold true true e f = refl
+  both_hold true false e f = absurd (let clash : false ≡ true = f in cc)
+  both_hold false b e f = absurd (let clash : false ≡ true = e in cc)
 
   and_not : (a b : Bool) → a ≡ true → b ≡ false → (a && not b) ≡ true
   and_not true false e f = refl
@@ -168,7 +173,7 @@ module _ (i : Places) (ok : (m : ℕ) → IsLayout (i.layouts m)) (e : Run) (dee
   -- what the caller sees first
   takes_drops : (m pc : ℕ) (kept : State) (call : Call) (frames : List (Frame State)) (n x : ℕ) (ram args rest : List ℕ) (o : Outside) (at_once : Bool)
       (v : View) → n ≤ 4 → CanDrop (i.layouts m) at_once kept → v.stack ≡ args ++ rest
-      → Stacked i m (needed (i.layouts m) (Result call) pc) kept frames rest v.regs → v.regs.of 1 ≡ 0 → number v.regs 22 n ≡ x % 256 ^ n
+      → Stacked i m (needed i m (Result call) pc) kept frames rest v.regs → v.regs.of 1 ≡ 0 → number v.regs 22 n ≡ x % 256 ^ n
       → v.static ≡ ram → v.out ≡ o
       → Takes e deep v (drops at_once (length args)) (Dropped (record { proc = m; pc = pc; kept = kept; awaits = Result call }) frames n x ram o)
   takes_drops m pc kept call frames n x ram args rest o false v small can cut k one result columns out =
@@ -189,18 +194,19 @@ module _ (i : Places) (ok : (m : ℕ) → IsLayout (i.layouts m)) (e : Run) (dee
       shape u p = p ∙ ap (λ g. record v { regs = g; stack = rest }) (sym (ap (λ (y : View). y.regs) p))
 
   pub goes_on : (q m pc : ℕ) (kept : State) (call : Call) (frames : List (Frame State)) (n x : ℕ) (ram : List ℕ) (o : Outside) (at_once : Bool)
-      (s : MachineState) → n ≤ 4 → CanDrop (i.layouts m) at_once kept → CanLand (i.layouts m) ((i.layouts m).live (suc pc)) n call.to
+      (s : MachineState) → n ≤ 4 → CanDrop (i.layouts m) at_once kept → CanLand (i.layouts m) (i.live m (suc pc)) n call.to
+      → AllOutlive (i.layouts m) (i.live m) (Result call) pc
       → (let is = behind_call (i.layouts m) at_once (i.layouts q).pushed call.to in
       AllStandAt e.flash (i.behind m pc) is → i.behind m pc + widths is < 65536
       → Returned e i q (record { proc = m; pc = pc; kept = kept; awaits = Result call }) frames n x ram o s
-      → Goes e deep 0 s (Sees e (Lies i m ((i.layouts m).live (suc pc)) (with_result call.to (low n x) (record kept { ram = ram })) frames o)
+      → Goes e deep 0 s (Sees e (Lies i m (i.live m (suc pc)) (with_result call.to (low n x) (record kept { ram = ram })) frames o)
       (i.behind m pc + widths is)))
-  goes_on q m pc kept call frames n x ram o at_once s small can land stand room back =
+  goes_on q m pc kept call frames n x ram o at_once s small can land all stand room back =
       let f : Frame State = record { proc = m; pc = pc; kept = kept; awaits = Result call } in
       let l = i.layouts m in
       let is = behind_call l at_once (i.layouts q).pushed call.to in
       let after : State = record kept { ram = ram } in
-      let goal = Lies i m (l.live (suc pc)) (with_result call.to (low n x) after) frames o in
+      let goal = Lies i m (i.live m (suc pc)) (with_result call.to (low n x) after) frames o in
       let r = back.resumed in
       let u : View = record back.exit { regs = r.regs; stack = r.args ++ r.rest } in
       let one : r.regs.of 1 ≡ 0 = r.scratch 1 (not_reliable 1 (inl (omega arith))) ∙ back.r1 in
@@ -210,7 +216,9 @@ module _ (i : Places) (ok : (m : ℕ) → IsLayout (i.layouts m)) (e : Run) (dee
       takes_then e deep u (drops at_once (i.layouts q).pushed) (takes_result l call.to) (Dropped f frames n x ram o) goal
       (subst (λ c. Takes e deep u (drops at_once c) (Dropped f frames n x ram o)) r.long
       (takes_drops m pc kept call frames n x ram r.args r.rest o at_once u small can refl r.stacked one result back.columns back.out))
-      (λ t d. takes_wider e deep t (takes_result l call.to) (Lies i m (l.live (suc pc)) (with_result call.to (low n x) after) frames t.out) goal
+      (λ t d. takes_wider e deep t (takes_result l call.to) (Lies i m (i.live m (suc pc)) (with_result call.to (low n x) after) frames t.out) goal
       (λ y z. record { held = z.held; out = z.out ∙ d.out })
-      (takes_results m (l.live (suc pc)) after call.to frames n x t small land d.result d.held)) in
+      (takes_results m (i.live m (suc pc)) after call.to frames n x t small land d.result
+      (held_fewer i m (needed i m (Result call) pc) (wanted (i.live m) (Result call) pc) after frames t
+      (λ k want. both_hold (wanted (i.live m) (Result call) pc k) (outlives (l.spots k) (width_of l k)) want (all k want)) d.held))) in
       goes_fewer e deep (length is) 0 s (Sees e goal (i.behind m pc + widths is)) (omega arith) (piece (i.behind m pc) s stand room r.at)

@@ -1,14 +1,14 @@
 -- Saved registers, and what a procedure that waits sees of the registers.
-use Rattle.std.proofs.Common.{◌≡◌, ◌≢◌, ℕ, zero, suc, ◌+◌, ◌≤◌, ◌⊎◌, inl, inr, Bool, true, false, ◌==◌, if◌then◌else◌, List, [], ◌∷◌, length}
+use Rattle.std.proofs.Common.{◌≡◌, ◌≢◌, ℕ, zero, suc, ◌+◌, ◌≤◌, ◌⊎◌, inl, inr, Bool, true, false, ◌&&◌, ◌==◌, if◌then◌else◌, List, [], ◌∷◌, length}
 use Rattle.std.proofs.Common.{refl, ap, ◌∙◌, arith}
 use Rattle.std.proofs.Common.{length-take, length-drop}
 use Rattle.std.specs.Prelude.{map, drop}
-use Rattle.vg_lin.specs.Steps.{Frame}
+use Rattle.vg_lin.specs.Steps.{Awaits, Frame}
 use Rattle.vg_lin.specs.State.{LocalState, State}
 use Rattle.avr_view.specs.Registers.{Regs, put}
 use Rattle.vg_templates.specs.Spots.{Spot, InFrame, InRegisters, number, value_at}
-use Rattle.vg_templates.specs.Layouts.{Layout, frame_size, IsLayout, IsReliable, IsIn, IsSpot, Agree}
-use Rattle.vg_templates.specs.Frames.{Fits, restored, saved_bytes, found, Places, needed, Points, Callers}
+use Rattle.vg_templates.specs.Layouts.{Layout, frame_size, width_of, outlives, IsLayout, IsOwned, IsReliable, IsIn, IsSpot, Agree, Outlive}
+use Rattle.vg_templates.specs.Frames.{Fits, restored, saved_bytes, found, Places, wanted, needed, Points, Callers}
 
 -- a register that is saved, or the same, is the same once the saved ones have their bytes again
 pub restored_still : (ds bs : List ℕ) (old new : Regs) (d : ℕ) → length bs ≡ length ds → IsIn d ds ⊎ (new.of d ≡ old.of d)
@@ -37,7 +37,12 @@ restored_back (x ∷ xs) g h d k = restored_back xs g (put h x (g.of x)) d (at (
     at false e (inl (inr there)) = inl there
     at false e (inr same) = inr same
 
--- where reliable registers agree, so do values, and what lies in frames and registers
+-- what outlives a call is a procedure's own
+pub owned : (d : ℕ) → IsReliable d → IsOwned d
+owned d (inl h) = inl (h.0, (let top = h.1 in omega arith))
+owned d (inr h) = inr h
+
+-- where registers agree, so do values, and what lies in frames and registers
 number_agrees : (old new : Regs) (r w : ℕ) → Agree old new → 2 ≤ r → r + w ≤ 18 → number new r w ≡ number old r w
 number_agrees old new r zero h lo hi = refl
 number_agrees old new r (suc w) h lo hi =
@@ -56,14 +61,43 @@ fits_agree l live locals own old new ok h f =
       long = f.long;
     }
 
+-- the same of registers that outlive a call, and of locals in them
+number_outlives : (old new : Regs) (r w : ℕ) → Outlive old new → 2 ≤ r → r + w ≤ 8 → number new r w ≡ number old r w
+number_outlives old new r zero h lo hi = refl
+number_outlives old new r (suc w) h lo hi =
+    let one = h r (inl (lo, omega arith)) in
+    let rest = number_outlives old new (suc r) w h (omega arith) (omega arith) in omega (arith, one, rest)
+
+value_outlives : (l : Layout) (old new : Regs) (s : Spot) (w : ℕ) (own : List ℕ) → Outlive old new → IsSpot l s w → outlives s w ≡ true
+    → value_at s w own new ≡ value_at s w own old
+value_outlives l old new (InFrame at) w own h k o = refl
+value_outlives l old new (InRegisters r) w own h k o = number_outlives old new r w h k.0 (let low : r + w ≤ 8 = grind (arith, o) in low)
+
+pub fits_outlive : (l : Layout) (live : ℕ → Bool) (locals : List LocalState) (own : List ℕ) (old new : Regs) → IsLayout l → Outlive old new
+    → ((k : ℕ) → live k ≡ true → outlives (l.spots k) (width_of l k) ≡ true) → Fits l live locals own old → Fits l live locals own new
+fits_outlive l live locals own old new ok h all f =
+    record {
+      each = λ k x low alive got. value_outlives l old new (l.spots k) (width_of l k) own h (ok.spot k low) (all k alive) ∙ f.each k x low alive got;
+      widths = f.widths;
+      long = f.long;
+    }
+
+both_true : (a b : Bool) → (a && b) ≡ true → b ≡ true
+both_true true b e = e
+both_true false b e = absurd (let clash : false ≡ true = e in cc)
+
+pub needed_outlives : (i : Places) (m pc : ℕ) (a : Awaits) (k : ℕ) → needed i m a pc k ≡ true
+    → outlives ((i.layouts m).spots k) (width_of (i.layouts m) k) ≡ true
+needed_outlives i m pc a k h = both_true (wanted (i.live m) a pc k) _ h
+
 -- fewer locals are needed
 pub fits_fewer : (l : Layout) (live fewer : ℕ → Bool) (locals : List LocalState) (own : List ℕ) (g : Regs) → ((k : ℕ) → fewer k ≡ true → live k ≡ true)
     → Fits l live locals own g → Fits l fewer locals own g
 fits_fewer l live fewer locals own g h f =
     record { each = λ k x low alive got. f.each k x low (h k alive) got; widths = f.widths; long = f.long }
 
-pub points_agree : (l : Layout) (own under : List ℕ) (old new : Regs) → Agree old new → Points l own under old → Points l own under new
-points_agree l own under old new h p pointed =
+pub points_outlive : (l : Layout) (own under : List ℕ) (old new : Regs) → Outlive old new → Points l own under old → Points l own under new
+points_outlive l own under old new h p pointed =
     let low = h 28 (inr (omega arith, omega arith)) in
     let high = h 29 (inr (omega arith, omega arith)) in
     let base = p pointed in
@@ -82,16 +116,18 @@ callers_still i ok (f ∷ fs) m own under old new long h (c, more) =
     let l = i.layouts m in
     let before = found l own old in
     let after = found l own new in
-    let agree : Agree before after = λ d r. restored_still l.saved (saved_bytes l own) old new d long (h d r) in (
+    let agree : Outlive before after = λ d r. restored_still l.saved (saved_bytes l own) old new d long (h d r) in (
       record {
         wait = c.wait;
         own = c.own;
         under = c.under;
         cut = c.cut;
         link = c.link;
-        points = points_agree (i.layouts f.proc) c.own c.under before after agree c.points;
+        points = points_outlive (i.layouts f.proc) c.own c.under before after agree c.points;
         waits = c.waits;
-        fits = fits_agree (i.layouts f.proc) (needed (i.layouts f.proc) f.awaits f.pc) f.kept.locals c.own before after (ok f.proc) agree c.fits;
+        fits =
+            fits_outlive (i.layouts f.proc) (needed i f.proc f.awaits f.pc) f.kept.locals c.own before after (ok f.proc) agree
+            (needed_outlives i f.proc f.pc f.awaits) c.fits;
       },
       callers_still i ok fs f.proc c.own c.under before after (saved_long (i.layouts f.proc) c.own c.fits.long) (λ d r. inr (agree d r)) more,
     )

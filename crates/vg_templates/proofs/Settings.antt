@@ -85,7 +85,7 @@ pub registers_with-still : (l : Layout) (s : Spot) (w v : ℕ) (g : Regs) → Is
     → (d : ℕ) → IsReliable d → IsIn d l.saved ⊎ ((registers_with s w g v).of d ≡ g.of d)
 registers_with-still l (InFrame at) w v g ok d r = inr refl
 registers_with-still l (InRegisters f) w v g ok d r =
-    elim (below_or d f w) [ inl inside ↦ inl (ok.2 d inside.0 inside.1) | inr beside ↦ inr (put_number-beside g f w v d beside) ]
+    elim (below_or d f w) [ inl inside ↦ inl (ok.2 d inside.0 inside.1 r) | inr beside ↦ inr (put_number-beside g f w v d beside) ]
 
 -- Y is no local
 registers_with-y : (l : Layout) (s : Spot) (w v : ℕ) (g : Regs) → IsSpot l s w → pair (registers_with s w g v) 28 ≡ pair g 28

@@ -8,7 +8,7 @@ use Rattle.avr_view.specs.Run.{Run}
 use Rattle.avr_view.specs.View.{View}
 use Rattle.avr_view.proofs.Going.{below_or_not}
 use Rattle.vg_templates.specs.Spots.{Spot, InFrame, InRegisters, number, put_number, frame_with, registers_with}
-use Rattle.vg_templates.specs.Layouts.{Layout, IsLayout, IsSpot, IsReliable, Agree, width_of}
+use Rattle.vg_templates.specs.Layouts.{Layout, IsLayout, IsSpot, IsOwned, Agree, width_of}
 use Rattle.vg_templates.specs.Frames.{Places, Stacked}
 use Rattle.vg_templates.proofs.Settings.{below_or}
 use Rattle.vg_templates.proofs.Numbers.{put_same, put_number-beside}
@@ -126,7 +126,7 @@ home_clear l s w n (Some r) spot = by_test (is_clear s w r n) refl
 
 -- code has made a number in registers from d on: of those that outlive calls no others have changed, nor has r1
 pub record Made (d n z : ℕ) (old new : View) : Type 0 where
-  pub others : (x : ℕ) → (x ≡ 1) ⊎ IsReliable x → (x < d) ⊎ (d + n ≤ x) → new.regs.of x ≡ old.regs.of x
+  pub others : (x : ℕ) → (x ≡ 1) ⊎ IsOwned x → (x < d) ⊎ (d + n ≤ x) → new.regs.of x ≡ old.regs.of x
   pub holds : number new.regs d n ≡ z
   pub stack : new.stack ≡ old.stack
   pub static : new.static ≡ old.static
@@ -135,7 +135,7 @@ module _ (i : Places) (ok : (m : ℕ) → IsLayout (i.layouts m)) (m : ℕ) (fra
   -- registers of a local alone have changed, of those that outlive calls: it has what is in them
   pub held_own : (live behind : ℕ → Bool) (s : State) (to r : ℕ) (v u : View) → IsSet (i.layouts m) live behind to
       → (i.layouts m).spots to ≡ InRegisters r → Held i m live s frames v → ((y : ℕ) → y < 32 → u.regs.of y < 256)
-      → ((y : ℕ) → (y ≡ 1) ⊎ IsReliable y → (y < r) ⊎ (r + width_of (i.layouts m) to ≤ y) → u.regs.of y ≡ v.regs.of y)
+      → ((y : ℕ) → (y ≡ 1) ⊎ IsOwned y → (y < r) ⊎ (r + width_of (i.layouts m) to ≤ y) → u.regs.of y ≡ v.regs.of y)
       → u ≡ record v { regs = u.regs } → Held i m behind (sets to (number u.regs r (width_of (i.layouts m) to)) s) frames u
   held_own live behind s to r v u can is k bytes others same =
       let l = i.layouts m in
@@ -149,7 +149,7 @@ module _ (i : Places) (ok : (m : ℕ) → IsLayout (i.layouts m)) (m : ℕ) (fra
       (others 1 (inl refl) (inl (omega arith)) ∙ k.r1) (ap (λ (y : View). y.static) same)
       (ap (λ (y : View). y.stack) same ∙ k.stacked.cut ∙ ap (λ p. k.stacked.wait ++ (frame_with p w k.stacked.own z ++ k.stacked.under)) (sym is))
     where
-      agree : (w : ℕ) → r + w ≤ 18 → ((y : ℕ) → (y ≡ 1) ⊎ IsReliable y → (y < r) ⊎ (r + w ≤ y) → u.regs.of y ≡ v.regs.of y)
+      agree : (w : ℕ) → r + w ≤ 18 → ((y : ℕ) → (y ≡ 1) ⊎ IsOwned y → (y < r) ⊎ (r + w ≤ y) → u.regs.of y ≡ v.regs.of y)
           → Agree (put_number v.regs r w (number u.regs r w)) u.regs
       agree w low beyond x reliable =
           elim (below_or x r w) [

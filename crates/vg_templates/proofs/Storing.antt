@@ -18,7 +18,7 @@ use Rattle.avr_view.specs.View.{View, At}
 use Rattle.avr_view.proofs.DeviceSteps.{goes_sts_device, goes_out_device}
 use Rattle.avr_view.proofs.Going.{goes_wider}
 use Rattle.vg_templates.specs.Spots.{Spot, InFrame, InRegisters, number, read, value_at}
-use Rattle.vg_templates.specs.Layouts.{Layout, IsLayout, IsSpot, IsReliable, width_of}
+use Rattle.vg_templates.specs.Layouts.{Layout, IsLayout, IsSpot, IsOwned, width_of}
 use Rattle.vg_templates.specs.Linkage.{pushes}
 use Rattle.vg_templates.specs.Frames.{Places}
 use Rattle.vg_templates.proofs.Saving.{fits_fewer}
@@ -33,7 +33,7 @@ use Rattle.vg_templates.specs.Homes.{home_of, made_in, settles, clear_home}
 use Rattle.vg_templates.specs.Transfers.{fetch}
 use Rattle.vg_templates.specs.Transferred.{Fetched}
 use Rattle.vg_templates.proofs.Spotting.{takes_fetch_clear}
-use Rattle.vg_templates.proofs.Settling.{Made, home_is, clear_is, home_clear, made_low, made_above, takes_settles}
+use Rattle.vg_templates.proofs.Settling.{home_is, clear_is, home_clear, made_low, made_above, takes_settles}
 use Rattle.vg_templates.specs.Outcomes.{Found, Lies, IsKept}
 use Rattle.vg_templates.specs.Plain.{copies_low, copies_whole, bytes_in, copies_through, copies_local, copies, pushes_value, first_of, writes_register, writes_device}
 use Rattle.vg_templates.proofs.Bytes.{cut_twice, bytes_in_few, bytes_in_tell}
@@ -167,7 +167,7 @@ module _ (i : Places) (ok : (m : ℕ) → IsLayout (i.layouts m)) (m : ℕ) (fra
         static = ap (λ (y : View). y.static) f.same;
       })))
     where
-      below : (r : ℕ) → (r ≡ 1) ⊎ IsReliable r → r < 30
+      below : (r : ℕ) → (r ≡ 1) ⊎ IsOwned r → r < 30
       below r (inl one) = omega arith
       below r (inr (inl k')) = let up = k'.1 in omega arith
       below r (inr (inr k')) = k'.1

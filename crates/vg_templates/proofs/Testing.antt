@@ -27,7 +27,7 @@ use Rattle.avr_view.proofs.Going.{goes_then, goes_fewer, goes_wider}
 use Rattle.avr_view.proofs.JumpSteps.{goes_brbs, goes_brbc, goes_jmp, goes_rjmp, sign_set}
 use Rattle.avr_view.proofs.Rows.{carry_set, zero_set}
 use Rattle.vg_templates.specs.Spots.{Spot, InFrame, InRegisters}
-use Rattle.vg_templates.specs.Layouts.{Layout, IsLayout, IsSpot, IsReliable, width_of}
+use Rattle.vg_templates.specs.Layouts.{Layout, IsLayout, IsSpot, IsOwned, width_of}
 use Rattle.vg_templates.specs.Frames.{Places}
 use Rattle.vg_templates.specs.Pieces.{Sees, Takes}
 use Rattle.vg_templates.specs.Held.{Held, IsReady}
@@ -175,7 +175,7 @@ both_true false b h = absurd (let clash : false ≡ true = h in cc)
 low_none : (w : ℕ) → low w 0 ≡ 0
 low_none w = zero-mod (256 ^ w)
 
-reliable_apart : (d : ℕ) → IsReliable d → d ≢ 22
+reliable_apart : (d : ℕ) → IsOwned d → d ≢ 22
 reliable_apart d (inl h) = let up = h.1 in omega arith
 reliable_apart d (inr h) = let lo = h.0 in omega arith
 

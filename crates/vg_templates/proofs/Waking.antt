@@ -77,7 +77,7 @@ module _ (e : Run) (deep : Type 0) (i : Places) (idle : ℕ) (is : IsIdle e i id
     pub goes_from_slot : (place k q at entry m pc : ℕ) (kept : LinState) (frames : List (Frame LinState)) (wait own under : List ℕ) (v : View)
         (s : State) → IsHandled e i k q at entry → i.behind m pc ≡ place + 2 → AllStandAt e.flash entry (prologue (i.layouts q))
         → entry + widths (prologue (i.layouts q)) < 65536 → v.stack ≡ wait ++ (own ++ under) → Points (i.layouts m) own under v.regs
-        → Waits kept.waiting wait → Fits (i.layouts m) (needed (i.layouts m) Interrupt pc) kept.locals own v.regs → Callers i frames m own under v.regs
+        → Waits kept.waiting wait → Fits (i.layouts m) (needed i m Interrupt pc) kept.locals own v.regs → Callers i frames m own under v.regs
         → (0x1100 < e.floor + length v.stack + 6 + length (i.layouts q).saved + (i.layouts q).slots → deep)
         → At e (2 * k) (record v { stack = word_bytes (idle + 2) ++ (word_bytes (place + 2) ++ v.stack) }) s
         → Goes e deep 2 s (Begun e i q (record { proc = m; pc = pc; kept = kept; awaits = Interrupt }) frames [] (entry + widths (prologue (i.layouts q))) v)
@@ -110,7 +110,7 @@ module _ (e : Run) (deep : Type 0) (i : Places) (idle : ℕ) (is : IsIdle e i id
     pub goes_handling : (place k q at entry m pc : ℕ) (ks : List ℕ) (kept : LinState) (frames : List (Frame LinState)) (wait own under : List ℕ) (v : View)
         (s : State) → IsHandled e i k q at entry → StandsAt e.flash place (Call idle) → place + 2 < 65536 → i.behind m pc ≡ place + 2
         → AllStandAt e.flash entry (prologue (i.layouts q)) → entry + widths (prologue (i.layouts q)) < 65536 → v.stack ≡ wait ++ (own ++ under)
-        → Points (i.layouts m) own under v.regs → Waits kept.waiting wait → Fits (i.layouts m) (needed (i.layouts m) Interrupt pc) kept.locals own v.regs
+        → Points (i.layouts m) own under v.regs → Waits kept.waiting wait → Fits (i.layouts m) (needed i m Interrupt pc) kept.locals own v.regs
         → Callers i frames m own under v.regs → v.out.interrupts ≡ k ∷ ks → Front e (entered v.out k ks)
         → (0x1100 < e.floor + length v.stack + 6 + length (i.layouts q).saved + (i.layouts q).slots → deep) → At e place v s
         → Goes e deep 1 s (Begun e i q (record { proc = m; pc = pc; kept = kept; awaits = Interrupt }) frames [] (entry + widths (prologue (i.layouts q)))

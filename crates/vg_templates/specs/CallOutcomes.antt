@@ -34,5 +34,5 @@ pub record Resumed (e : Run) (i : Places) (q : ℕ) (f : Frame LinState) (frames
   pub regs : Regs
   pub long : length args ≡ (i.layouts q).pushed
   pub scratch : (d : ℕ) → (IsReliable d → ⊥) → regs.of d ≡ old.regs.of d
-  pub stacked : Stacked i f.proc (needed (i.layouts f.proc) f.awaits f.pc) f.kept frames rest regs
+  pub stacked : Stacked i f.proc (needed i f.proc f.awaits f.pc) f.kept frames rest regs
   pub at : At e (back_to i f.awaits q f.proc f.pc) (record old { regs = regs; stack = args ++ (between i f.awaits f.proc f.pc ++ rest) }) s

@@ -1,57 +1,93 @@
 -- The layout of a procedure: where its locals lie.
-use Rattle.std.specs.Prelude.{ℕ, zero, suc, ◌+◌, ◌-◌, ◌<◌, ◌≤◌, Bool, true, false, nat_lt, if◌then◌else◌}
+use Rattle.std.specs.Prelude.{ℕ, zero, suc, ◌+◌, ◌-◌, ◌<◌, ◌≤◌, Bool, true, false, not, ◌&&◌, ◌||◌, nat_lt, nat_le, if◌then◌else◌}
 use Rattle.std.specs.Prelude.{List, [], ◌∷◌, take, drop, length, slice_index}
+use Rattle.vg_lin.specs.Program.{Procedure}
 use Rattle.vg_templates.specs.Spots.{Spot, InFrame, InRegisters}
 use Rattle.vg_templates.specs.Layouts.{Layout}
 use Rattle.vg_templates.specs.Calls.{sum_of, behind_width}
+use Rattle.vg_templates.specs.Living.{is_live, lasts}
 
--- how many locals with these widths, from the first on, have at most so many bytes together
-abbrev pub fitting : (room : ℕ) (widths : List ℕ) → ℕ
-fitting room [] = 0
-fitting room (w ∷ ws) = if nat_lt room w then 0 else suc (fitting (room - w) ws)
+-- How many bytes are taken: of the registers from r2 on, which outlive calls; of those from r8 on, which do not; and of the slots.
+pub record Taken : Type 0 where
+  pub lasting : ℕ
+  pub passing : ℕ
+  pub slots : ℕ
+
+abbrev pub taken : (lasting passing slots : ℕ) → Taken
+taken a b c = record { lasting = a; passing = b; slots = c }
+
+pub data Seat : Type 0 where
+  Lasting : Seat
+  Passing : Seat
+  Slot : Seat
+
+-- A local goes to registers that do not outlive calls, if its value need not; else to those that do; and to a slot where there is no room.
+abbrev pub seat_for : Taken → (lasts : Bool) (width : ℕ) → Seat
+seat_for t lasts w = if not lasts && nat_le (t.passing + w) 10 then Passing else if nat_le (t.lasting + w) 6 then Lasting else Slot
+
+abbrev pub seat_spot : Taken → Seat → Spot
+seat_spot t Lasting = InRegisters (2 + t.lasting)
+seat_spot t Passing = InRegisters (8 + t.passing)
+seat_spot t Slot = InFrame t.slots
+
+abbrev pub with_seat : Taken → Seat → (width : ℕ) → Taken
+with_seat t Lasting w = taken (t.lasting + w) t.passing t.slots
+with_seat t Passing w = taken t.lasting (t.passing + w) t.slots
+with_seat t Slot w = taken t.lasting t.passing (t.slots + w)
+
+-- the spots of locals with these widths, from one on, and what is taken behind them
+abbrev pub spots_from : (lasts : ℕ → Bool) (local : ℕ) → (widths : List ℕ) → Taken → List Spot
+spots_from c k [] t = []
+spots_from c k (w ∷ ws) t = seat_spot t (seat_for t (c k) w) ∷ spots_from c (suc k) ws (with_seat t (seat_for t (c k) w) w)
+
+abbrev pub taken_from : (lasts : ℕ → Bool) (local : ℕ) → (widths : List ℕ) → Taken → Taken
+taken_from c k [] t = t
+taken_from c k (w ∷ ws) t = taken_from c (suc k) ws (with_seat t (seat_for t (c k) w) w)
+
+abbrev pub spot_at : List Spot → (index : ℕ) → Spot
+spot_at [] j = InFrame 0
+spot_at (s ∷ ss) zero = s
+spot_at (s ∷ ss) (suc j) = spot_at ss j
 
 -- so many registers, from one on
 abbrev pub registers_from : (first count : ℕ) → List ℕ
 registers_from r zero = []
 registers_from r (suc n) = r ∷ registers_from (suc r) n
 
--- The first locals are parameters that were pushed. Of the others, the first `kept` ones have so many bytes, which lie in registers, and the rest lie in slots.
-abbrev pub register_bytes : (kept : ℕ) (widths : List ℕ) (params : ℕ) → ℕ
-register_bytes n ws p = sum_of (take n (drop p ws))
-
-abbrev pub slot_bytes : (kept : ℕ) (widths : List ℕ) (params : ℕ) → ℕ
-slot_bytes n ws p = sum_of (drop n (drop p ws))
-
--- Parameters lie where they were pushed, behind the slots, the saved registers with Y, and the return address. In registers, locals lie one behind the other
--- from r2 on, and so do those in slots from the first byte of the frame on.
-abbrev pub spot_for : (kept : ℕ) (widths : List ℕ) (params local : ℕ) → Spot
-spot_for n ws p k =
-    if nat_lt k p then InFrame (slot_bytes n ws p + register_bytes n ws p + 4 + behind_width (take p ws) k)
-    else if nat_lt (k - p) n then InRegisters (2 + sum_of (take (k - p) (drop p ws)))
-    else InFrame (sum_of (take (k - p - n) (drop n (drop p ws))))
-
--- Y, where it is the frame pointer, and the registers of the locals
+-- Y, where it is the frame pointer, and the registers of locals that outlive calls
 abbrev pub saved_for : (pointed : Bool) (bytes : ℕ) → List ℕ
 saved_for true n = 28 ∷ 29 ∷ registers_from 2 n
 saved_for false n = registers_from 2 n
 
--- Y is the frame pointer where not all locals lie in registers. Each local counts as live everywhere.
-abbrev pub lying : (kept : ℕ) (widths : List ℕ) (params : ℕ) → Layout
-lying n ws p =
+-- The first locals are parameters that were pushed: they lie where they were pushed, behind the slots, the saved registers with Y, and the return address. Y is
+-- the frame pointer where there are parameters or slots.
+abbrev pub is_pointed : (params slots : ℕ) → Bool
+is_pointed p n = nat_lt 0 p || nat_lt 0 n
+
+abbrev pub all_taken : (lasts : ℕ → Bool) (widths : List ℕ) (params : ℕ) → Taken
+all_taken c ws p = taken_from c p (drop p ws) (taken 0 0 0)
+
+abbrev pub lying_by : (lasts : ℕ → Bool) (widths : List ℕ) (params : ℕ) → Taken → Layout
+lying_by c ws p t =
     record {
       widths = ws;
-      spots = spot_for n ws p;
-      slots = slot_bytes n ws p;
-      saved = saved_for (nat_lt n (length ws)) (register_bytes n ws p);
-      pointed = nat_lt n (length ws);
+      spots = λ k. if nat_lt k p then InFrame (t.slots + t.lasting + 4 + behind_width (take p ws) k)
+          else spot_at (spots_from c p (drop p ws) (taken 0 0 0)) (k - p);
+      slots = t.slots;
+      saved = saved_for (is_pointed p t.slots) t.lasting;
+      pointed = is_pointed p t.slots;
       pushed = sum_of (take p ws);
-      live = λ place k. nat_lt k (length ws);
     }
 
--- Where the locals with these widths lie, of which the first are parameters: of the others, those from the first on that have at most sixteen bytes together
--- are in registers.
-abbrev pub framed : (widths : List ℕ) (params : ℕ) → Layout
-framed ws p = lying (fitting 16 (drop p ws)) ws p
+abbrev pub lying : (lasts : ℕ → Bool) (widths : List ℕ) (params : ℕ) → Layout
+lying c ws p = lying_by c ws p (all_taken c ws p)
+
+abbrev pub framed : Procedure → Layout
+framed m = lying (lasts m.code) m.widths m.params
+
+-- its locals that are live at a place
+abbrev pub live_in : Procedure → (place local : ℕ) → Bool
+live_in m pc k = nat_lt k (length m.widths) && is_live m.code k pc
 
 -- widths of at most four bytes, and slots of fewer than 4,096
 pub record CanBeFramed (ws : List ℕ) (p : ℕ) : Type 0 where

@@ -6,7 +6,7 @@ use Rattle.vg_lin.specs.Steps.{Awaits, Result, Interrupt, Frame}
 use Rattle.vg_lin.specs.State.{LocalState, Waiting, State, value_in}
 use Rattle.avr_view.specs.Registers.{Regs, pair, put}
 use Rattle.vg_templates.specs.Spots.{value_at, read}
-use Rattle.vg_templates.specs.Layouts.{Layout, frame_size, width_of}
+use Rattle.vg_templates.specs.Layouts.{Layout, frame_size, width_of, outlives}
 
 -- the live locals that have values have them at their spots
 pub record Fits (l : Layout) (live : ℕ → Bool) (locals : List LocalState) (own : List ℕ) (g : Regs) : Type 0 where
@@ -61,10 +61,12 @@ saved_bytes l own = take (length l.saved) (drop l.slots own)
 abbrev pub found : Layout → List ℕ → Regs → Regs
 found l own g = restored l.saved (saved_bytes l own) g
 
--- where code stands, as far as the stack tells it: where a call of a procedure's instruction comes back to; of the idle piece, the place behind
--- the SLEEP; and the end of a handler's stub
+-- Where the locals of each procedure lie, and which of them are live at a place of its code: those whose values are still needed there. And where code
+-- stands, as far as the stack tells it: where a call of a procedure's instruction comes back to; of the idle piece, the place behind the SLEEP; and
+-- the end of a handler's stub.
 pub record Places : Type 0 where
   pub layouts : ℕ → Layout
+  pub live : (proc place local : ℕ) → Bool
   pub behind : (proc pc : ℕ) → ℕ
   pub woken : ℕ
   pub stub_end : (handler : ℕ) → ℕ
@@ -91,9 +93,17 @@ abbrev pub awaits_local : Awaits → ℕ → Bool
 awaits_local (Result call) k = gets call.to k
 awaits_local Interrupt k = false
 
--- the locals that a procedure needs behind the place where it waits
-abbrev pub needed : Layout → Awaits → (pc local : ℕ) → Bool
-needed l a pc k = l.live (suc pc) k && not (awaits_local a k)
+-- the locals whose values a procedure wants back where it waits: those that are live behind that place, but the one that a result goes to
+abbrev pub wanted : (live : (place local : ℕ) → Bool) → Awaits → (pc local : ℕ) → Bool
+wanted live a pc k = live (suc pc) k && not (awaits_local a k)
+
+-- of them, those that it finds again since they lie where values outlive a call
+abbrev pub needed : Places → (proc : ℕ) → Awaits → (pc local : ℕ) → Bool
+needed i m a pc k = wanted (i.live m) a pc k && outlives ((i.layouts m).spots k) (width_of (i.layouts m) k)
+
+-- it finds all that it wants
+abbrev pub AllOutlive : Layout → (live : (place local : ℕ) → Bool) → Awaits → (pc : ℕ) → Type 0
+AllOutlive l live a pc = (k : ℕ) → wanted live a pc k ≡ true → outlives (l.spots k) (width_of l k) ≡ true
 
 -- where Y is the frame pointer, it points to the byte before the frame
 abbrev pub Points : Layout → (own under : List ℕ) → Regs → Type 0
@@ -108,7 +118,7 @@ pub record Caller (i : Places) (f : Frame State) (callee : ℕ) (frame rest : Li
   pub link : take 2 (drop (length (i.layouts callee).saved) (drop (i.layouts callee).slots frame)) ≡ word_bytes (back_to i f.awaits callee f.proc f.pc)
   pub points : Points (i.layouts f.proc) own under g
   pub waits : Waits f.kept.waiting wait
-  pub fits : Fits (i.layouts f.proc) (needed (i.layouts f.proc) f.awaits f.pc) f.kept.locals own g
+  pub fits : Fits (i.layouts f.proc) (needed i f.proc f.awaits f.pc) f.kept.locals own g
 
 -- all of them, the newest first: m has its own frame, with the rest of the stack behind it
 abbrev pub Callers : (i : Places) → List (Frame State) → (m : ℕ) → (own under : List ℕ) → Regs → Type 0

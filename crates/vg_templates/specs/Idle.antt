@@ -47,5 +47,5 @@ pub record Back (e : Run) (i : Places) (f : Frame LinState) (frames : List (Fram
   pub rest : List ℕ
   pub regs : Regs
   pub scratch : (d : ℕ) → (IsReliable d → ⊥) → regs.of d ≡ old.regs.of d
-  pub stacked : Stacked i f.proc (needed (i.layouts f.proc) f.awaits f.pc) f.kept frames rest regs
+  pub stacked : Stacked i f.proc (needed i f.proc f.awaits f.pc) f.kept frames rest regs
   pub at : At e (i.behind f.proc f.pc) (record old { regs = regs; stack = rest }) s

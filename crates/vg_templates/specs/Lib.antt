@@ -20,6 +20,7 @@ pub mod Plain
 pub mod Accesses
 pub mod Straight
 pub mod Branches
+pub mod Living
 pub mod Framed
 pub mod Returns
 pub mod Calls

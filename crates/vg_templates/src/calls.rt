@@ -4,7 +4,7 @@ ghost use Rattle.vg_lin.specs.Meaning.{begun, same_widths, values_of};
 ghost use Rattle.vg_lin.specs.Steps.{Awaits, Frame};
 ghost use Rattle.vg_lin.specs.State.{Waiting, State};
 ghost use Rattle.avr_view.specs.Registers.{Regs};
-ghost use Rattle.vg_templates.specs.Layouts.{Layout, IsLayout, IsReliable, IsIn, Agree, frame_size};
+ghost use Rattle.vg_templates.specs.Layouts.{Layout, IsLayout, IsReliable, IsIn, Outlive, frame_size};
 ghost use Rattle.vg_templates.specs.Spots.{InFrame};
 ghost use Rattle.vg_templates.specs.Frames.{Fits, Waits, saved_bytes, found, Places, word_bytes, between, back_to, needed, Points, Callers, Stacked};
 ghost use Rattle.vg_templates.specs.Frames.{Pushed, bytes_behind, width_at, number_at};
@@ -23,13 +23,13 @@ pub fn callers_wait()
     ensures begin { (i : Places) → ((m : ℕ) → IsLayout (i.layouts m)) → (q m pc : ℕ) (a : Awaits) (kept : State) (frames : List (Frame State))
         (slots args wait own under : List ℕ) (old new : Regs) → length slots ≡ (i.layouts q).slots
         → ((d : ℕ) → IsReliable d → IsIn d (i.layouts q).saved ⊎ (new.of d ≡ old.of d))
-        → Points (i.layouts m) own under old → Waits kept.waiting wait → Fits (i.layouts m) (needed (i.layouts m) a pc) kept.locals own old
+        → Points (i.layouts m) own under old → Waits kept.waiting wait → Fits (i.layouts m) (needed i m a pc) kept.locals own old
         → Callers i frames m own under old
         → Callers i (record { proc = m; pc = pc; kept = kept; awaits = a } ∷ frames) q
         (slots ++ (map old.of (i.layouts q).saved ++ (word_bytes (back_to i a q m pc) ++ args))) (between i a m pc ++ (wait ++ (own ++ under))) new }
     ensures resume { (i : Places) → ((m : ℕ) → IsLayout (i.layouts m)) → (q : ℕ) (f : Frame State) (frames : List (Frame State)) (own under : List ℕ)
-        (old new : Regs) → Agree (found (i.layouts q) own old) new → (k : Callers i (f ∷ frames) q own under old)
-        → Stacked i f.proc (needed (i.layouts f.proc) f.awaits f.pc) f.kept frames (k.0.wait ++ (k.0.own ++ k.0.under)) new }
+        (old new : Regs) → Outlive (found (i.layouts q) own old) new → (k : Callers i (f ∷ frames) q own under old)
+        → Stacked i f.proc (needed i f.proc f.awaits f.pc) f.kept frames (k.0.wait ++ (k.0.own ++ k.0.under)) new }
 {}
 
 /// Laws of arguments: what waits, read in the order in which it was pushed, has its first value deepest and the others before it; and where the

@@ -25,7 +25,7 @@ pub fn calls_enter()
         → place + call_words way < 65536 → i.behind m pc ≡ place + call_words way → leads_to way place v.regs ≡ entry
         → AllStandAt e.flash entry (prologue (i.layouts q)) → entry + widths (prologue (i.layouts q)) < 65536
         → same_widths (i.layouts q).widths (taken_by n s) ≡ true → HasPushed (i.layouts q) (length (taken_by n s))
-        → ((k : ℕ) → needed (i.layouts m) (Result call) pc k ≡ true → live k ≡ true) → Held i m live s frames v → At e place v t
+        → ((k : ℕ) → needed i m (Result call) pc k ≡ true → live k ≡ true) → Held i m live s frames v → At e place v t
         → Goes e (0x1100 < e.floor + length v.stack + 2 + length (i.layouts q).saved + (i.layouts q).slots) 1 t
         (Sees e (Lies i q behind (begins_with (i.layouts q) n s) (record { proc = m; pc = pc; kept = kept_by n s; awaits = Result call } ∷ frames) v.out)
         (entry + widths (prologue (i.layouts q)))) }

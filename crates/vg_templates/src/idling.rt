@@ -34,7 +34,7 @@ pub fn handlers_run()
         (ks : List ℕ) (kept : LinState) (frames : List (Frame LinState)) (wait own under : List ℕ) (v : View) (s : State) → IsHandled e i k q at entry
         → StandsAt e.flash place (Call idle) → place + 2 < 65536 → i.behind m pc ≡ place + 2 → AllStandAt e.flash entry (prologue (i.layouts q))
         → entry + widths (prologue (i.layouts q)) < 65536 → v.stack ≡ wait ++ (own ++ under) → Points (i.layouts m) own under v.regs
-        → Waits kept.waiting wait → Fits (i.layouts m) (needed (i.layouts m) Interrupt pc) kept.locals own v.regs
+        → Waits kept.waiting wait → Fits (i.layouts m) (needed i m Interrupt pc) kept.locals own v.regs
         → Callers i frames m own under v.regs → v.out.interrupts ≡ k ∷ ks → Front e (entered v.out k ks) → At e place v s
         → Goes e (0x1100 < e.floor + length v.stack + 6 + length (i.layouts q).saved + (i.layouts q).slots) 1 s
         (Begun e i q (record { proc = m; pc = pc; kept = kept; awaits = Interrupt }) frames [] (entry + widths (prologue (i.layouts q)))

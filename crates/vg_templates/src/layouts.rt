@@ -1,15 +1,26 @@
 // The laws of the layout of a procedure.
-ghost use Rattle.std.specs.Prelude.{ℕ, suc, ◌<◌, List, length};
-ghost use Rattle.vg_templates.specs.Layouts.{IsLayout};
-ghost use Rattle.vg_templates.specs.Held.{IsSet};
+ghost use Rattle.std.specs.Prelude.{ℕ, suc, ◌≡◌, ◌<◌, true, Some, length, slice_get, slice_index};
+ghost use Rattle.vg_lin.specs.declared.instr.Instr.{Instr};
+ghost use Rattle.vg_lin.specs.Program.{Procedure};
+ghost use Rattle.vg_templates.specs.Layouts.{IsLayout, outlives};
 ghost use Rattle.vg_templates.specs.Calls.{HasPushed};
+ghost use Rattle.vg_templates.specs.Living.{needs, leads_to, is_live, wants_back, lasts};
 ghost use Rattle.vg_templates.specs.Framed.{framed, CanBeFramed};
 
-/// Laws of the layout that keeps the first locals behind the parameters in registers and all others in the frame, for widths of at most four bytes and slots of
-/// fewer than 4,096: it is one as calls, returns and templates ask for it; each local can be set at each place; and the parameters lie where they were pushed.
+/// Laws of the layout that keeps locals in registers as long as there is room, and all others in the frame, for widths of at most four bytes and slots of fewer
+/// than 4,096: it is one as calls, returns and templates ask for it; the parameters lie where they were pushed; and a local whose value is wanted behind a call
+/// lies where it outlives it.
 pub fn layouts_hold_all_locals()
-    ensures layout { (widths : List ℕ) (params : ℕ) → CanBeFramed widths params → IsLayout (framed widths params) }
-    ensures set { (widths : List ℕ) (params : ℕ) → CanBeFramed widths params → (place to : ℕ) → to < length widths
-        → IsSet (framed widths params) ((framed widths params).live place) ((framed widths params).live (suc place)) to }
-    ensures pushed { (widths : List ℕ) (params : ℕ) → CanBeFramed widths params → HasPushed (framed widths params) params }
+    ensures layout { (m : Procedure) → CanBeFramed m.widths m.params → IsLayout (framed m) }
+    ensures pushed { (m : Procedure) → CanBeFramed m.widths m.params → HasPushed (framed m) m.params }
+    ensures outlives { (m : Procedure) → CanBeFramed m.widths m.params → (k : ℕ) → k < length m.widths → lasts m.code k ≡ true
+        → outlives ((framed m).spots k) (slice_index m.widths k) ≡ true }
+{}
+
+/// Laws of what is live: a local is live at each place whose instruction needs it, and it lasts where one wants it back.
+pub fn needed_locals_are_live()
+    ensures live { (m : Procedure) (k pc : ℕ) (i : Instr) → slice_get m.code pc ≡ Some i
+        → needs (is_live m.code k (suc pc)) (is_live m.code k (leads_to pc i)) k i ≡ true → is_live m.code k pc ≡ true }
+    ensures lasting { (m : Procedure) (k pc : ℕ) (i : Instr) → slice_get m.code pc ≡ Some i → wants_back (is_live m.code k (suc pc)) k i ≡ true
+        → lasts m.code k ≡ true }
 {}

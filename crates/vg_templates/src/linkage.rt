@@ -41,7 +41,7 @@ pub fn calls_begin()
         → AllStandAt e.flash entry (prologue (i.layouts q)) → entry + widths (prologue (i.layouts q)) < 65536
         → v.stack ≡ args ++ (between i f.awaits f.proc f.pc ++ (wait ++ (own ++ under))) → Points (i.layouts f.proc) own under v.regs
         → Waits f.kept.waiting wait
-        → Fits (i.layouts f.proc) (needed (i.layouts f.proc) f.awaits f.pc) f.kept.locals own v.regs → Callers i frames f.proc own under v.regs → At e pc v s
+        → Fits (i.layouts f.proc) (needed i f.proc f.awaits f.pc) f.kept.locals own v.regs → Callers i frames f.proc own under v.regs → At e pc v s
         → Goes e (0x1100 < e.floor + length v.stack + 2 + length (i.layouts q).saved + (i.layouts q).slots) 1 s
         (Begun e i q f frames args (entry + widths (prologue (i.layouts q))) v) }
 {}

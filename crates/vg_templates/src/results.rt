@@ -12,7 +12,7 @@ ghost use Rattle.vg_lin.specs.Values.{low};
 ghost use Rattle.avr_view.specs.Run.{Run, Goes};
 ghost use Rattle.avr_view.specs.View.{View, At};
 ghost use Rattle.vg_templates.specs.Layouts.{IsLayout};
-ghost use Rattle.vg_templates.specs.Frames.{Places};
+ghost use Rattle.vg_templates.specs.Frames.{Places, AllOutlive};
 ghost use Rattle.vg_templates.specs.Pieces.{Sees};
 ghost use Rattle.vg_templates.specs.Held.{Held, IsReady};
 ghost use Rattle.vg_templates.specs.Outcomes.{Lies};
@@ -28,10 +28,11 @@ pub fn results_come_back()
         → pc + widths (returns_value (i.layouts q) a count) < 65536 → At e pc v t → Goes e ⊥ 1 t (Returned e i q f frames count x s.ram v.out) }
     ensures arrive { (e : Run) (i : Places) → ((m : ℕ) → IsLayout (i.layouts m)) → (q m pc : ℕ) (kept : State) (call : Call)
         (frames : List (Frame State)) (count x : ℕ) (ram : List ℕ) (o : Outside) (at_once : Bool) (s : MachineState) → count ≤ 4
-        → CanDrop (i.layouts m) at_once kept → CanLand (i.layouts m) ((i.layouts m).live (suc pc)) count call.to
+        → CanDrop (i.layouts m) at_once kept → CanLand (i.layouts m) (i.live m (suc pc)) count call.to
+        → AllOutlive (i.layouts m) (i.live m) (Result call) pc
         → (let is = behind_call (i.layouts m) at_once (i.layouts q).pushed call.to in
         AllStandAt e.flash (i.behind m pc) is → i.behind m pc + widths is < 65536
         → Returned e i q (record { proc = m; pc = pc; kept = kept; awaits = Result call }) frames count x ram o s
-        → Goes e ⊥ 0 s (Sees e (Lies i m ((i.layouts m).live (suc pc)) (with_result call.to (low count x) (record kept { ram = ram })) frames o)
+        → Goes e ⊥ 0 s (Sees e (Lies i m (i.live m (suc pc)) (with_result call.to (low count x) (record kept { ram = ram })) frames o)
         (i.behind m pc + widths is))) }
 {}

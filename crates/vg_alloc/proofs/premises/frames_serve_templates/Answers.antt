@@ -1,18 +1,12 @@
-use Rattle.vg_templates.proofs.Framing.{framed-layout, framed-set, framed-pushed}
-use Rattle.vg_alloc.proofs.Spotting.{can_be_framed, is_ready}
+use Rattle.vg_templates.proofs.Framing.{framed-layout, framed-pushed, framed-outlives}
+use Rattle.vg_alloc.proofs.Spotting.{can_be_framed}
 use Rattle.vg_alloc.proofs.premises.frames_serve_templates.Goals as goal
 
 pub returns-clause-layout : goal.returns-clause-layout
-returns-clause-layout c = λ p s. framed-layout p.widths p.params (can_be_framed p s)
+returns-clause-layout c = λ p s. framed-layout p (can_be_framed p s)
 
 pub returns-clause-pushed : goal.returns-clause-pushed
-returns-clause-pushed c = λ p s. framed-pushed p.widths p.params (can_be_framed p s)
+returns-clause-pushed c = λ p s. framed-pushed p (can_be_framed p s)
 
-pub returns-clause-ready : goal.returns-clause-ready
-returns-clause-ready c = λ p place a there. is_ready p place a there
-
-pub returns-clause-set : goal.returns-clause-set
-returns-clause-set c = λ p s place to there. framed-set p.widths p.params (can_be_framed p s) place to there
-
-pub returns-clause-kept : goal.returns-clause-kept
-returns-clause-kept c = λ p place next k needed. needed
+pub returns-clause-outlives : goal.returns-clause-outlives
+returns-clause-outlives c = λ p s. framed-outlives p (can_be_framed p s)
