@@ -16,6 +16,7 @@ use Rattle.vg_core.specs.Tables.{is_in}
 use Rattle.vg_core.specs.Naming.{Naming, naming_of}
 use Rattle.vg_numbers.specs.Numbers.{IsChain}
 use Rattle.vg_static_source.specs.Fields.{DeclaredField, fields_among, fields_in}
+use Rattle.vg_calls_source.specs.Methods.{methods_in}
 use Rattle.vg_written.specs.Written.{named_owner, named_field, IsOwner, AreWritten}
 use Rattle.vg_types_chains.specs.Chains.{above_at, chain_up, chain_at, Close}
 use Rattle.vg_types_interned.specs.declared.table.Types.{Types}
@@ -35,6 +36,7 @@ use Rattle.vg_types_named.specs.Targets.{count_methods, AreSigned}
 use Rattle.vg_types_named.proofs.Lists.{append-none, count_push}
 use Rattle.vg_types_named.proofs.Targets.{map_push}
 use Rattle.vg_types_named.proofs.Signed.{signed}
+use Rattle.vg_types_written.proofs.Methods.{methods_written, functions_told}
 
 all_push : {A : Type 0} (P : A → Type 0) (xs : List A) (x : A) → AllByRecursion P xs → P x → AllByRecursion P (xs ++ x ∷ [])
 all_push P [] x a h = (h, tt)
@@ -210,6 +212,8 @@ pub written : (texts : List (List ℕ)) (ds : Node) (d : Declared) → Keeps ds 
     → AreWritten texts text d.tables
 written texts ds d kept l text same = record {
   fields = fields_written texts ds l.types l.heads l.homes d kept l.left ∙ ap fields_in (sym same);
+  methods = methods_written texts ds l.types l.heads l.homes d kept l.left ∙ ap methods_in (sym same);
+  functions = functions_told texts ds l.types l.heads l.homes d kept l.left;
   owners = owners_there texts ds l.types l.heads l.homes d kept l.left;
   chains = classes_chained texts ds l.types l.heads l.homes d kept l.left;
 }

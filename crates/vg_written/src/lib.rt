@@ -1,2 +1,2 @@
-//! What the tables of a typed program keep of the fields and classes that a text declares, as definitions.
+//! What the tables of a typed program keep of the fields, methods and classes that a text declares, as definitions.
 #![tactic(auto)]

@@ -1,0 +1,5 @@
+pub mod Steps
+pub mod Forth
+pub mod Back
+pub mod Whole
+pub mod Spelled

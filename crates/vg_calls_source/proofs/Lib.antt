@@ -1,0 +1,3 @@
+pub mod Paths
+pub mod Rounds
+pub mod Alike

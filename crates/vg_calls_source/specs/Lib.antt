@@ -1,0 +1,4 @@
+pub mod Graphs
+pub mod Methods
+pub mod Calls
+pub mod Bounds
