@@ -1,6 +1,6 @@
 -- A program of constants makes nothing, has one live method and no other live member, and needs no bytes.
 use Rattle.std.specs.Prelude.{ℕ, ◌+◌, ◌&&◌, Bool, true, false, List, [], ◌∷◌, Option, Some, None, if◌then◌else◌, bytes_eq}
-use Rattle.std.proofs.Common.{◌≡◌, arith, zero, suc, refl, sym, ap, ◌∙◌, subst, slice_get, codes}
+use Rattle.std.proofs.Common.{◌≡◌, inl, arith, zero, suc, refl, sym, ap, ◌∙◌, subst, slice_get, codes}
 use Rattle.std.proofs.lemmas.Slice.Eq.{bytes_eq-Decides}
 use Rattle.vg_syntax.specs.Reads.{Reads}
 use Rattle.vg_syntax.specs.Tree.{Spot, Node}
@@ -32,6 +32,12 @@ use Rattle.vg_faults.specs.Judged.{IsLegal}
 use Rattle.vg_faults.specs.Living.{IsFirm}
 use Rattle.vg_faults.specs.Fitting.{IsFitting}
 use Rattle.vg_static_source.specs.Sums.{Tells, IsStatic, AreTables}
+use Rattle.vg_calls_source.specs.Bounds.{HasNoCycle, IsSpent}
+use Rattle.vg_calls_source.specs.Calls.{Calls}
+use Rattle.vg_calls_source.specs.Calls as calls
+use Rattle.vg_calls_source.specs.Methods.{MethodName}
+use Rattle.vg_layout.specs.declared.stack_bound.StackBound.TheVariants.{Bytes}
+use Rattle.vg_text_image.specs.Made.{BoundsCallsOf}
 
 -- writes make nothing
 quiet : (ws : List DeviceWrite) → least_made (uses (writes_code ws)) ≡ None
@@ -179,6 +185,27 @@ module _ (at : ℕ → Spot) (device program : ℕ) (f : First) (fits : FirstFit
   no_tables : AreTables (first_tree at device program f) empty_heap 0
   no_tables = (is_main, tells, refl)
 
+  -- ---- calls
+
+  calls_nothing : (m n : MethodName) → Calls (first_tree at device program f) empty_heap m n → ⊥
+  calls_nothing m _ (calls.of_component n count has) = true_false (sym (all_plain m.owner m.name has.place _ has.stands))
+  calls_nothing m _ (calls.of_object n p c x count has finds) = true_false (sym (all_plain m.owner m.name has.place _ has.stands))
+  calls_nothing m _ (calls.by_delegate n p count ps r has delegates types) = true_false (sym (all_plain m.owner m.name has.place _ has.stands))
+
+  no_cycle : HasNoCycle (first_tree at device program f) empty_heap
+  no_cycle [] is = is
+  no_cycle (m ∷ []) ((call, rest), reached) = calls_nothing m m call
+  no_cycle (m ∷ (n ∷ more)) ((call, rest), reached) = calls_nothing m n call
+
+  abbrev main_name : MethodName
+  main_name = record { owner = f.component; name = f.method }
+
+  spent : IsSpent (first_tree at device program f) empty_heap 0
+  spent = (main_name ∷ [], main_name, (inl main_target, refl), omega arith)
+
+  pub few_calls : BoundsCallsOf (first_tree at device program f) empty_heap (Bytes 4)
+  few_calls = (no_cycle, (0, refl, spent))
+
 -- a program of constants that starts does so to the empty heap
 pub heap_is : (bytes : List ℕ) (clock : ℕ) (writes : List DeviceWrite) (t : Node) (heap : Heap) → IsLegal bytes t → IsFirst bytes writes
     → started (source_of t) clock ≡ Started heap → empty_heap ≡ heap
@@ -199,6 +226,14 @@ tables_of bytes clock writes t heap legal starts first =
     let (at, device, program, is) = tree_is_placed bytes writes t first legal.reads in
     subst (λ h. AreTables t h 0) (heap_is bytes clock writes t heap legal first starts)
     (subst (λ u. AreTables u empty_heap 0) (sym is) (no_tables at device program first.first first.fits))
+
+-- its calls cost no more than four bytes are for
+pub calls_of : (bytes : List ℕ) (clock : ℕ) (writes : List DeviceWrite) (t : Node) (heap : Heap) → IsLegal bytes t → started (source_of t) clock ≡ Started heap
+    → IsFirst bytes writes → BoundsCallsOf t heap (Bytes 4)
+calls_of bytes clock writes t heap legal starts first =
+    let (at, device, program, is) = tree_is_placed bytes writes t first legal.reads in
+    subst (λ h. BoundsCallsOf t h (Bytes 4)) (heap_is bytes clock writes t heap legal first starts)
+    (subst (λ u. BoundsCallsOf u empty_heap (Bytes 4)) (sym is) (few_calls at device program first.first first.fits))
 
 -- a program of constants that starts makes nothing
 pub firm_of : (bytes : List ℕ) (clock : ℕ) (writes : List DeviceWrite) (t : Node) (heap : Heap) → IsLegal bytes t → started (source_of t) clock ≡ Started heap

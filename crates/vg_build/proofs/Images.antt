@@ -1,5 +1,5 @@
 -- The flash of a text, with its layout and its texts, is built of it.
-use Rattle.std.proofs.Common.{◌≡◌, ℕ, zero, suc, ◌+◌, ◌-◌, ◌<◌, ◌≤◌, ◌⊎◌, inl, inr, List, length, Option, Some, None, Ok, Err, refl, sym, ap, ◌∙◌, subst, arith}
+use Rattle.std.proofs.Common.{◌≡◌, ℕ, zero, suc, ◌+◌, ◌-◌, ◌<◌, ◌≤◌, ◌⊎◌, inl, inr, List, length, map, Option, Some, None, Ok, Err, refl, sym, ap, ◌∙◌, subst, arith}
 use Rattle.vg_base.specs.Limits.{text_limit}
 use Rattle.vg_syntax.specs.Tree.{Node}
 use Rattle.vg_source.specs.Values.{Heap}
@@ -10,7 +10,7 @@ use Rattle.vg_first_text.specs.FirstText.{IsFirst}
 use Rattle.vg_first_laws.specs.Trees.{empty_heap}
 use Rattle.vg_first_laws.proofs.Means.{text_sessions}
 use Rattle.avr_isa.specs.Agrees.{Agrees, NeverReaches}
-use Rattle.vg_memory.specs.Memory.{KeepsMemory}
+use Rattle.vg_text_image.specs.Made.{KeepsMemory}
 use Rattle.vg_hex.specs.HexImage.{HexImage}
 use Rattle.vg_hex.specs.HexText.{hex_text}
 use Rattle.vg_hex.proofs.Again.{one_image}
@@ -19,10 +19,13 @@ use Rattle.vg_faults.specs.Fitting.{IsFitting}
 use Rattle.vg_faults.specs.Room.{HasStack}
 use Rattle.vg_faults.proofs.Fits.{same_static}
 use Rattle.vg_faults.proofs.Makers.{one_start}
+use Rattle.vg_calls_source.specs.Methods.{method_numbered}
+use Rattle.vg_text_image.proofs.Told.{names_told}
+use Rattle.vg_written.specs.Written.{parts_of}
 use Rattle.vg_fits.specs.declared.fitting.Fitted.{Fitted}
 use Rattle.vg_fits.specs.Answer.{IsFittedOf}
 use Rattle.vg_text_image.specs.declared.making.TextImage.{TextImage}
-use Rattle.vg_text_image.specs.Made.{DoesText, IsCompiledOf}
+use Rattle.vg_text_image.specs.Made.{BoundsCallsOf, DoesText, IsCompiledOf}
 use Rattle.vg_text_image.proofs.Texts.{does_text}
 use Rattle.vg_build.specs.declared.building.Built.{Built}
 use Rattle.vg_build.specs.declared.flash.Flash.{Flash}
@@ -34,10 +37,10 @@ use Rattle.vg_layout.specs.declared.layout.Bound.{Bound}
 use Rattle.vg_layout.specs.declared.layout.Bound.TheVariants as said
 use Rattle.vg_layout.specs.declared.layout.Layout.{Layout}
 use Rattle.vg_build.specs.Answer.{IsNoFirst}
-use Rattle.vg_build.specs.Image.{IsBuiltOf, IsImageOf}
+use Rattle.vg_build.specs.Image.{IsBuiltOf, IsImageOf, SaysOfCalls}
 use Rattle.vg_build.specs.Stated.{stated}
 use Rattle.vg_build.specs.Mirrors.{FlashBy, IsFlashOf, IsLayoutOf, IsMadeOf, IsPacked, Lays, SaysBound, room_above}
-use Rattle.vg_build.proofs.Constants.{heap_is}
+use Rattle.vg_build.proofs.Constants.{calls_of, heap_is}
 use Rattle.vg_build.proofs.Rooms.{heap_of, needs_static, text_of}
 use Rattle.vg_build.proofs.Stacks.{on_smaller}
 
@@ -74,6 +77,7 @@ record DoesOnStacks (bytes : List ℕ) (tree : Node) (heap : Heap) (static_bytes
   idle_is : idle < 65536 → flash.idle ≡ idle
   memory : IsNoFirst bytes → (stack : ℕ) → static_bytes + stack ≤ 4096 → KeepsMemory flash.image static_bytes (0x1100 - stack) idle
   bounded : (need : ℕ) → flash.bound ≡ held.Bytes need → static_bytes + need ≤ 4096 → NeverReaches flash.image (0x1100 - need)
+  calls : BoundsCallsOf tree heap flash.bound
 
 within : (n stack : ℕ) → n + stack ≤ 4096 → stack ≤ 4096
 within n stack fits = omega (arith, fits)
@@ -98,6 +102,7 @@ module _ (bytes : List ℕ) (clock : ℕ) (tree : Node) (heap : Heap) (is : IsFi
         bounded = λ need e fits.
             subst (λ z. NeverReaches flash.image (0x1100 - z)) (same_bytes 4 need (sym four ∙ e))
             (never_on writes flash.image made 4 (omega arith) (omega arith));
+        calls = subst (λ b. BoundsCallsOf tree heap b) (sym four) (calls_of bytes clock writes tree heap is.firm.legal is.firm.starts first);
       }
 
   does_compiled : (i : TextImage) (flash : Flash) → IsFlashOf i flash → IsNoFirst bytes → DoesText bytes clock i → DoesOnStacks bytes tree heap n flash
@@ -121,6 +126,8 @@ module _ (bytes : List ℕ) (clock : ℕ) (tree : Node) (heap : Heap) (is : IsFi
         bounded = λ need e fits.
             subst (λ x. NeverReaches x (0x1100 - need)) (sym of.image)
             (does.never need (sym of.bound ∙ e) (subst (λ m. m + need ≤ 4096) (sym one_static) fits));
+        calls = subst (λ b. BoundsCallsOf tree heap b) (sym of.bound)
+            (subst (λ h. BoundsCallsOf tree h i.bound) one_heap (subst (λ t. BoundsCallsOf t does.heap i.bound) one_tree does.calls));
       }
 
 -- ---- the layout
@@ -134,14 +141,14 @@ floor_is : (stack : ℕ) → stack ≤ 4096 → 0x1100 - stack + stack ≡ 0x110
 floor_is stack fits = omega (arith, fits)
 
 -- a bound that is said is one that holds
-says_bytes : (b : StackBound) (l : Bound) → SaysBound b l → (need : ℕ) → l ≡ said.Bytes need → b ≡ held.Bytes need
-says_bytes (held.Bytes n) (said.Bytes m) e need same = ap (λ z. held.Bytes z) (sym e ∙ same_said m need same)
+says_bytes : (f : Fitted) (b : StackBound) (l : Bound) → SaysBound f b l → (need : ℕ) → l ≡ said.Bytes need → b ≡ held.Bytes need
+says_bytes f (held.Bytes n) (said.Bytes m) e need same = ap (λ z. held.Bytes z) (sym e ∙ same_said m need same)
   where
     same_said : (a b : ℕ) → said.Bytes a ≡ said.Bytes b → a ≡ b
     same_said a b h = cc
-says_bytes (held.Bytes n) (said.Cycle names) e need same = absurd e
-says_bytes (held.Cycle methods) (said.Bytes m) e need same = absurd e
-says_bytes (held.Cycle methods) (said.Cycle names) e need same = absurd (none_such names need same)
+says_bytes f (held.Bytes n) (said.Cycle names) e need same = absurd e
+says_bytes f (held.Cycle methods) (said.Bytes m) e need same = absurd e
+says_bytes f (held.Cycle methods) (said.Cycle names) e need same = absurd (none_such names need same)
   where
     none_such : (names : List (List ℕ)) (need : ℕ) → said.Cycle names ≡ said.Bytes need → ⊥
     none_such names need h = cc
@@ -153,7 +160,8 @@ enough_above : (n need stack : ℕ) → n + stack ≤ 4096 → need ≤ stack �
 enough_above n need stack fits few = omega (arith, fits, few)
 
 module _ (bytes : List ℕ) (asked : Option ℕ) (clock : ℕ) (tree : Node) (heap : Heap) (is : IsFitting bytes clock tree heap) (n : ℕ)
-    (static_is : IsStatic tree heap n) (room : HasStack asked n) where
+    (static_is : IsStatic tree heap n) (room : HasStack asked n) (f : Fitted)
+    (says : (b : StackBound) (l : Bound) → SaysBound f b l → BoundsCallsOf tree heap b → SaysOfCalls tree heap l) where
   abbrev stack : ℕ
   stack = stated asked n
 
@@ -161,7 +169,7 @@ module _ (bytes : List ℕ) (asked : Option ℕ) (clock : ℕ) (tree : Node) (he
   fits = stated_fits asked n room
 
   image_above : (flash : Flash) → DoesOnStacks bytes tree heap n flash → IsFew stack flash.bound → (layout : Layout)
-      → IsLayoutOf flash (room_above n asked) layout → HexImage (hex_text flash.image) flash.image → IsImageOf bytes asked clock flash.image layout
+      → IsLayoutOf f flash (room_above n asked) layout → HexImage (hex_text flash.image) flash.image → IsImageOf bytes asked clock flash.image layout
   image_above flash does few layout of spelled =
       record {
         tree = tree;
@@ -184,17 +192,18 @@ module _ (bytes : List ℕ) (asked : Option ℕ) (clock : ℕ) (tree : Node) (he
             subst (λ z. KeepsMemory flash.image layout.static_bytes z does.idle) (sym of.floor_is)
             (subst (λ z. KeepsMemory flash.image z (0x1100 - stack) does.idle) (sym of.static_is) (does.memory none stack fits));
         bounded = λ need same.
-            let held_bytes = says_bytes flash.bound layout.bound of.bound need same in
+            let held_bytes = says_bytes f flash.bound layout.bound of.bound need same in
             let low = few_bytes stack flash.bound need few held_bytes in (
               subst (λ z. need ≤ z) (sym of.stack_is) low,
               does.bounded need held_bytes (enough_above n need stack fits low),
             );
+        calls = says flash.bound layout.bound of.bound does.calls;
         spelled = spelled;
         only = λ other h. one_image _ _ _ h spelled;
       }
 
   built_above : (flash : Flash) → DoesOnStacks bytes tree heap n flash → IsFew stack flash.bound → (built : Built)
-      → IsPacked flash (room_above n asked) built → IsBuiltOf bytes asked clock built
+      → IsPacked f flash (room_above n asked) built → IsBuiltOf bytes asked clock built
   built_above flash does few built packed =
       let spelled : HexImage (hex_text flash.image) flash.image = subst (λ x. HexImage (hex_text x) x) packed.image_is packed.spelled in
       let here : IsImageOf bytes asked clock built.image built.layout =
@@ -218,9 +227,20 @@ module _ (bytes : List ℕ) (asked : Option ℕ) (clock : ℕ) (f : Fitted) (is 
     subst (λ z. IsFew stack z) (sym of.bound) few,
   )
 
+  -- what bounds the calls is said with the names of methods
+  says_calls : (b : StackBound) (l : Bound) → SaysBound f b l → BoundsCallsOf (text_of f) (heap_of f) b → SaysOfCalls (text_of f) (heap_of f) l
+  says_calls (held.Bytes need) (said.Bytes same) e bounds = subst (λ z. SaysOfCalls (text_of f) (heap_of f) (said.Bytes z)) (sym e) bounds
+  says_calls (held.Bytes need) (said.Cycle names) e bounds = absurd e
+  says_calls (held.Cycle methods) (said.Bytes need) e bounds = absurd e
+  says_calls (held.Cycle methods) (said.Cycle names) e (cycle, there) = (
+    map (method_numbered (text_of f)) methods,
+    e ∙ names_told f.alive.start.names (text_of f) f.alive.start.program.tables (parts_of is.alive.start.program.written) methods there,
+    cycle,
+  )
+
   pub built_of : (room : Room) → Lays n asked (Ok room) → (flash : Flash) → FlashBy bytes f room.stack (Ok flash) → (built : Built)
-      → IsPacked flash room built → IsBuiltOf bytes asked clock built
+      → IsPacked f flash room built → IsBuiltOf bytes asked clock built
   built_of room (has, e) flash by built packed =
       let (does, few) = does_flash (stated asked n) flash (subst (λ (z : Room). FlashBy bytes f z.stack (Ok flash)) e by) in
-      built_above bytes asked clock (text_of f) (heap_of f) is.fitting n (needs_static bytes clock f is) has flash does few built
-      (subst (λ z. IsPacked flash z built) e packed)
+      built_above bytes asked clock (text_of f) (heap_of f) is.fitting n (needs_static bytes clock f is) has f says_calls flash does few built
+      (subst (λ z. IsPacked f flash z built) e packed)

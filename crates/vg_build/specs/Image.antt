@@ -1,22 +1,31 @@
 -- What it means that an image does what the bytes of a source text say.
-use Rattle.std.specs.Prelude.{ℕ, ◌≡◌, ◌+◌, ◌-◌, ◌<◌, ◌≤◌, List, Option}
+use Rattle.std.specs.Prelude.{ℕ, ◌≡◌, ◌+◌, ◌-◌, ◌<◌, ◌≤◌, List, map, Option}
 use Rattle.vg_syntax.specs.Tree.{Node}
 use Rattle.vg_source.specs.Values.{Heap}
 use Rattle.vg_source.specs.Peak.{sessions}
 use Rattle.vg_first_text.specs.declared.device_write.DeviceWrite.{DeviceWrite}
 use Rattle.vg_first_text.specs.FirstText.{IsFirst}
 use Rattle.vg_static_source.specs.Sums.{IsStatic}
+use Rattle.vg_calls_source.specs.Bounds.{HasNoCycle, IsCallCycle, IsSpent}
+use Rattle.vg_calls_source.specs.Methods.{MethodName, method_text}
 use Rattle.vg_faults.specs.Fitting.{IsFitting}
 use Rattle.vg_faults.specs.Room.{HasStack}
 use Rattle.avr_isa.specs.Agrees.{Agrees, NeverReaches}
-use Rattle.vg_memory.specs.Memory.{KeepsMemory}
+use Rattle.vg_text_image.specs.Made.{KeepsMemory}
 use Rattle.vg_hex.specs.HexText.{hex_text}
 use Rattle.vg_hex.specs.HexImage.{HexImage}
 use Rattle.vg_build.specs.declared.building.Built.{Built}
 use Rattle.vg_layout.specs.Text.{layout_text}
-use Rattle.vg_layout.specs.declared.layout.Bound.TheVariants.{Bytes}
+use Rattle.vg_layout.specs.declared.layout.Bound.{Bound}
+use Rattle.vg_layout.specs.declared.layout.Bound.TheVariants.{Bytes, Cycle}
 use Rattle.vg_layout.specs.declared.layout.Layout.{Layout}
 use Rattle.vg_build.specs.Stated.{stated}
+
+-- What a layout says of the calls of a text: no cycle of them is reached, and the bytes are at most four more than the methods of some way of calls cost, so at
+-- most four more than the largest such cost; or these are the names of a cycle of methods that is reached.
+abbrev pub SaysOfCalls : Node → Heap → Bound → Type 0
+SaysOfCalls tree heap (Bytes need) = HasNoCycle tree heap × ((bytes : ℕ) × (need ≡ 4 + bytes) × IsSpent tree heap bytes)
+SaysOfCalls tree heap (Cycle names) = (cycle : List MethodName) × (names ≡ map method_text cycle) × IsCallCycle tree heap cycle
 
 -- The image does what the bytes say, where this stack is asked for, or none, and initialisation has this clock.
 pub record IsImageOf (bytes : List ℕ) (asked : Option ℕ) (clock : ℕ) (image : List ℕ) (layout : Layout) : Type 0 where
@@ -42,6 +51,8 @@ pub record IsImageOf (bytes : List ℕ) (asked : Option ℕ) (clock : ℕ) (imag
   pub memory : ((writes : List DeviceWrite) → IsFirst bytes writes → ⊥) → KeepsMemory image layout.static_bytes layout.floor idle
   -- where the stack is bounded, the bound is at most the stack, and no run brings a stack of so many bytes below its floor
   pub bounded : (need : ℕ) → layout.bound ≡ Bytes need → (need ≤ layout.stack) × NeverReaches image (0x1100 - need)
+  -- the bound is one of the calls of the text, or these go round
+  pub calls : SaysOfCalls tree heap layout.bound
   -- the HEX text spells this image, and no other
   pub spelled : HexImage (hex_text image) image
   pub only : (other : List ℕ) → HexImage (hex_text image) other → other ≡ image

@@ -1,5 +1,5 @@
 -- Mirrors: predicates by cases that follow the code's own functions. No clause of an exported function cites one.
-use Rattle.std.specs.Prelude.{ℕ, ◌≡◌, ◌+◌, ◌-◌, ◌<◌, ◌≤◌, ◌⊎◌, List, Option, Result, Ok, Err}
+use Rattle.std.specs.Prelude.{ℕ, ◌≡◌, ◌+◌, ◌-◌, ◌<◌, ◌≤◌, ◌⊎◌, List, map, Option, Result, Ok, Err}
 use Rattle.vg_base.specs.declared.refusal.Refusal.{Refusal}
 use Rattle.vg_base.specs.declared.refusal.Refusal.TheVariants as refusal
 use Rattle.vg_first_text.specs.declared.device_write.DeviceWrite.{DeviceWrite}
@@ -19,6 +19,7 @@ use Rattle.vg_layout.specs.declared.layout.Bound.TheVariants as said
 use Rattle.vg_layout.specs.declared.layout.Layout.{Layout}
 use Rattle.vg_faults.specs.Room.{HasStack, LacksStack}
 use Rattle.vg_fits.specs.declared.fitting.Fitted.{Fitted}
+use Rattle.vg_inventory.specs.Names.{method_name}
 use Rattle.vg_text_image.specs.declared.making.TextImage.{TextImage}
 use Rattle.vg_text_image.specs.Made.{IsCompiledOf}
 use Rattle.vg_build.specs.declared.building.Built.{Built}
@@ -77,25 +78,28 @@ FlashBy bytes f stack (Ok flash) = FlashAs bytes f stack (Ok flash)
 FlashBy bytes f stack (Err (refusal.Fault why)) = FlashAs bytes f stack (Err (refusal.Fault why))
 FlashBy bytes f stack (Err refusal.NoMemory) = Unit {0}
 
--- how much stack is enough, with names in place of numbers
-abbrev pub SaysBound : StackBound → Bound → Type 0
-SaysBound (held.Bytes need) (said.Bytes same) = same ≡ need
-SaysBound (held.Bytes need) (said.Cycle names) = ⊥
-SaysBound (held.Cycle methods) (said.Bytes need) = ⊥
-SaysBound (held.Cycle methods) (said.Cycle names) = Unit {0}
+-- how much stack is enough, with the names of methods in place of their numbers
+abbrev pub name_in : Fitted → (method : ℕ) → List ℕ
+name_in f = method_name f.alive.start.names f.alive.start.program.tables
+
+abbrev pub SaysBound : Fitted → StackBound → Bound → Type 0
+SaysBound f (held.Bytes need) (said.Bytes same) = same ≡ need
+SaysBound f (held.Bytes need) (said.Cycle names) = ⊥
+SaysBound f (held.Cycle methods) (said.Bytes need) = ⊥
+SaysBound f (held.Cycle methods) (said.Cycle names) = names ≡ map (name_in f) methods
 
 -- the layout of a flash whose stack has this room
-pub record IsLayoutOf (flash : Flash) (room : Room) (layout : Layout) : Type 0 where
+pub record IsLayoutOf (f : Fitted) (flash : Flash) (room : Room) (layout : Layout) : Type 0 where
   pub static_is : layout.static_bytes ≡ room.static_bytes
   pub floor_is : layout.floor ≡ room.floor
   pub stack_is : layout.stack ≡ room.stack
-  pub bound : SaysBound flash.bound layout.bound
+  pub bound : SaysBound f flash.bound layout.bound
   pub idle : layout.idle ≡ flash.idle
 
 -- an image with its layout and its texts
-pub record IsPacked (flash : Flash) (room : Room) (built : Built) : Type 0 where
+pub record IsPacked (f : Fitted) (flash : Flash) (room : Room) (built : Built) : Type 0 where
   pub image_is : built.image ≡ flash.image
-  pub layout_is : IsLayoutOf flash room built.layout
+  pub layout_is : IsLayoutOf f flash room built.layout
   pub hex : built.hex ≡ hex_text built.image
   pub spelled : HexImage (hex_text built.image) built.image
   pub note : built.note ≡ layout_text built.layout

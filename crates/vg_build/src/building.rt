@@ -121,7 +121,7 @@ fn answer_to(
 
 // A flash with its layout and its texts.
 fn packed(alloc: Global, fitted: &Fitted, flash: Flash, room: Room) -> Result<Built, NoMemory>
-    ensures { IfOk result (IsPacked flash room) }
+    ensures { IfOk result (IsPacked fitted.now flash room) }
 {
     let layout = layout_of(alloc, fitted, &flash, room)?;
     let note = layout_text(alloc, &layout)?;

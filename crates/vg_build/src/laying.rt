@@ -17,11 +17,11 @@ pub fn layout_of(
     flash: &Flash,
     room: Room,
 ) -> Result<Layout, NoMemory>
-    ensures { IfOk result (IsLayoutOf flash.now room) }
+    ensures { IfOk result (IsLayoutOf fitted.now flash.now room) }
 {
     let known = known_of(fitted);
     let end = u32::from(words_of(&flash.image));
-    let bound = bound_of(alloc, known, &flash.bound)?;
+    let bound = bound_of(alloc, fitted, &flash.bound)?;
     let areas = areas_of(alloc, known)?;
     let objects = objects_of(alloc, known)?;
     let live = live_names(alloc, known)?;
@@ -40,13 +40,19 @@ pub fn layout_of(
 }
 
 // How much stack is enough, with names in place of the numbers of methods.
-fn bound_of(alloc: Global, known: Known<'_>, bound: &StackBound) -> Result<Bound, NoMemory>
-    ensures { IfOk result (SaysBound bound.now) }
+fn bound_of(alloc: Global, fitted: &Fitted, bound: &StackBound) -> Result<Bound, NoMemory>
+    ensures { IfOk result (SaysBound fitted.now bound.now) }
 {
     match bound {
         StackBound::Bytes(bytes) => Ok(Bound::Bytes(*bytes)),
         StackBound::Cycle(methods) => {
-            let names = method_names(alloc, known, methods.as_slice())?;
+            let start = &fitted.alive.start;
+            let names = method_names(
+                alloc,
+                &start.program.tables,
+                &start.names,
+                methods.as_slice(),
+            )?;
             Ok(Bound::Cycle(names))
         }
     }

@@ -12,10 +12,12 @@ use Rattle.vg_packed.specs.Packed.{IsPackedFrom}
 use Rattle.vg_packed.specs.Ready.{IsReady}
 use Rattle.vg_pack.specs.Rows.{IsPackedWhole, RowsFitIn}
 use Rattle.vg_frame_costs.specs.Fitting.{FramesFit}
-use Rattle.vg_stack_bound.specs.declared.need.Need.{Need}
-use Rattle.vg_stack_bound.specs.declared.need.Need.TheVariants as need
+use Rattle.vg_call_need.specs.declared.need.Need.{Need}
+use Rattle.vg_call_need.specs.declared.need.Need.TheVariants as need
 use Rattle.vg_compile.proofs.Following.{follows, peaks_hold}
-use Rattle.vg_compile.specs.Bounds.{HasNeed, HoldsBound, IsBoundOf}
+use Rattle.vg_call_need.specs.Bounds.{BoundsCalls, IsBoundOf}
+use Rattle.vg_call_need.proofs.Calls.{bounds_calls}
+use Rattle.vg_compile.specs.Bounds.{HasNeed, HoldsBound}
 use Rattle.vg_compile.specs.Compile.{IsImageOf}
 use Rattle.vg_compile.specs.Runs.{DoesInImage}
 use Rattle.vg_compile.specs.declared.compiled.Compiled.{Compiled}
@@ -39,9 +41,9 @@ module _ (p : Program) (h : Heap) (s : LiveSet) (n : Numbers) (c : Columns) (f :
   pub does : DoesInImage compiled.linked c costs p h
   does = does_by costs image.fit
 
-  bound_by : (need : Need) (bound : StackBound) → IsBoundOf need bound → HasNeed f image.linear need → HoldsBound compiled.linked c p h bound
+  bound_by : (need : Need) (bound : StackBound) → IsBoundOf f need bound → HasNeed f image.linear costs need → HoldsBound compiled.linked c p h bound
   bound_by (need.Bytes bytes) (Bytes same) e has =
-      let (enough, exact, is_enough, spent) = has.is_need in
+      let (within, (enough, exact, is_enough, spent, dear)) = has.is_need in
       subst (λ z. HoldsBound compiled.linked c p h (Bytes z)) (sym e) (
         has.frames,
         does_by has.frames has.fit,
@@ -55,3 +57,6 @@ module _ (p : Program) (h : Heap) (s : LiveSet) (n : Numbers) (c : Columns) (f :
 
   pub bound_holds : HoldsBound compiled.linked c p h compiled.bound
   bound_holds = bound_by image.need compiled.bound image.is_bound image.has_need
+
+  pub calls_bounded : BoundsCalls costs p h compiled.bound
+  calls_bounded = bounds_calls p h s n c f given ready from image.has_need.frames costs image.need compiled.bound image.has_need.is_need image.is_bound

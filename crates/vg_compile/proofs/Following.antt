@@ -55,7 +55,7 @@ use Rattle.vg_followed.specs.Runs.{Begins}
 use Rattle.vg_frame_costs.specs.Fitting.{FramesFit}
 use Rattle.vg_deep_costs.specs.Fit.{HasFitFrames}
 use Rattle.vg_peaks.proofs.Joining.{within_peak}
-use Rattle.vg_memory.specs.Does.{DoesAsProgram}
+use Rattle.vg_stack_bound.specs.Memory.{DoesAsProgram}
 use Rattle.vg_linear.specs.declared.whole.Linear.{Linear}
 use Rattle.vg_linear.specs.Standing.{StandIn}
 use Rattle.vg_linear.specs.Whole.{IsLinear, linear_program, packed_of}
@@ -67,8 +67,8 @@ use Rattle.vg_link.specs.Linking as linking
 use Rattle.vg_link.specs.Linking.{kept_before, codes_before, CanBeLinked, IsLinked}
 use Rattle.vg_link.proofs.Before.{kept_low, kept_there, same_bytes}
 use Rattle.vg_link.proofs.Beginning.{stands, begins}
-use Rattle.vg_memory.specs.Holds.{HoldsPeaks}
-use Rattle.vg_stack_bound.specs.Enough.{IsEnough}
+use Rattle.vg_stack_bound.specs.Memory.{HoldsPeaks}
+use Rattle.vg_call_need.specs.Bounds.{IsEnough}
 use Rattle.vg_stack_bound.proofs.Holding as stack_bound
 use Rattle.vg_compile.specs.Compiled.{IsUnlinked}
 use Rattle.vg_compile.proofs.Bytes.{columns_are, tables_are}

@@ -4,3 +4,4 @@ pub mod Linking
 pub mod Unlinked
 pub mod Does
 pub mod Needs
+pub mod Memory

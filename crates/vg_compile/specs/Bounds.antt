@@ -1,37 +1,25 @@
 -- How much stack is enough for an image.
-use Rattle.std.specs.Prelude.{ℕ, ◌≡◌, ◌+◌, ◌≤◌, List}
+use Rattle.std.specs.Prelude.{ℕ, ◌+◌, ◌≤◌, List}
 use Rattle.vg_core.specs.declared.heap.Heap.{Heap}
 use Rattle.vg_core.specs.Program.{Program}
 use Rattle.vg_frame_costs.specs.Fitting.{FramesFit}
-use Rattle.vg_memory.specs.Holds.{HoldsPeaks}
+use Rattle.vg_stack_bound.specs.Memory.{HoldsPeaks}
 use Rattle.vg_place.specs.declared.placing.Columns.{Columns}
 use Rattle.vg_packed.specs.declared.program.FirmProgram.{FirmProgram}
 use Rattle.vg_linear.specs.declared.whole.Linear.{Linear}
 use Rattle.vg_link.specs.declared.linked.Linked.{Linked}
-use Rattle.vg_stack_bound.specs.Enough.{IsNeed}
-use Rattle.vg_stack_bound.specs.declared.need.Need.{Need}
-use Rattle.vg_stack_bound.specs.declared.need.Need.TheVariants as need
+pub use Rattle.vg_call_need.specs.Bounds.{BoundsCalls}
+use Rattle.vg_call_need.specs.Within.{IsNeedWithin}
+use Rattle.vg_call_need.specs.declared.need.Need.{Need}
 use Rattle.vg_compile.specs.Runs.{DoesInImage}
 use Rattle.vg_layout.specs.declared.stack_bound.StackBound.{StackBound}
 use Rattle.vg_layout.specs.declared.stack_bound.StackBound.TheVariants.{Bytes, Cycle}
 
--- Frames of methods within which all procedures are, and what the calls of the packed program need by them.
-pub record HasNeed (f : FirmProgram) (l : Linear) (need : Need) : Type 0 where
+-- Frames of methods within which all procedures are, and within these costs, and what the calls of the packed program need by them.
+pub record HasNeed (f : FirmProgram) (l : Linear) (costs : List ℕ) (need : Need) : Type 0 where
   pub frames : List ℕ
   pub fit : FramesFit l.procedures l.start frames
-  pub is_need : IsNeed f frames need
-
--- a need that this stack has room for
-abbrev pub IsFewOf : (stack : ℕ) → Need → Type 0
-IsFewOf stack (need.Bytes bytes) = bytes ≤ stack
-IsFewOf stack (need.Cycle procedures) = Unit {0}
-
--- the bound by what calls need
-abbrev pub IsBoundOf : Need → StackBound → Type 0
-IsBoundOf (need.Bytes n) (Bytes m) = m ≡ n
-IsBoundOf (need.Bytes n) (Cycle methods) = ⊥
-IsBoundOf (need.Cycle procedures) (Bytes m) = ⊥
-IsBoundOf (need.Cycle procedures) (Cycle methods) = Unit {0}
+  pub is_need : IsNeedWithin f frames costs need
 
 -- By some costs of methods the machine does in the image as the program does, or reaches below its floor where the active calls cost more than the stack; and by
 -- these costs a stack of so many bytes holds what the active calls cost in each run. Of a cycle nothing is said.

@@ -16,8 +16,9 @@ use Rattle.vg_compile.specs.Compiled.{IsUnlinked}
 use Rattle.vg_compile.specs.declared.no_image.NoImage.{NoImage}
 use Rattle.vg_compile.specs.declared.no_image.NoImage.TheVariants.{NotLinear, Costly, Deep, Unfit, Full}
 use Rattle.vg_compile.specs.declared.compiled.Compiled.{Compiled}
-use Rattle.vg_compile.specs.Bounds.{HasNeed, IsBoundOf}
-use Rattle.vg_stack_bound.specs.declared.need.Need.{Need}
+use Rattle.vg_compile.specs.Bounds.{HasNeed}
+use Rattle.vg_call_need.specs.Bounds.{IsBoundOf}
+use Rattle.vg_call_need.specs.declared.need.Need.{Need}
 
 -- The image of a packed program: it is made linear, frames are within the costs of methods, what its calls need is known, and that is linked.
 pub record IsImageOf (c : Columns) (f : FirmProgram) (costs : List ℕ) (compiled : Compiled) : Type 0 where
@@ -29,8 +30,8 @@ pub record IsImageOf (c : Columns) (f : FirmProgram) (costs : List ℕ) (compile
   pub can_be_linked : CanBeLinked unlinked
   pub is_linked : IsLinked unlinked compiled.linked
   pub need : Need
-  pub has_need : HasNeed f linear need
-  pub is_bound : IsBoundOf need compiled.bound
+  pub has_need : HasNeed f linear costs need
+  pub is_bound : IsBoundOf f need compiled.bound
 
 -- A handler of the packed program.
 abbrev pub handler_of : Entrance → Handler

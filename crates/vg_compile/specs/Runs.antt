@@ -3,7 +3,7 @@ use Rattle.std.specs.Prelude.{ℕ, ◌≡◌, ◌+◌, ◌≤◌, true, List}
 use Rattle.avr_view.specs.Run.{Run}
 use Rattle.vg_core.specs.declared.heap.Heap.{Heap}
 use Rattle.vg_core.specs.Program.{Program}
-use Rattle.vg_memory.specs.Does.{DoesAsProgram}
+use Rattle.vg_stack_bound.specs.Memory.{DoesAsProgram}
 use Rattle.vg_place.specs.declared.placing.Columns.{Columns}
 use Rattle.vg_link.specs.declared.linked.Linked.{Linked}
 

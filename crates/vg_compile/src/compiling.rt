@@ -7,7 +7,8 @@ ghost use Rattle.vg_packed.specs.Ready.{IsReady};
 ghost use Rattle.vg_link.specs.Linking.{CanBeLinked, IsLinked};
 ghost use Rattle.vg_frame_costs.specs.Fitting.{FramesFit};
 ghost use Rattle.vg_linear.specs.Whole.{IsLinear};
-ghost use Rattle.vg_compile.specs.Bounds.{HasNeed, HoldsBound, IsBoundOf, IsFewOf};
+ghost use Rattle.vg_call_need.specs.Bounds.{BoundsCalls, IsBoundOf, IsFewOf};
+ghost use Rattle.vg_compile.specs.Bounds.{HasNeed, HoldsBound};
 ghost use Rattle.vg_layout.specs.Few.{IsFew};
 ghost use Rattle.vg_compile.specs.Compile.{IsImageOf, IsRefusedFor};
 ghost use Rattle.vg_compile.specs.Runs.{DoesInImage};
@@ -19,10 +20,10 @@ use crate::no_image::NoImage;
 use crate::pieces::pieces_of;
 use crate::unlinking::unlinked;
 use std::alloc::Global;
-use vg_base::{NoMemory, Refusal, Row};
+use vg_base::{NoMemory, Refusal};
+use vg_call_need::{Need, bound_of, need_within};
 use vg_core::Program;
 use vg_frame_costs::frames_fit;
-use vg_layout::StackBound;
 use vg_linear::{Linear, make_linear};
 use vg_link::{Linked, Unlinked, link};
 use vg_live::LiveSet;
@@ -31,12 +32,11 @@ use vg_pack::pack;
 use vg_packed::FirmProgram;
 use vg_place::Columns;
 use vg_shape::Store;
-use vg_stack_bound::{Need, stack_need};
 
 /// The image of a typed program with the heap that its constructors left, of what is live, by its numbers and its columns: it is packed, made linear and
 /// linked. The machine does in it what the program does from that heap, where the program is ready to be packed; or it reaches below the floor of its stack
 /// first, for which the active calls must cost more than the stack. Costs are by the numbers of methods. Where calls do not go round, a stack of so many bytes
-/// as is said is enough for each run.
+/// as is said is enough for each run, and they are at most four more than what the methods of some way of calls cost; where they do, a cycle of them is said.
 ///
 /// It refuses what has no linear code, what has a procedure whose frame is more than its method costs, what needs more than a stack of so many bytes, what
 /// cannot be linked, and what takes more words than the flash has: 65,535, since the last word stays free.
@@ -55,6 +55,8 @@ pub fn compile(
         → DoesInImage compiled.linked columns.now costs.now (program_at program.now) heap.now) }
     ensures bound { IfOk result (λ compiled. IsReady (program_at program.now) heap.now
         → HoldsBound compiled.linked columns.now (program_at program.now) heap.now compiled.bound) }
+    ensures calls { IfOk result (λ compiled. IsReady (program_at program.now) heap.now
+        → BoundsCalls costs.now (program_at program.now) heap.now compiled.bound) }
     ensures few { IfOk result (λ compiled. IsFew stack compiled.bound) }
     ensures short { IfOk result (λ compiled. length compiled.linked.flash ≤ flash_bytes) }
     ensures refused { IsRefusedFor stack result }
@@ -86,7 +88,7 @@ fn image_of(
         Ok(linear) => linear,
         Err(why) => return Err(why),
     };
-    let need = match need_of(alloc, &firm, &linear, costs.len(), stack) {
+    let need = match need_of(alloc, &firm, &linear, costs, stack) {
         Ok(need) => need,
         Err(why) => return Err(why),
     };
@@ -135,15 +137,15 @@ fn need_of(
     alloc: Global,
     firm: &FirmProgram,
     linear: &Linear,
-    methods: usize,
+    costs: &[u32],
     stack: u16,
 ) -> Result<Need, Refusal<NoImage>>
-    ensures need { IfOk result (HasNeed firm.now linear.now) }
+    ensures need { IfOk result (HasNeed firm.now linear.now costs.now) }
     ensures few { IfOk result (IsFewOf stack) }
     ensures refused { IsRefusedFor stack result }
 {
-    let frames = method_frames(alloc, linear.procedures.as_slice(), methods)?;
-    match need_by(alloc, firm, linear, frames.as_slice())? {
+    let frames = method_frames(alloc, linear.procedures.as_slice(), costs.len())?;
+    match need_by(alloc, firm, linear, frames.as_slice(), costs)? {
         Some(Need::Bytes(bytes)) => {
             if bytes > u32::from(stack) {
                 return Err(Refusal::Fault(NoImage::Deep { need: bytes }));
@@ -155,52 +157,21 @@ fn need_of(
     }
 }
 
-// What they need by these frames, where all procedures are within them.
+// What they need by these frames, where all procedures are within them, and they within the costs of methods.
 fn need_by(
     alloc: Global,
     firm: &FirmProgram,
     linear: &Linear,
     frames: &[u32],
+    costs: &[u32],
 ) -> Result<Option<Need>, NoMemory>
-    ensures { IfOk result (λ need. IfSome need (HasNeed firm.now linear.now)) }
+    ensures { IfOk result (λ need. IfSome need (HasNeed firm.now linear.now costs.now)) }
 {
     if frames_fit(linear.procedures.as_slice(), linear.start, frames) {
-        stack_need(alloc, firm, frames)
+        need_within(alloc, firm, frames, costs)
     } else {
         Ok(None)
     }
-}
-
-// How much stack is enough: the procedures of a cycle are methods.
-fn bound_of(
-    alloc: Global,
-    firm: &FirmProgram,
-    need: &Need,
-    stack: u16,
-) -> Result<StackBound, NoMemory>
-    requires { IsFewOf stack need.now }
-    ensures bound { IfOk result (IsBoundOf need.now) }
-    ensures few { IfOk result (IsFew stack) }
-{
-    match need {
-        Need::Bytes(bytes) => Ok(StackBound::Bytes(*bytes)),
-        Need::Cycle(procedures) => {
-            let methods = methods_of(alloc, firm, procedures.as_slice())?;
-            Ok(StackBound::Cycle(methods))
-        }
-    }
-}
-
-// The methods that procedures are.
-fn methods_of(alloc: Global, firm: &FirmProgram, procedures: &[u16]) -> Result<Row<u16>, NoMemory> {
-    let mut methods = Row::new(alloc);
-    for place in procedures {
-        match firm.procedures.as_slice().get(usize::from(*place)) {
-            Some(procedure) => methods.push(procedure.method)?,
-            None => {}
-        }
-    }
-    Ok(methods)
 }
 
 // What can be linked, linked.

@@ -16,7 +16,7 @@ ghost use Rattle.vg_link.specs.declared.linked.Linked.{Linked};
 ghost use Rattle.vg_link.specs.declared.unlinked.Unlinked.{Unlinked};
 ghost use Rattle.vg_link.specs.Linking.{CanBeLinked, IsLinked};
 ghost use Rattle.vg_frame_costs.specs.Fitting.{FramesFit};
-ghost use Rattle.vg_memory.specs.Does.{DoesAsProgram};
+ghost use Rattle.vg_stack_bound.specs.Memory.{DoesAsProgram};
 ghost use Rattle.vg_compile.specs.Compiled.{IsUnlinked};
 
 /// A law of compiled programs. Where a typed program and its initialised heap are packed, the packed program is made linear, and that is linked, the machine

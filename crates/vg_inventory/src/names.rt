@@ -1,8 +1,11 @@
 // The names of what a text declares.
+ghost use Rattle.std.specs.Prelude.{◌≡◌, IfOk, map};
+ghost use Rattle.vg_inventory.specs.Names.{behind_space, method_name};
+
 use crate::known::Known;
 use std::alloc::Global;
-use vg_base::{Name, NoMemory, Row};
-use vg_core::Member;
+use vg_base::{Name, Names, NoMemory, Row};
+use vg_core::{Member, Tables};
 use vg_report::members::put_member;
 
 /// The name of a method or a field, behind that of the class or component which declares it.
@@ -13,31 +16,52 @@ pub fn member_name(alloc: Global, known: Known<'_>, member: Member) -> Result<Ro
 }
 
 // What stands behind the first space: a member is written behind the word for what it is.
-fn behind_space(alloc: Global, text: &[u8]) -> Result<Row<u8>, NoMemory> {
+fn behind_space(alloc: Global, text: &[u8]) -> Result<Row<u8>, NoMemory>
+    ensures { IfOk result (λ rest. rest ≡ behind_space text.now) }
+{
     let mut rest = Row::new(alloc);
-    let mut is_behind = false;
-    for byte in text {
-        if is_behind {
-            rest.push(*byte)?;
-        }
-        if *byte == b' ' {
-            is_behind = true;
-        }
-    }
+    rest.append(behind(text))?;
     Ok(rest)
 }
 
-/// The names of methods.
+fn behind(text: &[u8]) -> &[u8]
+    ensures { result.now ≡ behind_space text.now }
+{
+    match text {
+        [] => text,
+        [byte, rest @ ..] => { if *byte == b' ' { rest } else { behind(rest) } }
+    }
+}
+
+/// The names of methods, each behind that of the class or component which declares it.
 pub fn method_names(
     alloc: Global,
-    known: Known<'_>,
+    tables: &Tables,
+    names: &Names,
     methods: &[u16],
-) -> Result<Row<Row<u8>>, NoMemory> {
-    let mut names = Row::new(alloc);
+) -> Result<Row<Row<u8>>, NoMemory>
+    ensures { IfOk result (λ rows. rows ≡ map (method_name names.now tables.now) methods.now) }
+{
+    let mut rows = Row::new(alloc);
     for method in methods {
-        names.push(member_name(alloc, known, Member::Method(*method))?)?;
+        let name = method_name(alloc, tables, names, *method)?;
+        rows.push(name)?;
     }
-    Ok(names)
+    Ok(rows)
+}
+
+#[tactic(auto, using(crate::proofs::Spelled::behind_word))]
+fn method_name(
+    alloc: Global,
+    tables: &Tables,
+    names: &Names,
+    method: u16,
+) -> Result<Row<u8>, NoMemory>
+    ensures { IfOk result (λ name. name ≡ method_name names.now tables.now method) }
+{
+    let mut text = Row::new(alloc);
+    put_member(&mut text, tables, names, Member::Method(method))?;
+    behind_space(alloc, text.as_slice())
 }
 
 /// Puts the text of a name behind a text.

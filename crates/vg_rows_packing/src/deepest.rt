@@ -2,8 +2,8 @@
 use crate::packing::Whole;
 use std::alloc::Global;
 use vg_base::NoMemory;
+use vg_call_need::{Need, stack_need};
 use vg_rows_lines::said;
-use vg_stack_bound::{Need, stack_need};
 
 /// How many calls are active at most, or that calls go round: the largest cost of active calls, where each method costs 1.
 pub fn deepest_text(alloc: Global, whole: &Whole) -> Result<String, NoMemory> {

@@ -29,7 +29,7 @@ use Rattle.vg_packed.proofs.Placed.{do_the_same}
 use Rattle.vg_walks.specs.Walks.{AreAwake, AreWalks}
 use Rattle.vg_walks.proofs.Walking.{walks}
 use Rattle.vg_memory.specs.Holds.{HoldsPeaks}
-use Rattle.vg_stack_bound.specs.Enough.{IsEnough}
+use Rattle.vg_calls_packed.specs.Enough.{IsEnough}
 use Rattle.vg_stack_bound.proofs.Awake.{HasAwakeCode, awake_at, methods_awake}
 
 most_within : (total rest bytes : ℕ) → total ≤ bytes → rest ≤ bytes → max total rest ≤ bytes

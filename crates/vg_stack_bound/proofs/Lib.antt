@@ -1,3 +1,3 @@
-pub mod Bounds
 pub mod Awake
 pub mod Holding
+pub mod Memory

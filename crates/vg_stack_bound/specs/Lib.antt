@@ -1,4 +1,1 @@
-pub mod Turns
-pub mod Ways
-pub mod Enough
-pub mod Covered
+pub mod Memory

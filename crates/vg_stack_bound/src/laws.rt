@@ -12,7 +12,7 @@ ghost use Rattle.vg_packed.specs.Packed.{IsPackedFrom};
 ghost use Rattle.vg_packed.specs.Programs.{program_of};
 ghost use Rattle.vg_packed.specs.Ready.{IsReady};
 ghost use Rattle.vg_memory.specs.Holds.{HoldsPeaks};
-ghost use Rattle.vg_stack_bound.specs.Enough.{IsEnough};
+ghost use Rattle.vg_calls_packed.specs.Enough.{IsEnough};
 
 /// A law of packed programs. Where so many bytes are enough for the active calls of a packed program, by costs of methods, and they and four more fit between
 /// the floor and the end of SRAM, the stack holds what the active calls cost in each run of the typed program. The body is empty: its contract is a law of the

@@ -12,6 +12,8 @@ use Rattle.vg_source.specs.Peak.{costs, sessions}
 use Rattle.vg_source.specs.Program.{source_of}
 use Rattle.vg_static_source.specs.Sums.{IsStatic}
 use Rattle.vg_static_named.proofs.Sums.{static_named}
+use Rattle.vg_calls_named.proofs.Whole as calls_named
+use Rattle.vg_compile.specs.Bounds.{BoundsCalls}
 use Rattle.avr_isa.specs.Agrees.{Agrees, NeverReaches}
 use Rattle.avr_bytes.specs.Bytes.{IsFlash}
 use Rattle.avr_view.specs.Run.{Run}
@@ -22,7 +24,7 @@ use Rattle.vg_core.specs.Naming.{Naming, naming_of}
 use Rattle.vg_core.specs.Program.{Program}
 use Rattle.vg_renamed.specs.IsNamed.{IsNamed}
 use Rattle.vg_renamed.proofs.Named.{is_named}
-use Rattle.vg_packed.specs.Ready.{IsReady}
+use Rattle.vg_compile.specs.Given.{IsReady}
 use Rattle.vg_written.specs.Written.{parts_of}
 use Rattle.vg_fits.specs.Answer.{named_start_heap}
 use Rattle.vg_fits.specs.Answer.{Start}
@@ -32,13 +34,13 @@ use Rattle.vg_fits_given.proofs.Given.{given, ready}
 use Rattle.vg_costs.proofs.Bounded.{small}
 use Rattle.vg_costs.proofs.Limited.{not_too_many}
 use Rattle.vg_compile.specs.Compile.{Linked}
-use Rattle.vg_memory.proofs.SessionsAgree.{agrees}
-use Rattle.vg_memory.specs.Does.{DoesAsProgram}
-use Rattle.vg_memory.specs.Whole.{with_whole}
-use Rattle.vg_memory.specs.Memory.{KeepsMemory}
-use Rattle.vg_memory.proofs.Keeping.{keeps}
-use Rattle.vg_memory.proofs.Never.{never}
-use Rattle.vg_memory.specs.Holds.{HoldsPeaks}
+use Rattle.vg_compile.proofs.Memory.{agrees}
+use Rattle.vg_compile.specs.Memory.{DoesAsProgram}
+use Rattle.vg_compile.specs.Memory.{with_whole}
+use Rattle.vg_compile.specs.Memory.{KeepsMemory}
+use Rattle.vg_compile.proofs.Memory.{keeps}
+use Rattle.vg_compile.proofs.Memory.{never}
+use Rattle.vg_compile.specs.Memory.{HoldsPeaks}
 use Rattle.vg_text_image.specs.declared.making.TextImage.{TextImage}
 use Rattle.vg_text_image.specs.declared.unmade.Unmade.{Unmade}
 use Rattle.vg_text_image.specs.declared.unmade.Unmade.TheVariants.{CodeFull, StackFull, NotBuilt}
@@ -46,8 +48,8 @@ use Rattle.vg_compile.specs.Bounds.{HoldsBound}
 use Rattle.vg_layout.specs.Few.{IsFew}
 use Rattle.vg_compile.specs.Runs.{DoesInImage}
 use Rattle.vg_layout.specs.declared.stack_bound.StackBound.{StackBound}
-use Rattle.vg_layout.specs.declared.stack_bound.StackBound.TheVariants.{Bytes}
-use Rattle.vg_text_image.specs.Made.{CanCompile, DoesText, IsCompiledOf, IsRefusedFor}
+use Rattle.vg_layout.specs.declared.stack_bound.StackBound.TheVariants.{Bytes, Cycle}
+use Rattle.vg_text_image.specs.Made.{BoundsCallsOf, CanCompile, DoesText, IsCompiledOf, IsRefusedFor}
 
 -- ---- bytes of flash
 
@@ -131,6 +133,25 @@ module _ (bytes : List ℕ) (clock : ℕ) (f : Fitted) (is : IsFittedOf bytes cl
       (static_named s.names p is.alive.start.program.told is.alive.start.program.typed text (parts_of is.alive.start.program.written)
       is.alive.start.program.named s.heap is.alive.start.typed.0 is.alive.start.typed.1 f.alive.live is.alive.set)
 
+  -- what bounds the calls of the typed program bounds those of the text
+  calls_of_text : (bound : StackBound) → BoundsCalls (costs text) p s.heap bound → BoundsCallsOf text (named_start_heap s) bound
+  calls_of_text (Bytes need) (none, (bytes, four, spent)) = (
+    calls_named.none s.names text p is.alive.start.program.named is.alive.start.program.typed is.alive.start.program.told
+        (parts_of is.alive.start.program.written) s.heap is.alive.start.typed.0 is.alive.start.typed.1 none,
+    (
+      bytes,
+      four,
+      calls_named.spent s.names text p is.alive.start.program.named is.alive.start.program.typed is.alive.start.program.told
+          (parts_of is.alive.start.program.written) s.heap is.alive.start.typed.0 is.alive.start.typed.1 bytes spent,
+    ),
+  )
+  calls_of_text (Cycle methods) cycle = (
+    calls_named.cycle s.names text p is.alive.start.program.named is.alive.start.program.typed is.alive.start.program.told
+        (parts_of is.alive.start.program.written) s.heap is.alive.start.typed.0 is.alive.start.typed.1 methods cycle,
+    calls_named.cycle_there s.names text p is.alive.start.program.named is.alive.start.program.typed is.alive.start.program.told
+        (parts_of is.alive.start.program.written) s.heap is.alive.start.typed.0 is.alive.start.typed.1 methods cycle,
+  )
+
   module _ (i : TextImage) (m : IsCompiledOf f i) (stack : ℕ) (fits : n + stack ≤ 4096) where
     abbrev linked : Linked
     linked = m.linked
@@ -191,6 +212,7 @@ module _ (bytes : List ℕ) (clock : ℕ) (f : Fitted) (is : IsFittedOf bytes cl
         (subst (λ z. KeepsMemory i.flash z (0x1100 - stack) (m.linked.idle + 1)) (sym m.static_is)
         (kept i m stack (subst (λ z. z + stack ≤ 4096) m.static_is h)));
     never = λ need same h. never_below i m need same (subst (λ z. z + need ≤ 4096) m.static_is h);
+    calls = calls_of_text i.bound (m.calls s.names (ready bytes clock f is short));
   }
 
 -- what is linked of what fits is its image
@@ -199,12 +221,15 @@ pub compiled_of : (f : Fitted) (i : TextImage) (linked : Linked) (cs : List ℕ)
     → DoesInImage linked f.placed.columns cs (program_at f.alive.start.program) f.alive.start.heap)
     → (IsReady (program_at f.alive.start.program) f.alive.start.heap
     → HoldsBound linked f.placed.columns (program_at f.alive.start.program) f.alive.start.heap i.bound)
+    → (IsReady (program_at f.alive.start.program) f.alive.start.heap
+    → BoundsCalls cs (program_at f.alive.start.program) f.alive.start.heap i.bound)
     → i.flash ≡ linked.flash → AllByRecursion (λ b. b < 256) i.flash → i.static_bytes ≡ f.placed.columns.static_bytes → i.idle ≡ linked.idle
     → IsCompiledOf f i
-compiled_of f i linked cs are does bound flash bytes static idle = record {
+compiled_of f i linked cs are does bound calls flash bytes static idle = record {
   linked = linked;
   does = λ texts r. subst (λ z. DoesInImage linked f.placed.columns z (program_at f.alive.start.program) f.alive.start.heap) (are texts) (does r);
   bound = bound;
+  calls = λ texts r. subst (λ z. BoundsCalls z (program_at f.alive.start.program) f.alive.start.heap i.bound) (are texts) (calls r);
   flash = flash;
   are_bytes = bytes;
   static_is = static;
@@ -219,6 +244,11 @@ pub bound_of : (f : Fitted) (linked : Linked) (made said : StackBound) → said 
     → HoldsBound linked f.placed.columns (program_at f.alive.start.program) f.alive.start.heap said
 bound_of f linked made said same holds r =
     subst (λ z. HoldsBound linked f.placed.columns (program_at f.alive.start.program) f.alive.start.heap z) (sym same) (holds r)
+
+pub calls_of : (f : Fitted) (cs : List ℕ) (made said : StackBound) → said ≡ made
+    → (IsReady (program_at f.alive.start.program) f.alive.start.heap → BoundsCalls cs (program_at f.alive.start.program) f.alive.start.heap made)
+    → IsReady (program_at f.alive.start.program) f.alive.start.heap → BoundsCalls cs (program_at f.alive.start.program) f.alive.start.heap said
+calls_of f cs made said same holds r = subst (λ z. BoundsCalls cs (program_at f.alive.start.program) f.alive.start.heap z) (sym same) (holds r)
 
 pub few_of : (stack : ℕ) (made said : StackBound) → said ≡ made → IsFew stack made → IsFew stack said
 few_of stack made said same few = subst (λ z. IsFew stack z) (sym same) few

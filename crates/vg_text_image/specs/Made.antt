@@ -1,5 +1,5 @@
 -- What it means that an image is made of a text that fits.
-use Rattle.std.specs.Prelude.{ℕ, ◌≡◌, ◌+◌, ◌-◌, ◌<◌, ◌≤◌, List, [], Result, Ok, Err}
+use Rattle.std.specs.Prelude.{ℕ, ◌≡◌, ◌+◌, ◌-◌, ◌<◌, ◌≤◌, List, [], length, map, Result, Ok, Err}
 use Rattle.std.specs.List.{AllByRecursion}
 use Rattle.vg_base.specs.declared.refusal.Refusal.{Refusal}
 use Rattle.vg_base.specs.declared.refusal.Refusal.TheVariants as refusal
@@ -7,22 +7,33 @@ use Rattle.vg_syntax.specs.Tree.{Node}
 use Rattle.vg_source.specs.Values.{Heap}
 use Rattle.vg_source.specs.Peak.{costs, sessions}
 use Rattle.vg_static_source.specs.Sums.{IsStatic}
+use Rattle.vg_calls_source.specs.Bounds.{HasNoCycle, IsCallCycle, IsSpent}
+use Rattle.vg_calls_source.specs.Methods.{method_numbered, methods_of}
+use Rattle.vg_compile.specs.Bounds.{BoundsCalls}
 use Rattle.avr_isa.specs.Agrees.{Agrees, NeverReaches}
 use Rattle.vg_faults.specs.Fitting.{IsFitting}
 use Rattle.vg_tree_walks.specs.Whole.{tree_at}
 use Rattle.vg_core.specs.HeldProgram.{program_at}
-use Rattle.vg_packed.specs.Given.{IsGiven}
-use Rattle.vg_packed.specs.Ready.{IsReady}
+use Rattle.vg_compile.specs.Given.{IsGiven}
+use Rattle.vg_compile.specs.Given.{IsReady}
 use Rattle.vg_fits.specs.declared.fitting.Fitted.{Fitted}
 use Rattle.vg_compile.specs.Compile.{Linked}
 use Rattle.vg_costs.specs.Small.{AreSmall}
 use Rattle.vg_compile.specs.Bounds.{HoldsBound}
 use Rattle.vg_compile.specs.Runs.{DoesInImage}
-use Rattle.vg_layout.specs.declared.stack_bound.StackBound.TheVariants.{Bytes}
-use Rattle.vg_memory.specs.Memory.{KeepsMemory}
+use Rattle.vg_layout.specs.declared.stack_bound.StackBound.{StackBound}
+use Rattle.vg_layout.specs.declared.stack_bound.StackBound.TheVariants.{Bytes, Cycle}
+pub use Rattle.vg_compile.specs.Memory.{KeepsMemory}
 use Rattle.vg_text_image.specs.declared.making.TextImage.{TextImage}
 use Rattle.vg_text_image.specs.declared.unmade.Unmade.{Unmade}
 use Rattle.vg_text_image.specs.declared.unmade.Unmade.TheVariants.{CodeFull, StackFull, NotBuilt}
+
+-- No cycle of calls is reached in the text, and the bytes are at most four more than the methods of some way of calls cost; or these are the numbers of methods
+-- of a cycle that is reached.
+abbrev pub BoundsCallsOf : Node → Heap → StackBound → Type 0
+BoundsCallsOf tree heap (Bytes need) = HasNoCycle tree heap × ((bytes : ℕ) × (need ≡ 4 + bytes) × IsSpent tree heap bytes)
+BoundsCallsOf tree heap (Cycle methods) =
+    IsCallCycle tree heap (map (method_numbered tree) methods) × AllByRecursion (λ k. k < length (methods_of tree)) methods
 
 -- The image does what the bytes say, where initialisation has this clock, with every stack for which there is room above the static area.
 pub record DoesText (bytes : List ℕ) (clock : ℕ) (i : TextImage) : Type 0 where
@@ -41,6 +52,8 @@ pub record DoesText (bytes : List ℕ) (clock : ℕ) (i : TextImage) : Type 0 wh
   pub memory : (stack : ℕ) → i.static_bytes + stack ≤ 4096 → KeepsMemory i.flash i.static_bytes (0x1100 - stack) (i.idle + 1)
   -- where its stack is bounded, no run brings a stack of so many bytes below the floor
   pub never : (bytes : ℕ) → i.bound ≡ Bytes bytes → i.static_bytes + bytes ≤ 4096 → NeverReaches i.flash (0x1100 - bytes)
+  -- the bound is one of the calls of the text, or these go round
+  pub calls : BoundsCallsOf tree heap i.bound
 
 -- What fits can be compiled.
 pub record CanCompile (f : Fitted) : Type 0 where
@@ -54,6 +67,8 @@ pub record IsCompiledOf (f : Fitted) (i : TextImage) : Type 0 where
       → DoesInImage linked f.placed.columns (costs (tree_at texts f.alive.start.tree)) (program_at f.alive.start.program) f.alive.start.heap
   pub bound : IsReady (program_at f.alive.start.program) f.alive.start.heap
       → HoldsBound linked f.placed.columns (program_at f.alive.start.program) f.alive.start.heap i.bound
+  pub calls : (texts : List (List ℕ)) → IsReady (program_at f.alive.start.program) f.alive.start.heap
+      → BoundsCalls (costs (tree_at texts f.alive.start.tree)) (program_at f.alive.start.program) f.alive.start.heap i.bound
   pub flash : i.flash ≡ linked.flash
   pub are_bytes : AllByRecursion (λ b. b < 256) i.flash
   pub static_is : i.static_bytes ≡ f.placed.columns.static_bytes

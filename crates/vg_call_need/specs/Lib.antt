@@ -1,0 +1,4 @@
+pub mod Need
+pub mod Covered
+pub mod Within
+pub mod Bounds

@@ -1,0 +1,4 @@
+-- That they do so, for those who stand on this room.
+pub use Rattle.vg_memory.proofs.Keeping.{keeps}
+pub use Rattle.vg_memory.proofs.Never.{never}
+pub use Rattle.vg_memory.proofs.SessionsAgree.{agrees}
