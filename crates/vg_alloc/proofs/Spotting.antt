@@ -9,16 +9,16 @@ use Rattle.vg_lin.specs.Program.{Procedure}
 use Rattle.vg_lin.specs.Sound.{IsSound, IsWidth}
 use Rattle.vg_templates.specs.Spots.{InFrame}
 use Rattle.vg_templates.specs.Layouts.{IsLayout, frame_size}
-use Rattle.vg_templates.specs.Calls.{sum_of, behind_width}
-use Rattle.vg_templates.specs.Living.{lasts}
+use Rattle.vg_templates.specs.Calls.{sum_of, behind_width, by_registers, lives_from}
+use Rattle.vg_templates.specs.Living.{is_live, lasts}
 use Rattle.vg_templates.specs.Framed.{Taken, taken, Seat, Lasting, Passing, Slot, seat_for, seat_spot, with_seat, spots_from, spot_at, all_taken, saved_for, is_pointed}
-use Rattle.vg_templates.specs.Framed.{lying, framed, CanBeFramed}
+use Rattle.vg_templates.specs.Framed.{on_stack, arriving, lying, framed, CanBeFramed}
 use Rattle.vg_templates.proofs.Framing.{both_parts, framed-layout, framed-bytes}
 use Rattle.vg_alloc.specs.declared.spot.Spot.{Spot}
 use Rattle.vg_alloc.specs.declared.spot.Spot.TheVariants.{Frame}
 use Rattle.vg_alloc.specs.declared.seats.Taken.{Taken as Held}
-use Rattle.vg_alloc.specs.Locations.{Located, located, place, place_in, layout}
-use Rattle.vg_alloc.specs.Frames.{taken_of, pushed_spots, held_spot, held_spots, all_located}
+use Rattle.vg_alloc.specs.Locations.{Located, located, place, place_in, layout, CanArrive}
+use Rattle.vg_alloc.specs.Frames.{taken_of, pushed_spots, held_spot, held_spots, all_located, code_located}
 
 -- ---- the spots
 
@@ -54,7 +54,7 @@ held_counted c k (w ∷ ws) t = ap suc (held_counted c (suc k) ws (with_seat t (
 
 -- ---- the layout
 
-module _ (c : ℕ → Bool) (ws : List ℕ) (p : ℕ) (low : p ≤ length ws) where
+module _ (c : ℕ → Bool) (bs : List Bool) (ws : List ℕ) (p : ℕ) (low : p ≤ length ws) where
   abbrev end : Taken
   end = all_taken c ws p
 
@@ -78,7 +78,7 @@ module _ (c : ℕ → Bool) (ws : List ℕ) (p : ℕ) (low : p ≤ length ws) wh
       ap place_in (at_back front (take p ws) behind k (omega (arith, params_long, beyond)) ∙ ap (slice_get behind) same)
       ∙ held_at c p (drop p ws) (taken 0 0 0) (k - p)
 
-  located_is : layout (all_located c ws p) ≡ lying c ws p
+  located_is : layout (all_located c bs ws p) ≡ lying c bs ws p
   located_is =
       λ i. record {
         widths = ws;
@@ -87,21 +87,22 @@ module _ (c : ℕ → Bool) (ws : List ℕ) (p : ℕ) (low : p ≤ length ws) wh
         saved = saved_for (is_pointed p end.slots) end.lasting;
         pointed = is_pointed p end.slots;
         pushed = sum_of (take p ws);
+        arrives = bs;
       }
 
 -- what is put together so is the whole
-pub located_whole : (c : ℕ → Bool) (ws : List ℕ) (p : ℕ) (vs : List ℕ) (held : Held) (pushed : ℕ) (spots : List Spot) (saved : List ℕ) (pointed : Bool)
+pub located_whole : (c : ℕ → Bool) (bs : List Bool) (ws : List ℕ) (p : ℕ) (vs : List ℕ) (held : Held) (pushed : ℕ) (spots : List Spot) (saved : List ℕ) (pointed : Bool)
     → vs ≡ ws → taken_of held ≡ all_taken c ws p
     → spots ≡ pushed_spots (held.slots + held.lasting + 4) (take p ws) ++ held_spots c p (drop p ws) (taken 0 0 0) → pointed ≡ is_pointed p held.slots
     → saved ≡ saved_for pointed held.lasting → pushed ≡ sum_of (take p ws)
-    → located vs spots held.slots saved pointed pushed ≡ all_located c ws p
-located_whole c ws p vs held pushed spots saved pointed e t s b v q =
+    → located vs spots held.slots saved pointed pushed bs ≡ all_located c bs ws p
+located_whole c bs ws p vs held pushed spots saved pointed e t s b v q =
     let slots : held.slots ≡ (all_taken c ws p).slots = ap (λ (x : Taken). x.slots) t in
     let lasting : held.lasting ≡ (all_taken c ws p).lasting = ap (λ (x : Taken). x.lasting) t in
     let spots_are = s ∙ (λ i. pushed_spots (slots i + lasting i + 4) (take p ws) ++ held_spots c p (drop p ws) (taken 0 0 0)) in
     let pointed_is = b ∙ ap (is_pointed p) slots in
     let saved_are : saved ≡ saved_for (is_pointed p (all_taken c ws p).slots) (all_taken c ws p).lasting = v ∙ (λ i. saved_for (pointed_is i) (lasting i)) in
-    λ i. located (e i) (spots_are i) (slots i) (saved_are i) (pointed_is i) (q i)
+    λ i. located (e i) (spots_are i) (slots i) (saved_are i) (pointed_is i) (q i) bs
 
 pub spots_counted : (c : ℕ → Bool) (front p : ℕ) (ws : List ℕ) (t : Taken) → p ≤ length ws
     → length (pushed_spots front (take p ws) ++ held_spots c p (drop p ws) t) ≡ length ws
@@ -138,13 +139,22 @@ can_be_framed p s =
     record {
       narrow = narrow p.widths s.widths;
       params = s.params;
-      small = let all = all_small p s in let parts = both_parts p.widths p.params in omega (arith, all, parts);
+      small = let all = all_small p s in omega (arith, all);
     }
 
-pub layout_is : (p : Procedure) → IsSound p → layout (all_located (lasts p.code) p.widths p.params) ≡ framed p
-layout_is p s = located_is (lasts p.code) p.widths p.params s.params
+on_stack_low : (ws : List ℕ) (p : ℕ) → p ≤ length ws → on_stack ws p ≤ length ws
+on_stack_low ws p low = by_way (by_registers (take p ws))
+  where
+    by_way : (b : Bool) → (if b then 0 else p) ≤ length ws
+    by_way true = omega arith
+    by_way false = low
 
-pub layout_stands : (p : Procedure) → IsSound p → IsLayout (layout (all_located (lasts p.code) p.widths p.params))
+pub layout_is : (p : Procedure) → IsSound p → layout (code_located p.code p.widths p.params) ≡ framed p
+layout_is p s =
+    located_is (lasts p.code) (arriving (λ k. is_live p.code k 0) p.widths p.params) p.widths (on_stack p.widths p.params)
+    (on_stack_low p.widths p.params s.params)
+
+pub layout_stands : (p : Procedure) → IsSound p → IsLayout (layout (code_located p.code p.widths p.params))
 layout_stands p s = subst IsLayout (sym (layout_is p s)) (framed-layout p (can_be_framed p s))
 
 -- ---- the same of lists and counts that are the procedure's
@@ -153,29 +163,64 @@ module _ (p : Procedure) (s : IsSound p) (is : List Instr) (ws : List ℕ) (n : 
   pub all_fit : sum_of ws < 0x1000
   all_fit = subst (λ vs. sum_of vs < 0x1000) (sym e) (let small = all_small p s in omega (arith, small))
 
-  pub pushed_fit : sum_of (take n ws) < 0x1000
-  pushed_fit = let all = all_fit in let parts = both_parts ws n in omega (arith, all, parts)
-
-  pub others_fit : sum_of (drop n ws) < 0x1000
-  others_fit = let all = all_fit in let parts = both_parts ws n in omega (arith, all, parts)
-
   pub widths_few : length ws < 256
   widths_few = subst (λ vs. length vs < 256) (sym e) (let few = s.few in omega (arith, few))
 
-  same_located : all_located (lasts is) ws n ≡ all_located (lasts p.code) p.widths p.params
-  same_located = λ i. all_located (lasts (d i)) (e i) (f i)
+  same_located : code_located is ws n ≡ code_located p.code p.widths p.params
+  same_located = λ i. code_located (d i) (e i) (f i)
 
-  pub layout_fits : IsLayout (layout (all_located (lasts is) ws n))
+  pub layout_fits : IsLayout (layout (code_located is ws n))
   layout_fits = subst (λ l. IsLayout (layout l)) (sym same_located) (layout_stands p s)
 
   pub params_fit : n ≤ length ws
   params_fit = subst (λ vs. n ≤ length vs) (sym e) (subst (λ m. m ≤ length p.widths) (sym f) s.params)
 
-  pub locations_are : (l : Located) → l ≡ all_located (lasts is) ws n → layout l ≡ framed p
+  pub locations_are : (l : Located) → l ≡ code_located is ws n → layout l ≡ framed p
   locations_are l same = ap layout (same ∙ same_located) ∙ layout_is p s
 
-  pub widths_are : (l : Located) → l ≡ all_located (lasts is) ws n → l.widths ≡ p.widths
+  pub widths_are : (l : Located) → l ≡ code_located is ws n → l.widths ≡ p.widths
   widths_are l same = ap (λ (x : Located). x.widths) same ∙ e
+
+-- ---- what is laid out of them
+
+pub front_small : (ws : List ℕ) (n : ℕ) → sum_of ws < 0x1000 → sum_of (take n ws) < 0x1000
+front_small ws n small = let parts = both_parts ws n in omega (arith, small, parts)
+
+pub back_small : (ws : List ℕ) (n : ℕ) → sum_of ws < 0x1000 → sum_of (drop n ws) < 0x1000
+back_small ws n small = let parts = both_parts ws n in omega (arith, small, parts)
+
+lives_counted : (live : ℕ → Bool) (k n : ℕ) → length (lives_from live k n) ≡ n
+lives_counted live k zero = refl
+lives_counted live k (suc n) = ap suc (lives_counted live (suc k) n)
+
+can_arrive : (live : ℕ → Bool) (ws : List ℕ) (p : ℕ) → p ≤ length ws → CanArrive ws (arriving live ws p)
+can_arrive live ws p low = by_way (by_registers (take p ws)) refl
+  where
+    by_way : (b : Bool) → by_registers (take p ws) ≡ b → CanArrive ws (if b then lives_from live 0 p else [])
+    by_way false e = (omega arith, omega arith, omega arith)
+    by_way true e =
+        let many = lives_counted live 0 p in
+        let few : length (take p ws) ≤ 4 = grind (arith, e) in
+        let small : sum_of (take p ws) ≤ 8 = grind (arith, e) in
+        let long = length-take p ws in
+        (omega (arith, many, few, long, low), omega (arith, many, low), subst (λ n. sum_of (take n ws) ≤ 8) (sym many) small)
+
+module _ (is : List Instr) (ws : List ℕ) (p n : ℕ) (bs : List Bool) (low : p ≤ length ws) (e : n ≡ on_stack ws p) (f : bs ≡ arriving (λ k. is_live is k 0) ws p)
+  where
+    pub stack_fits : n ≤ length ws
+    stack_fits = subst (λ m. m ≤ length ws) (sym e) (on_stack_low ws p low)
+
+    pub arrivals_fit : CanArrive ws bs
+    arrivals_fit = subst (CanArrive ws) (sym f) (can_arrive (λ k. is_live is k 0) ws p low)
+
+    pub same_laid : all_located (lasts is) bs ws n ≡ code_located is ws p
+    same_laid = λ i. all_located (lasts is) (f i) ws (e i)
+
+    pub laid_fits : IsLayout (layout (code_located is ws p)) → IsLayout (layout (all_located (lasts is) bs ws n))
+    laid_fits = subst (λ l. IsLayout (layout l)) (sym same_laid)
+
+    pub laid_is : (l : Located) → l ≡ all_located (lasts is) bs ws n → l ≡ code_located is ws p
+    laid_is l same = same ∙ same_laid
 
 pub frame_counted : (p : Procedure) → frame_size (framed p) ≤ sum_of p.widths + 4
 frame_counted p = framed-bytes p

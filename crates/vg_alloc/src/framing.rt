@@ -4,10 +4,11 @@ ghost use Rattle.vg_templates.specs.Calls.{sum_of};
 ghost use Rattle.vg_templates.specs.Layouts.{IsLayout};
 ghost use Rattle.vg_templates.specs.Living.{lasts};
 ghost use Rattle.vg_templates.specs.Framed.{taken, registers_from, is_pointed, all_taken, saved_for, framed};
-ghost use Rattle.vg_alloc.specs.Frames.{taken_of, pushed_spots, held_spots, all_located};
-ghost use Rattle.vg_alloc.specs.Locations.{layout};
+ghost use Rattle.vg_alloc.specs.Frames.{taken_of, pushed_spots, held_spots, all_located, code_located};
+ghost use Rattle.vg_alloc.specs.Locations.{layout, CanArrive};
 
 use crate::locations::Locations;
+use crate::parameters::{arriving, bytes_of, on_stack};
 use crate::seats::{Taken, put_seats};
 use crate::spot::Spot;
 use avr_instr::Register;
@@ -15,9 +16,9 @@ use std::alloc::Global;
 use vg_base::{NoMemory, Row};
 use vg_lin::{Instr, LinProc};
 
-/// The locations that keep each local of a procedure in bytes that it shares with no other one. Parameters lie where they were pushed. Of the others, those
-/// whose values are wanted behind a call lie in r2 to r7, and the rest in r8 to r17 or, where there is no more room, in r2 to r7 as well; and where there is none
-/// there either they lie in slots of the frame, one behind the other. The error is want of memory.
+/// The locations that keep each local of a procedure in bytes that it shares with no other one. Parameters that were pushed lie where they were pushed. Of the
+/// other locals, those whose values are wanted behind a call lie in r2 to r7, and the rest in r8 to r17 or, where there is no more room, in r2 to r7 as well; and
+/// where there is none there either they lie in slots of the frame, one behind the other. The error is want of memory.
 pub fn frames(alloc: Global, procedure: &LinProc) -> Result<Locations, NoMemory>
     ensures layout { IfOk result (λ l. layout l ≡ framed procedure.now) }
     ensures widths { IfOk result (λ l. l.widths ≡ procedure.now.widths) }
@@ -31,14 +32,35 @@ pub fn frames(alloc: Global, procedure: &LinProc) -> Result<Locations, NoMemory>
     )
 }
 
+// Those of code whose first locals, so many, are parameters.
 fn located(alloc: Global, code: &[Instr], widths: &[u8], params: u8) -> Result<Locations, NoMemory>
+    requires params { params ≤ length widths.now }
+    requires few { length widths.now < 256 }
+    requires all { sum_of widths.now < 0x1000 }
+    requires sound { IsLayout (layout (code_located code.now widths.now params)) }
+    ensures { IfOk result (λ l. l ≡ code_located code.now widths.now params) }
+{
+    let arrives = arriving(alloc, code, widths, params)?;
+    let pushed = on_stack(widths, params);
+    laid(alloc, code, widths, pushed, arrives)
+}
+
+// The same where so many of them are pushed, and the others arrive so.
+fn laid(
+    alloc: Global,
+    code: &[Instr],
+    widths: &[u8],
+    params: u8,
+    arrives: Row<bool>,
+) -> Result<Locations, NoMemory>
     requires params { params ≤ length widths.now }
     requires few { length widths.now < 256 }
     requires all { sum_of widths.now < 0x1000 }
     requires pushed { sum_of (take params widths.now) < 0x1000 }
     requires others { sum_of (drop params widths.now) < 0x1000 }
-    requires sound { IsLayout (layout (all_located (lasts code.now) widths.now params)) }
-    ensures { IfOk result (λ l. l ≡ all_located (lasts code.now) widths.now params) }
+    requires arriving { CanArrive widths.now arrives }
+    requires sound { IsLayout (layout (all_located (lasts code.now) arrives widths.now params)) }
+    ensures { IfOk result (λ l. l ≡ all_located (lasts code.now) arrives widths.now params) }
 {
     let count = usize::from(params);
     let parameters = &widths[..count];
@@ -54,7 +76,7 @@ fn located(alloc: Global, code: &[Instr], widths: &[u8], params: u8) -> Result<L
     let saved = saved_registers(alloc, pointed, taken.lasting)?;
     let copy = Row::from_slice(alloc, widths)?;
     let pushed = bytes_of(parameters);
-    Ok(Locations::new(copy, spots, taken.slots, saved, pointed, pushed))
+    Ok(Locations::new(copy, spots, taken.slots, saved, pointed, pushed, arrives))
 }
 
 // Whether Y is the frame pointer.
@@ -112,17 +134,6 @@ fn put_registers(registers: &mut Row<Register>, first: u8, count: u8) -> Result<
     }
     registers.push(Register::new(first))?;
     put_registers(registers, first + 1, count - 1)
-}
-
-// The bytes of locals with these widths.
-fn bytes_of(widths: &[u8]) -> u16
-    requires { sum_of widths.now < 0x1000 }
-    ensures { result ≡ sum_of widths.now }
-{
-    match widths {
-        [] => 0,
-        [width, rest @ ..] => u16::from(*width) + bytes_of(rest),
-    }
 }
 
 // The spots of parameters, which lie behind so many bytes of the frame.

@@ -5,6 +5,7 @@ pub mod framing;
 pub mod living;
 pub mod locations;
 pub mod needs;
+pub mod parameters;
 pub mod premises;
 pub mod seats;
 pub mod spot;

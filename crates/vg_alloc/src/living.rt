@@ -1,6 +1,6 @@
 // Which locals are wanted back behind calls.
 ghost use Rattle.std.specs.Prelude.{◌≡◌, ◌-◌, ◌^◌, ◌<◌, ◌||◌, IfOk, not, slice_get, slice_set};
-ghost use Rattle.vg_templates.specs.Living.{mark, needs_at, needs_there, swept, swept_all, marks_of, serve, is_live_by, any_wants_back, lasts};
+ghost use Rattle.vg_templates.specs.Living.{mark, needs_at, needs_there, swept, swept_all, marks_of, serve, is_live_by, is_live, any_wants_back, lasts};
 
 use crate::needs::{leads_to, needs, wants_back};
 use std::alloc::Global;
@@ -107,4 +107,13 @@ pub fn lasts(alloc: Global, code: &[Instr], local: u8) -> Result<bool, NoMemory>
     let marks = marks_of(alloc, code, local)?;
     let served = serve(code, local, marks.as_slice());
     Ok(is_wanted_back(code, local, served, marks.as_slice()))
+}
+
+/// Whether the value of a local is needed where code begins. The error is want of memory.
+pub fn is_live_at_entry(alloc: Global, code: &[Instr], local: u8) -> Result<bool, NoMemory>
+    ensures { IfOk result (λ live. live ≡ is_live code.now local 0) }
+{
+    let marks = marks_of(alloc, code, local)?;
+    let served = serve(code, local, marks.as_slice());
+    Ok(!served || mark(marks.as_slice(), 0))
 }

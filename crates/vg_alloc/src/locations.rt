@@ -1,7 +1,7 @@
 // The locations of a procedure's locals.
 ghost use Rattle.std.specs.Prelude.{◌≡◌, ◌<◌, ◌≤◌, length};
 ghost use Rattle.vg_templates.specs.Layouts.{IsLayout, width_of};
-ghost use Rattle.vg_alloc.specs.Locations.{layout, place, IsWithin};
+ghost use Rattle.vg_alloc.specs.Locations.{located, layout, place, IsWithin, CanArrive};
 
 use crate::spot::Spot;
 use avr_instr::Register;
@@ -11,7 +11,7 @@ use vg_base::Row;
 /// What a procedure keeps where: the bytes of its frame, the registers that it saves, and a spot for each of its locals.
 ///
 /// A frame has, from its newest byte on, the slots of locals, the saved registers, the two bytes of the return address, and the arguments that
-/// were pushed. Contracts see it as a layout, which is a sound one.
+/// were pushed; others arrive in registers. Contracts see it as a layout, which is a sound one.
 #[derive(Drop)]
 pub struct Locations {
     widths: Row<u8>,
@@ -20,23 +20,25 @@ pub struct Locations {
     saved: Row<Register>,
     pointed: bool,
     pushed: u16,
+    arrives: Row<bool>,
 }
 
 impl Model for Locations {
     ghost use Rattle.std.specs.Prelude.{◌≡◌, length};
     ghost use Rattle.vg_templates.specs.Layouts.{IsLayout};
-    ghost use Rattle.vg_alloc.specs.Locations.{Located, located, layout};
+    ghost use Rattle.vg_alloc.specs.Locations.{Located, located, layout, CanArrive};
 
     ghost Value = { Located };
 
-    ghost view = { λ l. record { widths = l.widths; spots = l.spots; slots = l.slots; saved = l.saved; pointed = l.pointed; pushed = l.pushed } };
+    ghost view = { λ l. located l.widths l.spots l.slots l.saved l.pointed l.pushed l.arrives };
 
-    ghost invariant = { λ l. IsLayout (layout (located l.widths l.spots l.slots l.saved l.pointed l.pushed)) × (length l.spots ≡ length l.widths) };
+    ghost invariant = { λ l. IsLayout (layout (located l.widths l.spots l.slots l.saved l.pointed l.pushed l.arrives)) × (length l.spots ≡ length l.widths)
+        × CanArrive l.widths l.arrives };
 }
 
 impl Locations {
     /// The locations with these numbers, in bytes: the widths of the locals, their spots, the slots, the saved registers, whether Y is the
-    /// frame pointer, and the arguments that are pushed.
+    /// frame pointer, and the arguments that are pushed; and of each parameter that arrives in registers, whether it is kept.
     pub fn new(
         widths: Row<u8>,
         spots: Row<Spot>,
@@ -44,10 +46,12 @@ impl Locations {
         saved: Row<Register>,
         pointed: bool,
         pushed: u16,
+        arrives: Row<bool>,
     ) -> Self
-        requires sound { IsLayout (layout (record { widths = widths; spots = spots; slots = slots; saved = saved; pointed = pointed; pushed = pushed })) }
+        requires sound { IsLayout (layout (located widths spots slots saved pointed pushed arrives)) }
         requires each { length spots ≡ length widths }
-        ensures { result ≡ record { widths = widths; spots = spots; slots = slots; saved = saved; pointed = pointed; pushed = pushed } }
+        requires arriving { CanArrive widths arrives }
+        ensures { result ≡ located widths spots slots saved pointed pushed arrives }
     {
         Locations {
             widths,
@@ -56,6 +60,7 @@ impl Locations {
             saved,
             pointed,
             pushed,
+            arrives,
         }
     }
 
@@ -105,10 +110,18 @@ impl Locations {
         self.pushed
     }
 
+    /// Of each parameter that arrives in registers, from the first one on, whether the procedure keeps it.
+    pub fn arrives(&self) -> &[bool]
+        ensures { result.now ≡ self.now.arrives }
+    {
+        self.arrives.as_slice()
+    }
+
     /// What all locations keep, for their holder. It does nothing: only its clause counts.
     pub fn keeps(&self)
         ensures sound { IsLayout (layout self.now) }
         ensures each { length self.now.spots ≡ length self.now.widths }
+        ensures arriving { CanArrive self.now.widths self.now.arrives }
     {
         let _spots = &self.spots;
     }

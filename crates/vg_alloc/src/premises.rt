@@ -4,14 +4,14 @@ ghost use Rattle.vg_lin.specs.Program.{Procedure};
 ghost use Rattle.vg_lin.specs.Sound.{IsSound};
 ghost use Rattle.vg_templates.specs.Layouts.{IsLayout, outlives, frame_size};
 ghost use Rattle.vg_templates.specs.Living.{lasts};
-ghost use Rattle.vg_templates.specs.Calls.{HasPushed, sum_of};
-ghost use Rattle.vg_templates.specs.Framed.{framed};
+ghost use Rattle.vg_templates.specs.Calls.{HasParameters, sum_of};
+ghost use Rattle.vg_templates.specs.Framed.{framed, live_in};
 
-/// Laws of the layout of each procedure of linear code: it is a sound one, its parameters lie where they were pushed, and a local whose value is wanted behind a
-/// call lies where it outlives it.
+/// Laws of the layout of each procedure of linear code: it is a sound one, its parameters lie where they were pushed, or go from the registers in which they
+/// arrive to their spots, and a local whose value is wanted behind a call lies where it outlives it.
 pub fn frames_serve_templates()
     ensures layout { (p : Procedure) → IsSound p → IsLayout (framed p) }
-    ensures pushed { (p : Procedure) → IsSound p → HasPushed (framed p) p.params }
+    ensures parameters { (p : Procedure) → IsSound p → HasParameters (framed p) (live_in p 0) p.params }
     ensures outlives { (p : Procedure) → IsSound p → (k : ℕ) → k < length p.widths → lasts p.code k ≡ true
         → outlives ((framed p).spots k) (slice_index p.widths k) ≡ true }
 {}

@@ -5,7 +5,6 @@ use Rattle.std.specs.List.{AllByRecursion}
 use Rattle.std.proofs.Common.{◌≡◌, refl, sym, subst, arith}
 use Rattle.vg_lin.specs.declared.instr.Operand.{Operand}
 use Rattle.vg_lin.specs.declared.instr.Operand.TheVariants.{Local, Known}
-use Rattle.vg_lin.specs.declared.instr.Operator.{Operator}
 use Rattle.vg_lin.specs.declared.instr.Test.{Test}
 use Rattle.vg_lin.specs.declared.instr.Plain.{Plain as PlainInstr}
 use Rattle.vg_lin.specs.declared.instr.Plain.TheVariants.{Copy, Compute, Product, DivideSteps, Load, Store, ReadDevice, WriteDevice, Push, Pop, Find, CodeOf, Stop}
@@ -14,7 +13,7 @@ use Rattle.vg_lin.specs.declared.instr.Instr.TheVariants.{Plain, When, Unless, J
 use Rattle.vg_lin.specs.Program.{Procedure}
 use Rattle.vg_lin.specs.Sound.{IsWidth, IsLocal, IsOperand, IsTest, IsPlain, AreOperands, behind, behind_plain, PlainWaits, Waits, IsSound}
 use Rattle.vg_lin.proofs.Scanned.{sound_by}
-use Rattle.vg_arith.specs.Shifts.{shift}
+use Rattle.vg_arith.specs.Shifts.{shl, shr}
 use Rattle.vg_arith.specs.Product.{mul}
 use Rattle.vg_arith.specs.Division.{divide}
 use Rattle.vg_arith.proofs.ShiftRoutines.{some_is}
@@ -216,14 +215,23 @@ sound m few params result widths some e =
       marked = λ at i h. leaves m (0 + at) i (kept_at m m.code 0 at i e h);
     })
 
-pub shift_sound : (op : Operator) → IsSound (shift op)
-shift_sound op = sound (shift op) (omega arith) (omega arith) (omega arith) (a_width 4 refl, (a_width 4 refl, (a_width 4 refl, tt {0}))) (omega arith) refl
+pub shl_sound : IsSound shl
+shl_sound = sound shl (omega arith) (omega arith) (omega arith) (a_width 4 refl, (a_width 4 refl, tt {0})) (omega arith) refl
 
-pub shift_sound_as : (op : Operator) (ws : List ℕ) (code : List Instr) → ws ≡ (shift op).widths → code ≡ (shift op).code
+pub shl_sound_as : (ws : List ℕ) (code : List Instr) → ws ≡ shl.widths → code ≡ shl.code
+    → IsSound (record { method = None; params = 2; result = 4; widths = ws; code = code })
+shl_sound_as ws code e h =
+    subst (λ z. IsSound (record { method = None; params = 2; result = 4; widths = z; code = code })) (sym e)
+    (subst (λ z. IsSound (record { method = None; params = 2; result = 4; widths = shl.widths; code = z })) (sym h) shl_sound)
+
+pub shr_sound : IsSound shr
+shr_sound = sound shr (omega arith) (omega arith) (omega arith) (a_width 4 refl, (a_width 4 refl, (a_width 4 refl, tt {0}))) (omega arith) refl
+
+pub shr_sound_as : (ws : List ℕ) (code : List Instr) → ws ≡ shr.widths → code ≡ shr.code
     → IsSound (record { method = None; params = 3; result = 4; widths = ws; code = code })
-shift_sound_as op ws code e h =
+shr_sound_as ws code e h =
     subst (λ z. IsSound (record { method = None; params = 3; result = 4; widths = z; code = code })) (sym e)
-    (subst (λ z. IsSound (record { method = None; params = 3; result = 4; widths = (shift op).widths; code = z })) (sym h) (shift_sound op))
+    (subst (λ z. IsSound (record { method = None; params = 3; result = 4; widths = shr.widths; code = z })) (sym h) shr_sound)
 
 pub mul_sound : IsSound mul
 mul_sound =

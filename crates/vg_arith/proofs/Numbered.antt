@@ -61,7 +61,7 @@ shl_routine =
     record {
       gives = for_each (λ op. IsRoutineOf op shl) 2 (λ e. absurd (grind arith)) (λ e. absurd (grind arith)) (λ e. absurd (grind arith)) (λ e. shl_is)
           (λ e. absurd (grind arith));
-      takes = λ op w. for_each (λ op. 3 ≡ suc (suc (length (others op w)))) 2 (λ e. absurd (grind arith)) (λ e. absurd (grind arith))
+      takes = λ op w. for_each (λ op. 2 ≡ suc (suc (length (others op w)))) 2 (λ e. absurd (grind arith)) (λ e. absurd (grind arith))
           (λ e. absurd (grind arith)) (λ e. refl) (λ e. absurd (grind arith)) op;
       passes = for_each (λ op. take shl.params shl.widths ≡ passed_widths op) 2
           (λ e. absurd (grind arith)) (λ e. absurd (grind arith)) (λ e. absurd (grind arith)) (λ e. refl) (λ e. absurd (grind arith));

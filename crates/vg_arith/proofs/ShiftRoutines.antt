@@ -14,7 +14,7 @@ use Rattle.vg_lin.specs.declared.instr.Operator.TheVariants.{Minus, ShiftLeft, S
 use Rattle.vg_lin.specs.declared.instr.Comparison.TheVariants.{Below}
 use Rattle.vg_lin.specs.declared.instr.Plain.TheVariants.{Compute}
 use Rattle.vg_lin.specs.declared.instr.Instr.{Instr}
-use Rattle.vg_lin.specs.declared.instr.Instr.TheVariants.{Plain, When}
+use Rattle.vg_lin.specs.declared.instr.Instr.TheVariants.{Plain, When, Return}
 use Rattle.vg_lin.specs.Values.{low, computed}
 use Rattle.vg_lin.specs.Sound.{IsWidth}
 use Rattle.vg_lin.specs.Program.{Procedure, Program}
@@ -24,7 +24,7 @@ use Rattle.vg_lin.specs.Steps.{Frame, Config, Goes, fetch, branched, went}
 use Rattle.vg_lin.specs.Follows.{Leads, conf}
 use Rattle.vg_lin.proofs.Followed.{leads_then, free}
 use Rattle.vg_arith.specs.Routines.{with_locals, Gives, IsRoutineOf}
-use Rattle.vg_arith.specs.Shifts.{shift, shl, shr}
+use Rattle.vg_arith.specs.Shifts.{leaves_nothing, shl, shr}
 
 pub some_is : {A : Type 0} (a b : A) → Some a ≡ Some b → a ≡ b
 some_is {A} a b e = ap (λ o. or_else o) e
@@ -51,131 +51,153 @@ taken n k h g = omega arith
 pub low_same : (x : ℕ) → x < 2 ^ 32 → low 4 x ≡ x
 low_same x h = omega arith
 
-module _ (op : Operator) (sh : ℕ → ℕ) (small : (m : ℕ) → sh m < 2 ^ 32) (law : (m k : ℕ) → k < 32 → computed op 4 (sh m) k ≡ Some (sh (m + k)))
-    (p : Program) (q : ℕ) (has : slice_get p.procedures q ≡ Some (shift op)) (f : Frame State) (fs : List (Frame State)) (ram : List ℕ)
-    (w : World History) (seen : ℕ) where
+-- a shift by a known amount below 32, over values that are shifted by more and more
+pub record Shifting (op : Operator) (sh : ℕ → ℕ) : Type 0 where
+  pub small : (m : ℕ) → sh m < 2 ^ 32
+  pub law : (m k : ℕ) → k < 32 → computed op 4 (sh m) k ≡ Some (sh (m + k))
+
+module _ (op : Operator) (sh : ℕ → ℕ) (shifting : Shifting op sh) (m : Procedure) (p : Program) (q : ℕ) (has : slice_get p.procedures q ≡ Some m)
+    (f : Frame State) (fs : List (Frame State)) (ram : List ℕ) (w : World History) (more : List LocalState) where
   abbrev pub holding : (x n : ℕ) → State
-  holding x n =
-      with_locals ram (record { width = 4; value = Some x } ∷ record { width = 4; value = Some n } ∷ record { width = 4; value = Some seen } ∷ [])
+  holding x n = with_locals ram (record { width = 4; value = Some x } ∷ record { width = 4; value = Some n } ∷ more)
 
-  abbrev pub held : (m n : ℕ) → State
-  held m n = holding (sh m) n
+  abbrev pub held : (done n : ℕ) → State
+  held done n = holding (sh done) n
 
-  abbrev pub at : (pc m n : ℕ) → Config State
-  at pc m n = conf q pc (f ∷ fs) (held m n) w
+  abbrev pub at : (pc done n : ℕ) → Config State
+  at pc done n = conf q pc (f ∷ fs) (held done n) w
 
   abbrev pub To : Config State → Config State → Type 0
   To c d = Leads (language p) (codes_in p.procedures) 0 c d
 
+  found : (i : ℕ) (x : Instr) → slice_get m.code i ≡ Some x → fetch (codes_in p.procedures) q i ≡ Some x
+  found i x e = fetch_of p.procedures q m has i ∙ e
+
+  -- a stage stands from a place on
+  pub record StageAt (pc k : ℕ) : Type 0 where
+    pub test : slice_get m.code pc ≡ Some (When (record { comparison = Below; width = 1; left = Local 1; right = Known k }) (suc (suc (suc pc))))
+    pub shifts : slice_get m.code (suc pc) ≡ Some (Plain (Compute (record { operator = op; width = 4; to = 0; left = Local 0; right = Known k })))
+    pub takes : slice_get m.code (suc (suc pc)) ≡ Some (Plain (Compute (record { operator = Minus; width = 1; to = 1; left = Local 1; right = Known k })))
+
   -- one stage: the amount that is left is below k, and the value is shifted by as much as was taken
-  abbrev pub Shifted : (pc m n to k : ℕ) → Type 0
-  Shifted pc m n to k = (m' : ℕ) × (n' : ℕ) × (m' + n' ≡ m + n) × (n' < k) × To (at pc m n) (at to m' n')
+  abbrev pub Shifted : (pc done n to k : ℕ) → Type 0
+  Shifted pc done n to k = (done' : ℕ) × (n' : ℕ) × (done' + n' ≡ done + n) × (n' < k) × To (at pc done n) (at to done' n')
 
-  by_stage : (pc m n k : ℕ) → k < 32 → n < 32 → n < k + k
-      → slice_get (shift op).code pc ≡ Some (When (record { comparison = Below; width = 1; left = Local 1; right = Known k }) (suc (suc (suc pc))))
-      → slice_get (shift op).code (suc pc) ≡ Some (Plain (Compute (record { operator = op; width = 4; to = 0; left = Local 0; right = Known k })))
-      → slice_get (shift op).code (suc (suc pc)) ≡ Some (Plain (Compute (record { operator = Minus; width = 1; to = 1; left = Local 1; right = Known k })))
-      → Shifted pc m n (suc (suc (suc pc))) k
-  by_stage pc m n k hk hn h2 e1 e2 e3 = by_test (nat_lt (low 1 n) (low 1 k)) refl
+  by_stage : (pc done n k : ℕ) → k < 32 → n < 32 → n < k + k → StageAt pc k → Shifted pc done n (suc (suc (suc pc))) k
+  by_stage pc done n k hk hn h2 stage = by_test (nat_lt (low 1 n) (low 1 k)) refl
     where
-      found : (i : ℕ) (x : Instr) → slice_get (shift op).code i ≡ Some x → fetch (codes_in p.procedures) q i ≡ Some x
-      found i x e = fetch_of p.procedures q (shift op) has i ∙ e
-
-      by_test : (b : Bool) → nat_lt (low 1 n) (low 1 k) ≡ b → Shifted pc m n (suc (suc (suc pc))) k
+      by_test : (b : Bool) → nat_lt (low 1 n) (low 1 k) ≡ b → Shifted pc done n (suc (suc (suc pc))) k
       by_test true e = (
-        m,
+        done,
         n,
         refl,
         is_below n k hn hk e,
-        free (language p) (codes_in p.procedures) q pc (f ∷ fs) (held m n) w _ (at (suc (suc (suc pc))) m n) (found pc _ e1)
-            (ap (λ z. branched (at pc m n) true (suc (suc (suc pc))) (Some z)) e),
+        free (language p) (codes_in p.procedures) q pc (f ∷ fs) (held done n) w _ (at (suc (suc (suc pc))) done n) (found pc _ stage.test)
+            (ap (λ z. branched (at pc done n) true (suc (suc (suc pc))) (Some z)) e),
       )
       by_test false e = (
-        m + k,
+        done + k,
         n - k,
         omega (arith, not_below n k hn hk e),
         omega (arith, not_below n k hn hk e),
-        leads_then (language p) (codes_in p.procedures) 0 0 (at pc m n) (at (suc pc) m n) _
-            (free (language p) (codes_in p.procedures) q pc (f ∷ fs) (held m n) w _ (at (suc pc) m n) (found pc _ e1)
-            (ap (λ z. branched (at pc m n) true (suc (suc (suc pc))) (Some z)) e))
-            (leads_then (language p) (codes_in p.procedures) 0 0 (at (suc pc) m n) (at (suc (suc pc)) (m + k) n) _
-            (free (language p) (codes_in p.procedures) q (suc pc) (f ∷ fs) (held m n) w _ (at (suc (suc pc)) (m + k) n) (found (suc pc) _ e2)
-            (ap (λ z. went (at (suc pc) m n) (using z (λ v. Goes (sets 0 v (held m n)) w.outside))) (law m k hk)
-            ∙ ap (λ z. at' (suc (suc pc)) z n) (low_same (sh (m + k)) (small (m + k)))))
-            (free (language p) (codes_in p.procedures) q (suc (suc pc)) (f ∷ fs) (held (m + k) n) w _ (at (suc (suc (suc pc))) (m + k) (n - k))
-            (found (suc (suc pc)) _ e3)
-            (ap (λ z. at' (suc (suc (suc pc))) (sh (m + k)) z) (taken n k hn (not_below n k hn hk e))))),
+        leads_then (language p) (codes_in p.procedures) 0 0 (at pc done n) (at (suc pc) done n) _
+            (free (language p) (codes_in p.procedures) q pc (f ∷ fs) (held done n) w _ (at (suc pc) done n) (found pc _ stage.test)
+            (ap (λ z. branched (at pc done n) true (suc (suc (suc pc))) (Some z)) e))
+            (leads_then (language p) (codes_in p.procedures) 0 0 (at (suc pc) done n) (at (suc (suc pc)) (done + k) n) _
+            (free (language p) (codes_in p.procedures) q (suc pc) (f ∷ fs) (held done n) w _ (at (suc (suc pc)) (done + k) n) (found (suc pc) _ stage.shifts)
+            (ap (λ z. went (at (suc pc) done n) (using z (λ v. Goes (sets 0 v (held done n)) w.outside))) (shifting.law done k hk)
+            ∙ ap (λ z. at' (suc (suc pc)) z n) (low_same (sh (done + k)) (shifting.small (done + k)))))
+            (free (language p) (codes_in p.procedures) q (suc (suc pc)) (f ∷ fs) (held (done + k) n) w _ (at (suc (suc (suc pc))) (done + k) (n - k))
+            (found (suc (suc pc)) _ stage.takes)
+            (ap (λ z. at' (suc (suc (suc pc))) (sh (done + k)) z) (taken n k hn (not_below n k hn hk e))))),
       )
         where
           at' : (pc x n : ℕ) → Config State
           at' pc x n = conf q pc (f ∷ fs) (holding x n) w
 
-  -- the whole routine, from an amount below 32
-  by_stages : (n : ℕ) → n < 32 → To (at 2 0 n) (at 17 n 0)
-  by_stages n h = first (by_stage 2 0 n 16 (omega arith) h (omega (arith, h)) refl refl refl)
+  abbrev pub behind : (pc : ℕ) → ℕ
+  behind pc = suc (suc (suc pc))
+
+  -- all stages stand from a place on
+  pub record StagesAt (pc : ℕ) : Type 0 where
+    pub first : StageAt pc 16
+    pub second : StageAt (behind pc) 8
+    pub third : StageAt (behind (behind pc)) 4
+    pub fourth : StageAt (behind (behind (behind pc))) 2
+    pub fifth : StageAt (behind (behind (behind (behind pc)))) 1
+
+  abbrev pub end : (pc : ℕ) → ℕ
+  end pc = behind (behind (behind (behind (behind pc))))
+
+  -- from an amount below 32
+  by_stages : (pc n : ℕ) → n < 32 → StagesAt pc → To (at pc 0 n) (at (end pc) n 0)
+  by_stages pc n h st = second (by_stage pc 0 n 16 (omega arith) h (omega (arith, h)) st.first)
     where
-      onto : (pc m n' to k : ℕ) → To (at 2 0 n) (at pc m n') → To (at pc m n') (at to k 0) → To (at 2 0 n) (at to k 0)
-      onto pc m n' to k a b = leads_then (language p) (codes_in p.procedures) 0 0 (at 2 0 n) (at pc m n') (at to k 0) a b
+      next : (to done n' to2 done2 n2 : ℕ) → To (at pc 0 n) (at to done n') → To (at to done n') (at to2 done2 n2) → To (at pc 0 n) (at to2 done2 n2)
+      next to done n' to2 done2 n2 a b = leads_then (language p) (codes_in p.procedures) 0 0 (at pc 0 n) (at to done n') (at to2 done2 n2) a b
 
-      next : (pc m n' m2 n2 to : ℕ) → To (at 2 0 n) (at pc m n') → To (at pc m n') (at to m2 n2) → To (at 2 0 n) (at to m2 n2)
-      next pc m n' m2 n2 to a b = leads_then (language p) (codes_in p.procedures) 0 0 (at 2 0 n) (at pc m n') (at to m2 n2) a b
+      last : (done n' : ℕ) → done + n' ≡ n → n' < 1 → To (at pc 0 n) (at (end pc) done n') → To (at pc 0 n) (at (end pc) n 0)
+      last done n' e l a = let z : n' ≡ 0 = omega (arith, l) in let y : done ≡ n =
+          omega (arith, e, z) in subst (λ i. To (at pc 0 n) (at (end pc) i 0)) y (subst (λ i. To (at pc 0 n) (at (end pc) done i)) z a)
 
-      last : (m n' : ℕ) → m + n' ≡ n → n' < 1 → To (at 2 0 n) (at 17 m n') → To (at 2 0 n) (at 17 n 0)
-      last m n' e l a = let z : n' ≡ 0 = omega (arith, l) in let y : m ≡ n =
-          omega (arith, e, z) in subst (λ i. To (at 2 0 n) (at 17 i 0)) y (subst (λ i. To (at 2 0 n) (at 17 m i)) z a)
+      fifth : (done n' : ℕ) → done + n' ≡ n → To (at pc 0 n) (at (behind (behind (behind (behind pc)))) done n')
+          → Shifted (behind (behind (behind (behind pc)))) done n' (end pc) 1 → To (at pc 0 n) (at (end pc) n 0)
+      fifth done n' e a (done2, n2, e2, l2, b) = last done2 n2 (e2 ∙ e) l2 (next (behind (behind (behind (behind pc)))) done n' (end pc) done2 n2 a b)
 
-      fifth : (m n' : ℕ) → m + n' ≡ n → n' < 2 → To (at 2 0 n) (at 14 m n') → Shifted 14 m n' 17 1 → To (at 2 0 n) (at 17 n 0)
-      fifth m n' e l a (m2, n2, e2, l2, b) = last m2 n2 (e2 ∙ e) l2 (next 14 m n' m2 n2 17 a b)
+      fourth : (done n' : ℕ) → done + n' ≡ n → To (at pc 0 n) (at (behind (behind (behind pc))) done n')
+          → Shifted (behind (behind (behind pc))) done n' (behind (behind (behind (behind pc)))) 2 → To (at pc 0 n) (at (end pc) n 0)
+      fourth done n' e a (done2, n2, e2, l2, b) =
+          fifth done2 n2 (e2 ∙ e) (next (behind (behind (behind pc))) done n' (behind (behind (behind (behind pc)))) done2 n2 a b)
+          (by_stage (behind (behind (behind (behind pc)))) done2 n2 1 (omega arith) (omega (arith, l2)) (omega (arith, l2)) st.fifth)
 
-      fourth : (m n' : ℕ) → m + n' ≡ n → n' < 4 → To (at 2 0 n) (at 11 m n') → Shifted 11 m n' 14 2 → To (at 2 0 n) (at 17 n 0)
-      fourth m n' e l a (m2, n2, e2, l2, b) = fifth m2 n2 (e2 ∙ e) l2 (next 11 m n' m2 n2 14 a b)
-          (by_stage 14 m2 n2 1 (omega arith) (omega (arith, l2)) (omega (arith, l2)) refl refl refl)
+      third : (done n' : ℕ) → done + n' ≡ n → To (at pc 0 n) (at (behind (behind pc)) done n')
+          → Shifted (behind (behind pc)) done n' (behind (behind (behind pc))) 4 → To (at pc 0 n) (at (end pc) n 0)
+      third done n' e a (done2, n2, e2, l2, b) =
+          fourth done2 n2 (e2 ∙ e) (next (behind (behind pc)) done n' (behind (behind (behind pc))) done2 n2 a b)
+          (by_stage (behind (behind (behind pc))) done2 n2 2 (omega arith) (omega (arith, l2)) (omega (arith, l2)) st.fourth)
 
-      third : (m n' : ℕ) → m + n' ≡ n → n' < 8 → To (at 2 0 n) (at 8 m n') → Shifted 8 m n' 11 4 → To (at 2 0 n) (at 17 n 0)
-      third m n' e l a (m2, n2, e2, l2, b) = fourth m2 n2 (e2 ∙ e) l2 (next 8 m n' m2 n2 11 a b)
-          (by_stage 11 m2 n2 2 (omega arith) (omega (arith, l2)) (omega (arith, l2)) refl refl refl)
+      second' : (done n' : ℕ) → done + n' ≡ n → To (at pc 0 n) (at (behind pc) done n') → Shifted (behind pc) done n' (behind (behind pc)) 8
+          → To (at pc 0 n) (at (end pc) n 0)
+      second' done n' e a (done2, n2, e2, l2, b) =
+          third done2 n2 (e2 ∙ e) (next (behind pc) done n' (behind (behind pc)) done2 n2 a b)
+          (by_stage (behind (behind pc)) done2 n2 4 (omega arith) (omega (arith, l2)) (omega (arith, l2)) st.third)
 
-      second : (m n' : ℕ) → m + n' ≡ n → n' < 16 → To (at 2 0 n) (at 5 m n') → Shifted 5 m n' 8 8 → To (at 2 0 n) (at 17 n 0)
-      second m n' e l a (m2, n2, e2, l2, b) = third m2 n2 (e2 ∙ e) l2 (next 5 m n' m2 n2 8 a b)
-          (by_stage 8 m2 n2 4 (omega arith) (omega (arith, l2)) (omega (arith, l2)) refl refl refl)
-
-      first : Shifted 2 0 n 5 16 → To (at 2 0 n) (at 17 n 0)
-      first (m2, n2, e2, l2, b) = second m2 n2 (omega (arith, e2)) l2 b
-          (by_stage 5 m2 n2 8 (omega arith) (omega (arith, l2)) (omega (arith, l2)) refl refl refl)
+      second : Shifted pc 0 n (behind pc) 16 → To (at pc 0 n) (at (end pc) n 0)
+      second (done2, n2, e2, l2, b) = second' done2 n2 (omega (arith, e2)) b
+          (by_stage (behind pc) done2 n2 8 (omega arith) (omega (arith, l2)) (omega (arith, l2)) st.second)
 
   abbrev pub Back : ℕ → Config State → Type 0
   Back v c = (left : List LocalState) × To c (conf f.proc (suc f.pc) fs (resume f.awaits f.kept (with_locals ram left) (low 4 v)) w)
 
-  -- the test of the amount, and what is given
-  tested : (c : Config State) (n : ℕ) → n < 2 ^ 32 → (b : Bool) → nat_lt n 32 ≡ b → To c (at 1 0 n) → Back (if b then sh n else 0) c
-  tested c n h true e t = (
-    _,
-    leads_then (language p) (codes_in p.procedures) 0 0 c (at 1 0 n) _ t
-        (leads_then (language p) (codes_in p.procedures) 0 0 (at 1 0 n) (at 2 0 n) _
-        (free (language p) (codes_in p.procedures) q 1 (f ∷ fs) (held 0 n) w _ (at 2 0 n) (fetch_of p.procedures q (shift op) has 1)
-        (ap (λ z. branched (at 1 0 n) false 18 (Some z)) (ap (λ z. nat_lt z 32) (low_same n h) ∙ e)))
-        (leads_then (language p) (codes_in p.procedures) 0 0 (at 2 0 n) (at 17 n 0) _ (by_stages n (below_of n e))
-        (free (language p) (codes_in p.procedures) q 17 (f ∷ fs) (held n 0) w _ _ (fetch_of p.procedures q (shift op) has 17) refl))),
-  )
+  -- the test of the amount, the stages and what is given back stand from a place on
+  pub record ShiftAt (pc : ℕ) : Type 0 where
+    pub test : slice_get m.code pc ≡ Some (leaves_nothing (suc (end (suc pc))))
+    pub stages : StagesAt (suc pc)
+    pub gives : slice_get m.code (end (suc pc)) ≡ Some (Return 4 (Local 0))
+    pub nothing : slice_get m.code (suc (end (suc pc))) ≡ Some (Return 4 (Known 0))
+
+  pub by_shift : (pc n : ℕ) → n < 2 ^ 32 → ShiftAt pc → Back (if nat_lt n 32 then sh n else 0) (at pc 0 n)
+  by_shift pc n h st = by_test (nat_lt n 32) refl
     where
       below_of : (n : ℕ) → nat_lt n 32 ≡ true → n < 32
       below_of n e = grind arith
-  tested c n h false e t = (
-    _,
-    leads_then (language p) (codes_in p.procedures) 0 0 c (at 1 0 n) _ t
-        (leads_then (language p) (codes_in p.procedures) 0 0 (at 1 0 n) (at 18 0 n) _
-        (free (language p) (codes_in p.procedures) q 1 (f ∷ fs) (held 0 n) w _ (at 18 0 n) (fetch_of p.procedures q (shift op) has 1)
-        (ap (λ z. branched (at 1 0 n) false 18 (Some z)) (ap (λ z. nat_lt z 32) (low_same n h) ∙ e)))
-        (free (language p) (codes_in p.procedures) q 18 (f ∷ fs) (held 0 n) w _ _ (fetch_of p.procedures q (shift op) has 18) refl)),
-  )
 
-  -- the bits that the shift does not see are taken away first
-  routine : (x n : ℕ) → n < 2 ^ 32 → low 4 (low 4 (bit_and x seen)) ≡ sh 0
-      → Back (if nat_lt n 32 then sh n else 0) (conf q 0 (f ∷ fs) (holding x n) w)
-  routine x n h start =
-      tested (conf q 0 (f ∷ fs) (holding x n) w) n h (nat_lt n 32) refl
-      (free (language p) (codes_in p.procedures) q 0 (f ∷ fs) (holding x n) w _ (at 1 0 n) (fetch_of p.procedures q (shift op) has 0)
-      (ap (λ z. conf q 1 (f ∷ fs) (holding z n) w) start))
+      by_test : (b : Bool) → nat_lt n 32 ≡ b → Back (if b then sh n else 0) (at pc 0 n)
+      by_test true e = (
+        _,
+        leads_then (language p) (codes_in p.procedures) 0 0 (at pc 0 n) (at (suc pc) 0 n) _
+            (free (language p) (codes_in p.procedures) q pc (f ∷ fs) (held 0 n) w _ (at (suc pc) 0 n) (found pc _ st.test)
+            (ap (λ z. branched (at pc 0 n) false (suc (end (suc pc))) (Some z)) (ap (λ z. nat_lt z 32) (low_same n h) ∙ e)))
+            (leads_then (language p) (codes_in p.procedures) 0 0 (at (suc pc) 0 n) (at (end (suc pc)) n 0) _ (by_stages (suc pc) n (below_of n e) st.stages)
+            (free (language p) (codes_in p.procedures) q (end (suc pc)) (f ∷ fs) (held n 0) w _ _ (found (end (suc pc)) _ st.gives) refl)),
+      )
+      by_test false e = (
+        _,
+        leads_then (language p) (codes_in p.procedures) 0 0 (at pc 0 n) (at (suc (end (suc pc))) 0 n) _
+            (free (language p) (codes_in p.procedures) q pc (f ∷ fs) (held 0 n) w _ (at (suc (end (suc pc))) 0 n) (found pc _ st.test)
+            (ap (λ z. branched (at pc 0 n) false (suc (end (suc pc))) (Some z)) (ap (λ z. nat_lt z 32) (low_same n h) ∙ e)))
+            (free (language p) (codes_in p.procedures) q (suc (end (suc pc))) (f ∷ fs) (held 0 n) w _ _ (found (suc (end (suc pc))) _ st.nothing) refl),
+      )
 
 -- ---- what a shift sees
 
@@ -205,16 +227,76 @@ masked w x h =
 
 -- ---- both shifts
 
--- a routine of a shift, from what the shift makes of the value
-routine_of : (op : Operator) (w x y : ℕ) (sh : ℕ → ℕ) → IsWidth w → y < 2 ^ 32 → low w x ≡ sh 0 → ((m : ℕ) → sh m < 2 ^ 32)
-    → ((m k : ℕ) → k < 32 → computed op 4 (sh m) k ≡ Some (sh (m + k)))
-    → Gives (shift op) (x ∷ y ∷ (256 ^ w - 1) ∷ []) (low 4 (if nat_lt y 32 then sh y else 0))
-routine_of op width x y sh hw h start small law p q has f fs ram w =
-    subst (λ z. (left : List LocalState) × Leads (language p) (codes_in p.procedures) 0
-    (conf q 0 (f ∷ fs) (with_locals ram (record { width = 4; value = Some (low 4 x) } ∷ record { width = 4; value = Some z }
-    ∷ record { width = 4; value = Some (low 4 (256 ^ width - 1)) } ∷ [])) w)
-    (conf f.proc (suc f.pc) fs (resume f.awaits f.kept (with_locals ram left) (low 4 (if nat_lt y 32 then sh y else 0))) w)) (sym (low_same y h))
-    (routine op sh small law p q has f fs ram w (low 4 (256 ^ width - 1)) (low 4 x) y h (masked width x hw ∙ start))
+-- all stages of a routine stand from a place on, as their code computes
+shl_stands : (sh : ℕ → ℕ) (shifting : Shifting ShiftLeft sh) (p : Program) (q : ℕ) (has : slice_get p.procedures q ≡ Some shl) (f : Frame State)
+    (fs : List (Frame State)) (ram : List ℕ) (w : World History) → ShiftAt ShiftLeft sh shifting shl p q has f fs ram w [] 0
+shl_stands sh shifting p q has f fs ram w =
+    record {
+      test = refl;
+      stages =
+          record {
+            first = record { test = refl; shifts = refl; takes = refl };
+            second = record { test = refl; shifts = refl; takes = refl };
+            third = record { test = refl; shifts = refl; takes = refl };
+            fourth = record { test = refl; shifts = refl; takes = refl };
+            fifth = record { test = refl; shifts = refl; takes = refl };
+          };
+      gives = refl;
+      nothing = refl;
+    }
+
+shr_stands : (sh : ℕ → ℕ) (shifting : Shifting ShiftRight sh) (p : Program) (q : ℕ) (has : slice_get p.procedures q ≡ Some shr) (f : Frame State)
+    (fs : List (Frame State)) (ram : List ℕ) (w : World History) (more : List LocalState) → ShiftAt ShiftRight sh shifting shr p q has f fs ram w more 1
+shr_stands sh shifting p q has f fs ram w more =
+    record {
+      test = refl;
+      stages =
+          record {
+            first = record { test = refl; shifts = refl; takes = refl };
+            second = record { test = refl; shifts = refl; takes = refl };
+            third = record { test = refl; shifts = refl; takes = refl };
+            fourth = record { test = refl; shifts = refl; takes = refl };
+            fifth = record { test = refl; shifts = refl; takes = refl };
+          };
+      gives = refl;
+      nothing = refl;
+    }
+
+-- the configuration in which a routine begins
+abbrev pub Comes : Program → (q : ℕ) → Frame State → List (Frame State) → (ram : List ℕ) → World History → List LocalState → (v : ℕ) → Type 0
+Comes p q f fs ram w locals v =
+    (left : List LocalState) × Leads (language p) (codes_in p.procedures) 0 (conf q 0 (f ∷ fs) (with_locals ram locals) w)
+    (conf f.proc (suc f.pc) fs (resume f.awaits f.kept (with_locals ram left) (low 4 v)) w)
+
+shl_gives : (x y : ℕ) (sh : ℕ → ℕ) → Shifting ShiftLeft sh → y < 2 ^ 32 → low 4 x ≡ sh 0 → Gives shl (x ∷ y ∷ []) (low 4 (if nat_lt y 32 then sh y else 0))
+shl_gives x y sh shifting h start p q has f fs ram w =
+    subst (λ z. Comes p q f fs ram w (record { width = 4; value = Some (low 4 x) } ∷ record { width = 4; value = Some z } ∷ []) (if nat_lt y 32 then sh y else 0))
+    (sym (low_same y h))
+    (subst (λ z. Comes p q f fs ram w (record { width = 4; value = Some z } ∷ record { width = 4; value = Some y } ∷ []) (if nat_lt y 32 then sh y else 0))
+    (sym start) (by_shift ShiftLeft sh shifting shl p q has f fs ram w [] 0 y h (shl_stands sh shifting p q has f fs ram w)))
+
+-- the bits that the shift does not see are taken away first
+shr_gives : (width x y : ℕ) (sh : ℕ → ℕ) → IsWidth width → Shifting ShiftRight sh → y < 2 ^ 32 → low width x ≡ sh 0
+    → Gives shr (x ∷ y ∷ (256 ^ width - 1) ∷ []) (low 4 (if nat_lt y 32 then sh y else 0))
+shr_gives width x y sh hw shifting h start p q has f fs ram w =
+    subst (λ z. Comes p q f fs ram w (record { width = 4; value = Some (low 4 x) } ∷ record { width = 4; value = Some z } ∷ seen ∷ []) (if nat_lt y 32 then sh y else 0))
+    (sym (low_same y h)) (begins (by_shift ShiftRight sh shifting shr p q has f fs ram w (seen ∷ []) 1 y h (shr_stands sh shifting p q has f fs ram w (seen ∷ []))))
+  where
+    seen : LocalState
+    seen = record { width = 4; value = Some (low 4 (256 ^ width - 1)) }
+
+    state : (x : ℕ) → State
+    state x = with_locals ram (record { width = 4; value = Some x } ∷ record { width = 4; value = Some y } ∷ seen ∷ [])
+
+    begins : (left : List LocalState) × Leads (language p) (codes_in p.procedures) 0 (conf q 1 (f ∷ fs) (state (sh 0)) w)
+        (conf f.proc (suc f.pc) fs (resume f.awaits f.kept (with_locals ram left) (low 4 (if nat_lt y 32 then sh y else 0))) w)
+        → Comes p q f fs ram w (record { width = 4; value = Some (low 4 x) } ∷ record { width = 4; value = Some y } ∷ seen ∷ []) (if nat_lt y 32 then sh y else 0)
+    begins (left, t) = (
+      left,
+      leads_then (language p) (codes_in p.procedures) 0 0 (conf q 0 (f ∷ fs) (state (low 4 x)) w) (conf q 1 (f ∷ fs) (state (sh 0)) w) _
+          (free (language p) (codes_in p.procedures) q 0 (f ∷ fs) (state (low 4 x)) w _ (conf q 1 (f ∷ fs) (state (sh 0)) w)
+          (fetch_of p.procedures q shr has 0) (ap (λ z. conf q 1 (f ∷ fs) (state z) w) (masked width x hw ∙ start))) t,
+    )
 
 if_below : (n k a b : ℕ) → k < n → (if nat_lt k n then a else b) ≡ a
 if_below n k a b h = by_test (nat_lt k n) refl
@@ -277,17 +359,18 @@ gives_low m ws more x y z e g p q has f fs ram w =
         ∙ ap (λ v. begun v (x ∷ y ∷ more)) (sym e)
 
 pub shl_is : IsRoutineOf ShiftLeft shl
-shl_is w x y v hw hy e = (_, low_is, routine_of ShiftLeft w x y (λ m. low 4 (low w x * 2 ^ m)) hw hy start (λ m. small (low w x * 2 ^ m)) law)
+shl_is w x y v hw hy e =
+    (_, low_is, shl_gives x y (λ m. low 4 (low 4 x * 2 ^ m)) (record { small = λ m. small (low 4 x * 2 ^ m); law = law }) hy start)
   where
-    start : low w x ≡ low 4 (low w x * 2 ^ 0)
-    start = sym (low_in_four w x hw) ∙ ap (low 4) (omega arith)
+    start : low 4 x ≡ low 4 (low 4 x * 2 ^ 0)
+    start = omega arith
 
     small : (z : ℕ) → low 4 z < 2 ^ 32
     small z = omega arith
 
-    law : (m k : ℕ) → k < 32 → computed ShiftLeft 4 (low 4 (low w x * 2 ^ m)) k ≡ Some (low 4 (low w x * 2 ^ (m + k)))
-    law m k h = ap Some (if_below 32 k (low 4 (low 4 (low w x * 2 ^ m) * 2 ^ k)) 0 h ∙ mul-mod_first (low w x * 2 ^ m) (2 ^ k) (256 ^ 4)
-        ∙ ap (low 4) (mul_assoc (low w x) (2 ^ m) (2 ^ k) ∙ ap (λ z. low w x * z) (sym (pow-add 2 m k))))
+    law : (m k : ℕ) → k < 32 → computed ShiftLeft 4 (low 4 (low 4 x * 2 ^ m)) k ≡ Some (low 4 (low 4 x * 2 ^ (m + k)))
+    law m k h = ap Some (if_below 32 k (low 4 (low 4 (low 4 x * 2 ^ m) * 2 ^ k)) 0 h ∙ mul-mod_first (low 4 x * 2 ^ m) (2 ^ k) (256 ^ 4)
+        ∙ ap (low 4) (mul_assoc (low 4 x) (2 ^ m) (2 ^ k) ∙ ap (λ z. low 4 x * z) (sym (pow-add 2 m k))))
 
     none : 8 * w ≤ y → low w (x * 2 ^ y) ≡ 0
     none h =
@@ -295,16 +378,19 @@ shl_is w x y v hw hy e = (_, low_is, routine_of ShiftLeft w x y (λ m. low 4 (lo
         ap (λ z. low w (x * 2 ^ z)) (sym s) ∙ ap (λ z. low w (x * z)) (pow-add 2 i (8 * w) ∙ ap (λ z. 2 ^ i * z) (sym (width_bits w hw)))
         ∙ ap (low w) (sym (mul_assoc x (2 ^ i) (256 ^ w))) ∙ mul-mod_left (x * 2 ^ i) (256 ^ w)
 
-    same : low w (low 4 (low w x * 2 ^ y)) ≡ low w (x * 2 ^ y)
-    same = low_low w (low w x * 2 ^ y) hw ∙ mul-mod_first x (2 ^ y) (256 ^ w)
+    -- the low bytes of the result are those of the low bytes of the value
+    same : low w (low 4 (low 4 x * 2 ^ y)) ≡ low w (x * 2 ^ y)
+    same =
+        low_low w (low 4 x * 2 ^ y) hw ∙ sym (mul-mod_first (low 4 x) (2 ^ y) (256 ^ w)) ∙ ap (λ z. low w (z * 2 ^ y)) (low_low w x hw)
+        ∙ mul-mod_first x (2 ^ y) (256 ^ w)
 
-    low_is : low w (low 4 (if nat_lt y 32 then low 4 (low w x * 2 ^ y) else 0)) ≡ v
+    low_is : low w (low 4 (if nat_lt y 32 then low 4 (low 4 x * 2 ^ y) else 0)) ≡ v
     low_is =
-        low_low w (if nat_lt y 32 then low 4 (low w x * 2 ^ y) else 0) hw ∙ low_of_if w (low 4 (low w x * 2 ^ y)) (nat_lt y 32) hw
-        ∙ both_tests w y (low w (low 4 (low w x * 2 ^ y))) (low w (x * 2 ^ y)) hw (λ h. same) (λ h g. same ∙ none h) ∙ some_is _ v e
+        low_low w (if nat_lt y 32 then low 4 (low 4 x * 2 ^ y) else 0) hw ∙ low_of_if w (low 4 (low 4 x * 2 ^ y)) (nat_lt y 32) hw
+        ∙ both_tests w y (low w (low 4 (low 4 x * 2 ^ y))) (low w (x * 2 ^ y)) hw (λ h. same) (λ h g. same ∙ none h) ∙ some_is _ v e
 
 pub shr_is : IsRoutineOf ShiftRight shr
-shr_is w x y v hw hy e = (_, low_is, routine_of ShiftRight w x y (λ m. low w x / 2 ^ m) hw hy start small law)
+shr_is w x y v hw hy e = (_, low_is, shr_gives w x y (λ m. low w x / 2 ^ m) hw (record { small = small; law = law }) hy start)
   where
     start : low w x ≡ low w x / 2 ^ 0
     start = omega arith

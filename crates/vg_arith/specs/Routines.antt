@@ -28,11 +28,10 @@ Gives m xs v =
     (conf q 0 (f ∷ fs) (with_locals ram (begun m.widths xs)) w)
     (conf f.proc (suc f.pc) fs (resume f.awaits f.kept (with_locals ram left) v) w)
 
--- The arguments behind the two operands: which result of a division is wanted, or the bits that a shift sees.
+-- The arguments behind the two operands: which result of a division is wanted, or the bits that a shift to the right sees.
 abbrev pub others : Operator → (width : ℕ) → List ℕ
 others Divide w = 0 ∷ []
 others Remainder w = 1 ∷ []
-others ShiftLeft w = (256 ^ w - 1) ∷ []
 others ShiftRight w = (256 ^ w - 1) ∷ []
 others op w = []
 
@@ -40,7 +39,6 @@ others op w = []
 abbrev pub others_widths : Operator → List ℕ
 others_widths Divide = 1 ∷ []
 others_widths Remainder = 1 ∷ []
-others_widths ShiftLeft = 4 ∷ []
 others_widths ShiftRight = 4 ∷ []
 others_widths op = []
 

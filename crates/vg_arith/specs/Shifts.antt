@@ -16,10 +16,25 @@ stage op at k =
     ∷ Plain (Compute (record { operator = op; width = 4; to = 0; left = Local 0; right = Known k }))
     ∷ Plain (Compute (record { operator = Minus; width = 1; to = 1; left = Local 1; right = Known k })) ∷ []
 
--- The value is the first local, the amount the second, and the third has the bits of the value that the shift sees. An amount of 32 or
--- more leaves nothing; else its binary digits are taken from the highest to the lowest.
-abbrev pub shift : Operator → Procedure
-shift op =
+-- The binary digits of an amount below 32 are taken from the highest to the lowest.
+abbrev pub stages : Operator → (at : ℕ) → List Instr
+stages op at = stage op at 16 ++ (stage op (at + 3) 8 ++ (stage op (at + 6) 4 ++ (stage op (at + 9) 2 ++ stage op (at + 12) 1)))
+
+-- An amount of 32 or more leaves nothing: the code goes on at this place.
+abbrev pub leaves_nothing : (at : ℕ) → Instr
+leaves_nothing at = Unless (record { comparison = Below; width = 4; left = Local 1; right = Known 32 }) at
+
+abbrev pub gives_back : List Instr
+gives_back = Return 4 (Local 0) ∷ Return 4 (Known 0) ∷ []
+
+-- The value is the first local, and the amount the second. What is shifted to the left leaves the low bytes of the result to those of the value.
+abbrev pub shl : Procedure
+shl =
+    record { method = None; params = 2; result = 4; widths = 4 ∷ 4 ∷ []; code = leaves_nothing 17 ∷ (stages ShiftLeft 1 ++ gives_back) }
+
+-- The same, and the third has the bits of the value that the shift sees.
+abbrev pub shr : Procedure
+shr =
     record {
       method = None;
       params = 3;
@@ -27,12 +42,5 @@ shift op =
       widths = 4 ∷ 4 ∷ 4 ∷ [];
       code =
           Plain (Compute (record { operator = And; width = 4; to = 0; left = Local 0; right = Local 2 }))
-          ∷ Unless (record { comparison = Below; width = 4; left = Local 1; right = Known 32 }) 18
-          ∷ stage op 2 16 ++ (stage op 5 8 ++ (stage op 8 4 ++ (stage op 11 2 ++ (stage op 14 1 ++ (Return 4 (Local 0) ∷ Return 4 (Known 0) ∷ [])))));
+          ∷ leaves_nothing 18 ∷ (stages ShiftRight 2 ++ gives_back);
     }
-
-abbrev pub shl : Procedure
-shl = shift ShiftLeft
-
-abbrev pub shr : Procedure
-shr = shift ShiftRight

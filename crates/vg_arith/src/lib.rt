@@ -9,4 +9,4 @@ pub mod shifts;
 pub use division::division_routine;
 pub use product::product_routine;
 pub use routines::{ROUTINES, routine};
-pub use shifts::shift_routine;
+pub use shifts::{left_shift_routine, right_shift_routine};

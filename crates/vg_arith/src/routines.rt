@@ -5,10 +5,10 @@ ghost use Rattle.vg_arith.specs.Routines.{IsRoutine};
 
 use crate::division::division_routine;
 use crate::product::product_routine;
-use crate::shifts::shift_routine;
+use crate::shifts::{left_shift_routine, right_shift_routine};
 use std::alloc::Global;
 use vg_base::NoMemory;
-use vg_lin::{LinProc, Operator};
+use vg_lin::LinProc;
 
 /// How many routines there are.
 pub const ROUTINES: u8 = 4;
@@ -24,8 +24,8 @@ pub fn routine(alloc: Global, which: u8) -> Result<LinProc, NoMemory>
     } else if which == 1 {
         division_routine(alloc)
     } else if which == 2 {
-        shift_routine(alloc, Operator::ShiftLeft)
+        left_shift_routine(alloc)
     } else {
-        shift_routine(alloc, Operator::ShiftRight)
+        right_shift_routine(alloc)
     }
 }

@@ -1,5 +1,5 @@
 -- A search that has seen no node, and what a search from all roots leaves.
-use Rattle.std.proofs.Common.{◌≡◌, refl, sym, ap, subst, ◌∙◌, arith, ℕ, zero, suc, ◌<◌, ◌≤◌, List, [], drop, get_or, length, replicate, sum, Some, None, slice_get}
+use Rattle.std.proofs.Common.{◌≡◌, refl, sym, ap, subst, ◌∙◌, arith, ℕ, zero, suc, ◌^◌, ◌<◌, ◌≤◌, List, [], drop, get_or, length, replicate, sum, Some, None, slice_get}
 use Rattle.std.proofs.lemmas.Option.{none-some, same_Some, slice_get_within}
 use Rattle.std.proofs.lemmas.List.{length-replicate}
 use Rattle.vg_bound.specs.declared.mark.Mark.{Mark}
@@ -63,7 +63,7 @@ no_edge zero a k b e = none-some b e
 no_edge (suc n) zero k b e = none-some b e
 no_edge (suc n) (suc a) k b e = no_edge n a k b e
 
-sound_bare : (frames : List ℕ) → length frames ≤ 4000 → sum frames ≤ 1000000000
+sound_bare : (frames : List ℕ) → length frames ≤ 65536 → sum frames ≤ 2 ^ 48
     → IsSound frames (replicate (length frames) []) [] (begun (length frames))
 sound_bare frames few small = record {
   shaped = record {
@@ -79,7 +79,7 @@ sound_bare frames few small = record {
 }
 
 pub sound_begun : (frames fr : List ℕ) (calls : List (List ℕ)) (roots : List Root) (s : Searched) → fr ≡ frames → calls ≡ replicate (length frames) []
-    → roots ≡ [] → s ≡ begun (length frames) → length frames ≤ 4000 → sum frames ≤ 1000000000 → IsSound fr calls roots s
+    → roots ≡ [] → s ≡ begun (length frames) → length frames ≤ 65536 → sum frames ≤ 2 ^ 48 → IsSound fr calls roots s
 sound_begun frames fr calls roots s e f g h few small =
     subst (λ z. IsSound z calls roots s) (sym e) (subst (λ z. IsSound frames z roots s) (sym f) (
     subst (λ z. IsSound frames (replicate (length frames) []) z s) (sym g) (

@@ -84,6 +84,10 @@ IsNext kept a b = (i : ℕ) × (slice_get kept i ≡ Some a) × (slice_get kept 
 abbrev pub without_edges : (frames : List ℕ) → Graph
 without_edges frames = record { frames = frames; calls = replicate (length frames) []; roots = []; kept = [] }
 
+-- Nodes with these frames, edges and roots, and no cycle.
+abbrev pub of_parts : (frames : List ℕ) → (calls : List (List ℕ)) → List Root → Graph
+of_parts frames calls roots = record { frames = frames; calls = calls; roots = roots; kept = [] }
+
 -- One edge more.
 abbrev pub with_edge : (a b : ℕ) → Graph → Graph
 with_edge a b g = record { frames = g.frames; calls = slice_set g.calls a (get_or g.calls a [] ++ b ∷ []); roots = g.roots; kept = g.kept }

@@ -1,5 +1,5 @@
 -- What a search in depth keeps.
-use Rattle.std.specs.Prelude.{◌≡◌, ◌⊎◌, ℕ, suc, ◌+◌, ◌-◌, ◌<◌, ◌≤◌, Bool, true, false, List, [], ◌∷◌, get_or, length, sum, Option, Some, None, slice_get}
+use Rattle.std.specs.Prelude.{◌≡◌, ◌⊎◌, ℕ, suc, ◌+◌, ◌-◌, ◌^◌, ◌<◌, ◌≤◌, Bool, true, false, List, [], ◌∷◌, get_or, length, sum, Option, Some, None, slice_get}
 use Rattle.std.specs.Prelude.{if◌then◌else◌}
 use Rattle.vg_bound.specs.declared.mark.Visit.{Visit}
 use Rattle.vg_bound.specs.declared.mark.Mark.{Mark}
@@ -14,13 +14,13 @@ use Rattle.vg_bound.specs.Searched.{Searched, place_of}
 
 pub record IsShaped (frames : List ℕ) (calls : List (List ℕ)) : Type 0 where
   pub nodes : length calls ≡ length frames
-  pub few : length frames ≤ 4000
-  pub small : sum frames ≤ 1000000000
+  pub few : length frames ≤ 65536
+  pub small : sum frames ≤ 2 ^ 48
   pub targets : (a b : ℕ) → HasEdge calls a b → b < length frames
 
 pub record AreRoots (frames : List ℕ) (roots : List Root) : Type 0 where
   pub nodes : (i : ℕ) (r : Root) → slice_get roots i ≡ Some r → r.node < length frames
-  pub small : (i : ℕ) (r : Root) → slice_get roots i ≡ Some r → r.extra ≤ 1000000000
+  pub small : (i : ℕ) (r : Root) → slice_get roots i ≡ Some r → r.extra < 2 ^ 32
 
 -- ---- nodes that are done
 

@@ -1,6 +1,6 @@
 // The call graph.
-ghost use Rattle.std.specs.Prelude.{◌≡◌, ◌↔◌, ◌<◌, ◌≤◌, [], IfOk, IfSome, None, OnErr, OnOk, length, replicate, sum};
-ghost use Rattle.vg_bound.specs.Graph.{with_edge, with_root, without_edges, HasCycle, IsBound, IsCycle, IsNext, IsOn, IsSameGraph};
+ghost use Rattle.std.specs.Prelude.{◌≡◌, ◌↔◌, ◌<◌, ◌≤◌, ◌^◌, [], IfOk, IfSome, None, OnErr, OnOk, length, replicate, sum};
+ghost use Rattle.vg_bound.specs.Graph.{of_parts, with_edge, with_root, without_edges, HasCycle, IsBound, IsCycle, IsNext, IsOn, IsSameGraph};
 ghost use Rattle.vg_bound.specs.Kept.{graph, IsOutcome};
 ghost use Rattle.vg_bound.specs.Searching.{AreRoots, IsSearching, IsShaped};
 
@@ -14,7 +14,7 @@ use vg_base::{NoMemory, Row};
 
 /// Nodes with the bytes of their frames, the edges between them, and the roots from which paths begin; and the cycle that `bound` kept.
 ///
-/// At most 4,000 nodes, whose frames have together at most 1,000,000,000 bytes.
+/// At most 65,536 nodes, whose frames have together at most 2 ^ 48 bytes.
 #[derive(Drop)]
 pub struct CallGraph {
     frames: Row<u32>,
@@ -39,8 +39,8 @@ impl Model for CallGraph {
 impl CallGraph {
     /// A node for each of these frames, in bytes, and no edge and no root. All memory that `bound` needs is taken here.
     pub fn new(alloc: Global, frames: &[u32]) -> Result<Self, NoMemory>
-        requires few { length frames.now ≤ 4000 }
-        requires small { sum frames.now ≤ 1000000000 }
+        requires few { length frames.now ≤ 65536 }
+        requires small { sum frames.now ≤ 2 ^ 48 }
         ensures { IfOk result (λ g. g ≡ without_edges frames.now) }
     {
         let count = frames.len();
@@ -50,6 +50,27 @@ impl CallGraph {
             frames: Row::from_vec(Vec::from_slice(alloc, frames)?),
             calls,
             roots: Row::new(alloc),
+            search,
+            from: 0,
+        })
+    }
+
+    /// The graph of these frames, in bytes, edges and roots. All memory that `bound` needs is taken here.
+    pub fn of_parts(
+        alloc: Global,
+        frames: Row<u32>,
+        calls: Vec<Row<u16>>,
+        roots: Row<Root>,
+    ) -> Result<Self, NoMemory>
+        requires shaped { IsShaped frames calls.items }
+        requires roots { AreRoots frames roots }
+        ensures { IfOk result (λ g. g ≡ of_parts frames calls.items roots) }
+    {
+        let search = Search::new(alloc, frames.len())?;
+        Ok(CallGraph {
+            frames,
+            calls,
+            roots,
             search,
             from: 0,
         })
@@ -65,15 +86,20 @@ impl CallGraph {
         self.calls[usize::from(from)].push(to)
     }
 
-    /// Adds a root: a node from which paths begin, with `extra` bytes below its frame, at most 1,000,000,000. Without memory the graph
-    /// stays as it was.
+    /// Adds a root: a node from which paths begin, with `extra` bytes below its frame. Without memory the graph stays as it was.
     pub fn root(&mut self, node: u16, extra: u32) -> Result<(), NoMemory>
-        requires within { node < length self.old.frames }
-        requires small { extra ≤ 1000000000 }
+        requires { node < length self.old.frames }
         ensures ok { OnOk result (self.new ≡ with_root (record { node = node; extra = extra }) self.old) }
         ensures err { OnErr result (self.new ≡ self.old) }
     {
         self.roots.push(Root { node, extra })
+    }
+
+    /// The nodes of the kept cycle.
+    pub fn kept(&self, alloc: Global) -> Result<Row<u16>, NoMemory>
+        ensures { IfOk result (λ nodes. nodes ≡ self.now.kept) }
+    {
+        self.search.nodes_from(alloc, self.from)
     }
 
     /// The node behind this one on the kept cycle; none exactly where the node is not on it. It takes no memory.
@@ -127,10 +153,10 @@ fn largest(frames: &[u32], calls: &[Row<u16>], roots: &[Root], search: &mut Sear
     ensures searching { IsSearching frames.now calls.now search.new }
     ensures outcome { IsOutcome frames.now calls.now roots.now search.new result }
 {
-    let mut most = 0u32;
+    let mut most = 0u64;
     for root in roots {
         match search_from(frames, calls, search, root.node) {
-            Found::Cost(cost) => most = most.max(root.extra + cost),
+            Found::Cost(cost) => most = most.max(u64::from(root.extra) + cost),
             Found::Closed(place) => return Found::Closed(place),
         }
     }

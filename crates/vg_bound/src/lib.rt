@@ -14,3 +14,4 @@ pub mod walk;
 
 pub use answer::Bound;
 pub use graph::{CallGraph, bound};
+pub use root::Root;

@@ -10,7 +10,7 @@ pub struct Visit {
     /// How many of its calls were looked at.
     pub next: usize,
     /// The largest cost in bytes of a path from one of these.
-    pub most: u32,
+    pub most: u64,
 }
 
 /// What a search knows of a node.
@@ -21,12 +21,12 @@ pub enum Mark {
     /// It stands on the stack.
     Open(Visit),
     /// The largest cost in bytes of a path from it; no cycle can be reached from it.
-    Done(u32),
+    Done(u64),
 }
 
 impl Visit {
     /// The visit behind one more call, from which the largest path costs so much.
-    pub fn behind(self, cost: u32) -> Visit
+    pub fn behind(self, cost: u64) -> Visit
         requires { self.next < 2 ^ 64 - 1 }
         ensures { result ≡ looked cost self }
     {

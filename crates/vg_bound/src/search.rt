@@ -1,12 +1,12 @@
 // The tables of a search.
-ghost use Rattle.std.specs.Prelude.{◌≡◌, ◌<◌, ◌≤◌, IfOk, Some, length, slice_get};
+ghost use Rattle.std.specs.Prelude.{◌≡◌, ◌<◌, ◌≤◌, IfOk, Some, drop, length, slice_get};
 ghost use Rattle.vg_bound.specs.Graph as graphs;
 ghost use Rattle.vg_bound.specs.Searched.{begun, entered, left, place_of, visiting};
 
 use crate::mark::{Mark, Visit};
 use std::alloc::Global;
 use std::marker::Model;
-use vg_base::NoMemory;
+use vg_base::{NoMemory, Row};
 
 /// A mark for each node, and the stack of the nodes whose calls are being looked at, the oldest first. The stack has room for each node.
 #[derive(Drop)]
@@ -81,6 +81,15 @@ impl Search {
         self.stack[place]
     }
 
+    /// The nodes on the stack from a place on.
+    pub fn nodes_from(&self, alloc: Global, from: usize) -> Result<Row<u16>, NoMemory>
+        ensures { IfOk result (λ nodes. nodes ≡ drop from self.now.stack) }
+    {
+        let stack = self.stack.as_slice();
+        let behind = &stack[from.min(stack.len())..];
+        Ok(Row::from_vec(Vec::from_slice(alloc, behind)?))
+    }
+
     /// The node behind a place on the stack, where that goes round from its last place to the place `from`.
     pub fn behind(&self, place: usize, from: usize) -> u16
         requires within { place < length self.now.stack }
@@ -118,7 +127,7 @@ impl Search {
     }
 
     /// Takes the newest node from the stack, from which the largest path costs so much.
-    pub fn leave(&mut self, node: u16, cost: u32)
+    pub fn leave(&mut self, node: u16, cost: u64)
         requires { node < length self.old.marks }
         ensures { self.new ≡ left node cost self.old }
     {

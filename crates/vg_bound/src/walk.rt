@@ -10,7 +10,7 @@ use vg_base::Row;
 /// What is found from a root: the largest cost in bytes of a path from it, or the place on the stack at which a cycle begins.
 #[derive(Clone, Copy)]
 pub enum Found {
-    Cost(u32),
+    Cost(u64),
     Closed(usize),
 }
 
@@ -70,7 +70,7 @@ fn look(
             Mark::Open(other) => return Some(other.place),
             Mark::Done(cost) => search.visit(node, visit.behind(cost)),
         },
-        None => search.leave(node, visit.most + frames[usize::from(node)]),
+        None => search.leave(node, visit.most + u64::from(frames[usize::from(node)])),
     }
     None
 }

@@ -1,3 +1,6 @@
-pub mod Bounds
-pub mod Entries
+pub mod Edges
+pub mod Beginnings
+pub mod Needs
 pub mod Calls
+pub mod Making
+pub mod Few

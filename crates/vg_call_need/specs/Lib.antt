@@ -1,4 +1,4 @@
+pub mod Graph
 pub mod Need
-pub mod Covered
 pub mod Within
 pub mod Bounds

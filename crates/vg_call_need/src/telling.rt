@@ -23,7 +23,7 @@ pub fn bound_of(
     ensures few { IfOk result (IsFew stack) }
 {
     match need {
-        Need::Bytes(bytes) => Ok(StackBound::Bytes(*bytes)),
+        Need::Bytes(bytes) => Ok(StackBound::Bytes(*bytes as u32)),
         Need::Cycle(procedures) => {
             let methods = methods_of(alloc, firm.procedures.as_slice(), procedures.as_slice())?;
             Ok(StackBound::Cycle(methods))

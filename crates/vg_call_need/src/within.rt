@@ -1,41 +1,21 @@
-// What calls need by frames of methods, where these are within their costs.
-ghost use Rattle.std.specs.Prelude.{IfOk, IfSome, IsTrue};
-ghost use Rattle.vg_call_need.specs.Within.{AreWithin, IsNeedWithin};
+// Whether there is room for frames within costs.
+ghost use Rattle.std.specs.Prelude.{IsTrue};
+ghost use Rattle.vg_call_need.specs.Within.{HaveRoom};
 
-use crate::bounding::stack_need;
-use crate::need::Need;
-use std::alloc::Global;
-use vg_base::NoMemory;
-use vg_packed::FirmProgram;
+use crate::graph::frame_of;
+use vg_firm::Procedure;
 
-/// How much stack the active calls of a packed program need at most by frames of methods, as `stack_need` says. There is no answer either where a frame is more
-/// than its method costs.
-pub fn need_within(
-    alloc: Global,
-    firm: &FirmProgram,
-    frames: &[u32],
-    costs: &[u32],
-) -> Result<Option<Need>, NoMemory>
-    ensures { IfOk result (λ need. IfSome need (IsNeedWithin firm.now frames.now costs.now)) }
+/// Whether the frame of the method that each procedure is, and so many bytes beside, are at most four more than that method costs.
+pub fn have_room(extra: u32, frames: &[u32], costs: &[u32], procedures: &[Procedure]) -> bool
+    ensures { IsTrue result → HaveRoom extra frames.now costs.now procedures.now }
 {
-    if !are_within(frames, costs) {
-        return Ok(None);
-    }
-    match stack_need(alloc, firm, frames)? {
-        Some(need) => Ok(Some(need)),
-        None => Ok(None),
-    }
-}
-
-// Whether each of some costs is at most the other one at its place.
-fn are_within(costs: &[u32], others: &[u32]) -> bool
-    ensures { IsTrue result → AreWithin costs.now others.now }
-{
-    match costs {
+    match procedures {
         [] => true,
-        [cost, more @ ..] => match others {
-            [] => false,
-            [other, rest @ ..] => *cost <= *other && are_within(more, rest),
-        },
+        [procedure, more @ ..] => {
+            let frame = frame_of(frames, procedure.method);
+            let cost = frame_of(costs, procedure.method);
+            u64::from(frame) + u64::from(extra) <= u64::from(cost) + 4
+                && have_room(extra, frames, costs, more)
+        }
     }
 }

@@ -34,8 +34,3 @@ module _ (p : Program) (h : Heap) (good : WellTyped p) (κ : List Kind) (typed :
       concluded (Method n) 4 (Some (Method m)) (Some (Cell finds.cell))
       (rules.of_object has.place _ _ finds.class has.stands refl finds.is finds.below finds.finds) has.live finds.live
   callee_live m n (uses.by_delegate at count y has e delegates) = delegate_live n delegates
-
-  pub caller_live : (m n : ℕ) → Calls p h m n → Live p h (Some (Method m))
-  caller_live m n (uses.of_component count has) = has.live
-  caller_live m n (uses.of_object at c s count has finds) = has.live
-  caller_live m n (uses.by_delegate at count y has e delegates) = has.live

@@ -38,25 +38,19 @@ use Rattle.vg_walks.specs.Walks.{IsCallOf, IsWalk, LiesOn}
 use Rattle.vg_walks.specs.Walks as walks
 use Rattle.vg_calls_source.specs.Graphs.{LeadsTo, sum_of}
 use Rattle.vg_calls_source.specs.Graphs as graph
-use Rattle.vg_calls_source.proofs.Alike.{Pairs, comes, cycles, sum_pairs}
-use Rattle.vg_calls_source.proofs.Rounds.{no_cycle}
+use Rattle.vg_calls_source.proofs.Alike.{Pairs, comes, cycles, no_cycles, sum_pairs}
 use Rattle.vg_calls_packed.specs.Enough.{IsEnough}
 use Rattle.vg_calls_packed.specs.Typed as typed
 use Rattle.vg_calls_packed.specs.Typed.{IsEntry}
 use Rattle.vg_calls_packed.specs.Ways as ways
-use Rattle.vg_calls_packed.specs.Ways.{AreDear, cost_at, cost_in, method_in, method_at}
-use Rattle.vg_calls_packed.proofs.Live.{callee_live, caller_live}
+use Rattle.vg_calls_packed.specs.Ways.{cost_at, cost_in, method_in, method_at}
+use Rattle.vg_calls_packed.proofs.Live.{callee_live}
 
 at_map : (ms : List Held) (q : ℕ) (x : Procedure) → slice_get (map procedure_of ms) q ≡ Some x
     → (m : Held) × (slice_get ms q ≡ Some m) × (x ≡ procedure_of m)
 at_map [] q x e = absurd (none-some x e)
 at_map (m ∷ ms) zero x e = (m, refl, sym (same_Some (procedure_of m) x e))
 at_map (m ∷ ms) (suc q) x e = at_map ms q x e
-
-dear_at : (costs : List ℕ) (ms : List Held) (q : ℕ) (m : Held) → AreDear costs ms → slice_get ms q ≡ Some m → 1 ≤ cost_of costs m.method
-dear_at costs [] q m a e = absurd (none-some m e)
-dear_at costs (x ∷ ms) zero m (a, rest) e = subst (λ (z : Held). 1 ≤ cost_of costs z.method) (same_Some x m e) a
-dear_at costs (x ∷ ms) (suc q) m (a, rest) e = dear_at costs ms q m rest e
 
 swapped : (total sum cost below : ℕ) → total ≡ sum + (cost + below) → total ≡ (cost + sum) + below
 swapped total sum cost below e = omega (arith, e)
@@ -117,6 +111,9 @@ module _ (p : Program) (h : Heap) (s : LiveSet) (n : Numbers) (c : Columns) (f :
       by : (o : Option ℕ) → handler_of p.handlers v ≡ o → SameEntry l o (Some q) → (m : ℕ) × IsOf q m × IsEntry p m
       by (Some m) eo same = (m, same, inr (v, eo))
       by None eo same = absurd same
+
+  pub entry_there : (q : ℕ) → ways.IsEntry f q → (m : Held) × (slice_get f.procedures q ≡ Some m)
+  entry_there q entry = let (m, is, typed_entry) = entries q entry in let x = stands q m is in (x.held, x.at)
 
   edges : (q m r : ℕ) → IsOf q m → ways.Calls f.procedures q r → (k : ℕ) × IsOf r k × Calls p h m k
   edges q m r is call =
@@ -217,15 +214,27 @@ module _ (p : Program) (h : Heap) (s : LiveSet) (n : Numbers) (c : Columns) (f :
         let (calls, walk, total) = goes_on m q [] is begins ms end leads in
         at_most (total_cost costs calls) (sum_of (cost_of costs) (m ∷ ms)) bytes total (enough calls walk)
 
-    dear : AreDear costs f.procedures → (m k : ℕ) → Calls p h m k → 1 ≤ cost_of costs m
-    dear all m k calls =
-        let (q, is) = has_procedure m (caller_live p h given.typed given.heap.0 given.heap.1 m k calls) in
-        let x = stands q m is in
-        subst (λ z. 1 ≤ cost_of costs z) x.method (dear_at costs f.procedures q x.held all x.at)
-
   pub is_path : (costs : List ℕ) (bytes : ℕ) → ((k : Codes) → IsEnough (program_of k f) costs bytes) → ways.IsSpent f costs bytes
       → typed.IsPath p h costs bytes
   is_path costs bytes enough spent = record { enough = ways_cost costs bytes (enough no_codes); spent = spent_typed costs bytes spent }
 
-  pub has_none : (costs : List ℕ) (bytes : ℕ) → ((k : Codes) → IsEnough (program_of k f) costs bytes) → AreDear costs f.procedures → typed.HasNoCycle p h
-  has_none costs bytes enough all = no_cycle (IsEntry p) (Calls p h) (cost_of costs) bytes (ways_cost costs bytes (enough no_codes)) (dear costs all)
+  -- ---- from typed cycles to packed ones
+
+  packed_entries : (m : ℕ) → IsEntry p m → (q : ℕ) × IsOf q m × ways.IsEntry f q
+  packed_entries m entry = walk_entry m entry
+
+  packed_edges : (m q k : ℕ) → IsOf q m → Calls p h m k → (r : ℕ) × IsOf r k × ways.Calls f.procedures q r
+  packed_edges m q k is calls =
+      let (r, of) = has_procedure k (live_callee m k calls) in
+      let x = stands q m is in (
+        r,
+        of,
+        subst (λ z. ways.CallsAs z r) (sym x.at) (ap (λ z. is_among z r) x.calls ∙ from.is_plan.edges m k r calls of),
+      )
+
+  one_procedure : (m q r : ℕ) → IsOf q m → IsOf r m → q ≡ r
+  one_procedure m q r a b = same_Some q r (sym a ∙ b)
+
+  pub has_none : ways.HasNoCycle f → typed.HasNoCycle p h
+  has_none none =
+      no_cycles (IsEntry p) (Calls p h) (ways.IsEntry f) (ways.Calls f.procedures) (λ m q. IsOf q m) packed_entries packed_edges one_procedure none

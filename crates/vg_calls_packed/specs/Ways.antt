@@ -1,6 +1,5 @@
 -- Ways along the calls that the procedures of a packed program name, from main or a handler on, what the calls of a way cost, and cycles.
-use Rattle.std.specs.Prelude.{ℕ, ◌≡◌, ◌⊎◌, ◌≤◌, true, List, Option, Some, None, slice_get}
-use Rattle.std.specs.List.{AllByRecursion}
+use Rattle.std.specs.Prelude.{ℕ, ◌≡◌, ◌⊎◌, true, List, Option, Some, None, slice_get}
 use Rattle.vg_source.specs.Peak.{cost_of}
 use Rattle.vg_firm.specs.declared.procedure.Procedure.{Procedure}
 use Rattle.vg_firm.specs.Session.{is_among}
@@ -44,9 +43,9 @@ IsSpent f costs bytes = (way : List ℕ) × (q : ℕ) × IsWayTo f q way × (way
 abbrev pub IsCycleIn : FirmProgram → List ℕ → Type 0
 IsCycleIn f = graph.IsCycleIn (IsEntry f) (Calls f.procedures)
 
--- each of these procedures costs something
-abbrev pub AreDear : (costs : List ℕ) → List Procedure → Type 0
-AreDear costs = AllByRecursion (λ m. 1 ≤ cost_of costs m.method)
+-- There are no such procedures.
+abbrev pub HasNoCycle : FirmProgram → Type 0
+HasNoCycle f = graph.HasNoCycle (IsEntry f) (Calls f.procedures)
 
 -- the methods that procedures are, where they are there
 abbrev pub method_in : Option Procedure → ℕ

@@ -13,18 +13,17 @@ ghost use Rattle.vg_packed.specs.Programs.{program_of};
 ghost use Rattle.vg_packed.specs.Ready.{IsReady};
 ghost use Rattle.vg_calls_packed.specs.Enough.{IsEnough};
 ghost use Rattle.vg_calls_packed.specs.Typed as typed;
-ghost use Rattle.vg_calls_packed.specs.Ways.{AreDear, IsCycleIn, IsSpent, method_at};
+ghost use Rattle.vg_calls_packed.specs.Ways.{HasNoCycle, IsCycleIn, IsSpent, method_at};
 
 /// A law of packed programs. So many bytes are enough for the active calls of a packed program, and the calls of some way cost as many: then no way of calls
-/// of the typed program costs more, some way costs as much, and where each procedure costs something no cycle of calls is reached. Procedures that call one
-/// another in turn, and to which calls lead, are methods that do. The body is empty: its contract is a law of the definitions.
+/// of the typed program costs more, and some way costs as much. Procedures that call one another in turn, and to which calls lead, are methods that do; and
+/// where there are no such procedures there are no such methods. The body is empty: its contract is a law of the definitions.
 pub fn packed_calls_are_typed_calls()
     ensures path { (p : Program) (h : Heap) (s : LiveSet) (n : Numbers) (c : Columns) (f : FirmProgram) → IsGiven p h s n c → IsReady p h
         → IsPackedFrom p h s n c f → (costs : List ℕ) (bytes : ℕ) → ((k : Codes) → IsEnough (program_of k f) costs bytes) → IsSpent f costs bytes
         → typed.IsPath p h costs bytes }
     ensures none { (p : Program) (h : Heap) (s : LiveSet) (n : Numbers) (c : Columns) (f : FirmProgram) → IsGiven p h s n c → IsReady p h
-        → IsPackedFrom p h s n c f → (costs : List ℕ) (bytes : ℕ) → ((k : Codes) → IsEnough (program_of k f) costs bytes) → AreDear costs f.procedures
-        → typed.HasNoCycle p h }
+        → IsPackedFrom p h s n c f → HasNoCycle f → typed.HasNoCycle p h }
     ensures cycle { (p : Program) (h : Heap) (s : LiveSet) (n : Numbers) (c : Columns) (f : FirmProgram) → IsGiven p h s n c → IsReady p h
         → IsPackedFrom p h s n c f → (procedures : List ℕ) → IsCycleIn f procedures → typed.IsCallCycle p h (map (method_at f.procedures) procedures) }
 {}

@@ -12,20 +12,26 @@ use Rattle.vg_packed.specs.Packed.{IsPackedFrom}
 use Rattle.vg_packed.specs.Ready.{IsReady}
 use Rattle.vg_pack.specs.Rows.{IsPackedWhole, RowsFitIn}
 use Rattle.vg_frame_costs.specs.Fitting.{FramesFit}
+use Rattle.vg_frame_costs.proofs.Fit.{fit_costs, fit_frames}
 use Rattle.vg_call_need.specs.declared.need.Need.{Need}
 use Rattle.vg_call_need.specs.declared.need.Need.TheVariants as need
 use Rattle.vg_compile.proofs.Following.{follows, peaks_hold}
 use Rattle.vg_call_need.specs.Bounds.{BoundsCalls, IsBoundOf}
-use Rattle.vg_call_need.proofs.Calls.{bounds_calls}
-use Rattle.vg_compile.specs.Bounds.{HasNeed, HoldsBound}
-use Rattle.vg_compile.specs.Compile.{IsImageOf}
+use Rattle.vg_call_need.proofs.Calls.{bounds_bytes, bounds_calls}
+use Rattle.vg_call_need.specs.Within.{IsNeedWithin}
+use Rattle.vg_compile.specs.Bounds.{HoldsBound}
+use Rattle.vg_compile.specs.Compile.{CallsNeedAsSaid, IsImageOf, NeedsAsSaid}
+use Rattle.vg_compile.specs.declared.no_image.NoImage.TheVariants.{NotLinear, Costly, Deep, Unfit, Full}
+use Rattle.vg_compile.specs.declared.no_image.NoImage.{NoImage}
+use Rattle.vg_base.specs.declared.refusal.Refusal.{Refusal}
+use Rattle.vg_base.specs.declared.refusal.Refusal.TheVariants.{Fault as Faulty, NoMemory}
 use Rattle.vg_compile.specs.Runs.{DoesInImage}
 use Rattle.vg_compile.specs.declared.compiled.Compiled.{Compiled}
 use Rattle.vg_layout.specs.declared.stack_bound.StackBound.{StackBound}
 use Rattle.vg_layout.specs.declared.stack_bound.StackBound.TheVariants.{Bytes, Cycle}
 
-lower : (floor bytes enough : ℕ) → bytes ≡ 4 + enough → floor + bytes ≤ 0x1100 → floor + (4 + enough) ≤ 0x1100
-lower floor bytes enough h k = omega (arith, h, k)
+lower : (floor extra bytes enough : ℕ) → bytes ≡ extra + enough → floor + bytes ≤ 0x1100 → floor + (extra + enough) ≤ 0x1100
+lower floor extra bytes enough h k = omega (arith, h, k)
 
 module _ (p : Program) (h : Heap) (s : LiveSet) (n : Numbers) (c : Columns) (f : FirmProgram) (costs : List ℕ) (compiled : Compiled)
     (given : IsGiven p h s n c) (from : IsPackedFrom p h s n c f) (rows : RowsFitIn p h c f) (image : IsImageOf c f costs compiled)
@@ -33,30 +39,53 @@ module _ (p : Program) (h : Heap) (s : LiveSet) (n : Numbers) (c : Columns) (f :
   packed : IsPackedWhole p h s n c f
   packed = record { from = from; rows = rows }
 
-  does_by : (frames : List ℕ) → FramesFit image.linear.procedures image.linear.start frames → DoesInImage compiled.linked c frames p h
-  does_by frames fit e flash static floor slept woken =
+  does_by : (extra : ℕ) (frames : List ℕ) → FramesFit image.linear.procedures image.linear.start extra frames
+      → DoesInImage compiled.linked c extra frames p h
+  does_by extra frames fit e flash static floor slept woken =
       follows p h s n c f image.linear image.unlinked compiled.linked given ready packed image.is_linear image.is_unlinked image.can_be_linked image.is_linked
-      frames fit e flash static floor slept woken
+      extra frames fit e flash static floor slept woken
 
-  pub does : DoesInImage compiled.linked c costs p h
-  does = does_by costs image.fit
+  pub does : DoesInImage compiled.linked c 4 costs p h
+  does =
+      does_by 4 costs
+      (fit_costs image.linear.procedures image.linear.start image.frames costs image.are_frames.hold image.are_frames.paid)
 
-  bound_by : (need : Need) (bound : StackBound) → IsBoundOf f need bound → HasNeed f image.linear costs need → HoldsBound compiled.linked c p h bound
+  abbrev frames : List ℕ
+  frames = image.frames.by_method
+
+  abbrev extra : ℕ
+  extra = image.frames.beside
+
+  bound_by : (need : Need) (bound : StackBound) → IsBoundOf f need bound → IsNeedWithin extra f frames costs need → HoldsBound compiled.linked c p h bound
   bound_by (need.Bytes bytes) (Bytes same) e has =
-      let (within, (enough, exact, is_enough, spent, dear)) = has.is_need in
+      let (none, (enough, exact, is_enough, spent)) = has.is_need in
       subst (λ z. HoldsBound compiled.linked c p h (Bytes z)) (sym e) (
-        has.frames,
-        does_by has.frames has.fit,
-        λ floor fits.
-            peaks_hold p h s n c f image.linear image.unlinked compiled.linked given ready packed image.is_linear image.is_unlinked image.can_be_linked
-            image.is_linked has.frames enough is_enough floor (lower floor bytes enough exact fits),
+        extra,
+        (
+          frames,
+          does_by extra frames (fit_frames image.linear.procedures image.linear.start image.frames image.are_frames.hold),
+          λ floor fits.
+              peaks_hold p h s n c f image.linear image.unlinked compiled.linked given ready packed image.is_linear image.is_unlinked image.can_be_linked
+              image.is_linked frames enough is_enough floor extra (lower floor extra bytes enough exact fits),
+        ),
       )
   bound_by (need.Bytes bytes) (Cycle methods) e has = tt
   bound_by (need.Cycle procedures) (Bytes bytes) e has = absurd e
   bound_by (need.Cycle procedures) (Cycle methods) e has = tt
 
   pub bound_holds : HoldsBound compiled.linked c p h compiled.bound
-  bound_holds = bound_by image.need compiled.bound image.is_bound image.has_need
+  bound_holds = bound_by image.need compiled.bound image.is_bound image.is_need
 
   pub calls_bounded : BoundsCalls costs p h compiled.bound
-  calls_bounded = bounds_calls p h s n c f given ready from image.has_need.frames costs image.need compiled.bound image.has_need.is_need image.is_bound
+  calls_bounded = bounds_calls p h s n c f given ready from extra frames costs image.need compiled.bound image.is_need image.is_bound
+
+-- what the calls of a packed program need that is refused is what those of its typed program need
+pub refused_calls : (p : Program) (h : Heap) (s : LiveSet) (n : Numbers) (c : Columns) (f : FirmProgram) (costs : List ℕ) → IsGiven p h s n c
+    → IsPackedFrom p h s n c f → (why : Refusal NoImage) → NeedsAsSaid f costs why → IsReady p h → CallsNeedAsSaid costs p h why
+refused_calls p h s n c f costs given from (Faulty (Deep need)) (four, (extra, frames, total, most, is)) ready =
+    bounds_bytes p h s n c f given ready from extra frames costs need total four most is
+refused_calls p h s n c f costs given from (Faulty (NotLinear fault)) is ready = tt
+refused_calls p h s n c f costs given from (Faulty Costly) is ready = tt
+refused_calls p h s n c f costs given from (Faulty Unfit) is ready = tt
+refused_calls p h s n c f costs given from (Faulty (Full full)) is ready = tt
+refused_calls p h s n c f costs given from NoMemory is ready = tt

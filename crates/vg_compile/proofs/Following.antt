@@ -186,8 +186,8 @@ module _ (p : Program) (h : Heap) (s : LiveSet) (n : Numbers) (c : Columns) (f :
 
   -- its procedures are sound, each with its locals where its layout says; and handlers and what code numbers lead to are packed procedures, which stand before
   -- the start
-  fit_frames : (costs : List ℕ) → FramesFit l.procedures l.start costs → HasFitFrames is.links image costs
-  fit_frames costs fit = record {
+  fit_frames : (extra : ℕ) (costs : List ℕ) → FramesFit l.procedures l.start extra costs → HasFitFrames is.links image extra costs
+  fit_frames extra costs fit = record {
     sound = λ m procedure e. is.program.sound m procedure (here m procedure e);
     layouts = λ m procedure e. (is.program.procedures m procedure (here m procedure e)).layout;
     fit = fit;
@@ -201,12 +201,13 @@ module _ (p : Program) (h : Heap) (s : LiveSet) (n : Numbers) (c : Columns) (f :
       here m procedure e = ap (λ z. slice_get z m) made.procedures ∙ e
 
   -- a stack that holds what walks of the packed program cost holds what the active calls cost
-  pub peaks_hold : (costs : List ℕ) (bytes : ℕ) → ((every : Codes) → IsEnough (program_of every f) costs bytes) → (floor : ℕ)
-      → floor + (4 + bytes) ≤ 0x1100 → HoldsPeaks floor costs p h
-  peaks_hold costs bytes enough floor fits = stack_bound.holds p h s n c f given ready packed.from k codes costs bytes (enough k) floor fits
+  pub peaks_hold : (costs : List ℕ) (bytes : ℕ) → ((every : Codes) → IsEnough (program_of every f) costs bytes) → (floor extra : ℕ)
+      → floor + (extra + bytes) ≤ 0x1100 → HoldsPeaks floor extra costs p h
+  peaks_hold costs bytes enough floor extra fits = stack_bound.holds p h s n c f given ready packed.from k codes costs bytes (enough k) floor extra fits
 
-  module _ (costs : List ℕ) (fit : FramesFit l.procedures l.start costs) (e : Run) (flash : e.flash ≡ linked.flash) (static : e.static ≡ c.static_bytes)
-      (floor : e.floor ≤ 0x1100) (slept : e.lets_in (linked.idle + 1) ≡ true) (woken : e.lets_in (linked.idle + 2) ≡ true) where
+  module _ (extra : ℕ) (costs : List ℕ) (fit : FramesFit l.procedures l.start extra costs) (e : Run) (flash : e.flash ≡ linked.flash)
+      (static : e.static ≡ c.static_bytes) (floor : e.floor ≤ 0x1100) (slept : e.lets_in (linked.idle + 1) ≡ true)
+      (woken : e.lets_in (linked.idle + 2) ≡ true) where
     its_stands : Stands e is.links image
     its_stands =
         subst (λ z. Stands e is.links z) program_is (stands u linked can is e flash (static ∙ sym made.static_bytes) floor slept woken)
@@ -215,13 +216,13 @@ module _ (p : Program) (h : Heap) (s : LiveSet) (n : Numbers) (c : Columns) (f :
     its_begins =
         subst (λ z. Begins e is.links z) program_is (begins u linked can is e flash (static ∙ sym made.static_bytes) floor slept woken)
 
-    by : ((old : LinProgram) × AreFlat k l.layout (program_of k f) old × RunsAsRead old image) → DoesAsProgram e costs p h
+    by : ((old : LinProgram) × AreFlat k l.layout (program_of k f) old × RunsAsRead old image) → DoesAsProgram e extra costs p h
     by (old, flat, runs) memory powered clock deepest reads interrupts bytes vectors t v why legal ends whole =
         let other = alike_ends why t v (running full no_history p h deepest reads interrupts clock)
         (firm.running full k (program_of k f) (length interrupts) (firm.first_state (program_of k f)) (running_world no_history deepest reads interrupts clock))
         ends (do_the_same p h s n c f given ready packed.from k codes full no_history deepest reads interrupts clock bytes) in
-        within_peak k l.layout (program_of k f) old image flat runs e is.links its_stands its_begins costs (fit_frames costs fit) memory powered clock deepest
+        within_peak k l.layout (program_of k f) old image flat runs e is.links its_stands its_begins extra costs (fit_frames extra costs fit) memory powered clock deepest
         reads interrupts other.0 v why bytes vectors legal other.1 whole
 
-    pub follows : DoesAsProgram e costs p h
+    pub follows : DoesAsProgram e extra costs p h
     follows = by (linear_follows.follows k c.list f l tables ram (linking.handler_in u.handlers) codes stand linear)

@@ -59,7 +59,7 @@ module _ (codes : ℕ → ℕ) (two : (q : ℕ) → codes q < 65536) where
   instr_fit ds all (When t to) h = tt
   instr_fit ds all (Unless t to) h = tt
   instr_fit ds all (Jump to) h = tt
-  instr_fit ds all (Call c) h = tt
+  instr_fit ds all (Call c) h = h
   instr_fit ds all (Return w a) h = tt
   instr_fit ds all Idle h = tt
 

@@ -2,7 +2,7 @@
 use Rattle.std.specs.Prelude.{ℕ, ◌<◌, ◌≤◌, List, Result, Ok, Err}
 use Rattle.vg_base.specs.declared.refusal.Refusal.{Refusal}
 use Rattle.vg_base.specs.declared.refusal.Refusal.TheVariants.{Fault as Faulty, NoMemory}
-use Rattle.vg_frame_costs.specs.Fitting.{FramesFit}
+use Rattle.vg_frame_costs.specs.declared.frames.Frames.{Frames}
 use Rattle.vg_place.specs.declared.placing.Columns.{Columns}
 use Rattle.vg_packed.specs.declared.program.Entrance.{Entrance}
 use Rattle.vg_packed.specs.declared.program.FirmProgram.{FirmProgram}
@@ -16,21 +16,26 @@ use Rattle.vg_compile.specs.Compiled.{IsUnlinked}
 use Rattle.vg_compile.specs.declared.no_image.NoImage.{NoImage}
 use Rattle.vg_compile.specs.declared.no_image.NoImage.TheVariants.{NotLinear, Costly, Deep, Unfit, Full}
 use Rattle.vg_compile.specs.declared.compiled.Compiled.{Compiled}
-use Rattle.vg_compile.specs.Bounds.{HasNeed}
+use Rattle.vg_compile.specs.Bounds.{AreFramesOf, BoundsCalls, NeedsAtLeast}
+use Rattle.vg_call_need.specs.Within.{IsNeedWithin}
+use Rattle.vg_core.specs.declared.heap.Heap.{Heap}
+use Rattle.vg_core.specs.Program.{Program}
+use Rattle.vg_layout.specs.declared.stack_bound.StackBound.TheVariants.{Bytes}
 use Rattle.vg_call_need.specs.Bounds.{IsBoundOf}
 use Rattle.vg_call_need.specs.declared.need.Need.{Need}
 
--- The image of a packed program: it is made linear, frames are within the costs of methods, what its calls need is known, and that is linked.
+-- The image of a packed program: it is made linear, the costs of methods pay for their frames, what its calls need is known, and that is linked.
 pub record IsImageOf (c : Columns) (f : FirmProgram) (costs : List ℕ) (compiled : Compiled) : Type 0 where
   pub linear : Linear
   pub is_linear : IsLinear c.list f linear
-  pub fit : FramesFit linear.procedures linear.start costs
+  pub frames : Frames
+  pub are_frames : AreFramesOf linear costs frames
   pub unlinked : Unlinked
   pub is_unlinked : IsUnlinked c f linear unlinked
   pub can_be_linked : CanBeLinked unlinked
   pub is_linked : IsLinked unlinked compiled.linked
   pub need : Need
-  pub has_need : HasNeed f linear costs need
+  pub is_need : IsNeedWithin frames.beside f frames.by_method costs need
   pub is_bound : IsBoundOf f need compiled.bound
 
 -- A handler of the packed program.
@@ -44,6 +49,17 @@ IsCauseFor stack (Deep need) = stack < need
 IsCauseFor stack (NotLinear fault) = Unit {0}
 IsCauseFor stack Costly = Unit {0}
 IsCauseFor stack Unfit = Unit {0}
+
+-- Where the cause is that calls go too deep, the calls of the packed program need as much as is said.
+abbrev pub NeedsAsSaid : FirmProgram → (costs : List ℕ) → Refusal NoImage → Type 0
+NeedsAsSaid f costs (Faulty (Deep need)) = NeedsAtLeast f costs need
+NeedsAsSaid f costs why = Unit {0}
+
+-- Where the cause is that calls go too deep, no cycle of calls is reached in the program, and the bytes are at most four more than the methods of some way of
+-- calls cost.
+abbrev pub CallsNeedAsSaid : (costs : List ℕ) → Program → Heap → Refusal NoImage → Type 0
+CallsNeedAsSaid costs p h (Faulty (Deep need)) = BoundsCalls costs p h (Bytes need)
+CallsNeedAsSaid costs p h why = Unit {0}
 
 abbrev pub IsRefusedFor : {V : Type 0} → (stack : ℕ) → Result V (Refusal NoImage) → Type 0
 IsRefusedFor stack (Ok v) = Unit {0}

@@ -9,9 +9,10 @@ use Rattle.vg_lin.specs.declared.instr.Operand.TheVariants.{Local, Known}
 use Rattle.vg_lin.specs.declared.instr.Plain.{Plain as PlainInstr}
 use Rattle.vg_lin.specs.declared.instr.Plain.TheVariants.{Compute, DivideSteps, ReadDevice, WriteDevice}
 use Rattle.vg_lin.specs.declared.instr.Instr.{Instr}
-use Rattle.vg_lin.specs.declared.instr.Instr.TheVariants.{Plain}
+use Rattle.vg_lin.specs.declared.instr.Instr.TheVariants.{Plain, Call}
 use Rattle.vg_lin.specs.Program.{Procedure}
 use Rattle.vg_lin.specs.Sound.{IsSound}
+use Rattle.vg_templates.specs.Flow.{IsDivided}
 use Rattle.vg_followed.specs.Covered.{IsFourBytes}
 use Rattle.vg_covered.specs.Fitting.{IsExpanded}
 use Rattle.vg_link.specs.declared.unlinked.Handler.{Handler}
@@ -30,6 +31,7 @@ IsPlainFitAlone q = Unit {0}
 
 abbrev pub IsFitAlone : Instr → Type 0
 IsFitAlone (Plain q) = IsPlainFitAlone q
+IsFitAlone (Call c) = IsDivided c
 IsFitAlone i = Unit {0}
 
 -- A procedure is sound, and each of its instructions is fit.

@@ -1,29 +1,29 @@
 // From a typed program and its heap to an image.
-ghost use Rattle.std.specs.Prelude.{◌≤◌, ◌<◌, length, IfOk, IfSome};
+ghost use Rattle.std.specs.Prelude.{ℕ, ◌≤◌, ◌<◌, List, length, IfErr, IfOk, IfSome};
 ghost use Rattle.vg_base.specs.Limits.{flash_bytes};
 ghost use Rattle.vg_core.specs.HeldProgram.{program_at};
+ghost use Rattle.vg_packed.specs.declared.program.FirmProgram.{FirmProgram as TheFirm};
 ghost use Rattle.vg_packed.specs.Given.{IsGiven};
 ghost use Rattle.vg_packed.specs.Ready.{IsReady};
 ghost use Rattle.vg_link.specs.Linking.{CanBeLinked, IsLinked};
-ghost use Rattle.vg_frame_costs.specs.Fitting.{FramesFit};
 ghost use Rattle.vg_linear.specs.Whole.{IsLinear};
 ghost use Rattle.vg_call_need.specs.Bounds.{BoundsCalls, IsBoundOf, IsFewOf};
-ghost use Rattle.vg_compile.specs.Bounds.{HasNeed, HoldsBound};
+ghost use Rattle.vg_call_need.specs.Within.{IsNeedWithin};
+ghost use Rattle.vg_compile.specs.Bounds.{AreFramesOf, HoldsBound};
 ghost use Rattle.vg_layout.specs.Few.{IsFew};
-ghost use Rattle.vg_compile.specs.Compile.{IsImageOf, IsRefusedFor};
+ghost use Rattle.vg_compile.specs.Compile.{CallsNeedAsSaid, IsImageOf, IsRefusedFor, NeedsAsSaid};
 ghost use Rattle.vg_compile.specs.Runs.{DoesInImage};
 
 use crate::compiled::Compiled;
-use crate::frames::method_frames;
 use crate::linkable::can_be_linked;
 use crate::no_image::NoImage;
 use crate::pieces::pieces_of;
 use crate::unlinking::unlinked;
 use std::alloc::Global;
 use vg_base::{NoMemory, Refusal};
-use vg_call_need::{Need, bound_of, need_within};
+use vg_call_need::{Need, bound_of, have_room, stack_need};
 use vg_core::Program;
-use vg_frame_costs::frames_fit;
+use vg_frame_costs::{Frames, are_paid, method_frames};
 use vg_linear::{Linear, make_linear};
 use vg_link::{Linked, Unlinked, link};
 use vg_live::LiveSet;
@@ -38,8 +38,8 @@ use vg_shape::Store;
 /// first, for which the active calls must cost more than the stack. Costs are by the numbers of methods. Where calls do not go round, a stack of so many bytes
 /// as is said is enough for each run, and they are at most four more than what the methods of some way of calls cost; where they do, a cycle of them is said.
 ///
-/// It refuses what has no linear code, what has a procedure whose frame is more than its method costs, what needs more than a stack of so many bytes, what
-/// cannot be linked, and what takes more words than the flash has: 65,535, since the last word stays free.
+/// It refuses what has no linear code, what has a procedure whose frame is more than its method costs, what needs more than a stack of so many bytes (then calls
+/// do not go round, and what is said to be needed is at most four more than what the methods of some way of calls cost), what cannot be linked, and what takes more words than the flash has: 65,535, since the last word stays free.
 pub fn compile(
     alloc: Global,
     program: &Program,
@@ -52,7 +52,7 @@ pub fn compile(
 ) -> Result<Compiled, Refusal<NoImage>>
     requires { IsGiven (program_at program.now) heap.now live.now numbers.now columns.now }
     ensures does { IfOk result (λ compiled. IsReady (program_at program.now) heap.now
-        → DoesInImage compiled.linked columns.now costs.now (program_at program.now) heap.now) }
+        → DoesInImage compiled.linked columns.now 4 costs.now (program_at program.now) heap.now) }
     ensures bound { IfOk result (λ compiled. IsReady (program_at program.now) heap.now
         → HoldsBound compiled.linked columns.now (program_at program.now) heap.now compiled.bound) }
     ensures calls { IfOk result (λ compiled. IsReady (program_at program.now) heap.now
@@ -60,6 +60,8 @@ pub fn compile(
     ensures few { IfOk result (λ compiled. IsFew stack compiled.bound) }
     ensures short { IfOk result (λ compiled. length compiled.linked.flash ≤ flash_bytes) }
     ensures refused { IsRefusedFor stack result }
+    ensures deep { IfErr result (λ why. IsReady (program_at program.now) heap.now
+        → CallsNeedAsSaid costs.now (program_at program.now) heap.now why) }
 {
     let firm = pack(alloc, program, heap, live, numbers, columns)?;
     match image_of(alloc, columns, firm, costs, stack) {
@@ -76,7 +78,9 @@ fn image_of(
     costs: &[u32],
     stack: u16,
 ) -> Result<Compiled, Refusal<NoImage>>
+    requires { length firm.procedures ≤ 65536 }
     ensures image { IfOk result (IsImageOf columns.now firm costs.now) }
+    ensures deep { IfErr result (NeedsAsSaid firm costs.now) }
     ensures few { IfOk result (λ compiled. IsFew stack compiled.bound) }
     ensures short { IfOk result (λ compiled. length compiled.linked.flash ≤ flash_bytes) }
     ensures refused { IsRefusedFor stack result }
@@ -88,7 +92,11 @@ fn image_of(
         Ok(linear) => linear,
         Err(why) => return Err(why),
     };
-    let need = match need_of(alloc, &firm, &linear, costs, stack) {
+    let frames = match frames_of(alloc, &firm, &linear, costs, stack) {
+        Ok(frames) => frames,
+        Err(why) => return Err(why),
+    };
+    let need = match need_of(alloc, &firm, &frames, costs, stack) {
         Ok(need) => need,
         Err(why) => return Err(why),
     };
@@ -107,7 +115,7 @@ fn image_of(
     }
 }
 
-// The linear program of a packed one, whose frames are within these costs.
+// The linear program of a packed one.
 fn linear_of(
     alloc: Global,
     columns: &Columns,
@@ -116,59 +124,87 @@ fn linear_of(
     stack: u16,
 ) -> Result<Linear, Refusal<NoImage>>
     requires { firm.now.main < length firm.now.procedures }
-    ensures linear { IfOk result (λ linear. IsLinear columns.now.list firm.now linear × FramesFit linear.procedures linear.start costs.now) }
+    ensures deep { IfErr result (NeedsAsSaid firm.now costs.now) }
+    ensures linear { IfOk result (IsLinear columns.now.list firm.now) }
     ensures refused { IsRefusedFor stack result }
 {
     match make_linear(alloc, columns.list.as_slice(), firm) {
-        Ok(linear) => {
-            if frames_fit(linear.procedures.as_slice(), linear.start, costs) {
-                Ok(linear)
-            } else {
-                Err(Refusal::Fault(NoImage::Costly))
-            }
-        }
+        Ok(linear) => Ok(linear),
         Err(Refusal::Fault(fault)) => Err(Refusal::Fault(NoImage::NotLinear(fault))),
         Err(Refusal::NoMemory) => Err(Refusal::NoMemory),
     }
 }
 
-// What the calls of a packed program need of the stack, by the frames of its procedures, where that is no more than it has.
-fn need_of(
+// The frames of the methods of a linear program, which these costs pay.
+fn frames_of(
     alloc: Global,
     firm: &FirmProgram,
     linear: &Linear,
     costs: &[u32],
     stack: u16,
+) -> Result<Frames, Refusal<NoImage>>
+    ensures frames { IfOk result (AreFramesOf linear.now costs.now) }
+    ensures refused { IsRefusedFor stack result }
+    ensures deep { IfErr result (NeedsAsSaid firm.now costs.now) }
+{
+    let procedures = linear.procedures.as_slice();
+    match method_frames(alloc, procedures, linear.start, costs.len())? {
+        Some(frames) => {
+            if are_paid(frames.beside, 4, frames.by_method.as_slice(), costs) {
+                Ok(frames)
+            } else {
+                Err(Refusal::Fault(NoImage::Costly))
+            }
+        }
+        None => Err(Refusal::Fault(NoImage::Costly)),
+    }
+}
+
+// What the calls of a packed program need of the stack, by the frames of its methods and what lies beside them, where that is no more than it has.
+fn need_of(
+    alloc: Global,
+    firm: &FirmProgram,
+    frames: &Frames,
+    costs: &[u32],
+    stack: u16,
 ) -> Result<Need, Refusal<NoImage>>
-    ensures need { IfOk result (HasNeed firm.now linear.now costs.now) }
+    requires procedures { length firm.now.procedures ≤ 65536 }
+    requires main { firm.now.main < length firm.now.procedures }
+    ensures need { IfOk result (IsNeedWithin frames.now.beside firm.now frames.now.by_method costs.now) }
     ensures few { IfOk result (IsFewOf stack) }
     ensures refused { IsRefusedFor stack result }
+    ensures deep { IfErr result (NeedsAsSaid firm.now costs.now) }
 {
-    let frames = method_frames(alloc, linear.procedures.as_slice(), costs.len())?;
-    match need_by(alloc, firm, linear, frames.as_slice(), costs)? {
+    match need_by(alloc, firm, frames, costs)? {
         Some(Need::Bytes(bytes)) => {
-            if bytes > u32::from(stack) {
-                return Err(Refusal::Fault(NoImage::Deep { need: bytes }));
+            if bytes > u64::from(stack) {
+                return Err(Refusal::Fault(NoImage::Deep {
+                    need: bytes.min(u64::from(u32::MAX)) as u32,
+                }));
             }
             Ok(Need::Bytes(bytes))
         }
         Some(Need::Cycle(cycle)) => Ok(Need::Cycle(cycle)),
-        None => Err(Refusal::Fault(NoImage::Unfit)),
+        None => Err(Refusal::Fault(NoImage::Costly)),
     }
 }
 
-// What they need by these frames, where all procedures are within them, and they within the costs of methods.
+// What they need by these frames, where there is room for them within the costs of methods.
 fn need_by(
     alloc: Global,
     firm: &FirmProgram,
-    linear: &Linear,
-    frames: &[u32],
+    frames: &Frames,
     costs: &[u32],
 ) -> Result<Option<Need>, NoMemory>
-    ensures { IfOk result (λ need. IfSome need (HasNeed firm.now linear.now costs.now)) }
+    requires procedures { length firm.now.procedures ≤ 65536 }
+    requires main { firm.now.main < length firm.now.procedures }
+    ensures { IfOk result (λ need. IfSome need (IsNeedWithin frames.now.beside firm.now frames.now.by_method costs.now)) }
 {
-    if frames_fit(linear.procedures.as_slice(), linear.start, frames) {
-        need_within(alloc, firm, frames, costs)
+    let by_method = frames.by_method.as_slice();
+    let procedures = firm.procedures.as_slice();
+    if frames.beside >= 4 && have_room(frames.beside, by_method, costs, procedures) {
+        let need = stack_need(alloc, firm, by_method, frames.beside)?;
+        Ok(Some(need))
     } else {
         Ok(None)
     }
@@ -179,6 +215,7 @@ fn linked_of(alloc: Global, unlinked: &Unlinked, stack: u16) -> Result<Linked, R
     ensures linked { IfOk result (λ linked. CanBeLinked unlinked.now × IsLinked unlinked.now linked) }
     ensures short { IfOk result (λ linked. length linked.flash ≤ flash_bytes) }
     ensures refused { IsRefusedFor stack result }
+    ensures deep { (f : TheFirm) (costs : List ℕ) → IfErr result (NeedsAsSaid f costs) }
 {
     if !can_be_linked(unlinked) {
         return Err(Refusal::Fault(NoImage::Unfit));

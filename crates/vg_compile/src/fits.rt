@@ -1,12 +1,14 @@
 // Whether instructions are fit, whatever the dispatches are.
-ghost use Rattle.std.specs.Prelude.{◌≡◌, IsTrue};
+ghost use Rattle.std.specs.Prelude.{◌≡◌, IsTrue, length};
 ghost use Rattle.std.specs.List.{AllByRecursion};
 ghost use Rattle.vg_meaning.specs.Device.{IsDeviceAddress};
+ghost use Rattle.vg_lin.specs.Meaning.{operands};
+ghost use Rattle.vg_templates.specs.Flow.{IsDivided};
 ghost use Rattle.vg_followed.specs.Covered.{IsFourBytes};
 ghost use Rattle.vg_covered.specs.Fitting.{IsExpanded};
 ghost use Rattle.vg_compile.specs.Linkable.{AreFitAlone, IsFitAlone, IsPlainFitAlone, is_known};
 
-use vg_lin::{Instr, LinProc, Operand, Operator, Plain};
+use vg_lin::{Call, Instr, LinProc, Operand, Operator, Plain, Registers};
 
 /// Whether each instruction of procedures is fit, whatever the dispatches are.
 pub fn all_are_fit(procedures: &[LinProc]) -> bool
@@ -37,7 +39,28 @@ fn is_fit(instr: Instr) -> bool
 {
     match instr {
         Instr::Plain(plain) => is_plain_fit(plain),
+        Instr::Call(call) => is_divided(call),
         _ => true,
+    }
+}
+
+// Values wait for a call only where it has more than four arguments.
+fn is_divided(call: Call) -> bool
+    ensures { IsTrue result → IsDivided call }
+{
+    call.pushed == 0 || usize::from(call.pushed) + passed_in(call.registers) > 4
+}
+
+// How many arguments go in registers.
+fn passed_in(registers: Registers) -> usize
+    ensures { result ≡ length (operands registers) }
+{
+    match registers {
+        Registers::Empty => 0,
+        Registers::One(_) => 1,
+        Registers::Two(_, _) => 2,
+        Registers::Three(_, _, _) => 3,
+        Registers::Four(_, _, _, _) => 4,
     }
 }
 

@@ -22,11 +22,12 @@ ghost use Rattle.vg_compile.specs.Compiled.{IsUnlinked};
 /// A law of compiled programs. Where a typed program and its initialised heap are packed, the packed program is made linear, and that is linked, the machine
 /// does in the image what the program does from its heap: in every run of it from reset on, whatever registers and SRAM hold at power-on, the reads and the
 /// interrupts, it ends for the same reason with the same outside, or has shown the same and goes on where only ticks were spent; or its stack reaches below
-/// the floor, which it does only where the calls that were active cost more than the stack, by costs of methods within which the frames of all procedures are.
-/// Interrupts are let in at the idle SLEEP and at the CLI behind it. The body is empty: its contract is a law of the definitions.
+/// the floor, which it does only where the calls that were active cost more than the stack, by costs of methods and bytes beside them by which frames
+/// fit. Interrupts are let in at the idle SLEEP and at the CLI behind it. The body is empty: its contract is a law of the definitions.
 pub fn compiled_programs_follow()
     ensures { (p : Program) (h : Heap) (s : LiveSet) (n : Numbers) (c : Columns) (f : FirmProgram) (l : Linear) (u : Unlinked) (linked : Linked)
         → IsGiven p h s n c → IsReady p h → IsPackedWhole p h s n c f → IsLinear c.list f l → IsUnlinked c f l u → CanBeLinked u → IsLinked u linked
-        → (costs : List ℕ) → FramesFit l.procedures l.start costs → (e : Run) → e.flash ≡ linked.flash → e.static ≡ c.static_bytes → e.floor ≤ 0x1100
-        → e.lets_in (linked.idle + 1) ≡ true → e.lets_in (linked.idle + 2) ≡ true → DoesAsProgram e costs p h }
+        → (extra : ℕ) (costs : List ℕ) → FramesFit l.procedures l.start extra costs → (e : Run) → e.flash ≡ linked.flash → e.static ≡ c.static_bytes
+        → e.floor ≤ 0x1100
+        → e.lets_in (linked.idle + 1) ≡ true → e.lets_in (linked.idle + 2) ≡ true → DoesAsProgram e extra costs p h }
 {}

@@ -6,7 +6,6 @@ pub mod cases;
 pub mod compiled;
 pub mod compiling;
 pub mod fits;
-pub mod frames;
 pub mod laws;
 pub mod linkable;
 pub mod no_image;

@@ -9,9 +9,9 @@ pub enum NoImage {
     NotLinear(Fault),
     /// A procedure takes more of the stack than the method costs that it is.
     Costly,
-    /// Its calls need so many bytes of stack, and it has fewer.
+    /// The dearest way of its calls needs so many bytes of stack, and it has fewer.
     Deep { need: u32 },
-    /// What it was packed to cannot be linked, or there is neither a bound on what its calls need nor a cycle of calls.
+    /// What it was packed to cannot be linked, or a procedure is not within the frame that was counted for its method.
     Unfit,
     /// It takes more words of flash than there are.
     Full(CodeFull),

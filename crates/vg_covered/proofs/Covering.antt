@@ -31,6 +31,7 @@ use Rattle.vg_templates.specs.Straight.{IsCovered}
 use Rattle.vg_templates.specs.Frames.{wanted, gets, AllOutlive}
 use Rattle.vg_templates.specs.Outcomes.{IsKept}
 use Rattle.vg_templates.specs.Living.{reads, passes_on, aims_by, tests_it, past, needs, leads_to, is_live, wants_back, lasts}
+use Rattle.vg_templates.specs.Flow.{IsDivided}
 use Rattle.vg_templates.specs.Framed.{framed, live_in}
 use Rattle.vg_templates.proofs.Living.{live_where_needed, lasts_where_wanted}
 use Rattle.vg_templates.proofs.Framing.{framed-layout, framed-outlives}
@@ -277,8 +278,8 @@ module _ (m : Procedure) (s : IsSound m) (pc : ℕ) (c : Calling) (at : slice_ge
   wanted_other : (k : ℕ) → wanted (live_in m) (Result c) pc k ≡ true → not (gets c.to k) ≡ true
   wanted_other k h = both_second (live_in m (suc pc) k) _ h
 
-  calls : IsCallee m c.callee → AllByRecursion (IsPassed m) (operands c.registers) → IsTo m c.to → CanCall (framed m) (live_in m) pc c
-  calls hc ha ht =
+  calls : IsCallee m c.callee → AllByRecursion (IsPassed m) (operands c.registers) → IsTo m c.to → IsDivided c → CanCall (framed m) (live_in m) pc c
+  calls hc ha ht f =
       record {
         arguments = passed (operands c.registers) ha (λ k e. one_holds (passes_on (operands c.registers) k || aims_by c.callee k) _
             (one_holds (passes_on (operands c.registers) k) _ e));
@@ -293,6 +294,7 @@ module _ (m : Procedure) (s : IsSound m) (pc : ℕ) (c : Calling) (at : slice_ge
             framed-outlives m (can_be_framed m s) k low
             (outlives m s pc (Call c) at k low (both_hold (is_live m.code k (suc pc)) _ (lives_at m s pc (Call c) at (suc pc) k (wanted_live k h)) (wanted_other k h)));
         takes = taken c.to ht;
+        divided = f;
       }
 
 module _ (m : Procedure) (s : IsSound m) (pc : ℕ) where
@@ -330,6 +332,6 @@ module _ (m : Procedure) (s : IsSound m) (pc : ℕ) where
     ),
   )
   covered p (Jump to) at h f = keeps m s pc (Jump to) at to (λ k e. e)
-  covered p (Call c) at (hc, ha, ht) f = calls m s pc c at hc ha ht
+  covered p (Call c) at (hc, ha, ht) f = calls m s pc c at hc ha ht f
   covered p (Return w a) at (e, h) f = (e, ready m s pc (Return w a) at a h (λ k r. r))
   covered p Idle at h f = (keeps m s pc Idle at (suc pc) (λ k e. e), idles at)

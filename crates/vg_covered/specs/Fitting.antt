@@ -9,8 +9,9 @@ use Rattle.vg_lin.specs.declared.instr.Operator.TheVariants.{Times, Divide, Rema
 use Rattle.vg_lin.specs.declared.instr.Plain.{Plain as PlainInstr}
 use Rattle.vg_lin.specs.declared.instr.Plain.TheVariants.{Compute, DivideSteps, ReadDevice, WriteDevice, Find}
 use Rattle.vg_lin.specs.declared.instr.Instr.{Instr}
-use Rattle.vg_lin.specs.declared.instr.Instr.TheVariants.{Plain}
+use Rattle.vg_lin.specs.declared.instr.Instr.TheVariants.{Plain, Call}
 use Rattle.vg_lin.specs.Program.{Program}
+use Rattle.vg_templates.specs.Flow.{IsDivided}
 use Rattle.vg_followed.specs.Tables.{AreCases}
 use Rattle.vg_followed.specs.Covered.{IsFourBytes}
 
@@ -32,6 +33,8 @@ IsPlainFit p (WriteDevice address a) = IsDeviceAddress address
 IsPlainFit p (Find place to a) = AreCases p.codes.code (cases_of (slice_get p.dispatches place))
 IsPlainFit p q = Unit {0}
 
+-- And a call whose arguments wait has more than four.
 abbrev pub IsFit : Program → Instr → Type 0
 IsFit p (Plain q) = IsPlainFit p q
+IsFit p (Call c) = IsDivided c
 IsFit p i = Unit {0}

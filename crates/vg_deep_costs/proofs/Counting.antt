@@ -1,6 +1,6 @@
 -- The depth of a configuration, bounded by the procedures that are open in it.
-use Rattle.std.specs.Prelude.{ℕ, ◌+◌, ◌<◌, ◌≤◌, List, [], ◌∷◌, length, drop, Option, Some, None, slice_get}
-use Rattle.std.proofs.Common.{◌≡◌, inl, inr, refl, sym, ap, subst, arith}
+use Rattle.std.specs.Prelude.{ℕ, true, false, ◌+◌, ◌<◌, ◌≤◌, List, [], ◌∷◌, length, Option, Some, None, slice_get}
+use Rattle.std.proofs.Common.{Bool, ◌≡◌, inl, inr, refl, sym, ap, ◌∙◌, arith}
 use Rattle.vg_meaning.specs.Answer.{Wrong}
 use Rattle.vg_source.specs.Peak.{most}
 use Rattle.vg_lin.specs.declared.instr.Plain.{Plain as PlainInstr}
@@ -17,29 +17,24 @@ use Rattle.avr_view.specs.Run.{Run}
 use Rattle.vg_templates.specs.Frames.{Places}
 use Rattle.vg_templates.specs.Frames as frames
 use Rattle.vg_templates.specs.Layouts.{Layout, frame_size}
-use Rattle.vg_templates.specs.Calls.{sum_of}
-use Rattle.vg_templates.proofs.Framing.{framed-bytes, framed-taken}
+use Rattle.vg_templates.specs.Framed.{framed}
 use Rattle.vg_templates.specs.Straight.{pushed_by}
-use Rattle.vg_templates.specs.Flow.{passed_bytes}
+use Rattle.vg_templates.specs.Flow.{passed_bytes, goes_by_registers, pushed_by_call}
 use Rattle.vg_templates.specs.Whole.{Links}
-use Rattle.vg_followed.specs.Depth.{frames_bytes, opening_bytes, entry_bytes, handler_bytes, instr_bytes, step_bytes, depth}
+use Rattle.vg_followed.specs.Depth.{frames_bytes, opening_bytes as opening_bytes_at, entry_bytes, handler_bytes, instr_bytes, step_bytes, depth}
 use Rattle.vg_followed.specs.Depth.{between_bytes}
 use Rattle.vg_followed.specs.Stands.{Stands}
 use Rattle.vg_followed.specs.Runs.{Begins, IsDeepRun}
 use Rattle.vg_open_calls.specs.Open.{IsReady, waiting_widths, AreOpen, IsOpen}
 use Rattle.vg_open_calls.proofs.Entering.{entered}
 use Rattle.vg_open_calls.proofs.Along.{runs_open}
-use Rattle.vg_frame_costs.specs.Fitting.{bytes_of}
+use Rattle.vg_frame_costs.specs.Bytes.{bytes_of, opening_bytes, pushed_bytes}
 use Rattle.vg_open_costs.specs.Taken.{frame_in, frame_of, opening_in, opening_of, between, callers_take, pushes, passes, entry_takes, handler_takes, instr_takes}
 use Rattle.vg_open_costs.specs.Taken.{step_takes, taken}
-use Rattle.vg_open_costs.proofs.Costing.{first_takes, costs}
+use Rattle.vg_open_costs.proofs.Costing.{opening_takes, costs}
 use Rattle.vg_deep_costs.specs.Fit.{HasFitFrames}
 
 -- ---- sums
-
-same_sum : (ws : List ℕ) → sum_of ws ≡ bytes_of ws
-same_sum [] = refl
-same_sum (w ∷ ws) = ap (λ n. w + n) (same_sum ws)
 
 same_waiting : (ws : List Waiting) → frames.bytes_of ws ≡ bytes_of (waiting_widths ws)
 same_waiting [] = refl
@@ -48,6 +43,11 @@ same_waiting (w ∷ ws) = ap (λ n. w.width + n) (same_waiting ws)
 same_passed : (as' : List Passed) → passed_bytes as' ≡ passes as'
 same_passed [] = refl
 same_passed (a ∷ more) = ap (λ n. a.width + n) (same_passed more)
+
+-- a call pushes no more than it passes
+pushed_fewer : (by_registers : Bool) (as' : List Passed) → pushed_by_call by_registers as' ≤ passed_bytes as'
+pushed_fewer true as' = omega arith
+pushed_fewer false as' = omega arith
 
 same_between : (a : Awaits) → between_bytes a ≡ between a
 same_between (Result call) = refl
@@ -70,21 +70,27 @@ same_pushed (Stop code) = refl
 
 -- ---- what stands in a configuration
 
--- Where all locals are in registers, a procedure takes two bytes less than with a frame; so each of these numbers is at most what the program's procedures take.
-module _ (x : Links) (p : Program) (cs : List ℕ) (ready : IsReady p) (has : HasFitFrames x p cs) where
+-- the layout of a procedure
+same_opening : (procedure : Procedure) → opening_bytes procedure ≡ 2 + length (framed procedure).saved + (framed procedure).slots
+unfolding opening_bytes
+same_opening procedure = refl
+
+same_frame : (procedure : Procedure) → opening_bytes procedure + pushed_bytes procedure ≡ frame_size (framed procedure)
+unfolding opening_bytes pushed_bytes
+same_frame procedure = omega arith
+
+-- Each of these numbers is at most what the program's procedures take.
+module _ (x : Links) (p : Program) (extra : ℕ) (cs : List ℕ) (ready : IsReady p) (has : HasFitFrames x p extra cs) where
   few_frame : (m : ℕ) (procedure : Procedure) → slice_get p.procedures m ≡ Some procedure → frame_size (x.places.layouts m) ≤ frame_of p m
   few_frame m procedure e =
-      let few = framed-bytes procedure in
-      let own = same_sum procedure.widths in
-      let there : frame_of p m ≡ bytes_of procedure.widths + 4 = ap frame_in e in
-      subst (λ l. frame_size l ≤ frame_of p m) (sym (has.layouts m procedure e)) (omega (arith, few, own, there))
+      let there : frame_of p m ≡ opening_bytes procedure + pushed_bytes procedure = ap frame_in e in
+      let same = ap frame_size (has.layouts m procedure e) ∙ sym (same_frame procedure) in omega (arith, there, same)
 
-  few_opening : (m : ℕ) (procedure : Procedure) → slice_get p.procedures m ≡ Some procedure → opening_bytes x.places m ≤ opening_of p m
+  few_opening : (m : ℕ) (procedure : Procedure) → slice_get p.procedures m ≡ Some procedure → opening_bytes_at x.places m ≤ opening_of p m
   few_opening m procedure e =
-      let few = framed-taken procedure in
-      let own = same_sum (drop procedure.params procedure.widths) in
-      let there : opening_of p m ≡ bytes_of (drop procedure.params procedure.widths) + 4 = ap opening_in e in
-      subst (λ (l : Layout). 2 + length l.saved + l.slots ≤ opening_of p m) (sym (has.layouts m procedure e)) (omega (arith, few, own, there))
+      let there : opening_of p m ≡ opening_bytes procedure = ap opening_in e in
+      let same = ap (λ (l : Layout). 2 + length l.saved + l.slots) (has.layouts m procedure e) ∙ sym (same_opening procedure) in
+      omega (arith, there, same)
 
   few_callers : (m : ℕ) (fs : List (Frame State)) → AreOpen p m fs → frames_bytes x.places fs ≤ callers_take p fs
   few_callers m [] h = omega arith
@@ -110,7 +116,8 @@ module _ (x : Links) (p : Program) (cs : List ℕ) (ready : IsReady p) (has : Ha
   few_instr s (Some (Jump to)) = omega arith
   few_instr s (Some (Call call)) =
       let passed = same_passed (operands call.registers) in
-      let entry = few_entry call s (enter p call s) refl in omega (arith, passed, entry)
+      let fewer = pushed_fewer (goes_by_registers call) (operands call.registers) in
+      let entry = few_entry call s (enter p call s) refl in omega (arith, passed, fewer, entry)
   few_instr s (Some (Return w a)) = omega arith
   few_instr s (Some Idle) = omega arith
 
@@ -127,8 +134,8 @@ module _ (x : Links) (p : Program) (cs : List ℕ) (ready : IsReady p) (has : Ha
 
 -- ---- programs that stand are ready
 
-pub is_ready : (e : Run) (x : Links) (p : Program) (cs : List ℕ) → Stands e x p → Begins e x p → HasFitFrames x p cs → IsReady p
-is_ready e x p cs st b has =
+pub is_ready : (e : Run) (x : Links) (p : Program) (extra : ℕ) (cs : List ℕ) → Stands e x p → Begins e x p → HasFitFrames x p extra cs → IsReady p
+is_ready e x p extra cs st b has =
     record {
       sound = has.sound;
       first = b.first;
@@ -138,14 +145,14 @@ is_ready e x p cs st b has =
 
 -- ---- deep runs
 
-pub deep_costs : (e : Run) (x : Links) (p : Program) (cs : List ℕ) → Stands e x p → Begins e x p → HasFitFrames x p cs
+pub deep_costs : (e : Run) (x : Links) (p : Program) (extra : ℕ) (cs : List ℕ) → Stands e x p → Begins e x p → HasFitFrames x p extra cs
     → (n : ℕ) (reads interrupts : List ℕ) → ((run p n reads interrupts).ending ≡ Some Wrong → ⊥) → IsDeepRun e x p n reads interrupts
-    → 0x1100 < e.floor + (4 + most cs (run p n reads interrupts).openings)
-deep_costs e x p cs st b has n reads interrupts legal (inl first) =
-    let ready = is_ready e x p cs st b has in
-    let opening = few_opening x p cs ready has p.start b.first b.there in
-    let few = first_takes p cs ready has.fit has.before in omega (arith, first, opening, few)
-deep_costs e x p cs st b has n reads interrupts legal (inr (j, (less, deep))) =
-    let ready = is_ready e x p cs st b has in
-    let most_taken = few_depth x p cs ready has (run p j reads interrupts) (runs_open p ready j reads interrupts) in
-    let cost = costs p cs ready has.fit has.before reads interrupts j n less legal in omega (arith, deep, most_taken, cost)
+    → 0x1100 < e.floor + (extra + most cs (run p n reads interrupts).openings)
+deep_costs e x p extra cs st b has n reads interrupts legal (inl first) =
+    let ready = is_ready e x p extra cs st b has in
+    let opening = few_opening x p extra cs ready has p.start b.first b.there in
+    let few = opening_takes p ready has.before extra cs has.fit in omega (arith, first, opening, few)
+deep_costs e x p extra cs st b has n reads interrupts legal (inr (j, (less, deep))) =
+    let ready = is_ready e x p extra cs st b has in
+    let most_taken = few_depth x p extra cs ready has (run p j reads interrupts) (runs_open p ready j reads interrupts) in
+    let cost = costs p ready has.before extra cs has.fit reads interrupts j n less legal in omega (arith, deep, most_taken, cost)

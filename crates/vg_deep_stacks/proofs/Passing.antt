@@ -8,6 +8,7 @@ use Rattle.avr_view.specs.Run.{Run}
 use Rattle.vg_lin.specs.declared.instr.Plain.{Plain as PlainInstr}
 use Rattle.vg_lin.specs.declared.instr.Plain.TheVariants.{Copy, Compute, Product, DivideSteps, Load, Store, ReadDevice, WriteDevice}
 use Rattle.vg_lin.specs.declared.instr.Plain.TheVariants.{Push, Pop, Find, CodeOf, Stop}
+use Rattle.vg_lin.specs.declared.instr.Passed.{Passed}
 use Rattle.vg_lin.specs.declared.instr.Registers.{Registers}
 use Rattle.vg_lin.specs.declared.instr.Registers.TheVariants.{Empty, One, Two, Three, Four}
 use Rattle.vg_lin.specs.declared.instr.Call.{Call as Calling}
@@ -23,7 +24,7 @@ use Rattle.vg_lin.specs.Steps.{takes, handles, performed, stepped}
 use Rattle.vg_templates.specs.Frames.{Places}
 use Rattle.vg_templates.specs.Layouts.{frame_size}
 use Rattle.vg_templates.specs.Straight.{pushed_by}
-use Rattle.vg_templates.specs.Flow.{passed_bytes}
+use Rattle.vg_templates.specs.Flow.{passed_bytes, goes_by_registers, pushed_by_call}
 use Rattle.vg_templates.specs.Whole.{Links}
 use Rattle.vg_followed.specs.Depth.{frames_bytes, stack_bytes, opening_bytes, entry_bytes, handler_bytes, instr_bytes, step_bytes, depth}
 use Rattle.vg_followed.specs.Depth.{between_bytes as between}
@@ -66,6 +67,10 @@ passed_few m (Four a b c d) (ha, (hb, (hc, (hd, h)))) =
     let z = hc.0.1 in
     let w = hd.0.1 in omega (arith, x, y, z, w)
 
+some_few : (by_registers : Bool) (as' : List Passed) → passed_bytes as' ≤ 16 → pushed_by_call by_registers as' ≤ 16
+some_few true as' h = omega arith
+some_few false as' h = h
+
 pushed_few : (m : Procedure) (q : PlainInstr) → IsPlain m q → pushed_by q ≤ 16
 pushed_few m (Push w a) (h, k) = let x = h.1 in omega (arith, x)
 pushed_few m (Copy to a) h = omega arith
@@ -85,10 +90,11 @@ module _ (p : Program) (sound : AreSound p) where
   plain_few : (m pc : ℕ) (q : PlainInstr) → fetch (codes_in p.procedures) m pc ≡ Some (Plain q) → pushed_by q ≤ 16
   plain_few m pc q e = let f = fetched p.procedures m pc (Plain q) e in pushed_few f.procedure q ((sound m f.procedure f.there).operands pc (Plain q) f.instr)
 
-  call_few : (m pc : ℕ) (call : Calling) → fetch (codes_in p.procedures) m pc ≡ Some (Call call) → passed_bytes (operands call.registers) ≤ 16
+  call_few : (m pc : ℕ) (call : Calling) → fetch (codes_in p.procedures) m pc ≡ Some (Call call) → pushed_by_call (goes_by_registers call) (operands call.registers) ≤ 16
   call_few m pc call e =
       let f = fetched p.procedures m pc (Call call) e in
-      let h = (sound m f.procedure f.there).operands pc (Call call) f.instr in passed_few f.procedure call.registers h.1
+      let h = (sound m f.procedure f.there).operands pc (Call call) f.instr in
+      some_few (goes_by_registers call) (operands call.registers) (passed_few f.procedure call.registers h.1)
 
   module _ (i : Places) (most : ℕ → ℕ) where
     -- a run goes on, or its next step takes no more than one instruction pushes
@@ -129,7 +135,7 @@ module _ (p : Program) (sound : AreSound p) where
       quiet_calls call None eo ei e =
           quiet_end c Wrong e
           (few_at (Some (Call call)) ei
-          (subst (λ z. passed_bytes (operands call.registers) + entry_bytes i z ≤ 16) (sym eo) (let few = call_few c.proc c.pc call ei in omega (arith, few))))
+          (subst (λ z. pushed_by_call (goes_by_registers call) (operands call.registers) + entry_bytes i z ≤ 16) (sym eo) (let few = call_few c.proc c.pc call ei in omega (arith, few))))
 
       quiet_back : (fs : List (Frame State)) (v : ℕ) → c.woken ≡ None → instr_bytes i p c.state instr ≤ 16 → Quiet (goes_back (language p) c fs v)
       quiet_back (f ∷ fs) v e few = inl going
@@ -195,12 +201,12 @@ module _ (p : Program) (sound : AreSound p) where
           → fetch (codes_in p.procedures) c.proc c.pc ≡ Some (Call call) → c.woken ≡ None → Here (calls (language p) c call o)
       here_calls call (Some entered) eo ei e =
           let few = call_few c.proc c.pc call ei in
-          inr (opens entered.proc (record { proc = c.proc; pc = c.pc; kept = entered.kept; awaits = Result call }) (passed_bytes (operands call.registers)) refl
+          inr (opens entered.proc (record { proc = c.proc; pc = c.pc; kept = entered.kept; awaits = Result call }) (pushed_by_call (goes_by_registers call) (operands call.registers)) refl
           (omega (arith, few))
-          (ap (step_bytes i p c) e ∙ ap (instr_bytes i p c.state) ei ∙ ap (λ z. passed_bytes (operands call.registers) + entry_bytes i z) eo))
+          (ap (step_bytes i p c) e ∙ ap (instr_bytes i p c.state) ei ∙ ap (λ z. pushed_by_call (goes_by_registers call) (operands call.registers) + entry_bytes i z) eo))
       here_calls call None eo ei e =
           inl (few_here (Some (Call call)) ei e
-          (subst (λ z. passed_bytes (operands call.registers) + entry_bytes i z ≤ 16) (sym eo) (let few = call_few c.proc c.pc call ei in omega (arith, few))))
+          (subst (λ z. pushed_by_call (goes_by_registers call) (operands call.registers) + entry_bytes i z ≤ 16) (sym eo) (let few = call_few c.proc c.pc call ei in omega (arith, few))))
 
       here_performed : (o : Option Instr) → fetch (codes_in p.procedures) c.proc c.pc ≡ o → c.woken ≡ None → Here (performed (language p) c o)
       here_performed None ei e = inl (few_here None ei e (omega arith))

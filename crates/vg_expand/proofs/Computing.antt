@@ -33,7 +33,7 @@ use Rattle.vg_arith.specs.Routines.{with_locals, Gives, IsAmount, others, others
 use Rattle.vg_arith.proofs.ShiftRoutines.{fetch_of, by_width, low_low}
 use Rattle.vg_expand.specs.Called.{is_call_of, code_calls, is_called}
 use Rattle.vg_expand.specs.Expansion.{HasRoutines, IsHeld, Holds, Does}
-use Rattle.vg_expand.specs.Code.{in_four, dividing, calling, mask, shifting}
+use Rattle.vg_expand.specs.Code.{in_four, dividing, calling, shifting, shifting_left, shifting_right}
 
 -- these instructions stand in code, from a place on
 abbrev pub StandAt : List Instr → ℕ → List Instr → Type 0
@@ -311,18 +311,29 @@ module _ (first : ℕ) (m : Procedure) (from width to : ℕ) (left right : Opera
   abbrev pub of : Operator → Computation
   of op = record { operator = op; width = width; to = to; left = left; right = right }
 
-  pub shifting_does : (op : Operator) (which : ℕ) (a : Operand) → a ≡ right → which < 4 → routine_of op ≡ Some which
-      → others_widths op ≡ 4 ∷ [] → ((k : ℕ) → others op k ≡ (256 ^ k - 1) ∷ []) → ((y : ℕ) → y < 2 ^ 32 → IsAmount op y)
-      → StandAt m.code from (shifting (first + which) (of op) a) → Does first m from (from + length (shifting (first + which) (of op) a)) (of op)
-  shifting_does op which (Known n) e hk ro ow ot am st = kept_does first m from (of op) st
-  shifting_does op which (Local i) e hk ro ow ot am st =
-      calling_does first m from (of op) which (Three (in_four left) (in_four (Local i)) (in_four (mask width))) ws hw within hk ro
-      (λ s x y g h. three_values left (Local i) 4 _ s x y g (ap (λ b. value b s) e ∙ h)
-      ∙ ap (λ k. Some (sized (4 ∷ 4 ∷ 4 ∷ []) (x ∷ y ∷ k ∷ [])))
-      (by_width (λ w. (if nat_lt w 4 then 256 ^ w - 1 else 0xFFFFFFFF) ≡ 256 ^ w - 1) width hw refl refl refl refl)
-      ∙ ap (λ more. Some (sized (4 ∷ 4 ∷ 4 ∷ []) (x ∷ y ∷ more))) (sym (ot width))
-      ∙ ap (λ more. Some (sized (4 ∷ 4 ∷ more) (x ∷ y ∷ others op width))) (sym ow))
+  -- a shift is a call of its routine, where that is passed what it takes
+  shifting_does : (op : Operator) (which : ℕ) (rs : Registers) (a : Operand) → a ≡ right → which < 4 → routine_of op ≡ Some which
+      → ((s : State) (x y : ℕ) → value left s ≡ Some x → value right s ≡ Some y
+      → values (operands rs) s ≡ Some (sized (passed_widths op) (x ∷ y ∷ others op width)))
+      → ((y : ℕ) → y < 2 ^ 32 → IsAmount op y)
+      → StandAt m.code from (shifting (first + which) rs (of op) a) → Does first m from (from + length (shifting (first + which) rs (of op) a)) (of op)
+  shifting_does op which rs (Known n) e hk ro vs am st = kept_does first m from (of op) st
+  shifting_does op which rs (Local i) e hk ro vs am st =
+      calling_does first m from (of op) which rs ws hw within hk ro vs
       (λ s y held h. am y (local_small m.widths s.locals i y held ws (ap (λ b. value b s) e ∙ h))) st
+
+  pub shifts_left : StandAt m.code from (shifting (first + 2) (shifting_left (of ShiftLeft)) (of ShiftLeft) right)
+      → Does first m from (from + length (shifting (first + 2) (shifting_left (of ShiftLeft)) (of ShiftLeft) right)) (of ShiftLeft)
+  shifts_left st =
+      shifting_does ShiftLeft 2 (shifting_left (of ShiftLeft)) right refl (omega arith) refl (λ s x y g h. two_values left right s x y g h) (λ y h. h) st
+
+  pub shifts_right : StandAt m.code from (shifting (first + 3) (shifting_right (of ShiftRight)) (of ShiftRight) right)
+      → Does first m from (from + length (shifting (first + 3) (shifting_right (of ShiftRight)) (of ShiftRight) right)) (of ShiftRight)
+  shifts_right st =
+      shifting_does ShiftRight 3 (shifting_right (of ShiftRight)) right refl (omega arith) refl
+      (λ s x y g h. three_values left right 4 _ s x y g h
+      ∙ ap (λ k. Some (sized (4 ∷ 4 ∷ 4 ∷ []) (x ∷ y ∷ k ∷ [])))
+      (by_width (λ w. (if nat_lt w 4 then 256 ^ w - 1 else 0xFFFFFFFF) ≡ 256 ^ w - 1) width hw refl refl refl refl)) (λ y h. h) st
 
   pub division_does : (op : Operator) (wanted : ℕ) → routine_of op ≡ Some 1 → others_widths op ≡ 1 ∷ [] → ((k : ℕ) → others op k ≡ wanted ∷ [])
       → ((y : ℕ) → IsAmount op y) → StandAt m.code from (calling (first + 1) (dividing (of op) (Known wanted)) (of op))

@@ -10,7 +10,8 @@ use Rattle.vg_lin.specs.declared.instr.Operator.TheVariants.{Plus, Minus, Times,
 use Rattle.vg_lin.specs.declared.instr.Computation.{Computation}
 use Rattle.vg_lin.specs.declared.instr.Plain.{Plain as PlainInstr}
 use Rattle.vg_lin.specs.declared.instr.Plain.TheVariants.{Copy, Compute, Product, DivideSteps, Load, Store, ReadDevice, WriteDevice, Push, Pop, Find, CodeOf, Stop}
-use Rattle.vg_lin.specs.declared.instr.Registers.TheVariants.{Two}
+use Rattle.vg_lin.specs.declared.instr.Registers.{Registers}
+use Rattle.vg_lin.specs.declared.instr.Registers.TheVariants.{Two, Three}
 use Rattle.vg_lin.specs.declared.instr.Instr.{Instr}
 use Rattle.vg_lin.specs.declared.instr.Instr.TheVariants.{Plain, When, Unless, Jump, Call, Return, Idle}
 use Rattle.vg_lin.specs.Program.{Procedure}
@@ -18,7 +19,7 @@ use Rattle.vg_lin.specs.Sound.{AreOperands, Waits, IsSound, waits_of}
 use Rattle.vg_arith.specs.Simple.{needs_no_routine, is_simple, are_simple}
 use Rattle.vg_expand.specs.Expansion.{Does, PlainStands, StandsFor, Expands}
 use Rattle.vg_expand.specs.Code.{worked_out}
-use Rattle.vg_expand.specs.Code.{Base, in_four, cut_to, calling, shifting, is_narrow, narrow_or, product_of, power_of, shifted_by, joined_by, by_difference}
+use Rattle.vg_expand.specs.Code.{Base, in_four, cut_to, calling, mask, shifting, shifting_left, shifting_right, is_narrow, narrow_or, product_of, power_of, shifted_by, joined_by, by_difference}
 use Rattle.vg_expand.specs.Code.{by_sum, is_in, in_two, by_power, by_factor, multiplying, computing, expanded_at, expanded_code, size, place_in}
 use Rattle.vg_expand.specs.Code.{base_of, expanded}
 use Rattle.vg_expand.proofs.Computing.{StandAt}
@@ -116,11 +117,11 @@ cut_simple w to = by_test (nat_lt w 4)
     by_test true = refl
     by_test false = refl
 
-shifting_simple : (r width to : ℕ) (left a : Operand) (op : Operator) → needs_no_routine op (Known 0) ≡ true
+shifting_simple : (r : ℕ) (rs : Registers) (width to : ℕ) (left a : Operand) (op : Operator) → needs_no_routine op (Known 0) ≡ true
     → ((n : ℕ) → needs_no_routine op (Known n) ≡ needs_no_routine op (Known 0))
-    → are_simple (shifting r (record { operator = op; width = width; to = to; left = left; right = a }) a) ≡ true
-shifting_simple r width to left (Known n) op e h = both_true (needs_no_routine op (Known n)) true (h n ∙ e) refl
-shifting_simple r width to left (Local i) op e h = cut_simple width to
+    → are_simple (shifting r rs (record { operator = op; width = width; to = to; left = left; right = a }) a) ≡ true
+shifting_simple r rs width to left (Known n) op e h = both_true (needs_no_routine op (Known n)) true (h n ∙ e) refl
+shifting_simple r rs width to left (Local i) op e h = cut_simple width to
 
 -- what is said of every form of a product
 pub each_product : (P : List Instr → Type 0) (base : Base) (c : Computation) → ((a b : Operand) → P (calling base.first (Two (in_four a) (in_four b)) c))
@@ -174,8 +175,8 @@ computing_simple base width to left right Remainder = cut_simple width to
 computing_simple base width to left right And = refl
 computing_simple base width to left right Or = refl
 computing_simple base width to left right Xor = refl
-computing_simple base width to left right ShiftLeft = shifting_simple (base.first + 2) width to left right ShiftLeft refl (λ n. refl)
-computing_simple base width to left right ShiftRight = shifting_simple (base.first + 3) width to left right ShiftRight refl (λ n. refl)
+computing_simple base width to left right ShiftLeft = shifting_simple (base.first + 2) (Two (in_four left) (in_four right)) width to left right ShiftLeft refl (λ n. refl)
+computing_simple base width to left right ShiftRight = shifting_simple (base.first + 3) (Three (in_four left) (in_four right) (in_four (mask width))) width to left right ShiftRight refl (λ n. refl)
 
 at_simple : (base : Base) (place : ℕ → ℕ) (i : Instr) → are_simple (expanded_at base place i) ≡ true
 at_simple base place (Plain (Copy to a)) = refl
@@ -213,9 +214,9 @@ cut_size w to = by_test (nat_lt w 4)
     by_test true = omega arith
     by_test false = omega arith
 
-shifting_small : (r : ℕ) (c : Computation) (a : Operand) → length (shifting r c a) ≤ 2
-shifting_small r c (Known n) = omega arith
-shifting_small r c (Local i) = let h = cut_size c.width c.to in omega (arith, h)
+shifting_small : (r : ℕ) (rs : Registers) (c : Computation) (a : Operand) → length (shifting r rs c a) ≤ 2
+shifting_small r rs c (Known n) = omega arith
+shifting_small r rs c (Local i) = let h = cut_size c.width c.to in omega (arith, h)
 
 computing_small : (base : Base) (c : Computation) (op : Operator) → length (computing base c op) ≤ 2
 computing_small base c Plus = omega arith
@@ -229,8 +230,8 @@ computing_small base c Remainder = let h = cut_size c.width c.to in omega (arith
 computing_small base c And = omega arith
 computing_small base c Or = omega arith
 computing_small base c Xor = omega arith
-computing_small base c ShiftLeft = shifting_small (base.first + 2) c c.right
-computing_small base c ShiftRight = shifting_small (base.first + 3) c c.right
+computing_small base c ShiftLeft = shifting_small (base.first + 2) (shifting_left c) c c.right
+computing_small base c ShiftRight = shifting_small (base.first + 3) (shifting_right c) c c.right
 
 pub size_small : (base : Base) (i : Instr) → size base i ≤ 2
 size_small base (Plain (Copy to a)) = omega arith

@@ -12,7 +12,7 @@ use Rattle.vg_lin.specs.declared.instr.Plain.{Plain as PlainInstr}
 use Rattle.vg_lin.specs.declared.instr.Plain.TheVariants.{Copy, Compute, Product, DivideSteps, Load, Store, ReadDevice, WriteDevice, Push, Pop, Find, CodeOf, Stop}
 use Rattle.vg_lin.specs.declared.instr.Callee.TheVariants.{Procedure as ByNumber}
 use Rattle.vg_lin.specs.declared.instr.Registers.{Registers}
-use Rattle.vg_lin.specs.declared.instr.Registers.TheVariants.{Two, Three}
+use Rattle.vg_lin.specs.declared.instr.Registers.TheVariants.{Two}
 use Rattle.vg_lin.specs.declared.instr.Instr.{Instr}
 use Rattle.vg_lin.specs.declared.instr.Instr.TheVariants.{Plain, When, Unless, Jump, Call, Return, Idle}
 use Rattle.vg_lin.specs.Program.{Procedure}
@@ -20,7 +20,7 @@ use Rattle.vg_lin.specs.Sound.{IsPlain, AreOperands, Waits, IsSound, waits_of}
 use Rattle.vg_lin.specs.Onward.{leads_on, all_lead_on}
 use Rattle.vg_arith.proofs.ShiftRoutines.{some_is}
 use Rattle.vg_expand.specs.Flow.{is_routine, calls_in, calls_of}
-use Rattle.vg_expand.specs.Code.{Base, in_four, dividing, cut_to, calling, mask, shifting, computing, expanded_at, expanded_code, place_in, base_of, expanded}
+use Rattle.vg_expand.specs.Code.{Base, in_four, dividing, cut_to, calling, shifting, shifting_left, shifting_right, computing, expanded_at, expanded_code, place_in, base_of, expanded}
 use Rattle.vg_expand.proofs.Expanded.{each_product}
 use Rattle.vg_expand.proofs.Placed.{place_of, place_in_is}
 use Rattle.vg_expand.proofs.Kept.{Located, located, alone, one_of, IsOfComputation, computing_is, place_grows}
@@ -59,9 +59,9 @@ calling_calls first k rs c h =
     ∷ [] else []) ++ calls_of first (cut_to c.width c.to))
     (a_routine first k h) ∙ cut_calls first c.width c.to
 
-shifting_calls : (first k : ℕ) (c : Computation) (a : Operand) → k < 4 → calls_of first (shifting (first + k) c a) ≡ []
-shifting_calls first k c (Known n) h = refl
-shifting_calls first k c (Local i) h = calling_calls first k (Three (in_four c.left) (in_four (Local i)) (in_four (mask c.width))) c h
+shifting_calls : (first k : ℕ) (rs : Registers) (c : Computation) (a : Operand) → k < 4 → calls_of first (shifting (first + k) rs c a) ≡ []
+shifting_calls first k rs c (Known n) h = refl
+shifting_calls first k rs c (Local i) h = calling_calls first k rs c h
 
 computing_calls : (base : Base) (c : Computation) (op : Operator) → calls_of base.first (computing base c op) ≡ []
 computing_calls base c Plus = refl
@@ -78,8 +78,8 @@ computing_calls base c Remainder = calling_calls base.first 1 (dividing c (Known
 computing_calls base c And = refl
 computing_calls base c Or = refl
 computing_calls base c Xor = refl
-computing_calls base c ShiftLeft = shifting_calls base.first 2 c c.right (omega arith)
-computing_calls base c ShiftRight = shifting_calls base.first 3 c c.right (omega arith)
+computing_calls base c ShiftLeft = shifting_calls base.first 2 (shifting_left c) c c.right (omega arith)
+computing_calls base c ShiftRight = shifting_calls base.first 3 (shifting_right c) c c.right (omega arith)
 
 at_calls : (base : Base) (place : ℕ → ℕ) (i : Instr) → calls_of base.first (expanded_at base place i) ≡ calls_of base.first (i ∷ [])
 at_calls base place (Plain (Copy to a)) = refl

@@ -23,7 +23,8 @@ use Rattle.vg_lin.specs.Program.{Procedure}
 use Rattle.vg_lin.specs.Meaning.{operands}
 use Rattle.vg_lin.specs.Sound.{IsWidth, IsLocal, IsOperand, IsPassed, IsTo, IsTest, IsCallee, IsPlain, AreOperands, behind as left_by, waits_in, waits_of as waits_at, GoesOn, Jumps, PlainWaits, Waits, IsSound}
 use Rattle.vg_arith.proofs.ShiftRoutines.{some_is}
-use Rattle.vg_expand.specs.Code.{Base, cut_to, shifting, multiplying, computing, expanded_at, expanded_code, size, place_in}
+use Rattle.vg_lin.specs.declared.instr.Registers.{Registers}
+use Rattle.vg_expand.specs.Code.{Base, cut_to, shifting, shifting_left, shifting_right, multiplying, computing, expanded_at, expanded_code, size, place_in}
 use Rattle.vg_expand.specs.Code.{is_narrow, narrow_or, product_of, power_of, by_difference, by_sum, is_in, in_two, by_power, by_factor, base_of, expanded}
 use Rattle.vg_expand.proofs.Expanded.{each_product}
 use Rattle.vg_expand.proofs.Placed.{get_behind, size_is, place_of, place_next, place_in_is}
@@ -81,9 +82,9 @@ located base place (i ∷ is) j x e =
 
 -- ---- the end of the code
 
-shifting_some : (r : ℕ) (c : Computation) (a : Operand) → 0 < length (shifting r c a)
-shifting_some r c (Known n) = omega arith
-shifting_some r c (Local i) = omega arith
+shifting_some : (r : ℕ) (rs : Registers) (c : Computation) (a : Operand) → 0 < length (shifting r rs c a)
+shifting_some r rs c (Known n) = omega arith
+shifting_some r rs c (Local i) = omega arith
 
 computing_some : (base : Base) (c : Computation) (op : Operator) → 0 < length (computing base c op)
 computing_some base c Plus = omega arith
@@ -96,8 +97,8 @@ computing_some base c Remainder = omega arith
 computing_some base c And = omega arith
 computing_some base c Or = omega arith
 computing_some base c Xor = omega arith
-computing_some base c ShiftLeft = shifting_some (base.first + 2) c c.right
-computing_some base c ShiftRight = shifting_some (base.first + 3) c c.right
+computing_some base c ShiftLeft = shifting_some (base.first + 2) (shifting_left c) c c.right
+computing_some base c ShiftRight = shifting_some (base.first + 3) (shifting_right c) c c.right
 
 pub size_some : (base : Base) (i : Instr) → 0 < size base i
 size_some base (Plain (Copy to a)) = omega arith
@@ -228,9 +229,13 @@ module _ (first : ℕ) (m : Procedure) (width to : ℕ) (left right : Operand) (
   itself : (op : Operator) → AllByRecursion (IsOfComputation n) (Plain (Compute (of op)) ∷ [])
   itself op = ((hw, ht, l', r'), tt {0})
 
-  shifting_is : (r : ℕ) (op : Operator) (a : Operand) → a ≡ right → AllByRecursion (IsOfComputation n) (shifting r (of op) a)
-  shifting_is r op (Known k) e = itself op
-  shifting_is r op (Local i) e = ((refl, (tt {0}, ((four, l'), ((four, subst (IsOperand n) (sym e) r'), ((four, tt {0}), tt {0}))), (small, ht))), cut_is)
+  left_is : (r : ℕ) (a : Operand) → AllByRecursion (IsOfComputation n) (shifting r (shifting_left (of ShiftLeft)) (of ShiftLeft) a)
+  left_is r (Known k) = itself ShiftLeft
+  left_is r (Local i) = ((refl, (tt {0}, ((four, l'), ((four, r'), tt {0})), (small, ht))), cut_is)
+
+  right_is : (r : ℕ) (a : Operand) → AllByRecursion (IsOfComputation n) (shifting r (shifting_right (of ShiftRight)) (of ShiftRight) a)
+  right_is r (Known k) = itself ShiftRight
+  right_is r (Local i) = ((refl, (tt {0}, ((four, l'), ((four, r'), ((four, tt {0}), tt {0}))), (small, ht))), cut_is)
 
   -- every form of a product has the two operands, or one of them twice
   factor_is : (a : Operand) (k : ℕ) → IsOperand n a → (t : Bool) → AllByRecursion (IsOfComputation n) (by_factor its_base (of Times) a k t)
@@ -268,8 +273,8 @@ module _ (first : ℕ) (m : Procedure) (width to : ℕ) (left right : Operand) (
   computing_is And = itself And
   computing_is Or = itself Or
   computing_is Xor = itself Xor
-  computing_is ShiftLeft = shifting_is (first + 2) ShiftLeft right refl
-  computing_is ShiftRight = shifting_is (first + 3) ShiftRight right refl
+  computing_is ShiftLeft = left_is (first + 2) right
+  computing_is ShiftRight = right_is (first + 3) right
 
 pub one_of : (P : Instr → Type 0) (xs : List Instr) (k : ℕ) (x : Instr) → AllByRecursion P xs → slice_get xs k ≡ Some x → P x
 one_of P [] k x h e = absurd (grind arith)

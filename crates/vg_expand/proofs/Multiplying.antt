@@ -28,7 +28,7 @@ use Rattle.vg_expand.specs.Code.{worked_out}
 use Rattle.vg_expand.specs.Code.{Base, cut_to, is_narrow, narrow_or, product_of, power_from, power_of, shifted_by, joined_by}
 use Rattle.vg_expand.specs.Code.{by_difference, by_sum, is_in, in_two, by_power, by_factor, multiplying, computing, base_of}
 use Rattle.vg_expand.proofs.Holding.{sets_holds}
-use Rattle.vg_expand.proofs.Computing.{StandAt, Set, set_is, cut, cuts, kept_does, shifting_does, division_does, call_of_product}
+use Rattle.vg_expand.proofs.Computing.{StandAt, Set, set_is, cut, cuts, kept_does, shifts_left, shifts_right, division_does, call_of_product}
 
 -- ---- numbers
 
@@ -351,7 +351,5 @@ module _ (first : ℕ) (m : Procedure) (from width to : ℕ) (left right : Opera
   computing_does And st = kept_does first m from (of And left right) st
   computing_does Or st = kept_does first m from (of Or left right) st
   computing_does Xor st = kept_does first m from (of Xor left right) st
-  computing_does ShiftLeft st =
-      shifting_does first m from width to left right ws hw within ShiftLeft 2 right refl (omega arith) refl refl (λ k. refl) (λ y h. h) st
-  computing_does ShiftRight st =
-      shifting_does first m from width to left right ws hw within ShiftRight 3 right refl (omega arith) refl refl (λ k. refl) (λ y h. h) st
+  computing_does ShiftLeft st = shifts_left first m from width to left right ws hw within st
+  computing_does ShiftRight st = shifts_right first m from width to left right ws hw within st

@@ -47,10 +47,17 @@ mask w = Known (if nat_lt w 4 then 256 ^ w - 1 else 0xFFFFFFFF)
 abbrev pub dividing : Computation → (wanted : Operand) → Registers
 dividing c wanted = Three (in_four c.left) (in_four c.right) (in_one wanted)
 
+-- What a shift to the right is told of the value: its bits. A shift to the left needs no more than the value and the amount.
+abbrev pub shifting_left : Computation → Registers
+shifting_left c = Two (in_four c.left) (in_four c.right)
+
+abbrev pub shifting_right : Computation → Registers
+shifting_right c = Three (in_four c.left) (in_four c.right) (in_four (mask c.width))
+
 -- A shift by an amount that is not known is a call.
-abbrev pub shifting : (routine : ℕ) → Computation → (amount : Operand) → List Instr
-shifting q c (Known n) = Plain (Compute c) ∷ []
-shifting q c (Local i) = calling q (Three (in_four c.left) (in_four (Local i)) (in_four (mask c.width))) c
+abbrev pub shifting : (routine : ℕ) → Registers → Computation → (amount : Operand) → List Instr
+shifting q rs c (Known n) = Plain (Compute c) ∷ []
+shifting q rs c (Local i) = calling q rs c
 
 -- ---- products
 
@@ -123,8 +130,8 @@ abbrev pub computing : Base → Computation → Operator → List Instr
 computing base c Times = multiplying base c c.left c.right
 computing base c Divide = calling (base.first + 1) (dividing c (Known 0)) c
 computing base c Remainder = calling (base.first + 1) (dividing c (Known 1)) c
-computing base c ShiftLeft = shifting (base.first + 2) c c.right
-computing base c ShiftRight = shifting (base.first + 3) c c.right
+computing base c ShiftLeft = shifting (base.first + 2) (shifting_left c) c c.right
+computing base c ShiftRight = shifting (base.first + 3) (shifting_right c) c c.right
 computing base c op = Plain (Compute c) ∷ []
 
 abbrev pub plain_at : Base → PlainInstr → List Instr

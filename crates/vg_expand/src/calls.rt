@@ -1,7 +1,7 @@
 // The code in place of one instruction.
 ghost use Rattle.std.specs.Prelude.{◌≡◌, ◌<◌, ◌++◌, [], ◌∷◌, get_or, OnOk};
 ghost use Rattle.vg_lin.specs.declared.instr.Operand.TheVariants.{Known as IsKnown};
-ghost use Rattle.vg_expand.specs.Code.{in_four as argument, dividing, cut_to, calling, mask as mask_of, shifting, computing, plain_at, expanded_at};
+ghost use Rattle.vg_expand.specs.Code.{in_four as argument, dividing, cut_to, calling, mask as mask_of, shifting, shifting_left as to_left, shifting_right as to_right, computing, plain_at, expanded_at};
 
 use crate::places::place_at;
 use crate::products::push_product;
@@ -60,8 +60,8 @@ fn push_computation(
         Operator::Times => push_product(code, c, first, widths),
         Operator::Divide => push_division(code, first + 1, c, 0),
         Operator::Remainder => push_division(code, first + 1, c, 1),
-        Operator::ShiftLeft => push_shift(code, first + 2, c),
-        Operator::ShiftRight => push_shift(code, first + 3, c),
+        Operator::ShiftLeft => push_shift(code, first + 2, shifting_left(c), c),
+        Operator::ShiftRight => push_shift(code, first + 3, shifting_right(c), c),
         _ => code.push(Instr::Plain(Plain::Compute(c))),
     }
 }
@@ -90,18 +90,32 @@ fn push_division(
     )
 }
 
-fn push_shift(code: &mut Row<Instr>, routine: u16, c: Computation) -> Result<(), NoMemory>
-    ensures { OnOk result (code.new ≡ code.old ++ shifting routine c c.right) }
+fn push_shift(
+    code: &mut Row<Instr>,
+    routine: u16,
+    registers: Registers,
+    c: Computation,
+) -> Result<(), NoMemory>
+    ensures { OnOk result (code.new ≡ code.old ++ shifting routine registers c c.right) }
 {
     match c.right {
         Operand::Known(_) => code.push(Instr::Plain(Plain::Compute(c))),
-        Operand::Local(_) => push_call(
-            code,
-            routine,
-            Registers::Three(in_four(c.left), in_four(c.right), in_four(mask(c.width))),
-            c,
-        ),
+        Operand::Local(_) => push_call(code, routine, registers, c),
     }
+}
+
+// The arguments of a shift to the left.
+fn shifting_left(c: Computation) -> Registers
+    ensures { result ≡ to_left c }
+{
+    Registers::Two(in_four(c.left), in_four(c.right))
+}
+
+// The arguments of a shift to the right, which is told the bits of the value.
+fn shifting_right(c: Computation) -> Registers
+    ensures { result ≡ to_right c }
+{
+    Registers::Three(in_four(c.left), in_four(c.right), in_four(mask(c.width)))
 }
 
 /// An operand as an argument of a routine.

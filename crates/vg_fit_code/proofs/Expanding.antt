@@ -1,7 +1,7 @@
 -- Expanded code, and the routines.
 use Rattle.std.specs.Prelude.{ℕ, ◌+◌, ◌-◌, ◌*◌, ◌^◌, Bool, true, false, ◌&&◌, ◌==◌, nat_lt, List, [], ◌∷◌, ◌++◌, Option, Some, None, if◌then◌else◌}
 use Rattle.std.specs.List.{AllByRecursion}
-use Rattle.std.proofs.Common.{◌≡◌, refl}
+use Rattle.std.proofs.Common.{◌≡◌, inl, refl}
 use Rattle.vg_lin.specs.declared.instr.Operand.{Operand}
 use Rattle.vg_lin.specs.declared.instr.Operand.TheVariants.{Local, Known}
 use Rattle.vg_lin.specs.declared.instr.Operator.{Operator}
@@ -20,7 +20,7 @@ use Rattle.vg_arith.specs.Product.{mul}
 use Rattle.vg_arith.specs.Division.{divide}
 use Rattle.vg_arith.specs.Shifts.{shl, shr}
 use Rattle.vg_arith.specs.Numbers.{routine_with}
-use Rattle.vg_expand.specs.Code.{Base, base_of, cut_to, calling, dividing, in_four, mask, shifting, is_narrow, narrow_or, product_of, power_of}
+use Rattle.vg_expand.specs.Code.{Base, base_of, cut_to, calling, dividing, in_four, shifting, shifting_left, shifting_right, is_narrow, narrow_or, product_of, power_of}
 use Rattle.vg_expand.specs.Code.{by_difference, by_sum, is_in, in_two, by_power, by_factor, multiplying, computing}
 use Rattle.vg_expand.specs.Code.{plain_at, expanded_at, expanded_code, place_in, expanded}
 use Rattle.vg_expand.proofs.Expanded.{code_simple}
@@ -44,7 +44,7 @@ module _ (p : Program) where
   made_cut w to = either (nat_lt w 4) _ [] (tt, tt) tt
 
   made_calling : (q : ℕ) (rs : Registers) (c : Computation) → AreMade (calling q rs c)
-  made_calling q rs c = (tt, made_cut c.width c.to)
+  made_calling q rs c = (inl refl, made_cut c.width c.to)
 
   made_product : (base : Base) (c : Computation) (a b : Operand) → AreMade (product_of base c a b)
   made_product base c a b = by_width (is_narrow base.widths a && is_narrow base.widths b)
@@ -79,16 +79,16 @@ module _ (p : Program) where
   made_multiplying base c (Known k) (Local i) = made_factor base c (Local i) k (k == 0)
   made_multiplying base c (Local i) (Local j) = made_product base c (Local i) (Local j)
 
-  made_shifting : (q : ℕ) (c : Computation) (a : Operand) → AreMade (shifting q c a)
-  made_shifting q c (Known n) = (tt, tt)
-  made_shifting q c (Local i) = made_calling q (Three (in_four c.left) (in_four (Local i)) (in_four (mask c.width))) c
+  made_shifting : (q : ℕ) (rs : Registers) (c : Computation) (a : Operand) → AreMade (shifting q rs c a)
+  made_shifting q rs c (Known n) = (tt, tt)
+  made_shifting q rs c (Local i) = made_calling q rs c
 
   made_computing : (base : Base) (c : Computation) (op : Operator) → AreMade (computing base c op)
   made_computing base c Times = made_multiplying base c c.left c.right
   made_computing base c Divide = made_calling (base.first + 1) (dividing c (Known 0)) c
   made_computing base c Remainder = made_calling (base.first + 1) (dividing c (Known 1)) c
-  made_computing base c ShiftLeft = made_shifting (base.first + 2) c c.right
-  made_computing base c ShiftRight = made_shifting (base.first + 3) c c.right
+  made_computing base c ShiftLeft = made_shifting (base.first + 2) (shifting_left c) c c.right
+  made_computing base c ShiftRight = made_shifting (base.first + 3) (shifting_right c) c c.right
   made_computing base c Plus = (tt, tt)
   made_computing base c Minus = (tt, tt)
   made_computing base c And = (tt, tt)
@@ -115,7 +115,7 @@ module _ (p : Program) where
   made_at base place (When t to) h = (tt, tt)
   made_at base place (Unless t to) h = (tt, tt)
   made_at base place (Jump to) h = (tt, tt)
-  made_at base place (Call c) h = (tt, tt)
+  made_at base place (Call c) h = (h, tt)
   made_at base place (Return w a) h = (tt, tt)
   made_at base place Idle h = (tt, tt)
 
@@ -131,12 +131,13 @@ module _ (p : Program) where
 
 -- ---- the routines
 
--- It names no device and no dispatch, and divides by no known value.
+-- It names no device and no dispatch, divides by no known value, and calls nothing.
 abbrev is_quiet : Instr → Bool
 is_quiet (Plain (DivideSteps r d (Known x))) = false
 is_quiet (Plain (ReadDevice to address)) = false
 is_quiet (Plain (WriteDevice address a)) = false
 is_quiet (Plain (Find place to a)) = false
+is_quiet (Call c) = false
 is_quiet i = true
 
 abbrev are_quiet : List Instr → Bool
@@ -165,7 +166,7 @@ module _ (p : Program) where
   quiet_made (When t to) e = tt
   quiet_made (Unless t to) e = tt
   quiet_made (Jump to) e = tt
-  quiet_made (Call c) e = tt
+  quiet_made (Call c) e = noisy e
   quiet_made (Return w a) e = tt
   quiet_made Idle e = tt
 

@@ -1,7 +1,7 @@
 -- What steps become that are fit; and fit code, with and without its arithmetic.
-use Rattle.std.specs.Prelude.{ℕ, zero, suc, Bool, true, false, ◌&&◌, List, [], ◌∷◌, Some, slice_get}
+use Rattle.std.specs.Prelude.{ℕ, zero, suc, ◌-◌, ◌<◌, ◌≤◌, ◌⊎◌, Bool, true, false, ◌&&◌, nat_lt, List, [], ◌∷◌, length, drop, Option, Some, slice_get}
 use Rattle.std.specs.List.{AllByRecursion}
-use Rattle.std.proofs.Common.{◌≡◌, refl, subst}
+use Rattle.std.proofs.Common.{◌≡◌, inl, inr, refl, subst, arith, length-drop}
 use Rattle.vg_meaning.specs.Code.{Code, Nothing, Then, Do, If, Loop, Break, Continue, Return}
 use Rattle.vg_firm.specs.declared.step.Step.{Step}
 use Rattle.vg_firm.specs.declared.step.Step.TheVariants.{Number, This, Local as GetLocal, SetLocal, Forget, Operate, Apply, ReadDevice, WriteDevice}
@@ -17,16 +17,45 @@ use Rattle.vg_lin.specs.declared.instr.Plain.TheVariants.{Copy, Compute, Product
 use Rattle.vg_lin.specs.declared.instr.Plain.TheVariants.{WriteDevice as WritesDevice, Push, Pop, Find, CodeOf, Stop}
 use Rattle.vg_lin.specs.declared.instr.Instr.{Instr}
 use Rattle.vg_lin.specs.declared.instr.Instr.TheVariants.{Plain, When, Unless, Jump, Call as Calls, Return as Returns, Idle as Idles}
+use Rattle.vg_lin.specs.declared.instr.Callee.{Callee}
+use Rattle.vg_lin.specs.declared.instr.Passed.{Passed}
+use Rattle.vg_lin.specs.declared.instr.Target.{Target}
+use Rattle.vg_lin.specs.Meaning.{operands}
 use Rattle.vg_lin.specs.Program.{Procedure, Program}
 use Rattle.vg_arith.specs.Simple.{is_known, needs_no_routine, is_simple, are_simple}
 use Rattle.vg_flatten_shapes.specs.declared.layout.Layout.{Layout}
+use Rattle.vg_flatten_steps.specs.Calls.{registers_of, call_with}
 use Rattle.vg_flatten.specs.Flattened.{IsFlat}
 use Rattle.vg_flat_each.specs.Each.{Carries, StepHas, EachStep}
 use Rattle.vg_flat_each.proofs.Pushed.{each_flattened}
+use Rattle.vg_templates.specs.Flow.{IsDivided}
 use Rattle.vg_covered.specs.Fitting.{IsExpanded, IsPlainFit, IsFit}
 use Rattle.vg_fit_code.specs.Making.{IsPlainMade, IsMade, IsStepFit}
 
 -- ---- flattened code
+
+-- of more than four arguments the last four are passed beside those that wait
+four_passed : (xs : List Passed) → length xs ≡ 4 → length (operands (registers_of xs)) ≡ 4
+four_passed [] h = h
+four_passed (a ∷ []) h = h
+four_passed (a ∷ b ∷ []) h = h
+four_passed (a ∷ b ∷ c ∷ []) h = h
+four_passed (a ∷ b ∷ c ∷ d ∷ []) h = h
+four_passed (a ∷ b ∷ c ∷ d ∷ e ∷ xs) h = absurd (let none : suc (suc (suc (suc (suc (length xs))))) ≡ 4 = h in omega arith)
+
+many_or_few : (n : ℕ) → (4 < n) ⊎ (n ≤ 4)
+many_or_few n = by_test (nat_lt 4 n) refl
+  where
+    by_test : (b : Bool) → nat_lt 4 n ≡ b → (4 < n) ⊎ (n ≤ 4)
+    by_test true e = inl (grind (arith, e))
+    by_test false e = inr (grind (arith, e))
+
+parts_last : (callee : Callee) (to : Option Target) (xs : List Passed) → IsDivided (call_with callee to xs)
+parts_last callee to xs = elim (many_or_few (length xs)) [
+  | inl more ↦ inr
+      (let last = four_passed (drop (length xs - 4) xs) (let whole = length-drop (length xs - 4) xs in omega (arith, whole, more)) in omega (arith, last, more))
+  | inr few ↦ inl (omega (arith, few))
+]
 
 module _ (p : Program) where
   carries : Carries (IsMade p)
@@ -43,7 +72,7 @@ module _ (p : Program) where
         whens = λ t to. tt;
         unlesses = λ t to. tt;
         jumps = λ to. tt;
-        calls = λ c. tt;
+        calls = λ callee to xs. parts_last callee to xs;
         returns = λ w a. tt;
         idles = tt;
       }
@@ -112,7 +141,7 @@ module _ (p : Program) where
   made (When t to) h = tt
   made (Unless t to) h = tt
   made (Jump to) h = tt
-  made (Calls c) h = tt
+  made (Calls c) h = h
   made (Returns w a) h = tt
   made Idles h = tt
 
@@ -171,7 +200,7 @@ module _ (p : Program) where
   fit (When t to) e h = tt
   fit (Unless t to) e h = tt
   fit (Jump to) e h = tt
-  fit (Calls c) e h = tt
+  fit (Calls c) e h = h
   fit (Returns w a) e h = tt
   fit Idles e h = tt
 

@@ -4,7 +4,7 @@ use Rattle.std.specs.List.{AllByRecursion}
 use Rattle.vg_lin.specs.declared.instr.Passed.{Passed}
 use Rattle.vg_lin.specs.declared.instr.Call.{Call as Calling}
 use Rattle.vg_lin.specs.declared.instr.Instr.{Instr}
-use Rattle.vg_lin.specs.declared.instr.Instr.TheVariants.{Plain, Jump}
+use Rattle.vg_lin.specs.declared.instr.Instr.TheVariants.{Plain, Jump, Call}
 use Rattle.vg_flatten_shapes.specs.declared.open.Open.{Open}
 use Rattle.vg_flatten_shapes.specs.declared.open.Open.TheVariants.{Set, Break as Breaking, Continue as Continuing}
 use Rattle.vg_flatten_shapes.specs.declared.open.Truth.{Truth}
@@ -14,9 +14,10 @@ use Rattle.vg_flatten_shapes.specs.Blocks.{branch, closed, call_code, open_code,
 use Rattle.vg_flatten_shapes.proofs.Choices.{choice_cases}
 use Rattle.vg_flat_each.specs.Each.{Carries}
 
--- Of its plain instructions; all others have it anyway.
+-- Of its plain instructions and its calls; all others have it anyway.
 abbrev pub EachIn : (Instr → Type 0) → Block → Type 0
 EachIn Has (One p) = Has (Plain p)
+EachIn Has (CallTo pushed c) = Has (Call c)
 EachIn Has (Both a b) = EachIn Has a × EachIn Has b
 EachIn Has (Choice t a b) = EachIn Has a × EachIn Has b
 EachIn Has (Repeat p t body next) = EachIn Has p × EachIn Has body × EachIn Has next
@@ -52,14 +53,14 @@ module _ (Has : Instr → Type 0) (k : Carries Has) where
   branches (Holds t) to = k.unlesses t to
   branches (Fails t) to = k.whens t to
 
-  calling : (pushed : List Passed) (c : Calling) → EachOpen Has (call_code pushed c)
-  calling [] c = (k.calls c, tt)
-  calling (a ∷ more) c = (k.pushes a.width a.value, calling more c)
+  calling : (pushed : List Passed) (c : Calling) → Has (Call c) → EachOpen Has (call_code pushed c)
+  calling [] c h = (h, tt)
+  calling (a ∷ more) c h = (k.pushes a.width a.value, calling more c h)
 
   pub in_block : (b : Block) (at : ℕ) → EachIn Has b → EachOpen Has (open_code b at)
   in_block Skip at h = tt
   in_block (One p) at h = (h, tt)
-  in_block (CallTo pushed c) at h = calling pushed c
+  in_block (CallTo pushed c) at h = calling pushed c h
   in_block TakeInterrupt at h = (k.idles, tt)
   in_block (GiveBack w a) at h = (k.returns w a, tt)
   in_block BreakOut at h = tt

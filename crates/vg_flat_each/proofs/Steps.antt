@@ -21,6 +21,7 @@ use Rattle.vg_lin.specs.declared.instr.Plain.{Plain as PlainInstr}
 use Rattle.vg_lin.specs.declared.instr.Memory.{Memory}
 use Rattle.vg_lin.specs.declared.instr.Passed.{Passed}
 use Rattle.vg_lin.specs.declared.instr.Callee.{Callee}
+use Rattle.vg_lin.specs.declared.instr.Callee.TheVariants.{Code}
 use Rattle.vg_lin.specs.declared.instr.Instr.{Instr}
 use Rattle.vg_lin.specs.declared.instr.Instr.TheVariants.{Plain}
 use Rattle.vg_flatten_shapes.specs.declared.open.Truth.{Truth}
@@ -29,6 +30,7 @@ use Rattle.vg_flatten_shapes.specs.declared.layout.Place.{Place}
 use Rattle.vg_flatten_shapes.specs.declared.layout.Layout.{Layout}
 use Rattle.vg_flatten_shapes.specs.declared.layout.Passing.{Passing}
 use Rattle.vg_flatten_shapes.specs.declared.layout.Width.{Width}
+use Rattle.vg_flatten_shapes.specs.declared.layout.Width.TheVariants.{Two}
 use Rattle.vg_flatten_shapes.specs.declared.room.Room.{Room}
 use Rattle.vg_flatten_shapes.specs.Shapes.{Shape, is_free, Taken, taken, temp}
 use Rattle.vg_flatten_shapes.specs.Blocks.{Block, Skip, One, stop_where}
@@ -39,7 +41,7 @@ use Rattle.vg_flatten_places.specs.declared.elements.Reach.{Reach}
 use Rattle.vg_flatten_places.specs.Places.{is_width, fetched, fetched_from, load_one, load_of, length_of, lone_of, known_length, array_length, places_in, memory_of, multiplied}
 use Rattle.vg_flatten_places.specs.Places.{store_one, store_of, is_place, load_inside, load_item, store_inside, store_item, inside, element_of, lone_element, no_element}
 use Rattle.vg_flatten_steps.specs.Locals.{at_local, set_local, forgotten, written}
-use Rattle.vg_flatten_steps.specs.Calls.{in_widths, with_taken, passing_of, with_receiver, resulting, called, called_on, called_by, bound_for}
+use Rattle.vg_flatten_steps.specs.Calls.{in_widths, with_taken, passing_of, passing_found, with_receiver, resulting, called, called_on, called_by, bound_for}
 use Rattle.vg_flatten_steps.specs.Objects.{is_one_of, cast_to}
 use Rattle.vg_flatten_places.specs.Places.{may_be_null, null_check, load_no_field, store_no_field, load_nothing, store_nothing}
 use Rattle.vg_flatten_steps.specs.Steps.{stepped}
@@ -183,8 +185,8 @@ module _ (Has : Instr → Type 0) (k : Carries Has) (lay : Layout) (r : Room) wh
   each_taken None go h = tt
 
   each_resulting : (callee : Callee) (o : Option Width) (xs : List Passed) (rest : List Operand) → HasEach Has (resulting r callee o xs rest)
-  each_resulting callee (Some w) xs rest = each_temp Has (temp r rest) _ (λ to. tt)
-  each_resulting callee None xs rest = tt
+  each_resulting callee (Some w) xs rest = each_temp Has (temp r rest) _ (λ to. k.calls callee _ xs)
+  each_resulting callee None xs rest = k.calls callee None xs
 
   each_called : (q count : ℕ) (hs : List Operand) → HasEach Has (called lay r q count hs)
   each_called q count hs =
@@ -193,13 +195,16 @@ module _ (Has : Instr → Type 0) (k : Carries Has) (lay : Layout) (r : Room) wh
       p : Passing
       p = passing_of (slice_get lay.passing q)
 
+  found : (callee : Callee) (to : ℕ) (xs : List Operand) → EachIn Has (passing_found callee to xs)
+  found callee to xs = k.calls callee (Some (record { width = 4; local = to })) (in_widths (Two ∷ []) xs)
+
   each_on : (d code : ℕ) (xs rest : List Operand) → ((to : ℕ) (a : Operand) → Has (Plain (Find d to a))) → HasEach Has (called_on r d code xs rest)
   each_on d code [] rest h = tt
-  each_on d code (a ∷ xs) rest h = each_temp Has (temp r rest) _ (λ to. (each_null a, (h code a, tt)))
+  each_on d code (a ∷ xs) rest h = each_temp Has (temp r rest) _ (λ to. (each_null a, (h code a, found (Code (Local code)) to (a ∷ xs))))
 
   each_by : (receiver : ℕ) (xs rest : List Operand) → HasEach Has (called_by r receiver xs rest)
   each_by receiver [] rest = tt
-  each_by receiver (a ∷ xs) rest = each_temp Has (temp r rest) _ (λ to. ((k.stops 1, tt), (k.computes _, tt)))
+  each_by receiver (a ∷ xs) rest = each_temp Has (temp r rest) _ (λ to. ((k.stops 1, tt), (k.computes _, found (Code a) to (Local receiver ∷ xs))))
 
   each_bound_for : (d : ℕ) (hs : List Operand) → ((to : ℕ) (a : Operand) → Has (Plain (Find d to a))) → HasEach Has (bound_for r d hs)
   each_bound_for d [] h = tt

@@ -1,5 +1,5 @@
 -- What holds of instructions, step by step of packed code.
-use Rattle.std.specs.Prelude.{ℕ}
+use Rattle.std.specs.Prelude.{ℕ, Option, List}
 use Rattle.vg_meaning.specs.Code.{Code, Then, Do, If, Loop}
 use Rattle.vg_firm.specs.declared.step.Step.{Step}
 use Rattle.vg_firm.specs.declared.step.Step.TheVariants.{ReadDevice, WriteDevice, BindFor, CallFor}
@@ -7,14 +7,18 @@ use Rattle.vg_lin.specs.declared.instr.Operand.{Operand}
 use Rattle.vg_lin.specs.declared.instr.Memory.{Memory}
 use Rattle.vg_lin.specs.declared.instr.Address.{Address}
 use Rattle.vg_lin.specs.declared.instr.Computation.{Computation}
-use Rattle.vg_lin.specs.declared.instr.Call.{Call as Calling}
+use Rattle.vg_lin.specs.declared.instr.Callee.{Callee}
+use Rattle.vg_lin.specs.declared.instr.Passed.{Passed}
+use Rattle.vg_lin.specs.declared.instr.Target.{Target}
 use Rattle.vg_lin.specs.declared.instr.Test.{Test}
 use Rattle.vg_lin.specs.declared.instr.Plain.TheVariants.{Copy, Compute, Load, Store, Push, Pop, Find, CodeOf, Stop}
 use Rattle.vg_lin.specs.declared.instr.Plain.TheVariants.{ReadDevice as ReadsDevice, WriteDevice as WritesDevice}
 use Rattle.vg_lin.specs.declared.instr.Instr.{Instr}
 use Rattle.vg_lin.specs.declared.instr.Instr.TheVariants.{Plain, When, Unless, Jump, Call, Return, Idle}
+use Rattle.vg_flatten_steps.specs.Calls.{call_with}
 
--- It holds of all instructions that name no device and no dispatch, but for those that only routines have.
+-- It holds of all instructions that name no device and no dispatch, but for those that only routines have; and of the calls that pass their last four
+-- arguments beside those that wait.
 pub record Carries (Has : Instr → Type 0) : Type 0 where
   pub copies : (to : ℕ) (a : Operand) → Has (Plain (Copy to a))
   pub computes : (c : Computation) → Has (Plain (Compute c))
@@ -27,7 +31,7 @@ pub record Carries (Has : Instr → Type 0) : Type 0 where
   pub whens : (t : Test) (to : ℕ) → Has (When t to)
   pub unlesses : (t : Test) (to : ℕ) → Has (Unless t to)
   pub jumps : (to : ℕ) → Has (Jump to)
-  pub calls : (c : Calling) → Has (Call c)
+  pub calls : (callee : Callee) (to : Option Target) (xs : List Passed) → Has (Call (call_with callee to xs))
   pub returns : (w : ℕ) (a : Operand) → Has (Return w a)
   pub idles : Has Idle
 

@@ -5,7 +5,7 @@ use Rattle.std.specs.Prelude.{map, take}
 use Rattle.std.proofs.lemmas.List.{append-nil}
 use Rattle.vg_meaning.specs.Outside.{AreVectors}
 use Rattle.avr_isa.specs.Machine.{State as MachineState}
-use Rattle.avr_isa.specs.Standing.{widths}
+use Rattle.avr_isa.specs.Standing.{widths, AllStandAt}
 use Rattle.vg_lin.specs.Meaning.{begun, widths_of, first_state, at_start}
 use Rattle.vg_lin.specs.Program.{Procedure, Program}
 use Rattle.vg_lin.specs.State.{LocalState, State, value_in}
@@ -14,9 +14,10 @@ use Rattle.avr_view.specs.Run.{Run, Goes}
 use Rattle.avr_view.specs.View.{View, At}
 use Rattle.avr_view.proofs.Going.{goes_wider}
 use Rattle.vg_templates.specs.Layouts.{frame_size}
-use Rattle.vg_templates.specs.Linkage.{prologue, Entered}
-use Rattle.vg_templates.proofs.Linking.{goes_prologue}
+use Rattle.vg_templates.specs.Linkage.{saves, prologue, Entered}
+use Rattle.vg_templates.proofs.Linking.{goes_saves}
 use Rattle.vg_templates.proofs.Openings.{saved-length}
+use Rattle.vg_templates.proofs.Entering.{unsettled, no_parameters}
 use Rattle.vg_templates.specs.Pieces.{Sees}
 use Rattle.vg_templates.specs.Outcomes.{Lies}
 use Rattle.vg_templates.specs.Calls.{sum_of}
@@ -46,20 +47,24 @@ module _ (e : Run) (x : Links) (p : Program) (st : Stands e x p) (deep : Type 0)
       let l = x.places.layouts q in
       let ok = st.layouts q in
       let ps = st.procedures q m there in
-      let to = x.entry q + widths (prologue l) in
-      let empty : l.pushed ≡ 0 = ps.arguments.bytes ∙ ap (λ n. sum_of (take n l.widths)) none in
+      let bare = no_parameters l (x.places.live q 0) m.params ps.arguments none in
+      let first : prologue l ≡ saves l = unsettled l bare.1 in
+      let begins : x.place q 0 ≡ x.entry q + widths (saves l) = ps.begins ∙ ap (λ is. x.entry q + widths is) first in
+      let to = x.entry q + widths (saves l) in
+      let empty : l.pushed ≡ 0 = bare.0 in
       let state_is : begun_with l.widths p.ram ≡ first_state p = ap (λ ws. begun_with ws p.ram) (sym (ap widths_of there ∙ sym ps.locals)) in
       let K = λ (z : State). Lies x.places q (x.places.live q 0) z [] v.out in
       goes_wider e deep 0 s (Entered e l to v) (Related e x p (at_start p v.out))
       (λ t n. (
         record { waits = sym ps.waits; callers = tt; vectors = vectors },
-        subst (λ z. Sees e (K z) (x.place q 0) t) state_is (subst (λ y. Sees e (K (begun_with l.widths p.ram)) y t) (sym ps.begins) (lies t n empty)),
+        subst (λ z. Sees e (K z) (x.place q 0) t) state_is (subst (λ y. Sees e (K (begun_with l.widths p.ram)) y t) (sym begins) (lies t n empty)),
       ))
-      (goes_prologue e deep l (x.entry q) v s ok.no_pointer ok.small ps.prologue_stands ps.room full at)
+      (goes_saves e deep l (x.entry q) v s ok.no_pointer ok.small (subst (AllStandAt e.flash (x.entry q)) first ps.prologue_stands)
+      (subst (λ is. x.entry q + widths is < 65536) first ps.room) full at)
     where
       lies : (t : MachineState) → (let l = x.places.layouts p.start in
-          Entered e l (x.entry p.start + widths (prologue l)) v t → l.pushed ≡ 0
-          → Sees e (Lies x.places p.start (x.places.live p.start 0) (begun_with l.widths p.ram) [] v.out) (x.entry p.start + widths (prologue l)) t)
+          Entered e l (x.entry p.start + widths (saves l)) v t → l.pushed ≡ 0
+          → Sees e (Lies x.places p.start (x.places.live p.start 0) (begun_with l.widths p.ram) [] v.out) (x.entry p.start + widths (saves l)) t)
       lies t n empty =
           let l = x.places.layouts p.start in
           let saved = map v.regs.of l.saved in

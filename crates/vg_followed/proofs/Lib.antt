@@ -18,6 +18,7 @@ pub mod Going
 pub mod Waking
 pub mod Returning
 pub mod Calling
+pub mod Carrying
 pub mod Matching
 pub mod Beginning
 pub mod FromReset

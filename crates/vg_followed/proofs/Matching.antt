@@ -15,7 +15,7 @@ use Rattle.vg_followed.specs.Depth.{stack_bytes, instr_bytes, depth}
 use Rattle.vg_followed.specs.Related.{Settled, Going, Related}
 use Rattle.vg_followed.specs.Stands.{Stands}
 use Rattle.vg_followed.specs.Followed.{next, IsLegal, Owes, behind}
-use Rattle.vg_followed.proofs.Calling.{goes_on_call}
+use Rattle.vg_followed.proofs.Carrying.{goes_on_call}
 use Rattle.vg_followed.proofs.Going.{at_rest, goes_on_plain, goes_on_when, goes_on_unless, goes_on_jump}
 use Rattle.vg_followed.proofs.Returning.{goes_on_return}
 use Rattle.vg_followed.proofs.Waking.{woken_by, goes_on_idle, goes_on_woken}

@@ -5,7 +5,7 @@ use Rattle.std.specs.Prelude.{map, take}
 use Rattle.vg_meaning.specs.Outside.{Outside, AreVectors}
 use Rattle.avr_isa.specs.declared.ending.MachineEnd.TheVariants as machine_end
 use Rattle.avr_isa.specs.Machine.{State as MachineState}
-use Rattle.avr_isa.specs.Standing.{widths}
+use Rattle.avr_isa.specs.Standing.{widths, AllStandAt}
 use Rattle.vg_lin.specs.declared.instr.Instr.TheVariants.{Idle}
 use Rattle.vg_lin.specs.Meaning.{begun, widths_of, wake, language, codes_in}
 use Rattle.vg_lin.specs.Program.{Program}
@@ -17,8 +17,9 @@ use Rattle.avr_view.proofs.Going.{goes_fewer, goes_wider}
 use Rattle.vg_templates.specs.Layouts.{Layout, frame_size}
 use Rattle.vg_templates.specs.Frames.{Places, word_bytes, back_to, wanted, needed}
 use Rattle.vg_templates.specs.CallOutcomes.{Begun}
-use Rattle.vg_templates.specs.Linkage.{prologue}
+use Rattle.vg_templates.specs.Linkage.{saves, prologue}
 use Rattle.vg_templates.proofs.Openings.{saved-length}
+use Rattle.vg_templates.proofs.Entering.{unsettled, no_parameters}
 use Rattle.vg_templates.proofs.Saving.{fits_fewer}
 use Rattle.vg_templates.specs.Pieces.{Sees}
 use Rattle.vg_templates.specs.Outcomes.{Lies}
@@ -172,13 +173,17 @@ module _ (e : Run) (x : Links) (p : Program) (st : Stands e x p) (deep : Type 0)
       let ps = st.procedures q m hs.there in
       let f : Frame State = record { proc = c.proc; pc = c.pc; kept = c.state; awaits = Interrupt } in
       let t = w.held.stacked in
-      let none : (x.places.layouts q).pushed ≡ 0 = ps.arguments.bytes ∙ ap (λ n. sum_of (take n (x.places.layouts q).widths)) hs.no_params in
+      let lq = x.places.layouts q in
+      let bare = no_parameters lq (x.places.live q 0) m.params ps.arguments hs.no_params in
+      let none : lq.pushed ≡ 0 = bare.0 in
+      let first : prologue lq ≡ saves lq = unsettled lq bare.1 in
+      let begins : x.place q 0 ≡ x.entry q + widths (saves lq) = ps.begins ∙ ap (λ is. x.entry q + widths is) first in
       let locals : widths_of (slice_get p.procedures q) ≡ (x.places.layouts q).widths = ap widths_of hs.there ∙ sym ps.locals in
       let state_is : begun_with (x.places.layouts q).widths c.state.ram ≡ wake p q c.state = ap (λ ws. begun_with ws c.state.ram) (sym locals) in
       let size = stacked_bytes x.places c.proc (x.places.live c.proc c.pc) c.state c.frames v.stack v.regs t in
       let goal = Related e x p (handles (language p) (woken_by vector c) (Some q)) in
       let need : handler_bytes x.places (p.handler vector) ≡ handler_bytes x.places (Some q) = ap (handler_bytes x.places) some in
-      let to = x.entry q + widths (prologue (x.places.layouts q)) in
+      let to = x.entry q + widths (saves lq) in
       goes_fewer e deep 2 1 s goal (omega arith)
       (goes_wider e deep 2 s (Begun e x.places q f c.frames [] to v) goal
       (λ r b. (
@@ -196,12 +201,12 @@ module _ (e : Run) (x : Links) (p : Program) (st : Stands e x p) (deep : Type 0)
           );
           vectors = settled.vectors;
         },
-        subst (λ n. Sees e (Lies x.places q (x.places.live q 0) (wake p q c.state) (f ∷ c.frames) c.outside) n r) (sym ps.begins)
+        subst (λ n. Sees e (Lies x.places q (x.places.live q 0) (wake p q c.state) (f ∷ c.frames) c.outside) n r) (sym begins)
             (subst (λ o. Sees e (Lies x.places q (x.places.live q 0) (wake p q c.state) (f ∷ c.frames) o) to r) w.out
             (subst (λ z. Sees e (Lies x.places q (x.places.live q 0) z (f ∷ c.frames) v.out) to r) state_is
             (lies_begun e x.places q f c.frames to v r (x.places.live q 0) c.state.ram w.held.r1 w.held.ram none b))),
       ))
       (goes_from_slot e deep x.places x.idle st.idle st.layouts place vector q hs.stub (x.entry q) c.proc c.pc c.state c.frames t.wait t.own t.under v s hs.handled
-      k.leads.1 ps.prologue_stands ps.room t.cut t.points t.waits
+      k.leads.1 (subst (AllStandAt e.flash (x.entry q)) first ps.prologue_stands) (subst (λ is. x.entry q + widths is < 65536) first ps.room) t.cut t.points t.waits
       (fits_fewer l (x.places.live c.proc c.pc) (needed x.places c.proc Interrupt c.pc) c.state.locals t.own v.regs (idle_needs x.places c.proc c.pc k.covers.0) t.fits) t.callers
       (λ more. full (omega (arith, more, size, need))) w.at))

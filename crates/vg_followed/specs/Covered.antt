@@ -28,6 +28,7 @@ use Rattle.vg_templates.specs.Held.{IsReady, IsSet}
 use Rattle.vg_templates.specs.Outcomes.{IsKept}
 use Rattle.vg_templates.specs.Straight.{IsCovered}
 use Rattle.vg_templates.specs.Returns.{IsTarget}
+use Rattle.vg_templates.specs.Flow.{IsDivided}
 use Rattle.vg_followed.specs.Tables.{AreCases}
 
 -- ---- plain instructions
@@ -87,6 +88,7 @@ pub record CanCall (l : Layout) (live : (place local : ℕ) → Bool) (pc : ℕ)
   pub kept : (k : ℕ) → wanted live (Result c) pc k ≡ true → live pc k ≡ true
   pub outlive : AllOutlive l live (Result c) pc
   pub takes : CanTake l (live (suc pc)) c.to
+  pub divided : IsDivided c
 
 -- the instruction that stands at a place of a procedure whose results have so many bytes
 abbrev pub Covers : Layout → (live : (place local : ℕ) → Bool) → Program → (result pc : ℕ) → Instr → Type 0

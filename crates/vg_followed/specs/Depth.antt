@@ -9,7 +9,7 @@ use Rattle.vg_lin.specs.Steps.{Awaits, Result, Interrupt, Frame, Entry, Config, 
 use Rattle.vg_templates.specs.Frames.{Places, bytes_of}
 use Rattle.vg_templates.specs.Layouts.{frame_size}
 use Rattle.vg_templates.specs.Straight.{pushed_by}
-use Rattle.vg_templates.specs.Flow.{passed_bytes}
+use Rattle.vg_templates.specs.Flow.{goes_by_registers, pushed_by_call}
 
 -- between a caller and its callee lie the return addresses of the SLEEP and of the call of the idle piece, or nothing
 abbrev pub between_bytes : Awaits → ℕ
@@ -37,7 +37,7 @@ handler_bytes i None = 0
 
 abbrev pub instr_bytes : Places → Program → State → Option Instr → ℕ
 instr_bytes i p s (Some (Plain q)) = pushed_by q
-instr_bytes i p s (Some (Call c)) = passed_bytes (operands c.registers) + entry_bytes i (enter p c s)
+instr_bytes i p s (Some (Call c)) = pushed_by_call (goes_by_registers c) (operands c.registers) + entry_bytes i (enter p c s)
 instr_bytes i p s (Some Idle) = 4
 instr_bytes i p s _ = 0
 

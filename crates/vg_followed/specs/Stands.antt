@@ -16,7 +16,7 @@ use Rattle.avr_view.specs.Run.{Run}
 use Rattle.vg_templates.specs.Layouts.{IsLayout}
 use Rattle.vg_templates.specs.Linkage.{prologue}
 use Rattle.vg_templates.specs.Branches.{tests}
-use Rattle.vg_templates.specs.Calls.{Way, Far, Near, ByZ, call_words, HasPushed}
+use Rattle.vg_templates.specs.Calls.{Way, Far, Near, ByZ, call_words, HasParameters}
 use Rattle.vg_templates.specs.Idle.{IsIdle, IsHandled}
 use Rattle.vg_templates.specs.Flow.{Hop, Near as NearHop, Far as FarHop, Turn, Direct, Past, way_of}
 use Rattle.vg_templates.specs.Whole.{Links, call_front, template}
@@ -102,7 +102,7 @@ pub record ProcedureStands (e : Run) (x : Links) (p : Program) (m : ℕ) (proced
   pub room : x.entry m + widths (prologue (x.places.layouts m)) < 65536
   pub begins : x.place m 0 ≡ x.entry m + widths (prologue (x.places.layouts m))
   pub locals : (x.places.layouts m).widths ≡ procedure.widths
-  pub arguments : HasPushed (x.places.layouts m) procedure.params
+  pub arguments : HasParameters (x.places.layouts m) (x.places.live m 0) procedure.params
   pub result : procedure.result ≤ 4
   pub waits : x.waits m 0 ≡ []
   pub each : (pc : ℕ) (i : Instr) → slice_get procedure.code pc ≡ Some i → InstrStands e x p m procedure pc i

@@ -4,7 +4,7 @@ use Rattle.std.proofs.Common.{◌≡◌, refl, sym, ap, ◌∙◌, arith}
 use Rattle.std.proofs.lemmas.List.{at_drop_more}
 use Rattle.vg_lin.specs.declared.instr.Instr.{Instr}
 use Rattle.vg_source.specs.Peak.{cost_of}
-use Rattle.vg_frame_costs.specs.Fitting.{waiting_behind, most_waiting}
+use Rattle.vg_frame_costs.specs.Bytes.{waiting_behind, most_waiting}
 
 pub cost_at : (cs : List ℕ) (n : ℕ) → n < length cs → cost_of cs n ≡ slice_index cs n
 cost_at [] n h = absurd (omega (arith, h))

@@ -1,1 +1,4 @@
 pub mod Counted
+pub mod Fit
+pub mod Grown
+pub mod Sized

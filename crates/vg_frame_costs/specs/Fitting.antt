@@ -1,81 +1,42 @@
--- What the open procedures of linear code take of the stack at most, and that it is within what methods cost.
-use Rattle.std.specs.Prelude.{ℕ, suc, ◌≡◌, ◌+◌, ◌-◌, ◌*◌, ◌≤◌, max, Bool, true, ◌&&◌, if◌then◌else◌, IsTrue, List, [], ◌∷◌, take}
-use Rattle.std.specs.Prelude.{Option, Some, None, is_some, slice_get}
+-- What the procedures of linear code take of the stack, within the frames of methods, and these within what methods cost.
+use Rattle.std.specs.Prelude.{ℕ, suc, ◌≡◌, ◌≢◌, ◌+◌, ◌<◌, ◌≤◌, List, [], ◌∷◌, take, drop, Option, Some, None, slice_get}
 use Rattle.std.specs.List.{AllByRecursion}
 use Rattle.vg_lin.specs.declared.instr.Callee.{Callee}
 use Rattle.vg_lin.specs.declared.instr.Callee.TheVariants.{Procedure as ByNumber, Code as ByCode}
-use Rattle.vg_lin.specs.declared.instr.Plain.TheVariants.{Push, Pop}
 use Rattle.vg_lin.specs.declared.instr.Instr.{Instr}
-use Rattle.vg_lin.specs.declared.instr.Instr.TheVariants.{Plain, Call, Idle}
+use Rattle.vg_lin.specs.declared.instr.Instr.TheVariants.{Plain, When, Unless, Jump, Call, Return, Idle}
 use Rattle.vg_lin.specs.Program.{Procedure}
 use Rattle.vg_source.specs.Peak.{cost_of}
+use Rattle.vg_frame_costs.specs.Bytes.{procedure_bytes, unpushed_bytes}
 
--- the bytes of locals or values with these widths
-abbrev pub bytes_of : (widths : List ℕ) → ℕ
-bytes_of [] = 0
-bytes_of (w ∷ ws) = w + bytes_of ws
+-- ---- the code of methods, of routines and of the procedure with which a run begins
 
--- how many values wait behind an instruction, where so many wait before it
-abbrev pub waiting_behind : Instr → ℕ → ℕ
-waiting_behind (Plain (Push w a)) n = suc n
-waiting_behind (Plain (Pop w to)) n = n - 1
-waiting_behind (Call c) n = n - c.pushed
-waiting_behind i n = n
+-- A callee is not this procedure, where it is one by its number. Code numbers are to stand for methods alone.
+abbrev pub IsOther : (start : ℕ) → Callee → Type 0
+IsOther start (ByNumber q) = q ≢ start
+IsOther start (ByCode a) = Unit {0}
 
--- the most values that wait at a place of code, or behind it
-abbrev pub most_waiting : (now : ℕ) → List Instr → ℕ
-most_waiting n [] = n
-most_waiting n (i ∷ is) = max n (most_waiting (waiting_behind i n) is)
+-- A method does not idle, and does not call the procedure with which a run begins.
+abbrev pub IsOfMethod : (start : ℕ) → Instr → Type 0
+IsOfMethod start (Call c) = IsOther start c.callee
+IsOfMethod start Idle = ⊥
+IsOfMethod start i = Unit {0}
 
--- the bytes that an open procedure takes at most: those of its locals, the saved frame pointer and the return address, and four for each value that waits
-abbrev pub procedure_bytes : Procedure → ℕ
-procedure_bytes p = bytes_of p.widths + 4 + 4 * most_waiting 0 p.code
+-- A routine does not idle, and calls nothing.
+abbrev pub IsOfRoutine : Instr → Type 0
+IsOfRoutine (Call c) = ⊥
+IsOfRoutine Idle = ⊥
+IsOfRoutine i = Unit {0}
 
--- an instruction that idles takes four bytes more
-abbrev pub idle_bytes : List Instr → ℕ
-idle_bytes [] = 0
-idle_bytes (Idle ∷ is) = 4
-idle_bytes (i ∷ is) = idle_bytes is
+-- A callee is a method, where it is one by its number: methods come first.
+abbrev pub IsBefore : (start : ℕ) → Callee → Type 0
+IsBefore start (ByNumber q) = q < start
+IsBefore start (ByCode a) = Unit {0}
 
--- the most bytes of a procedure that is no method: of the routines, that of the product has most
-abbrev pub routine_bytes : ℕ
-routine_bytes = 22
-
--- the number of the method that a procedure is
-abbrev pub method_in : Option Procedure → Option ℕ
-method_in (Some p) = p.method
-method_in None = None
-
--- A call is of a method: by the number of its procedure, or by a code number, since such numbers are to stand for methods alone.
-abbrev pub is_method_callee : List Procedure → Callee → Bool
-is_method_callee ps (ByNumber q) = is_some (method_in (slice_get ps q))
-is_method_callee ps (ByCode a) = true
-
-abbrev pub is_method_call : List Procedure → Instr → Bool
-is_method_call ps (Call c) = is_method_callee ps c.callee
-is_method_call ps i = true
-
--- each call of the code is of a method
-abbrev pub calls_methods : List Procedure → List Instr → Bool
-calls_methods ps [] = true
-calls_methods ps (i ∷ is) = is_method_call ps i && calls_methods ps is
-
--- The bytes that may lie above a method, beside those of the methods that it calls: those of one procedure that is no method, where it may call such a one;
--- else those that idling takes.
-abbrev pub above : List Procedure → Procedure → ℕ
-above ps p = if calls_methods ps p.code then idle_bytes p.code else routine_bytes
-
--- and four bytes may lie below it, the return addresses into the code that was interrupted and into the stub of its handler
-abbrev pub beside : List Procedure → Procedure → ℕ
-beside ps p = 4 + above ps p
-
--- A method costs what it takes, with what may lie beside it. A procedure that is none takes no more than a routine, and calls methods alone.
-abbrev pub FitsAs : List Procedure → (costs : List ℕ) → Procedure → Option ℕ → Type 0
-FitsAs ps costs p (Some method) = procedure_bytes p + beside ps p ≤ cost_of costs method
-FitsAs ps costs p None = (procedure_bytes p + idle_bytes p.code ≤ routine_bytes) × IsTrue (calls_methods ps p.code)
-
-abbrev pub Fits : List Procedure → (costs : List ℕ) → Procedure → Type 0
-Fits ps costs p = FitsAs ps costs p p.method
+-- The procedure with which a run begins calls methods alone.
+abbrev pub IsOfStart : (start : ℕ) → Instr → Type 0
+IsOfStart start (Call c) = IsBefore start c.callee
+IsOfStart start i = Unit {0}
 
 abbrev pub IsByNumber : Callee → Type 0
 IsByNumber (ByNumber q) = Unit {0}
@@ -85,21 +46,55 @@ abbrev pub BeginsWithCall : List Instr → Type 0
 BeginsWithCall (Call c ∷ is) = IsByNumber c.callee
 BeginsWithCall is = ⊥
 
--- The procedure with which a run begins is no method, takes four bytes, and first calls one by its number.
-pub record IsFirst (p : Procedure) : Type 0 where
+-- ---- frames
+
+-- A method takes at most the frame of its number.
+pub record IsMethodWithin (start : ℕ) (frames : List ℕ) (above : ℕ) (p : Procedure) : Type 0 where
+  pub method : ℕ
+  pub named : p.method ≡ Some method
+  pub bytes : procedure_bytes p ≤ cost_of frames method
+  pub unpushed : unpushed_bytes p ≤ above
+  pub code : AllByRecursion (IsOfMethod start) p.code
+
+-- A routine is no method, and all that it takes lies above the frames of methods.
+pub record IsRoutineWithin (above : ℕ) (p : Procedure) : Type 0 where
   pub unnamed : p.method ≡ None
-  pub bytes : procedure_bytes p ≤ 4
-  pub calls : BeginsWithCall p.code
+  pub bytes : procedure_bytes p + unpushed_bytes p ≤ above
+  pub code : AllByRecursion IsOfRoutine p.code
 
-abbrev pub IsFirstIn : Option Procedure → Type 0
-IsFirstIn (Some p) = IsFirst p
-IsFirstIn None = ⊥
+-- The procedure with which a run begins is no method, and first calls one by its number. What it takes lies below the frames of methods, and so do the four
+-- bytes that it takes when it idles: the return addresses into its code and into the stub of a handler.
+pub record IsStartWithin (start below : ℕ) (p : Procedure) : Type 0 where
+  pub unnamed : p.method ≡ None
+  pub bytes : procedure_bytes p + unpushed_bytes p + 4 ≤ below
+  pub first : BeginsWithCall p.code
+  pub code : AllByRecursion (IsOfStart start) p.code
 
-abbrev pub IsMethod : Procedure → Type 0
-IsMethod p = IsTrue (is_some p.method)
+abbrev pub IsStartIn : (start below : ℕ) → Option Procedure → Type 0
+IsStartIn start below (Some p) = IsStartWithin start below p
+IsStartIn start below None = ⊥
 
--- Each of these procedures fits, by the costs of methods by their numbers; one of them is that with which a run begins, and those before it are methods.
-pub record FramesFit (ps : List Procedure) (start : ℕ) (costs : List ℕ) : Type 0 where
-  pub each : AllByRecursion (Fits ps costs) ps
-  pub first : IsFirstIn (slice_get ps start)
-  pub methods : AllByRecursion IsMethod (take start ps)
+-- The procedures before the one with which a run begins are methods, each within the frame of its number, and those behind it are routines. So many bytes may
+-- lie below the frames of the methods that are open at one time, and so many above them.
+pub record FramesWithin (ps : List Procedure) (start : ℕ) (frames : List ℕ) (below above : ℕ) : Type 0 where
+  pub methods : AllByRecursion (IsMethodWithin start frames above) (take start ps)
+  pub first : IsStartIn start below (slice_get ps start)
+  pub routines : AllByRecursion (IsRoutineWithin above) (drop (suc start) ps)
+
+-- ---- costs
+
+-- Each frame is at most the cost at its place, and so it is with all that lies beside frames, but for so many bytes.
+abbrev pub ArePaid : (beside extra : ℕ) → (frames costs : List ℕ) → Type 0
+ArePaid b x [] cs = Unit {0}
+ArePaid b x (f ∷ fs) [] = ⊥
+ArePaid b x (f ∷ fs) (c ∷ cs) = (f ≤ c) × (f + b ≤ x + c) × ArePaid b x fs cs
+
+-- The procedures of a program fit by costs of methods, and by so many bytes beside these: they are within frames that such costs pay. Of what lies below frames
+-- all but the four bytes of idling is paid by the bytes beside the costs.
+pub record FramesFit (ps : List Procedure) (start extra : ℕ) (costs : List ℕ) : Type 0 where
+  pub frames : List ℕ
+  pub below : ℕ
+  pub above : ℕ
+  pub within : FramesWithin ps start frames below above
+  pub paid : ArePaid (below + above) extra frames costs
+  pub begins : below ≤ extra + 4

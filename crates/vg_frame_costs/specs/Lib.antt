@@ -1,1 +1,4 @@
+pub mod Bytes
 pub mod Fitting
+pub mod Sizes
+pub mod Noted

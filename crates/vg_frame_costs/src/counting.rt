@@ -1,29 +1,19 @@
-// How many bytes procedures take.
-ghost use Rattle.std.specs.Prelude.{◌≡◌, ◌+◌, ◌*◌, ◌^◌, ◌<◌, ◌≤◌, ◌↔◌, IsTrue, length, max};
+// Sums of widths, values that wait, and costs.
+ghost use Rattle.std.specs.Prelude.{◌≡◌, ◌+◌, ◌*◌, ◌^◌, ◌<◌, ◌≤◌, length, max};
 ghost use Rattle.vg_source.specs.Peak.{cost_of as cost_in};
-ghost use Rattle.vg_frame_costs.specs.Fitting.{bytes_of as bytes_in, idle_bytes as idle_in, most_waiting as most_in, procedure_bytes as procedure_bytes_of, waiting_behind as behind};
+ghost use Rattle.vg_frame_costs.specs.Bytes.{bytes_of as bytes_in, most_waiting as most_in, waiting_behind as behind};
 
-use vg_lin::{Instr, LinProc, Plain};
-
-/// Whether a procedure takes so many bytes at most, with so many more.
-pub fn takes_within(procedure: &LinProc, more: usize, room: usize) -> bool
-    requires { more ≤ 100 }
-    ensures { IsTrue result ↔ procedure_bytes_of procedure.now + more ≤ room }
-{
-    procedure.keeps();
-    let fixed = width_sum(procedure.widths()) + 4 + more;
-    fixed <= room && most_waiting(procedure.code()) <= (room - fixed) / 4
-}
+use vg_lin::{Instr, Plain};
 
 /// The sum of at most 252 widths.
-pub fn width_sum(widths: &[u8]) -> usize
+pub fn width_sum(widths: &[u8]) -> u32
     requires { length widths.now ≤ 252 }
     ensures bytes { result ≡ bytes_in widths.now }
     ensures few { result ≤ 255 * length widths.now }
 {
     match widths {
         [] => 0,
-        [width, rest @ ..] => usize::from(*width) + width_sum(rest),
+        [width, rest @ ..] => u32::from(*width) + width_sum(rest),
     }
 }
 
@@ -58,20 +48,6 @@ fn waiting_behind(instr: Instr, now: usize) -> usize
         Instr::Call(call) => now.saturating_sub(usize::from(call.pushed)),
         _ => now,
     }
-}
-
-/// The bytes that are taken where the code idles: four, or none where it does not.
-pub fn idle_bytes(code: &[Instr]) -> usize
-    ensures bytes { result ≡ idle_in code.now }
-    ensures few { result ≤ 4 }
-{
-    for instr in code {
-        match instr {
-            Instr::Idle => return 4,
-            _ => {}
-        }
-    }
-    0
 }
 
 /// What the method with this number costs; one that has no cost here costs nothing.

@@ -1,7 +1,11 @@
-//! Whether the frames of procedures take no more of the stack than the methods cost that they are.
+//! The frames of methods: how many bytes of the stack each procedure takes by its layout, and whether costs of methods pay for them.
 #![tactic(auto)]
 
+pub mod codes;
 pub mod counting;
-pub mod fitting;
+pub mod frames;
+pub mod paying;
+pub mod sizes;
 
-pub use fitting::frames_fit;
+pub use frames::{Frames, method_frames};
+pub use paying::are_paid;

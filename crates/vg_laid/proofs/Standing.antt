@@ -18,9 +18,9 @@ use Rattle.vg_lin.specs.Sound as sound
 use Rattle.vg_templates.specs.Layouts.{Layout}
 use Rattle.vg_templates.specs.Linkage.{prologue}
 use Rattle.vg_templates.specs.Framed.{framed}
-use Rattle.vg_templates.proofs.Framing.{framed-pushed}
+use Rattle.vg_templates.proofs.Framing.{framed-parameters}
 use Rattle.vg_alloc.proofs.Spotting.{can_be_framed}
-use Rattle.vg_templates.specs.Calls.{HasPushed}
+use Rattle.vg_templates.specs.Calls.{HasParameters}
 use Rattle.vg_templates.specs.Whole.{Links, template}
 use Rattle.vg_followed.specs.Covered.{Covers}
 use Rattle.vg_followed.specs.Stands.{LeadsOn, Leads, PlainWaits, WaitsLead, InstrStands, ProcedureStands}
@@ -174,7 +174,9 @@ module _ (e : Run) (x : Links) (p : Program) (start : ℕ) (code : List Avr) (m 
         room = let r = room in omega (arith, r);
         begins = h.places 0 ∙ (let z : first + 0 ≡ first = omega arith in z);
         locals = ap (λ (z : Layout). z.widths) h.layout;
-        arguments = subst (λ z. HasPushed z procedure.params) (sym h.layout) (framed-pushed procedure (can_be_framed procedure s));
+        arguments =
+            subst (λ z. HasParameters z (x.places.live m 0) procedure.params) (sym h.layout)
+            (subst (λ z. HasParameters (framed procedure) (z 0) procedure.params) (sym h.live) (framed-parameters procedure (can_be_framed procedure s)));
         result = s.result;
         waits = h.waits 0;
         each = instr_stands;

@@ -67,7 +67,7 @@ stands : (expanded 2 main).code
     ∷ routine_call 3 (dividing (Known 1)) 2
     ∷ Plain (Compute (record { operator = ShiftRight; width = 4; to = 3; left = Local 1; right = Known 24 })) ∷ Plain (WriteDevice 0x38 (Local 3))
     ∷ Plain (WriteDevice 0x38 (Local 2)) ∷ When ends_here 11 ∷ routine_call 2 (Two (four (Local 3)) (four (Known 0x0207))) 1 ∷ cut 2 1
-    ∷ routine_call 4 (Three (four (Known 3)) (four (Local 2)) (four (Known 0xFF))) 3 ∷ cut 1 3 ∷ Plain (WriteDevice 0x38 (Local 1)) ∷ Plain (WriteDevice 0x38 (Local 3))
+    ∷ routine_call 4 (Two (four (Known 3)) (four (Local 2))) 3 ∷ cut 1 3 ∷ Plain (WriteDevice 0x38 (Local 1)) ∷ Plain (WriteDevice 0x38 (Local 3))
     ∷ Return 0 (Known 0) ∷ []
 stands = refl
 

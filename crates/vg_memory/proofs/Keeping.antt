@@ -76,14 +76,14 @@ too_late : (k steps after : ℕ) → suc k ≤ steps → steps ≤ after → aft
 too_late k steps after spent least le = omega (arith, spent, least, le)
 
 module _ (n : Naming) (p : Program) (text : Node) (named : IsNamed n p (source_of text)) (good : WellTyped p) (h : Heap) (typed : HasTypedHeap p.tables h)
-    (e : Run) (costs : List ℕ) (idle : ℕ) (lets : (a : ℕ) → e.lets_in a ≡ true → (a ≡ idle) ⊎ (a ≡ suc idle))
-    (does : (whole : List Event) → DoesAsProgram (with_whole e whole) costs p h) (memory : PowerOn) (reads interrupts : List ℕ) (k : ℕ)
+    (e : Run) (extra : ℕ) (costs : List ℕ) (idle : ℕ) (lets : (a : ℕ) → e.lets_in a ≡ true → (a ≡ idle) ⊎ (a ≡ suc idle))
+    (does : (whole : List Event) → DoesAsProgram (with_whole e whole) extra costs p h) (memory : PowerOn) (reads interrupts : List ℕ) (k : ℕ)
     (powered : IsPowerOn memory) (bytes : AreReads reads) (vectors : AreVectors interrupts) (going : (machine e.flash memory reads interrupts k).ended ≡ None)
     (above : e.floor ≤ (machine e.flash memory reads interrupts (suc k)).lowest) where
   abbrev Orderly : Type 0
   Orderly = IsOrderly e.flash e.static e.floor idle (machine e.flash memory reads interrupts k)
 
-  by_outcome : Outcome n p text named good h typed e costs does memory powered reads interrupts (suc k) bytes vectors → Orderly
+  by_outcome : Outcome n p text named good h typed e extra costs does memory powered reads interrupts (suc k) bytes vectors → Orderly
   by_outcome (w, why, over, inl (m, g)) =
       by_goes e idle lets (started memory reads interrupts) k going above w.outside.trace _ 0 _
       (λ after least there le. not_over e idle lets (started memory reads interrupts) k going above after m there.is_at.ends le) g
@@ -92,12 +92,12 @@ module _ (n : Naming) (p : Program) (text : Node) (named : IsNamed n p (source_o
       (λ after least there le. too_late k steps after spent least le) g
 
   orderly : Orderly
-  orderly = by_outcome (outcome n p text named good h typed e costs does memory powered reads interrupts (suc k) bytes vectors)
+  orderly = by_outcome (outcome n p text named good h typed e extra costs does memory powered reads interrupts (suc k) bytes vectors)
 
 pub keeps : (n : Naming) (p : Program) (text : Node) → IsNamed n p (source_of text) → WellTyped p → (h : Heap) → HasTypedHeap p.tables h
-    → (e : Run) (costs : List ℕ) (idle : ℕ) → ((a : ℕ) → e.lets_in a ≡ true → (a ≡ idle) ⊎ (a ≡ suc idle))
-    → ((whole : List Event) → DoesAsProgram (with_whole e whole) costs p h) → KeepsMemory e.flash e.static e.floor idle
-keeps n p text named good h typed e costs idle lets does = record {
+    → (e : Run) (extra : ℕ) (costs : List ℕ) (idle : ℕ) → ((a : ℕ) → e.lets_in a ≡ true → (a ≡ idle) ⊎ (a ≡ suc idle))
+    → ((whole : List Event) → DoesAsProgram (with_whole e whole) extra costs p h) → KeepsMemory e.flash e.static e.floor idle
+keeps n p text named good h typed e extra costs idle lets does = record {
   each = λ memory reads interrupts k powered bytes vectors going above.
-      orderly n p text named good h typed e costs idle lets does memory reads interrupts k powered bytes vectors going above;
+      orderly n p text named good h typed e extra costs idle lets does memory reads interrupts k powered bytes vectors going above;
 }

@@ -36,16 +36,16 @@ above_before flash s floor k steps after spent least above =
     omega (arith, above, lowest-falls flash (after - k) (run_from flash k s), ap (λ t. t.lowest) whole)
 
 module _ (n : Naming) (p : Program) (text : Node) (named : IsNamed n p (source_of text)) (good : WellTyped p) (h : Heap) (typed : HasTypedHeap p.tables h)
-    (e : Run) (costs : List ℕ) (does : (whole : List Event) → DoesAsProgram (with_whole e whole) costs p h) (holds : HoldsPeaks e.floor costs p h)
+    (e : Run) (extra : ℕ) (costs : List ℕ) (does : (whole : List Event) → DoesAsProgram (with_whole e whole) extra costs p h) (holds : HoldsPeaks e.floor extra costs p h)
     (memory : PowerOn) (reads interrupts : List ℕ) (k : ℕ) (powered : IsPowerOn memory) (bytes : AreReads reads) (vectors : AreVectors interrupts) where
   abbrev Above : Type 0
   Above = e.floor ≤ (machine e.flash memory reads interrupts k).lowest
 
-  not_deep : (w : World History) (why : End) → IsOver p h reads interrupts k why w → 0x1100 < e.floor + (4 + most costs w.history.behind_ticks) → ⊥
+  not_deep : (w : World History) (why : End) → IsOver p h reads interrupts k why w → 0x1100 < e.floor + (extra + most costs w.history.behind_ticks) → ⊥
   not_deep w why over deep =
-      not_both e.floor (4 + most costs w.history.behind_ticks) (holds reads interrupts k over.state w why bytes vectors over.legal over.ends) deep
+      not_both e.floor (extra + most costs w.history.behind_ticks) (holds reads interrupts k over.state w why bytes vectors over.legal over.ends) deep
 
-  by_outcome : Outcome n p text named good h typed e costs does memory powered reads interrupts k bytes vectors → Above
+  by_outcome : Outcome n p text named good h typed e extra costs does memory powered reads interrupts k bytes vectors → Above
   by_outcome (w, why, over, inl (m, inl c)) =
       never_lower e.flash (started memory reads interrupts) c.after e.floor m c.there.is_at.ends c.there.is_at.above k
   by_outcome (w, why, over, inl (m, inr (deep, sinks))) = absurd (not_deep w why over deep)
@@ -54,12 +54,12 @@ module _ (n : Naming) (p : Program) (text : Node) (named : IsNamed n p (source_o
   by_outcome (w, why, over, inr (steps, spent, inr (deep, sinks))) = absurd (not_deep w why over deep)
 
   above : Above
-  above = by_outcome (outcome n p text named good h typed e costs does memory powered reads interrupts k bytes vectors)
+  above = by_outcome (outcome n p text named good h typed e extra costs does memory powered reads interrupts k bytes vectors)
 
 pub never : (n : Naming) (p : Program) (text : Node) → IsNamed n p (source_of text) → WellTyped p → (h : Heap) → HasTypedHeap p.tables h
-    → (e : Run) (costs : List ℕ) → ((whole : List Event) → DoesAsProgram (with_whole e whole) costs p h) → HoldsPeaks e.floor costs p h
+    → (e : Run) (extra : ℕ) (costs : List ℕ) → ((whole : List Event) → DoesAsProgram (with_whole e whole) extra costs p h) → HoldsPeaks e.floor extra costs p h
     → NeverReaches e.flash e.floor
-never n p text named good h typed e costs does holds = record {
+never n p text named good h typed e extra costs does holds = record {
   each = λ memory reads interrupts k powered bytes vectors.
-      above n p text named good h typed e costs does holds memory reads interrupts k powered bytes vectors;
+      above n p text named good h typed e extra costs does holds memory reads interrupts k powered bytes vectors;
 }

@@ -43,9 +43,9 @@ pub record IsOver (p : Program) (h : Heap) (reads interrupts : List ℕ) (clock 
   pub state : State
   pub ends : running full no_history p h None reads interrupts clock ≡ Ends (Over why) state w
 
-module _ (e : Run) (costs : List ℕ) (memory : PowerOn) (reads interrupts : List ℕ) (clock : ℕ) (w : World History) where
+module _ (e : Run) (extra : ℕ) (costs : List ℕ) (memory : PowerOn) (reads interrupts : List ℕ) (clock : ℕ) (w : World History) where
   abbrev deep : Type 0
-  deep = PassesPeak (with_whole e w.outside.trace) costs w.history
+  deep = PassesPeak (with_whole e w.outside.trace) extra costs w.history
 
   -- the machine ends
   abbrev pub GoesToEnd : Type 0
@@ -59,7 +59,7 @@ module _ (e : Run) (costs : List ℕ) (memory : PowerOn) (reads interrupts : Lis
       × Goes (with_whole e w.outside.trace) deep steps (started memory reads interrupts) (Shown (with_whole e w.outside.trace) w.outside.trace)
 
 module _ (n : Naming) (p : Program) (text : Node) (named : IsNamed n p (source_of text)) (good : WellTyped p) (h : Heap) (typed : HasTypedHeap p.tables h)
-    (e : Run) (costs : List ℕ) (does : (whole : List Event) → DoesAsProgram (with_whole e whole) costs p h) (memory : PowerOn)
+    (e : Run) (extra : ℕ) (costs : List ℕ) (does : (whole : List Event) → DoesAsProgram (with_whole e whole) extra costs p h) (memory : PowerOn)
     (powered : IsPowerOn memory) (reads interrupts : List ℕ) (clock : ℕ) (bytes : AreReads reads) (vectors : AreVectors interrupts) where
   abbrev typed_answer : Answer State History
   typed_answer = running full no_history p h None reads interrupts clock
@@ -67,11 +67,11 @@ module _ (n : Naming) (p : Program) (text : Node) (named : IsNamed n p (source_o
   abbrev pub Outcome : Type 0
   Outcome =
       (w : World History) × (why : End) × IsOver p h reads interrupts clock why w
-      × (GoesToEnd e costs memory reads interrupts clock w ⊎ GoesOn e costs memory reads interrupts clock w)
+      × (GoesToEnd e extra costs memory reads interrupts clock w ⊎ GoesOn e extra costs memory reads interrupts clock w)
 
   -- what is done where the run is over for this reason
   abbrev Does : (why : End) → World History → Type 0
-  Does why w = (steps : ℕ) × (clock ≤ w.clock + steps) × DoesWithinPeak (with_whole e w.outside.trace) costs steps memory reads interrupts why w
+  Does why w = (steps : ℕ) × (clock ≤ w.clock + steps) × DoesWithinPeak (with_whole e w.outside.trace) extra costs steps memory reads interrupts why w
 
   is_over : (why : End) → IsLegal why → (t : source_state.State) (w : World History) → Alike typed_answer (Ends (Over why) t w)
       → IsOver p h reads interrupts clock why w

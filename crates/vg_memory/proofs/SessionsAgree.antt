@@ -1,6 +1,6 @@
 -- An image agrees with the sessions of a text.
 use Rattle.std.specs.Prelude.{ℕ, ◌+◌, ◌<◌, ◌≤◌, List, Some, None}
-use Rattle.std.proofs.Common.{◌≡◌, ◌≢◌, ◌⊎◌, inl, inr, refl, sym, ap, ◌∙◌, subst, arith}
+use Rattle.std.proofs.Common.{◌≡◌, ◌≢◌, inl, inr, refl, ap, ◌∙◌, arith}
 use Rattle.vg_meaning.specs.declared.event.Event.{Event}
 use Rattle.vg_meaning.specs.Ending as ending
 use Rattle.vg_meaning.specs.History.{History, full, no_history}
@@ -59,7 +59,7 @@ deeper e deep more n s P f (inl c) = inl c
 deeper e deep more n s P f (inr (d, sinks)) = inr (f d, sinks)
 
 module _ (n : Naming) (p : Program) (text : Node) (named : IsNamed n p (source_of text)) (good : WellTyped p) (h : Heap) (typed : HasTypedHeap p.tables h)
-    (e : Run) (stack : ℕ) (floor : e.floor + stack ≡ 0x1100) (does : (whole : List Event) → DoesAsProgram (with_whole e whole) (costs text) p h)
+    (e : Run) (stack : ℕ) (floor : e.floor + stack ≡ 0x1100) (does : (whole : List Event) → DoesAsProgram (with_whole e whole) 4 (costs text) p h)
     (memory : PowerOn) (powered : IsPowerOn memory) (reads interrupts : List ℕ) (clock : ℕ) (bytes : AreReads reads) (vectors : AreVectors interrupts) where
   abbrev typed_answer : Answer State History
   typed_answer = running full no_history p h None reads interrupts clock
@@ -69,14 +69,14 @@ module _ (n : Naming) (p : Program) (text : Node) (named : IsNamed n p (source_o
 
   -- what is done where the run is over for this reason
   done : (why : End) → IsLegal why → (t : source_state.State) (w : World History) → Alike typed_answer (Ends (Over why) t w)
-      → (steps : ℕ) × (clock ≤ w.clock + steps) × DoesWithinPeak (with_whole e w.outside.trace) (costs text) steps memory reads interrupts why w
+      → (steps : ℕ) × (clock ≤ w.clock + steps) × DoesWithinPeak (with_whole e w.outside.trace) 4 (costs text) steps memory reads interrupts why w
   done why legal t w same =
       let (s, is) = alike_end typed_answer (Over why) t w same in
       does w.outside.trace memory powered clock None reads interrupts bytes vectors s w why legal is refl
 
   -- the run is deep only where its peak is more than the stack
   within : (w : World History) (steps : ℕ) (P : MachineState → Type 0)
-      → Goes (with_whole e w.outside.trace) (PassesPeak (with_whole e w.outside.trace) (costs text) w.history) steps (started memory reads interrupts) P
+      → Goes (with_whole e w.outside.trace) (PassesPeak (with_whole e w.outside.trace) 4 (costs text) w.history) steps (started memory reads interrupts) P
       → Goes (with_whole e w.outside.trace) (stack < 4 + most (costs text) w.history.behind_ticks) steps (started memory reads interrupts) P
   within w steps P g =
       deeper (with_whole e w.outside.trace) _ _ steps (started memory reads interrupts) P
@@ -118,7 +118,7 @@ module _ (n : Naming) (p : Program) (text : Node) (named : IsNamed n p (source_o
       (typed_session_is_not_deep n p (source_of text) named good h typed reads interrupts clock)
 
 pub agrees : (n : Naming) (p : Program) (text : Node) → IsNamed n p (source_of text) → WellTyped p → (h : Heap) → HasTypedHeap p.tables h
-    → (e : Run) (stack : ℕ) → e.floor + stack ≡ 0x1100 → ((whole : List Event) → DoesAsProgram (with_whole e whole) (costs text) p h)
+    → (e : Run) (stack : ℕ) → e.floor + stack ≡ 0x1100 → ((whole : List Event) → DoesAsProgram (with_whole e whole) 4 (costs text) p h)
     → Agrees (sessions text (named_heap n p.tables h)) e.flash e.floor stack
 agrees n p text named good h typed e stack floor does = record {
   each = λ memory reads interrupts clock powered bytes vectors.

@@ -14,9 +14,9 @@ use Rattle.vg_lin.specs.Follows.{IsLegal}
 use Rattle.vg_peaks.specs.Peaks.{DoesWithinPeak}
 
 -- Where a run of the program from its heap is over for a legal reason, the machine does as it, or it reaches below the floor of its stack first, for which the
--- calls that were active must cost more than the stack.
-abbrev pub DoesAsProgram : Run → (costs : List ℕ) → Program → Heap → Type 0
-DoesAsProgram e costs p h =
+-- calls that were active, and so many bytes beside them, must cost more than the stack.
+abbrev pub DoesAsProgram : Run → (extra : ℕ) (costs : List ℕ) → Program → Heap → Type 0
+DoesAsProgram e extra costs p h =
     (memory : PowerOn) → IsPowerOn memory → (clock : ℕ) (deepest : Option ℕ) (reads interrupts : List ℕ) → AreReads reads → AreVectors interrupts
     → (t : State) (v : World History) (why : End) → IsLegal why → running full no_history p h deepest reads interrupts clock ≡ Ends (Over why) t v
-    → e.whole ≡ v.outside.trace → (steps : ℕ) × (clock ≤ v.clock + steps) × DoesWithinPeak e costs steps memory reads interrupts why v
+    → e.whole ≡ v.outside.trace → (steps : ℕ) × (clock ≤ v.clock + steps) × DoesWithinPeak e extra costs steps memory reads interrupts why v

@@ -11,8 +11,8 @@ use Rattle.vg_core.specs.Session.{running}
 use Rattle.vg_core.specs.State.{State}
 use Rattle.vg_lin.specs.Follows.{IsLegal}
 
--- in each run of the program, the largest cost of calls that were active behind a tick, and four bytes more, reach from the end of SRAM down to the floor at most
-abbrev pub HoldsPeaks : (floor : ℕ) (costs : List ℕ) → Program → Heap → Type 0
-HoldsPeaks floor costs p h =
+-- in each run of the program, the largest cost of calls that were active behind a tick, and so many bytes more, reach from the end of SRAM down to the floor at most
+abbrev pub HoldsPeaks : (floor extra : ℕ) (costs : List ℕ) → Program → Heap → Type 0
+HoldsPeaks floor extra costs p h =
     (reads interrupts : List ℕ) (clock : ℕ) (t : State) (v : World History) (why : End) → AreReads reads → AreVectors interrupts → IsLegal why
-    → running full no_history p h None reads interrupts clock ≡ Ends (Over why) t v → floor + (4 + most costs v.history.behind_ticks) ≤ 0x1100
+    → running full no_history p h None reads interrupts clock ≡ Ends (Over why) t v → floor + (extra + most costs v.history.behind_ticks) ≤ 0x1100

@@ -20,6 +20,6 @@ ghost use Rattle.vg_memory.specs.Whole.{with_whole};
 /// empty: its contract is a law of the definitions.
 pub fn images_agree()
     ensures { (n : Naming) (p : Program) (text : Node) → IsNamed n p (source_of text) → WellTyped p → (h : Heap) → HasTypedHeap p.tables h
-        → (e : Run) (stack : ℕ) → e.floor + stack ≡ 0x1100 → ((whole : List Event) → DoesAsProgram (with_whole e whole) (costs text) p h)
+        → (e : Run) (stack : ℕ) → e.floor + stack ≡ 0x1100 → ((whole : List Event) → DoesAsProgram (with_whole e whole) 4 (costs text) p h)
         → Agrees (sessions text (named_heap n p.tables h)) e.flash e.floor stack }
 {}

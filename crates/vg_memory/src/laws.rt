@@ -22,8 +22,8 @@ ghost use Rattle.vg_memory.specs.Memory.{KeepsMemory};
 /// contract is a law of the definitions.
 pub fn images_keep_memory()
     ensures { (n : Naming) (p : Program) (text : Node) → IsNamed n p (source_of text) → WellTyped p → (h : Heap) → HasTypedHeap p.tables h
-        → (e : Run) (costs : List ℕ) (idle : ℕ) → ((a : ℕ) → e.lets_in a ≡ true → (a ≡ idle) ⊎ (a ≡ suc idle))
-        → ((whole : List Event) → DoesAsProgram (with_whole e whole) costs p h) → KeepsMemory e.flash e.static e.floor idle }
+        → (e : Run) (extra : ℕ) (costs : List ℕ) (idle : ℕ) → ((a : ℕ) → e.lets_in a ≡ true → (a ≡ idle) ⊎ (a ≡ suc idle))
+        → ((whole : List Event) → DoesAsProgram (with_whole e whole) extra costs p h) → KeepsMemory e.flash e.static e.floor idle }
 {}
 
 /// A law of images. Where the machine does in a flash what a typed program does from its heap, or reaches below its floor where the calls that are active cost
@@ -31,6 +31,6 @@ pub fn images_keep_memory()
 /// is empty: its contract is a law of the definitions.
 pub fn images_never_reach()
     ensures { (n : Naming) (p : Program) (text : Node) → IsNamed n p (source_of text) → WellTyped p → (h : Heap) → HasTypedHeap p.tables h
-        → (e : Run) (costs : List ℕ) → ((whole : List Event) → DoesAsProgram (with_whole e whole) costs p h) → HoldsPeaks e.floor costs p h
+        → (e : Run) (extra : ℕ) (costs : List ℕ) → ((whole : List Event) → DoesAsProgram (with_whole e whole) extra costs p h) → HoldsPeaks e.floor extra costs p h
         → NeverReaches e.flash e.floor }
 {}

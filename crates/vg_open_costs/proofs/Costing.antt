@@ -1,7 +1,6 @@
--- What is taken along a run costs at most what the calls cost that were active.
-use Rattle.std.specs.Prelude.{ℕ, zero, suc, ◌+◌, ◌-◌, ◌<◌, ◌≤◌, List, [], ◌∷◌, Some, slice_get}
-use Rattle.std.proofs.Common.{◌≡◌, ◌⊎◌, inl, inr, refl, sym, ap, ◌∙◌, subst, arith}
-use Rattle.std.proofs.lemmas.Option.{same_Some}
+-- What is taken along a run is within the frames of the calls that were active and what lies beside them, and within what these calls cost.
+use Rattle.std.specs.Prelude.{ℕ, zero, suc, ◌+◌, ◌-◌, ◌<◌, ◌≤◌, List, [], ◌∷◌, Some}
+use Rattle.std.proofs.Common.{◌≡◌, ◌⊎◌, inl, inr, refl, sym, ap, ◌∙◌, arith}
 use Rattle.vg_meaning.specs.Answer.{Wrong}
 use Rattle.vg_meaning.specs.History.{Calling}
 use Rattle.vg_meaning.specs.Outside.{before as outside_before}
@@ -10,29 +9,25 @@ use Rattle.vg_lin.specs.declared.instr.Instr.TheVariants.{Call, Idle}
 use Rattle.vg_lin.specs.Meaning.{language, codes_in, at_start, run}
 use Rattle.vg_lin.specs.Program.{Program}
 use Rattle.vg_lin.specs.State.{State}
-use Rattle.vg_lin.specs.Steps.{Frame, Config, open_calls, fetch, step}
+use Rattle.vg_lin.specs.Steps.{Config, open_calls, fetch, step}
 use Rattle.vg_lin_traces.specs.Traces.{after}
 use Rattle.vg_lin_traces.proofs.Growing.{in_parts, ended_stays}
-use Rattle.vg_open_calls.specs.Open.{IsReady, AreOpen, IsOpen}
+use Rattle.vg_open_calls.specs.Open.{IsReady, IsOpen}
 use Rattle.vg_open_calls.specs.Noted.{IsAmong, IsAtFirst}
-use Rattle.vg_open_calls.proofs.Moving.{fetch_in}
 use Rattle.vg_open_calls.proofs.Along.{runs_open, first_open, open_after, runs_noted, runs_begun}
-use Rattle.vg_frame_costs.specs.Fitting.{bytes_of, procedure_bytes, idle_bytes, FramesFit}
-use Rattle.vg_open_costs.specs.Taken.{frame_in, opening_of, callers_take, taken, LeadBefore}
-use Rattle.vg_open_costs.proofs.Fitted.{waits_few, idles}
-use Rattle.vg_open_costs.proofs.Covered.{among_most, noted_most, first_is, Cover, covers, calls_first}
+use Rattle.vg_frame_costs.specs.Fitting.{FramesWithin, FramesFit}
+use Rattle.vg_open_costs.specs.Taken.{opening_of, unpushed_of, taken, LeadBefore}
+use Rattle.vg_open_costs.proofs.Paid.{noted_most, all_paid}
+use Rattle.vg_open_costs.proofs.Covered.{idles_at_start, start_stands, stands, FirstCall, calls_first, start_opens}
 use Rattle.vg_open_costs.proofs.Stepping.{opening_within, IsQuiet, IsSettled, IsHeld, stack_of, held, settled_next}
 
-module _ (p : Program) (cs : List ℕ) (ready : IsReady p) (fit : FramesFit p.procedures p.start cs) where
-  pub first_takes : LeadBefore p → opening_of p p.start ≤ 4
-  first_takes before =
-      let within = opening_within p ready p.start ready.first ready.start in
-      let frame = ap frame_in ready.start in
-      let bytes = (first_is p cs ready fit before).bytes in omega (arith, within, frame, bytes)
-
-  module _ (before : LeadBefore p) (reads interrupts : List ℕ) where
+module _ (p : Program) (ready : IsReady p) (before : LeadBefore p) where
+  module _ (reads interrupts : List ℕ) where
     abbrev at : ℕ → Config State
     at j = run p j reads interrupts
+
+    open' : (j : ℕ) → IsOpen p (at j)
+    open' j = runs_open p ready j reads interrupts
 
     next_is : (j : ℕ) → at (j + 1) ≡ step (language p) (codes_in p.procedures) (at j)
     next_is j = in_parts p j 1 (at_start p (outside_before reads interrupts))
@@ -45,98 +40,103 @@ module _ (p : Program) (cs : List ℕ) (ready : IsReady p) (fit : FramesFit p.pr
     settled : (j : ℕ) → IsSettled p ready (at j)
     settled j = settled_after j (at_start p (outside_before reads interrupts)) (first_open p ready reads interrupts) (inl refl)
 
-    -- ---- what stands in a configuration
+    held_at : (j : ℕ) → IsHeld p ready (at j) (step (language p) (codes_in p.procedures) (at j))
+    held_at j = held p ready (at j) (open' j) (settled j)
 
-    module _ (j n : ℕ) (le : j ≤ n) where
-      abbrev c : Config State
-      c = at j
+    -- what ended wrongly stays so
+    stays_wrong : (j n : ℕ) → j < n → (step (language p) (codes_in p.procedures) (at j)).ending ≡ Some Wrong → (at n).ending ≡ Some Wrong
+    stays_wrong j n less wrong =
+        let e = ap (λ d. d.ending) (next_is j) ∙ wrong in
+        let whole = in_parts p (j + 1) (n - (j + 1)) (at_start p (outside_before reads interrupts)) in
+        let steps : j + 1 + (n - (j + 1)) ≡ n = omega (arith, less) in
+        let kept = ended_stays p (n - (j + 1)) (at (j + 1)) Wrong e in
+        ap (λ d. d.ending) (sym (ap (λ m. after p m (at_start p (outside_before reads interrupts))) steps) ∙ whole ∙ kept) ∙ e
 
-      open' : IsOpen p c
-      open' = runs_open p ready j reads interrupts
+    module _ (frames : List ℕ) (below above : ℕ) (within : FramesWithin p.procedures p.start frames below above) where
+      first : FirstCall p frames below above ready within before
+      first = calls_first p frames below above ready within before
 
-      abbrev limit : ℕ
-      limit = 4 + most cs (at n).openings
+      -- what stands in a configuration
+      stands_at : (j n : ℕ) → j ≤ n → stack_of p ready (at j) + unpushed_of p (at j).proc ≤ below + above + most frames (at n).openings
+      stands_at j n le =
+          let all = stands p frames below above ready within before (at j) (open' j) in
+          let active =
+          noted_most frames (open_calls (language p) (at j).proc (at j).frames) (at n).openings
+          (runs_noted p ready first.first.unnamed j n reads interrupts le) in omega (arith, all, active)
 
-      cover : Cover p cs ready fit before c.proc c.frames open'.here.procedure
-      cover = covers p cs ready fit before c.proc c.frames open'.here.procedure open'.here.there open'.callers
+      -- where it idles, the procedure stands with which the run begins
+      idles_within : (j : ℕ) → fetch (codes_in p.procedures) (at j).proc (at j).pc ≡ Some Idle → stack_of p ready (at j) + 4 ≤ below
+      idles_within j e =
+          let same = idles_at_start p frames below above ready within before (at j).proc (at j).pc (open' j).here.procedure (open' j).here.there e in
+          let all = start_stands p frames below above ready within before (at j) (open' j) same in omega (arith, all)
 
-      active : total_cost cs (open_calls (language p) c.proc c.frames) ≤ most cs (at n).openings
-      active =
-          noted_most cs (open_calls (language p) c.proc c.frames) (at n).openings
-          (runs_noted p ready (calls_first p cs ready fit before).first.unnamed j n reads interrupts le)
+      -- before each step
+      pub takes_within : (j n : ℕ) → j < n → ((at n).ending ≡ Some Wrong → ⊥) → taken p (at j) ≤ below + above + most frames (at n).openings
+      takes_within j n less legal = by_step (held_at j)
+        where
+          by_step : IsHeld p ready (at j) (step (language p) (codes_in p.procedures) (at j)) → taken p (at j) ≤ below + above + most frames (at n).openings
+          by_step (inl (inl nothing)) = let s = stands_at j n (omega (arith, less)) in omega (arith, nothing, s)
+          by_step (inl (inr (few, e))) = let s = idles_within j e in omega (arith, few, s)
+          by_step (inr (inl h)) =
+              let next = ap (λ c. stack_of p ready c + unpushed_of p c.proc) (next_is j) in
+              let s = stands_at (j + 1) n (omega (arith, less)) in omega (arith, h, next, s)
+          by_step (inr (inr wrong)) = absurd (legal (stays_wrong j n less wrong))
 
-      stack_bytes : stack_of p ready c ≤ procedure_bytes open'.here.procedure + callers_take p c.frames
-      stack_bytes =
-          let waits = ap bytes_of open'.here.waits in
-          let few = waits_few open'.here.procedure (ready.sound c.proc open'.here.procedure open'.here.there) c.pc in
-          let frame = ap frame_in open'.here.there in omega (arith, waits, few, frame)
-
-      stands : stack_of p ready c ≤ limit
-      stands = let all = cover.all in let calls = active in let bytes = stack_bytes in omega (arith, all, calls, bytes)
-
-      -- where it idles, four bytes more
-      idle_is : fetch (codes_in p.procedures) c.proc c.pc ≡ Some Idle → idle_bytes open'.here.procedure.code ≡ 4
-      idle_is e = idles open'.here.procedure.code c.pc (sym (fetch_in p.procedures c.proc open'.here.procedure open'.here.there c.pc) ∙ e)
-
-      not_first : fetch (codes_in p.procedures) c.proc c.pc ≡ Some Idle → IsAtFirst p c → ⊥
-      not_first e at' =
-          let first = calls_first p cs ready fit before in
+      not_first : (j : ℕ) → fetch (codes_in p.procedures) (at j).proc (at j).pc ≡ Some Idle → IsAtFirst p (at j) → ⊥
+      not_first j e at' =
           let same : Some (Call first.first.call) ≡ Some Idle =
           sym first.first.first ∙ sym (ap (fetch (codes_in p.procedures) p.start) at'.pc)
-          ∙ sym (ap (λ z. fetch (codes_in p.procedures) z c.pc) at'.proc) ∙ e in
+          ∙ sym (ap (λ z. fetch (codes_in p.procedures) z (at j).pc) at'.proc) ∙ e in
           absurd (let clash : Some (Call first.first.call) ≡ Some Idle = same in cc)
 
-      main_cost : fetch (codes_in p.procedures) c.proc c.pc ≡ Some Idle → 4 ≤ most cs (at n).openings
-      main_cost e =
-          by (runs_begun p ready (Calling (calls_first p cs ready fit before).method) (calls_first p cs ready fit before).first j n reads interrupts le)
+      -- before the first call
+      pub first_takes : (j n : ℕ) → j < n → ((at n).ending ≡ Some Wrong → ⊥) → IsAtFirst p (at j) → IsAtFirst p (at (j + 1))
+          → taken p (at j) + 4 ≤ below
+      first_takes j n less legal here next = by_step (held_at j)
         where
-          by : IsAtFirst p c ⊎ IsAmong (Calling (calls_first p cs ready fit before).method ∷ []) (at n).openings → 4 ≤ most cs (at n).openings
-          by (inl at') = absurd (not_first e at')
-          by (inr h) =
-              let total = among_most cs (Calling (calls_first p cs ready fit before).method ∷ []) (at n).openings h in
-              let cost = (calls_first p cs ready fit before).cost in omega (arith, total, cost)
+          by_step : IsHeld p ready (at j) (step (language p) (codes_in p.procedures) (at j)) → taken p (at j) + 4 ≤ below
+          by_step (inl (inl nothing)) =
+              let s = start_stands p frames below above ready within before (at j) (open' j) here.proc in omega (arith, nothing, s)
+          by_step (inl (inr (few, e))) = absurd (not_first j e here)
+          by_step (inr (inl h)) =
+              let same = ap (λ c. stack_of p ready c + unpushed_of p c.proc) (next_is j) in
+              let s = start_stands p frames below above ready within before (at (j + 1)) (open' (j + 1)) next.proc in omega (arith, h, same, s)
+          by_step (inr (inr wrong)) = absurd (legal (stays_wrong j n less wrong))
 
-      idles_within : fetch (codes_in p.procedures) c.proc c.pc ≡ Some Idle → stack_of p ready c + 4 ≤ limit
-      idles_within e = by_frames c.frames refl
-        where
-          by_frames : (fs : List (Frame State)) → c.frames ≡ fs → stack_of p ready c + 4 ≤ limit
-          by_frames [] f =
-              let alone = subst (λ z. AreOpen p c.proc z) f open'.callers in
-              let same = same_Some open'.here.procedure ready.first
-              (sym open'.here.there ∙ ap (slice_get p.procedures) alone ∙ ready.start) in
-              let bytes = ap procedure_bytes same in
-              let few = (first_is p cs ready fit before).bytes in
-              let none = ap (callers_take p) f in
-              let stack = stack_bytes in
-              let main = main_cost e in omega (arith, bytes, few, none, stack, main)
-          by_frames (g ∷ gs) f =
-              let callers = subst (λ z. AreOpen p c.proc z) f open'.callers in
-              let idling = (covers p cs ready fit before c.proc (g ∷ gs) open'.here.procedure open'.here.there callers).idling in
-              let calls = active in
-              let same = ap (λ z. total_cost cs (open_calls (language p) c.proc z)) f in
-              let frames = ap (callers_take p) f in
-              let idle = idle_is e in
-              let stack = stack_bytes in omega (arith, idling, calls, same, frames, idle, stack)
+  -- ---- what costs pay
 
-      quiet_within : IsQuiet p ready c → taken p c ≤ limit
-      quiet_within (inl nothing) = let s = stands in omega (arith, nothing, s)
-      quiet_within (inr (few, e)) = let s = idles_within e in omega (arith, few, s)
+  module _ (extra : ℕ) (cs : List ℕ) (fit : FramesFit p.procedures p.start extra cs) where
+    pub opening_takes : opening_of p p.start ≤ extra
+    opening_takes =
+        let within = opening_within p ready p.start ready.first ready.start in
+        let frame = start_opens p fit.frames fit.below fit.above ready fit.within before in
+        let few = fit.begins in omega (arith, within, frame, few)
 
-    -- ---- before each step
+    called : FirstCall p fit.frames fit.below fit.above ready fit.within before
+    called = calls_first p fit.frames fit.below fit.above ready fit.within before
 
-    pub costs : (j n : ℕ) → j < n → ((at n).ending ≡ Some Wrong → ⊥) → taken p (at j) ≤ 4 + most cs (at n).openings
-    costs j n less legal = by_step (held p ready (at j) (runs_open p ready j reads interrupts) (settled j))
-      where
-        by_step : IsHeld p ready (at j) (step (language p) (codes_in p.procedures) (at j)) → taken p (at j) ≤ 4 + most cs (at n).openings
-        by_step (inl quiet) = quiet_within j n (omega (arith, less)) quiet
-        by_step (inr (inl h)) =
-            let next = ap (stack_of p ready) (next_is j) in
-            let s = stands (j + 1) n (omega (arith, less)) in omega (arith, h, next, s)
-        by_step (inr (inr wrong)) = absurd (legal (stays (ap (λ d. d.ending) (next_is j) ∙ wrong)))
-          where
-            stays : (at (j + 1)).ending ≡ Some Wrong → (at n).ending ≡ Some Wrong
-            stays e =
-                let whole = in_parts p (j + 1) (n - (j + 1)) (at_start p (outside_before reads interrupts)) in
-                let steps : j + 1 + (n - (j + 1)) ≡ n = omega (arith, less) in
-                let kept = ended_stays p (n - (j + 1)) (at (j + 1)) Wrong e in
-                ap (λ d. d.ending) (sym (ap (λ m. after p m (at_start p (outside_before reads interrupts))) steps) ∙ whole ∙ kept) ∙ e
+    module _ (reads interrupts : List ℕ) (j n : ℕ) (less : j < n) (legal : (run p n reads interrupts).ending ≡ Some Wrong → ⊥) where
+      abbrev Costs : Type 0
+      Costs = taken p (run p j reads interrupts) ≤ extra + most cs (run p n reads interrupts).openings
+
+      abbrev IsNotedMain : Type 0
+      IsNotedMain = IsAmong (Calling called.method ∷ []) (run p n reads interrupts).openings
+
+      noted : IsNotedMain → Costs
+      noted h =
+          let takes = takes_within reads interrupts fit.frames fit.below fit.above fit.within j n less legal in
+          let paid =
+          all_paid (fit.below + fit.above) extra fit.frames cs fit.paid called.method (run p n reads interrupts).openings called.some h in
+          omega (arith, takes, paid)
+
+      by_main : IsAtFirst p (run p j reads interrupts) ⊎ IsNotedMain → IsAtFirst p (run p (j + 1) reads interrupts) ⊎ IsNotedMain → Costs
+      by_main (inr h) next = noted h
+      by_main (inl here) (inr h) = noted h
+      by_main (inl here) (inl next) =
+          let few = first_takes reads interrupts fit.frames fit.below fit.above fit.within j n less legal here next in
+          let begins = fit.begins in omega (arith, few, begins)
+
+      pub costs : Costs
+      costs =
+          by_main (runs_begun p ready (Calling called.method) called.first j n reads interrupts (omega (arith, less)))
+          (runs_begun p ready (Calling called.method) called.first (j + 1) n reads interrupts (omega (arith, less)))

@@ -1,9 +1,8 @@
--- The bytes of open procedures are covered by the costs of the calls that they are.
-use Rattle.std.specs.Prelude.{ℕ, suc, ◌+◌, ◌≤◌, Bool, true, false, if◌then◌else◌, List, [], ◌∷◌, Option, Some, None, is_some, slice_get}
-use Rattle.std.proofs.Common.{◌≡◌, inl, inr, refl, sym, ap, ◌∙◌, subst, arith}
-use Rattle.std.proofs.lemmas.Option.{none-some, same_Some}
+-- What open procedures take is within the frames of the methods that are called, and what lies beside them.
+use Rattle.std.specs.Prelude.{ℕ, zero, suc, ◌+◌, ◌<◌, ◌≤◌, List, [], ◌∷◌, Some, slice_get}
+use Rattle.std.proofs.Common.{◌≡◌, ◌⊎◌, inl, inr, refl, sym, ap, ◌∙◌, subst, arith}
 use Rattle.vg_meaning.specs.History.{Active, Calling}
-use Rattle.vg_source.specs.Peak.{cost_of, total_cost, most}
+use Rattle.vg_source.specs.Peak.{cost_of, total_cost}
 use Rattle.vg_lin.specs.declared.instr.Callee.{Callee}
 use Rattle.vg_lin.specs.declared.instr.Callee.TheVariants.{Procedure as ByNumber, Code as ByCode}
 use Rattle.vg_lin.specs.declared.instr.Call.{Call as CallTo}
@@ -12,154 +11,201 @@ use Rattle.vg_lin.specs.declared.instr.Instr.TheVariants.{Plain, When, Unless, J
 use Rattle.vg_lin.specs.Meaning.{language, codes_in, call_of, name_of}
 use Rattle.vg_lin.specs.Program.{Procedure, Program}
 use Rattle.vg_lin.specs.State.{State}
-use Rattle.vg_lin.specs.Steps.{Awaits, Result, Interrupt, Frame, with_named, open_below, open_calls, fetch}
-use Rattle.vg_open_calls.specs.Open.{IsReady, HasWaits, IsAim, IsOpener, AreOpen}
-use Rattle.vg_open_calls.specs.Noted.{IsAmong, IsNoted, CallsFirst}
+use Rattle.vg_lin.specs.Steps.{Awaits, Result, Interrupt, Frame, Config, with_named, open_below, open_calls, fetch}
+use Rattle.vg_open_calls.specs.Open.{IsReady, HasWaits, IsAim, IsOpener, AreOpen, IsOpen}
+use Rattle.vg_open_calls.specs.Noted.{CallsFirst}
 use Rattle.vg_open_calls.proofs.Moving.{fetch_in}
-use Rattle.vg_frame_costs.specs.Fitting.{bytes_of, procedure_bytes, idle_bytes, routine_bytes, method_in, is_method_callee, calls_methods, above}
-use Rattle.vg_frame_costs.specs.Fitting.{FitsAs, Fits, IsByNumber, BeginsWithCall, IsFirst, IsFirstIn, IsMethod, FramesFit}
-use Rattle.vg_open_costs.specs.Taken.{frame_in, frame_of, between, callers_take, LeadBefore}
-use Rattle.vg_open_costs.proofs.Fitted.{all_at, all_before, call_at, above_many, waits_few}
+use Rattle.vg_frame_costs.specs.Bytes.{bytes_of, opening_bytes, frame_bytes, procedure_bytes, unpushed_bytes}
+use Rattle.vg_frame_costs.specs.Fitting.{IsOther, IsOfMethod, IsOfRoutine, IsBefore, IsOfStart, IsByNumber, BeginsWithCall, IsMethodWithin, IsRoutineWithin}
+use Rattle.vg_frame_costs.specs.Fitting.{IsStartWithin, IsStartIn, FramesWithin}
+use Rattle.vg_frame_costs.proofs.Sized.{opens}
+use Rattle.vg_open_costs.specs.Taken.{frame_in, frame_of, unpushed_in, unpushed_of, between, callers_take, stack_takes, LeadBefore}
+use Rattle.vg_open_costs.proofs.Fitted.{all_at, all_before, all_behind, there_before, waits_few}
 
--- ---- costs
+-- two numbers in order
+abbrev Order : (m n : ℕ) → Type 0
+Order m n = (m < n) ⊎ ((m ≡ n) ⊎ (n < m))
 
-pub among_most : (cs : List ℕ) (calls : List Active) (rows : List (List Active)) → IsAmong calls rows → total_cost cs calls ≤ most cs rows
-among_most cs calls [] h = absurd h
-among_most cs calls (row ∷ rows) (inl e) = let same = ap (total_cost cs) e in omega (arith, same)
-among_most cs calls (row ∷ rows) (inr h) = let rest = among_most cs calls rows h in omega (arith, rest)
+order : (m n : ℕ) → Order m n
+order zero zero = inr (inl refl)
+order zero (suc n) = inl (omega arith)
+order (suc m) zero = inr (inr (omega arith))
+order (suc m) (suc n) = elim (order m n) [
+  | inl h ↦ inl (omega (arith, h))
+  | inr (inl e) ↦ inr (inl (ap suc e))
+  | inr (inr h) ↦ inr (inr (omega (arith, h)))
+]
 
-pub noted_most : (cs : List ℕ) (calls : List Active) (rows : List (List Active)) → IsNoted calls rows → total_cost cs calls ≤ most cs rows
-noted_most cs calls rows (inl e) = let same = ap (total_cost cs) e in omega (arith, same)
-noted_most cs calls rows (inr h) = among_most cs calls rows h
+between_few : (a : Awaits) → between a ≤ 4
+between_few (Result call) = omega arith
+between_few Interrupt = omega arith
 
--- the cost of a procedure, where it is a method
-abbrev cost_in : List ℕ → Option ℕ → ℕ
-cost_in cs (Some method) = cost_of cs method
-cost_in cs None = 0
+module _ (p : Program) (frames : List ℕ) (below above : ℕ) (ready : IsReady p) (within : FramesWithin p.procedures p.start frames below above)
+    (before : LeadBefore p) where
+  -- ---- procedures by their places
 
-total_with : (cs : List ℕ) (o : Option ℕ) (calls : List Active) → total_cost cs (with_named (call_of o) calls) ≡ cost_in cs o + total_cost cs calls
-total_with cs (Some method) calls = refl
-total_with cs None calls = omega arith
+  method_is : (m : ℕ) (procedure : Procedure) → slice_get p.procedures m ≡ Some procedure → m < p.start → IsMethodWithin p.start frames above procedure
+  method_is m procedure e less = all_before (IsMethodWithin p.start frames above) p.procedures p.start m procedure within.methods less e
 
--- what a method has left for a procedure above it that is none
-abbrev spare : List Procedure → Procedure → Option ℕ → ℕ
-spare ps procedure (Some method) = above ps procedure
-spare ps procedure None = 0
+  routine_is : (m : ℕ) (procedure : Procedure) → slice_get p.procedures m ≡ Some procedure → p.start < m → IsRoutineWithin above procedure
+  routine_is m procedure e less = all_behind (IsRoutineWithin above) p.procedures p.start m procedure within.routines less e
 
-clashes : {C : Type 0} (b : Bool) → b ≡ true → b ≡ false → C
-clashes true e h = absurd (let clash : true ≡ false = h in cc)
-clashes false e h = absurd (let clash : false ≡ true = e in cc)
+  start_is : (m : ℕ) (procedure : Procedure) → slice_get p.procedures m ≡ Some procedure → m ≡ p.start → IsStartWithin p.start below procedure
+  start_is m procedure e same = subst (IsStartIn p.start below) (sym (ap (slice_get p.procedures) same) ∙ e) within.first
 
-module _ (p : Program) (cs : List ℕ) (ready : IsReady p) (fit : FramesFit p.procedures p.start cs) (before : LeadBefore p) where
-  pub fits_at : (m : ℕ) (procedure : Procedure) → slice_get p.procedures m ≡ Some procedure → Fits p.procedures cs procedure
-  fits_at m procedure e = all_at (Fits p.procedures cs) p.procedures m procedure fit.each e
+  pub first_is : IsStartWithin p.start below ready.first
+  first_is = start_is p.start ready.first ready.start refl
 
-  pub first_is : IsFirst ready.first
-  first_is = subst IsFirstIn ready.start fit.first
+  instr_there : (m pc : ℕ) (procedure : Procedure) (i : Instr) → slice_get p.procedures m ≡ Some procedure
+      → fetch (codes_in p.procedures) m pc ≡ Some i → slice_get procedure.code pc ≡ Some i
+  instr_there m pc procedure i there e = sym (fetch_in p.procedures m procedure there pc) ∙ e
 
-  named_is : (m : ℕ) (procedure : Procedure) → slice_get p.procedures m ≡ Some procedure → (language p).named m ≡ call_of procedure.method
-  named_is m procedure e = ap name_of e
+  -- ---- what idles, and what is called
 
-  frame_is : (m : ℕ) (procedure : Procedure) → slice_get p.procedures m ≡ Some procedure → frame_of p m ≡ bytes_of procedure.widths + 4
+  no_idling : (m pc : ℕ) (procedure : Procedure) → slice_get p.procedures m ≡ Some procedure → fetch (codes_in p.procedures) m pc ≡ Some Idle
+      → m < p.start → ⊥
+  no_idling m pc procedure there e less =
+      all_at (IsOfMethod p.start) procedure.code pc Idle (method_is m procedure there less).code (instr_there m pc procedure Idle there e)
+
+  pub idles_at_start : (m pc : ℕ) (procedure : Procedure) → slice_get p.procedures m ≡ Some procedure
+      → fetch (codes_in p.procedures) m pc ≡ Some Idle → m ≡ p.start
+  idles_at_start m pc procedure there e = by (order m p.start)
+    where
+      by : Order m p.start → m ≡ p.start
+      by (inl less) = absurd (no_idling m pc procedure there e less)
+      by (inr (inl same)) = same
+      by (inr (inr more)) =
+          absurd (all_at IsOfRoutine procedure.code pc Idle (routine_is m procedure there more).code (instr_there m pc procedure Idle there e))
+
+  calls_nothing : (f : Frame State) (procedure : Procedure) → slice_get p.procedures f.proc ≡ Some procedure → (q : ℕ) (a : Awaits) → IsOpener p q f a
+      → p.start < f.proc → ⊥
+  calls_nothing f procedure there q Interrupt (e, h) more =
+      all_at IsOfRoutine procedure.code f.pc Idle (routine_is f.proc procedure there more).code (instr_there f.proc f.pc procedure Idle there e)
+  calls_nothing f procedure there q (Result call) (e, aim) more =
+      all_at IsOfRoutine procedure.code f.pc (Call call) (routine_is f.proc procedure there more).code
+      (instr_there f.proc f.pc procedure (Call call) there e)
+
+  -- a method is interrupted nowhere
+  no_space : (f : Frame State) (procedure : Procedure) → slice_get p.procedures f.proc ≡ Some procedure → (q : ℕ) (a : Awaits) → IsOpener p q f a
+      → f.proc < p.start → between a ≡ 0
+  no_space f procedure there q (Result call) h less = refl
+  no_space f procedure there q Interrupt (e, h) less = absurd (no_idling f.proc f.pc procedure there e less)
+
+  -- nothing leads to the procedure with which a run begins
+  other_aim : (callee : Callee) (q : ℕ) → IsAim p callee q → IsOther p.start callee → q ≡ p.start → ⊥
+  other_aim (ByNumber r) q aim h same = h (aim ∙ same)
+  other_aim (ByCode a) q (code, e) h same = let less = before.codes code q e in omega (arith, less, same)
+
+  other_than : (callee : Callee) → IsBefore p.start callee → IsOther p.start callee
+  other_than (ByNumber r) less = λ same. omega (arith, less, same)
+  other_than (ByCode a) h = tt
+
+  callee_is : (f : Frame State) (procedure : Procedure) → slice_get p.procedures f.proc ≡ Some procedure → (call : CallTo)
+      → fetch (codes_in p.procedures) f.proc f.pc ≡ Some (Call call) → Order f.proc p.start → IsOther p.start call.callee
+  callee_is f procedure there call e (inl less) =
+      all_at (IsOfMethod p.start) procedure.code f.pc (Call call) (method_is f.proc procedure there less).code
+      (instr_there f.proc f.pc procedure (Call call) there e)
+  callee_is f procedure there call e (inr (inl same)) =
+      other_than call.callee
+      (all_at (IsOfStart p.start) procedure.code f.pc (Call call) (start_is f.proc procedure there same).code
+      (instr_there f.proc f.pc procedure (Call call) there e))
+  callee_is f procedure there call e (inr (inr more)) =
+      absurd (all_at IsOfRoutine procedure.code f.pc (Call call) (routine_is f.proc procedure there more).code
+      (instr_there f.proc f.pc procedure (Call call) there e))
+
+  not_start : (f : Frame State) (procedure : Procedure) → slice_get p.procedures f.proc ≡ Some procedure → (q : ℕ) (a : Awaits) → IsOpener p q f a
+      → q ≡ p.start → ⊥
+  not_start f procedure there q Interrupt (e, (v, h)) same = let less = before.handlers v q h in omega (arith, less, same)
+  not_start f procedure there q (Result call) (e, aim) same =
+      other_aim call.callee q aim (callee_is f procedure there call e (order f.proc p.start)) same
+
+  no_callers : (m : ℕ) (fs : List (Frame State)) → AreOpen p m fs → m ≡ p.start → callers_take p fs ≡ 0
+  no_callers m [] h same = refl
+  no_callers m (f ∷ fs) (opener, (w, rest)) same = absurd (not_start f w.procedure w.there m f.awaits opener same)
+
+  -- ---- what they take
+
+  frame_is : (m : ℕ) (procedure : Procedure) → slice_get p.procedures m ≡ Some procedure → frame_of p m ≡ frame_bytes procedure
   frame_is m procedure e = ap frame_in e
 
-  total_is : (m : ℕ) (procedure : Procedure) → slice_get p.procedures m ≡ Some procedure → (fs : List (Frame State))
-      → total_cost cs (open_calls (language p) m fs) ≡ cost_in cs procedure.method + total_cost cs (open_below (language p) fs)
-  total_is m procedure e fs =
-      ap (λ z. total_cost cs (with_named z (open_below (language p) fs))) (named_is m procedure e)
-      ∙ total_with cs procedure.method (open_below (language p) fs)
+  unpushed_is : (m : ℕ) (procedure : Procedure) → slice_get p.procedures m ≡ Some procedure → unpushed_of p m ≡ unpushed_bytes procedure
+  unpushed_is m procedure e = ap unpushed_in e
 
-  -- ---- what is no method is opened by a method, at a call
+  method_total : (m : ℕ) (procedure : Procedure) (there : slice_get p.procedures m ≡ Some procedure) (less : m < p.start) (fs : List (Frame State))
+      → total_cost frames (open_calls (language p) m fs)
+      ≡ cost_of frames (method_is m procedure there less).method + total_cost frames (open_below (language p) fs)
+  method_total m procedure there less fs =
+      ap (λ z. total_cost frames (with_named z (open_below (language p) fs)))
+      (ap name_of there ∙ ap call_of (method_is m procedure there less).named)
 
-  abbrev IsMethodAt : Option Procedure → Type 0
-  IsMethodAt o = is_some (method_in o) ≡ true
+  routine_total : (m : ℕ) (procedure : Procedure) → slice_get p.procedures m ≡ Some procedure → p.start < m → (fs : List (Frame State))
+      → total_cost frames (open_calls (language p) m fs) ≡ total_cost frames (open_below (language p) fs)
+  routine_total m procedure there more fs =
+      ap (λ z. total_cost frames (with_named z (open_below (language p) fs)))
+      (ap name_of there ∙ ap call_of (routine_is m procedure there more).unnamed)
 
-  handled : (v q : ℕ) (procedure : Procedure) → p.handler v ≡ Some q → slice_get p.procedures q ≡ Some procedure → is_some procedure.method ≡ true
-  handled v q procedure e there = all_before IsMethod p.procedures p.start q procedure fit.methods (before.handlers v q e) there
-
-  called_by : (callee : Callee) (q : ℕ) (procedure : Procedure) → slice_get p.procedures q ≡ Some procedure → IsAim p callee q
-      → is_method_callee p.procedures callee ≡ true → is_some procedure.method ≡ true
-  called_by (ByNumber r) q procedure there aim h = subst IsMethodAt there (subst (λ z. IsMethodAt (slice_get p.procedures z)) aim h)
-  called_by (ByCode a) q procedure there (code, e) h = all_before IsMethod p.procedures p.start q procedure fit.methods (before.codes code q e) there
-
-  -- code whose calls are of methods opens methods
-  opened_method : (q : ℕ) (procedure : Procedure) → slice_get p.procedures q ≡ Some procedure → (f : Frame State) (caller : Procedure)
-      → slice_get p.procedures f.proc ≡ Some caller → calls_methods p.procedures caller.code ≡ true → (a : Awaits) → IsOpener p q f a
-      → is_some procedure.method ≡ true
-  opened_method q procedure there f caller is all Interrupt (e, (v, h)) = handled v q procedure h there
-  opened_method q procedure there f caller is all (Result call) (e, aim) =
-      called_by call.callee q procedure there aim
-      (call_at p.procedures caller.code f.pc (Call call) all (sym (fetch_in p.procedures f.proc caller is f.pc) ∙ e))
-
-  unnamed_opened : (q : ℕ) (procedure : Procedure) → procedure.method ≡ None → is_some procedure.method ≡ true → ⊥
-  unnamed_opened q procedure unnamed h = absurd (let clash : false ≡ true = ap is_some (sym unnamed) ∙ h in cc)
-
-  opened_at_call : (q : ℕ) (procedure : Procedure) → slice_get p.procedures q ≡ Some procedure → procedure.method ≡ None → (f : Frame State) (a : Awaits)
-      → IsOpener p q f a → between a ≡ 0
-  opened_at_call q procedure there unnamed f (Result call) h = refl
-  opened_at_call q procedure there unnamed f Interrupt (e, (v, h)) = absurd (unnamed_opened q procedure unnamed (handled v q procedure h there))
-
-  -- ---- all that are open
-
-  abbrev Idles : (procedure : Procedure) (m : ℕ) → List (Frame State) → Type 0
-  Idles procedure m [] = Unit {0}
-  Idles procedure m (f ∷ fs) =
-      procedure_bytes procedure + idle_bytes procedure.code + callers_take p (f ∷ fs) ≤ 4 + total_cost cs (open_calls (language p) m (f ∷ fs))
-
-  pub record Cover (m : ℕ) (fs : List (Frame State)) (procedure : Procedure) : Type 0 where
-    pub all : procedure_bytes procedure + callers_take p fs + spare p.procedures procedure procedure.method ≤ 4 + total_cost cs (open_calls (language p) m fs)
-    pub idling : Idles procedure m fs
-
-  between_few : (a : Awaits) → between a ≤ 4
-  between_few (Result call) = omega arith
-  between_few Interrupt = omega arith
-
-  -- what the callers take, by what the newest of them does
-  below : (f : Frame State) (fs : List (Frame State)) (w : HasWaits p f.proc (suc f.pc) f.kept) → Cover f.proc fs w.procedure
-      → callers_take p (f ∷ fs) + spare p.procedures w.procedure w.procedure.method ≤ between f.awaits + 4 + total_cost cs (open_below (language p) (f ∷ fs))
-  below f fs w c =
+  -- a procedure with what waits in it
+  procedure_takes : (m pc : ℕ) (s : State) (w : HasWaits p m pc s) → stack_takes p m s [] ≤ procedure_bytes w.procedure
+  procedure_takes m pc s w =
       let waits = ap bytes_of w.waits in
-      let few = waits_few w.procedure (ready.sound f.proc w.procedure w.there) (suc f.pc) in
-      let frame = frame_is f.proc w.procedure w.there in
-      let all = c.all in omega (arith, waits, few, frame, all)
+      let few = waits_few w.procedure (ready.sound m w.procedure w.there) pc in
+      let frame = frame_is m w.procedure w.there in omega (arith, waits, few, frame)
 
-  method_covers : (o : Option ℕ) (m : ℕ) (f : Frame State) (fs : List (Frame State)) (procedure : Procedure) → slice_get p.procedures m ≡ Some procedure
-      → procedure.method ≡ o → IsOpener p m f f.awaits → (w : HasWaits p f.proc (suc f.pc) f.kept) → Cover f.proc fs w.procedure → Cover m (f ∷ fs) procedure
-  method_covers (Some method) m f fs procedure there is opener w c =
-      let fits = subst (λ o. FitsAs p.procedures cs procedure o) is (fits_at m procedure there) in
-      let cost = ap (cost_in cs) is in
-      let total = total_is m procedure there (f ∷ fs) in
-      let rest = below f fs w c in
-      let space = between_few f.awaits in
-      let spares = ap (spare p.procedures procedure) is in
-      let idle = above_many p.procedures procedure in
-      record { all = omega (arith, fits, cost, total, rest, space, spares); idling = omega (arith, fits, cost, total, rest, space, idle) }
-  method_covers None m f fs procedure there is opener w c =
-      let fits = (subst (λ o. FitsAs p.procedures cs procedure o) is (fits_at m procedure there)).0 in
-      let cost = ap (cost_in cs) is in
-      let total = total_is m procedure there (f ∷ fs) in
-      let rest = below f fs w c in
-      let space = opened_at_call m procedure there is f f.awaits opener in
-      let spares = ap (spare p.procedures procedure) is in
-      let caller = spare_of w.procedure.method refl (calls_methods p.procedures w.procedure.code) refl in
-      record { all = omega (arith, fits, cost, total, rest, space, spares, caller); idling = omega (arith, fits, cost, total, rest, space, caller) }
+  pub start_opens : frame_of p p.start + 4 ≤ below
+  start_opens =
+      let frame = frame_is p.start ready.first ready.start in
+      let bytes = first_is.bytes in omega (arith, frame, bytes)
+
+  callers_by : (q : ℕ) (f : Frame State) (fs : List (Frame State)) → IsOpener p q f f.awaits → (w : HasWaits p f.proc (suc f.pc) f.kept)
+      → AreOpen p f.proc fs → callers_take p fs ≤ below + total_cost frames (open_below (language p) fs) → Order f.proc p.start
+      → callers_take p (f ∷ fs) ≤ below + total_cost frames (open_below (language p) (f ∷ fs))
+  callers_by q f fs opener w rest others (inl less) =
+      let takes = procedure_takes f.proc (suc f.pc) f.kept w in
+      let bytes = (method_is f.proc w.procedure w.there less).bytes in
+      let total = method_total f.proc w.procedure w.there less fs in
+      let space = no_space f w.procedure w.there q f.awaits opener less in omega (arith, takes, bytes, total, space, others)
+  callers_by q f fs opener w rest others (inr (inl same)) =
+      let takes = procedure_takes f.proc (suc f.pc) f.kept w in
+      let bytes = (start_is f.proc w.procedure w.there same).bytes in
+      let none = no_callers f.proc fs rest same in
+      let space = between_few f.awaits in omega (arith, takes, bytes, none, space)
+  callers_by q f fs opener w rest others (inr (inr more)) = absurd (calls_nothing f w.procedure w.there q f.awaits opener more)
+
+  callers : (q : ℕ) (fs : List (Frame State)) → AreOpen p q fs → callers_take p fs ≤ below + total_cost frames (open_below (language p) fs)
+  callers q [] h = omega arith
+  callers q (f ∷ fs) (opener, (w, rest)) = callers_by q f fs opener w rest (callers f.proc fs rest) (order f.proc p.start)
+
+  -- all that is taken where the procedure stands with which a run begins
+  pub start_stands : (c : Config State) → IsOpen p c → c.proc ≡ p.start → stack_takes p c.proc c.state c.frames + unpushed_of p c.proc + 4 ≤ below
+  start_stands c h same =
+      let takes = procedure_takes c.proc c.pc c.state h.here in
+      let bytes = (start_is c.proc h.here.procedure h.here.there same).bytes in
+      let unpushed = unpushed_is c.proc h.here.procedure h.here.there in
+      let none = no_callers c.proc c.frames h.callers same in omega (arith, takes, bytes, unpushed, none)
+
+  -- all that is taken where any procedure stands
+  pub stands : (c : Config State) → IsOpen p c
+      → stack_takes p c.proc c.state c.frames + unpushed_of p c.proc
+      ≤ below + above + total_cost frames (open_calls (language p) c.proc c.frames)
+  stands c h = by (order c.proc p.start)
     where
-      spare_of : (o : Option ℕ) → w.procedure.method ≡ o → (b : Bool) → calls_methods p.procedures w.procedure.code ≡ b
-          → spare p.procedures w.procedure w.procedure.method ≡ routine_bytes
-      spare_of o e true all = absurd (unnamed_opened m procedure is (opened_method m procedure there f w.procedure w.there all f.awaits opener))
-      spare_of (Some method) e false others =
-          ap (spare p.procedures w.procedure) e ∙ ap (λ b. if b then idle_bytes w.procedure.code else routine_bytes) others
-      spare_of None e false others = clashes (calls_methods p.procedures w.procedure.code)
-          (subst (λ o. FitsAs p.procedures cs w.procedure o) e (fits_at f.proc w.procedure w.there)).1 others
-
-  pub covers : (m : ℕ) (fs : List (Frame State)) (procedure : Procedure) → slice_get p.procedures m ≡ Some procedure → AreOpen p m fs → Cover m fs procedure
-  covers m [] procedure there e =
-      let same = same_Some procedure ready.first (sym there ∙ ap (slice_get p.procedures) e ∙ ready.start) in
-      let bytes = subst (λ z. procedure_bytes z ≤ 4) (sym same) first_is.bytes in
-      let spares = ap (λ (z : Procedure). spare p.procedures z z.method) same ∙ ap (spare p.procedures ready.first) first_is.unnamed in
-      record { all = omega (arith, bytes, spares); idling = tt }
-  covers m (f ∷ fs) procedure there (opener, (w, rest)) =
-      method_covers procedure.method m f fs procedure there refl opener w (covers f.proc fs w.procedure w.there rest)
+      by : Order c.proc p.start
+          → stack_takes p c.proc c.state c.frames + unpushed_of p c.proc
+          ≤ below + above + total_cost frames (open_calls (language p) c.proc c.frames)
+      by (inl less) =
+          let takes = procedure_takes c.proc c.pc c.state h.here in
+          let bytes = (method_is c.proc h.here.procedure h.here.there less).bytes in
+          let most = (method_is c.proc h.here.procedure h.here.there less).unpushed in
+          let unpushed = unpushed_is c.proc h.here.procedure h.here.there in
+          let total = method_total c.proc h.here.procedure h.here.there less c.frames in
+          let others = callers c.proc c.frames h.callers in omega (arith, takes, bytes, most, unpushed, total, others)
+      by (inr (inl same)) = let few = start_stands c h same in omega (arith, few)
+      by (inr (inr more)) =
+          let takes = procedure_takes c.proc c.pc c.state h.here in
+          let bytes = (routine_is c.proc h.here.procedure h.here.there more).bytes in
+          let unpushed = unpushed_is c.proc h.here.procedure h.here.there in
+          let total = routine_total c.proc h.here.procedure h.here.there more c.frames in
+          let others = callers c.proc c.frames h.callers in omega (arith, takes, bytes, unpushed, total, others)
 
   -- ---- the first call
 
@@ -173,37 +219,32 @@ module _ (p : Program) (cs : List ℕ) (ready : IsReady p) (fit : FramesFit p.pr
   first_call (Return w a ∷ is) h = absurd h
   first_call (Idle ∷ is) h = absurd h
 
-  -- a method that is called first, with what it costs
+  -- a method that is called first, and that it has a frame
   pub record FirstCall : Type 0 where
     pub method : ℕ
     pub first : CallsFirst p (Calling method)
-    pub cost : 4 ≤ cost_of cs method
-
-  by_method : (call : CallTo) → fetch (codes_in p.procedures) p.start 0 ≡ Some (Call call) → (q : ℕ) → call.callee ≡ ByNumber q → (o : Option Procedure)
-      → slice_get p.procedures q ≡ o → (x : Option ℕ) → method_in o ≡ x → is_some x ≡ true → FirstCall
-  by_method call first q callee o there None e h = absurd (let clash : false ≡ true = h in cc)
-  by_method call first q callee None there (Some method) e h = absurd (none-some method e)
-  by_method call first q callee (Some procedure) there (Some method) e h = record {
-    method = method;
-    first = record {
-      unnamed = named_is p.start ready.first ready.start ∙ ap call_of first_is.unnamed;
-      call = call;
-      first = first;
-      main = q;
-      callee = callee;
-      named = named_is q procedure there ∙ ap call_of e;
-    };
-    cost = let fits = subst (λ z. FitsAs p.procedures cs procedure z) e (fits_at q procedure there) in omega (arith, fits);
-  }
+    pub some : 1 ≤ cost_of frames method
 
   by_callee : (call : CallTo) → fetch (codes_in p.procedures) p.start 0 ≡ Some (Call call) → (callee : Callee) → call.callee ≡ callee
-      → IsByNumber callee → is_method_callee p.procedures callee ≡ true → FirstCall
-  by_callee call first (ByNumber q) e number h = by_method call first q e (slice_get p.procedures q) refl (method_in (slice_get p.procedures q)) refl h
-  by_callee call first (ByCode a) e number h = absurd number
+      → IsByNumber callee → IsBefore p.start callee → FirstCall
+  by_callee call first (ByCode a) e number less = absurd number
+  by_callee call first (ByNumber q) e number less =
+      let (procedure, there) = there_before p.procedures p.start q ready.first ready.start less in
+      let method = method_is q procedure there less in record {
+        method = method.method;
+        first = record {
+          unnamed = ap name_of ready.start ∙ ap call_of first_is.unnamed;
+          call = call;
+          first = first;
+          main = q;
+          callee = e;
+          named = ap name_of there ∙ ap call_of method.named;
+        };
+        some = let bytes = method.bytes in let two = opens procedure in omega (arith, bytes, two);
+      }
 
   pub calls_first : FirstCall
   calls_first =
-      let (call, e, number) = first_call ready.first.code first_is.calls in
+      let (call, e, number) = first_call ready.first.code first_is.first in
       by_callee call (fetch_in p.procedures p.start ready.first ready.start 0 ∙ e) call.callee refl number
-      (call_at p.procedures ready.first.code 0 (Call call)
-      (subst (λ o. FitsAs p.procedures cs ready.first o) first_is.unnamed (fits_at p.start ready.first ready.start)).1 e)
+      (all_at (IsOfStart p.start) ready.first.code 0 (Call call) first_is.code e)

@@ -1,8 +1,8 @@
--- What is known of procedures that fit, and how many bytes wait in them.
-use Rattle.std.specs.Prelude.{ℕ, zero, suc, ◌+◌, ◌-◌, ◌*◌, ◌<◌, ◌≤◌, Bool, true, false, ◌&&◌, if◌then◌else◌, List, [], ◌∷◌, ◌++◌, length, drop, take}
+-- What stands where in rows, and how many bytes wait in procedures.
+use Rattle.std.specs.Prelude.{ℕ, zero, suc, ◌+◌, ◌-◌, ◌*◌, ◌<◌, ◌≤◌, List, [], ◌∷◌, ◌++◌, length, drop, take}
 use Rattle.std.specs.Prelude.{Some, slice_get}
 use Rattle.std.specs.List.{AllByRecursion}
-use Rattle.std.proofs.Common.{◌≡◌, refl, sym, ap, ◌∙◌, subst, arith}
+use Rattle.std.proofs.Common.{◌≡◌, refl, subst, arith}
 use Rattle.std.proofs.lemmas.List.{length-drop}
 use Rattle.std.proofs.lemmas.Option.{none-some, same_Some}
 use Rattle.vg_lin.specs.declared.instr.Plain.{Plain as PlainInstr}
@@ -11,7 +11,7 @@ use Rattle.vg_lin.specs.declared.instr.Instr.{Instr}
 use Rattle.vg_lin.specs.declared.instr.Instr.TheVariants.{Plain, When, Unless, Jump, Call, Return, Idle}
 use Rattle.vg_lin.specs.Program.{Procedure}
 use Rattle.vg_lin.specs.Sound.{AreOperands, behind, waits_in, waits_of, IsSound}
-use Rattle.vg_frame_costs.specs.Fitting.{bytes_of, waiting_behind, most_waiting, idle_bytes, routine_bytes, is_method_call, calls_methods, above}
+use Rattle.vg_frame_costs.specs.Bytes.{bytes_of, waiting_behind, most_waiting}
 
 -- ---- rows
 
@@ -26,17 +26,18 @@ all_before P (y ∷ ys) zero k x h less e = absurd (omega (arith, less))
 all_before P (y ∷ ys) (suc n) zero x h less e = subst P (same_Some y x e) h.0
 all_before P (y ∷ ys) (suc n) (suc k) x h less e = all_before P ys n k x h.1 (omega (arith, less)) e
 
--- ---- calls
+pub all_behind : {A : Type 0} (P : A → Type 0) (xs : List A) (n k : ℕ) (x : A) → AllByRecursion P (drop (suc n) xs) → n < k → slice_get xs k ≡ Some x → P x
+all_behind P [] n k x h less e = absurd (none-some x e)
+all_behind P (y ∷ ys) n zero x h less e = absurd (omega (arith, less))
+all_behind P (y ∷ ys) zero (suc k) x h less e = all_at P ys k x h e
+all_behind P (y ∷ ys) (suc n) (suc k) x h less e = all_behind P ys n k x h (omega (arith, less)) e
 
-both_true : (a b : Bool) → (a && b) ≡ true → (a ≡ true) × (b ≡ true)
-both_true true b e = (refl, e)
-both_true false b e = absurd (let clash : false ≡ true = e in cc)
-
--- each instruction of code whose calls are of methods
-pub call_at : (ps : List Procedure) (is : List Instr) (k : ℕ) (i : Instr) → calls_methods ps is ≡ true → slice_get is k ≡ Some i → is_method_call ps i ≡ true
-call_at ps [] k i h e = absurd (none-some i e)
-call_at ps (j ∷ is) zero i h e = ap (is_method_call ps) (sym (same_Some j i e)) ∙ (both_true (is_method_call ps j) (calls_methods ps is) h).0
-call_at ps (j ∷ is) (suc k) i h e = call_at ps is k i (both_true (is_method_call ps j) (calls_methods ps is) h).1 e
+-- what stands before another is there
+pub there_before : {A : Type 0} (xs : List A) (n k : ℕ) (x : A) → slice_get xs n ≡ Some x → k < n → (y : A) × (slice_get xs k ≡ Some y)
+there_before [] n k x e less = absurd (none-some x e)
+there_before (y ∷ ys) zero k x e less = absurd (omega (arith, less))
+there_before (y ∷ ys) (suc n) zero x e less = (y, refl)
+there_before (y ∷ ys) (suc n) (suc k) x e less = there_before ys n k x e (omega (arith, less))
 
 -- ---- values that wait
 
@@ -99,42 +100,6 @@ counted_bytes m (i ∷ is) h ws n (suc at) c =
 -- the bytes that wait at a place of a sound procedure
 pub waits_few : (m : Procedure) → IsSound m → (at : ℕ) → bytes_of (waits_of m at) ≤ 4 * most_waiting 0 m.code
 waits_few m sound at = counted_bytes m m.code sound.operands [] 0 at (tt, omega arith)
-
--- ---- idling
-
-pub idles : (is : List Instr) (k : ℕ) → slice_get is k ≡ Some Idle → idle_bytes is ≡ 4
-idles [] k e = absurd (none-some Idle e)
-idles (Idle ∷ is) k e = refl
-idles (Plain q ∷ is) zero e = absurd (let clash : Some (Plain q) ≡ Some Idle = e in cc)
-idles (When t to ∷ is) zero e = absurd (let clash : Some (When t to) ≡ Some Idle = e in cc)
-idles (Unless t to ∷ is) zero e = absurd (let clash : Some (Unless t to) ≡ Some Idle = e in cc)
-idles (Jump to ∷ is) zero e = absurd (let clash : Some (Jump to) ≡ Some Idle = e in cc)
-idles (Call c ∷ is) zero e = absurd (let clash : Some (Call c) ≡ Some Idle = e in cc)
-idles (Return w a ∷ is) zero e = absurd (let clash : Some (Return w a) ≡ Some Idle = e in cc)
-idles (Plain q ∷ is) (suc k) e = idles is k e
-idles (When t to ∷ is) (suc k) e = idles is k e
-idles (Unless t to ∷ is) (suc k) e = idles is k e
-idles (Jump to ∷ is) (suc k) e = idles is k e
-idles (Call c ∷ is) (suc k) e = idles is k e
-idles (Return w a ∷ is) (suc k) e = idles is k e
-
-pub idle_few : (is : List Instr) → idle_bytes is ≤ 4
-idle_few [] = omega arith
-idle_few (Idle ∷ is) = omega arith
-idle_few (Plain q ∷ is) = idle_few is
-idle_few (When t to ∷ is) = idle_few is
-idle_few (Unless t to ∷ is) = idle_few is
-idle_few (Jump to ∷ is) = idle_few is
-idle_few (Call c ∷ is) = idle_few is
-idle_few (Return w a ∷ is) = idle_few is
-
--- what may lie above a method is no less than idling takes
-pub above_many : (ps : List Procedure) (m : Procedure) → idle_bytes m.code ≤ above ps m
-above_many ps m = by (calls_methods ps m.code)
-  where
-    by : (b : Bool) → idle_bytes m.code ≤ (if b then idle_bytes m.code else routine_bytes)
-    by true = omega arith
-    by false = let few = idle_few m.code in omega (arith, few)
 
 -- ---- sums
 

@@ -18,9 +18,9 @@ use Rattle.vg_lin.specs.Steps.{Frame, Went, Goes, Raises, Lacks, Fails, Entry, C
 use Rattle.vg_lin.specs.Steps.{takes, handles, performed, fetch, stepped, step}
 use Rattle.vg_open_calls.specs.Open.{IsReady, waiting_widths, IsOpen}
 use Rattle.vg_open_calls.proofs.Entering.{Entered, entered}
-use Rattle.vg_frame_costs.specs.Fitting.{bytes_of}
-use Rattle.vg_open_costs.specs.Taken.{frame_in, frame_of, opening_in, opening_of, stack_takes, passes, entry_takes, handler_takes, instr_takes, step_takes}
-use Rattle.vg_open_costs.specs.Taken.{taken}
+use Rattle.vg_frame_costs.specs.Bytes.{bytes_of, opening_bytes, frame_bytes, pushed_bytes, unpushed_bytes}
+use Rattle.vg_open_costs.specs.Taken.{frame_in, frame_of, opening_in, opening_of, unpushed_in, unpushed_of, stack_takes, passes, entry_takes, handler_takes}
+use Rattle.vg_open_costs.specs.Taken.{instr_takes, step_takes, taken}
 use Rattle.vg_open_costs.proofs.Fitted.{bytes_append, bytes_cut}
 
 -- ---- what a call passes
@@ -69,27 +69,28 @@ passed_widths [] s xs e = ap (λ z. bytes_of (waiting_widths z)) (sym (same_Some
 passed_widths (a ∷ more) s xs e = one_more a more xs (value a.value s) (values more s) (λ ys h. passed_widths more s ys h) e
 
 module _ (p : Program) (ready : IsReady p) where
-  frame_there : (m : ℕ) (procedure : Procedure) → slice_get p.procedures m ≡ Some procedure → frame_of p m ≡ bytes_of procedure.widths + 4
+  frame_there : (m : ℕ) (procedure : Procedure) → slice_get p.procedures m ≡ Some procedure → frame_of p m ≡ opening_bytes procedure + pushed_bytes procedure
   frame_there m procedure e = ap frame_in e
 
-  opening_there : (m : ℕ) (procedure : Procedure) → slice_get p.procedures m ≡ Some procedure
-      → opening_of p m ≡ bytes_of (drop procedure.params procedure.widths) + 4
+  opening_there : (m : ℕ) (procedure : Procedure) → slice_get p.procedures m ≡ Some procedure → opening_of p m ≡ opening_bytes procedure
   opening_there m procedure e = ap opening_in e
+
+  unpushed_there : (m : ℕ) (procedure : Procedure) → slice_get p.procedures m ≡ Some procedure → unpushed_of p m ≡ unpushed_bytes procedure
+  unpushed_there m procedure e = ap unpushed_in e
 
   pub opening_within : (m : ℕ) (procedure : Procedure) → slice_get p.procedures m ≡ Some procedure → opening_of p m ≤ frame_of p m
   opening_within m procedure e =
       let frame = frame_there m procedure e in
-      let opening = opening_there m procedure e in
-      let cut = bytes_cut procedure.params procedure.widths in omega (arith, frame, opening, cut)
+      let opening = opening_there m procedure e in omega (arith, frame, opening)
 
-  -- what a call takes is what stands behind it
+  -- what a call takes is what stands behind it, and what is not pushed
   call_bytes : (call : CallTo) (s : State) (e : Entry State) → Entered p call s e
       → bytes_of (waiting_widths s.waiting) + (passes (operands call.registers) + opening_of p e.proc)
-      ≡ frame_of p e.proc + bytes_of (waiting_widths e.kept.waiting)
+      ≤ frame_of p e.proc + bytes_of (waiting_widths e.kept.waiting) + unpushed_of p e.proc
   call_bytes call s e x =
       let frame = frame_there e.proc x.procedure x.there in
       let opening = opening_there e.proc x.procedure x.there in
-      let cut = bytes_cut x.procedure.params x.procedure.widths in
+      let unpushed = unpushed_there e.proc x.procedure x.there in
       let args = same_bytes x.procedure.widths (reverse (take call.pushed s.waiting) ++ x.others) x.wide in
       let many = ap (λ n. bytes_of (take n x.procedure.widths)) x.many in
       let split = ap bytes_of (map-append (λ (z : Waiting). z.width) (reverse (take call.pushed s.waiting)) x.others) in
@@ -100,7 +101,7 @@ module _ (p : Program) (ready : IsReady p) where
       let dropped = ap bytes_of (sym (drop-map (λ (z : Waiting). z.width) call.pushed s.waiting)) in
       let front = ap bytes_of (sym (take-map (λ (z : Waiting). z.width) call.pushed s.waiting)) in
       let whole = bytes_cut call.pushed (waiting_widths s.waiting) in
-      omega (arith, frame, opening, cut, args, many, split, sums, pushed, registers, kept, dropped, front, whole)
+      omega (arith, frame, opening, unpushed, args, many, split, sums, pushed, registers, kept, dropped, front, whole)
 
   -- ---- one step
 
@@ -115,9 +116,9 @@ module _ (p : Program) (ready : IsReady p) where
   abbrev pub IsSettled : Config State → Type 0
   IsSettled c = (c.ending ≡ None) ⊎ (IsQuiet c ⊎ (c.ending ≡ Some Wrong))
 
-  -- what is taken before the step and in it: little more than what stands there, or what stands behind it
+  -- what is taken before the step and in it: little more than what stands there, or what stands behind it and was not pushed
   abbrev pub IsHeld : (now next : Config State) → Type 0
-  IsHeld c d = IsQuiet c ⊎ ((taken p c ≤ stack_of d) ⊎ (d.ending ≡ Some Wrong))
+  IsHeld c d = IsQuiet c ⊎ ((taken p c ≤ stack_of d + unpushed_of p d.proc) ⊎ (d.ending ≡ Some Wrong))
 
   abbrev Both : (now next : Config State) → Type 0
   Both c d = IsHeld c d × IsSettled d
@@ -135,7 +136,7 @@ module _ (p : Program) (ready : IsReady p) where
     wrongly : Both c (ends c Wrong)
     wrongly = (inr (inr refl), inr (inr refl))
 
-    grown : (d : Config State) → taken p c ≤ stack_of d → d.ending ≡ None → Both c d
+    grown : (d : Config State) → taken p c ≤ stack_of d + unpushed_of p d.proc → d.ending ≡ None → Both c d
     grown d h e = (inr (inl h), inl e)
 
     module _ (going : c.ending ≡ None) (asleep : c.woken ≡ None) where

@@ -1,5 +1,5 @@
--- How many bytes of the stack the open procedures of a run of linear code take at most: as many as if each had all its locals in its frame.
-use Rattle.std.specs.Prelude.{ℕ, ◌≡◌, ◌+◌, ◌<◌, List, [], ◌∷◌, drop, Option, Some, None, slice_get}
+-- How many bytes of the stack the open procedures of a run of linear code take at most.
+use Rattle.std.specs.Prelude.{ℕ, ◌≡◌, ◌+◌, ◌<◌, List, [], ◌∷◌, Option, Some, None, slice_get}
 use Rattle.vg_lin.specs.declared.instr.Plain.{Plain as PlainInstr}
 use Rattle.vg_lin.specs.declared.instr.Plain.TheVariants.{Push}
 use Rattle.vg_lin.specs.declared.instr.Passed.{Passed}
@@ -10,23 +10,31 @@ use Rattle.vg_lin.specs.Program.{Procedure, Program}
 use Rattle.vg_lin.specs.State.{State}
 use Rattle.vg_lin.specs.Steps.{Awaits, Result, Interrupt, Frame, Entry, Config, fetch}
 use Rattle.vg_open_calls.specs.Open.{waiting_widths}
-use Rattle.vg_frame_costs.specs.Fitting.{bytes_of}
+use Rattle.vg_frame_costs.specs.Bytes.{bytes_of, opening_bytes, frame_bytes, unpushed_bytes}
 
--- a frame: the locals, of which the parameters were pushed by the caller, the saved frame pointer and the return address
+-- a frame: what a procedure takes when it begins, and what its caller pushed
 abbrev pub frame_in : Option Procedure → ℕ
-frame_in (Some m) = bytes_of m.widths + 4
+frame_in (Some m) = frame_bytes m
 frame_in None = 0
 
 abbrev pub frame_of : Program → (m : ℕ) → ℕ
 frame_of p m = frame_in (slice_get p.procedures m)
 
--- the part of it that a procedure takes when it begins: all but the parameters
+-- the part of it that a procedure takes when it begins
 abbrev pub opening_in : Option Procedure → ℕ
-opening_in (Some m) = bytes_of (drop m.params m.widths) + 4
+opening_in (Some m) = opening_bytes m
 opening_in None = 0
 
 abbrev pub opening_of : Program → (m : ℕ) → ℕ
 opening_of p m = opening_in (slice_get p.procedures m)
+
+-- what is passed to it and not pushed
+abbrev pub unpushed_in : Option Procedure → ℕ
+unpushed_in (Some m) = unpushed_bytes m
+unpushed_in None = 0
+
+abbrev pub unpushed_of : Program → (m : ℕ) → ℕ
+unpushed_of p m = unpushed_in (slice_get p.procedures m)
 
 -- an interrupt leaves two return addresses between what it interrupted and its handler
 abbrev pub between : Awaits → ℕ
@@ -41,7 +49,7 @@ callers_take p (f ∷ fs) = between f.awaits + (bytes_of (waiting_widths f.kept.
 abbrev pub stack_takes : Program → (m : ℕ) → State → List (Frame State) → ℕ
 stack_takes p m s fs = bytes_of (waiting_widths s.waiting) + (frame_of p m + callers_take p fs)
 
--- what an instruction pushes beside that
+-- What an instruction pushes beside that. A call is counted to push all that it passes.
 abbrev pub pushes : PlainInstr → ℕ
 pushes (Push w a) = w
 pushes _ = 0

@@ -31,7 +31,7 @@ use Rattle.vg_followed.specs.Stands.{Stands}
 use Rattle.vg_followed.specs.Runs.{Begins, IsDeepRun, Wholes}
 use Rattle.vg_followed.proofs.Running.{ends, goes_on}
 use Rattle.vg_open_calls.specs.Noted.{IsAmong}
-use Rattle.vg_open_costs.proofs.Covered.{among_most}
+use Rattle.vg_open_costs.proofs.Paid.{among_most}
 use Rattle.vg_ticked_calls.specs.Ticked.{AreTicked}
 use Rattle.vg_ticked_calls.proofs.Ticking.{openings_tick}
 use Rattle.vg_deep_costs.specs.Fit.{HasFitFrames}
@@ -61,7 +61,7 @@ deeper : (e : Run) (deep other : Type 0) (n : ℕ) (s : Machine) (P : Machine �
 deeper e deep other n s P to (inl c) = inl c
 deeper e deep other n s P to (inr (d, k)) = inr (to d, k)
 
-module _ (e : Run) (x : Links) (new : Program) (st : Stands e x new) (b : Begins e x new) (cs : List ℕ) (has : HasFitFrames x new cs)
+module _ (e : Run) (x : Links) (new : Program) (st : Stands e x new) (b : Begins e x new) (extra : ℕ) (cs : List ℕ) (has : HasFitFrames x new extra cs)
     (memory : PowerOn) (powered : IsPowerOn memory) (reads interrupts : List ℕ) (r : AreReads reads) (is : AreVectors interrupts) (v : World History)
     (whole : e.whole ≡ v.outside.trace) (ticked : AreTicked v.history) (c : Config State) (m : ℕ) (same : ShowsSame c (run new m reads interrupts))
     (outside : c.outside ≡ v.outside) (openings : c.openings ≡ v.history.at_openings) (legal : c.ending ≡ Some Wrong → ⊥) where
@@ -74,25 +74,25 @@ module _ (e : Run) (x : Links) (new : Program) (st : Stands e x new) (b : Begins
   wholes : Wholes e new m reads interrupts
   wholes = record { whole = whole ∙ ap (λ o. o.trace) (sym there); legal = right }
 
-  peak : IsDeepRun e x new m reads interrupts → PassesPeak e cs v.history
+  peak : IsDeepRun e x new m reads interrupts → PassesPeak e extra cs v.history
   peak deep =
-      let cost = deep_costs e x new cs st b has m reads interrupts right deep in
+      let cost = deep_costs e x new extra cs st b has m reads interrupts right deep in
       let noted = ap (most cs) (same.openings ∙ openings) in
       let within = most_within cs v.history.at_openings v.history.behind_ticks ticked in omega (arith, cost, noted, within)
 
-  goes : c.ending ≡ None → Goes e (PassesPeak e cs v.history) m (started memory reads interrupts) (Shown e v.outside.trace)
+  goes : c.ending ≡ None → Goes e (PassesPeak e extra cs v.history) m (started memory reads interrupts) (Shown e v.outside.trace)
   goes h =
-      deeper e (IsDeepRun e x new m reads interrupts) (PassesPeak e cs v.history) m (started memory reads interrupts) (Shown e v.outside.trace) peak
+      deeper e (IsDeepRun e x new m reads interrupts) (PassesPeak e extra cs v.history) m (started memory reads interrupts) (Shown e v.outside.trace) peak
       (subst (λ o. Goes e (IsDeepRun e x new m reads interrupts) m (started memory reads interrupts) (Shown e o.trace)) there
       (goes_on e x new st b m memory reads interrupts powered r is wholes (same.ending ∙ h)))
 
-  over : (why : End) → c.ending ≡ Some why → Goes e (PassesPeak e cs v.history) 0 (started memory reads interrupts) (HasEnded e why v.outside)
+  over : (why : End) → c.ending ≡ Some why → Goes e (PassesPeak e extra cs v.history) 0 (started memory reads interrupts) (HasEnded e why v.outside)
   over why h =
-      deeper e (IsDeepRun e x new m reads interrupts) (PassesPeak e cs v.history) 0 (started memory reads interrupts) (HasEnded e why v.outside) peak
+      deeper e (IsDeepRun e x new m reads interrupts) (PassesPeak e extra cs v.history) 0 (started memory reads interrupts) (HasEnded e why v.outside) peak
       (subst (λ o. Goes e (IsDeepRun e x new m reads interrupts) 0 (started memory reads interrupts) (HasEnded e why o)) there
       (ends e x new st b m memory reads interrupts powered r is wholes why (same.ending ∙ h)))
 
-  does : (why : End) → EndsBy why c → DoesWithinPeak e cs m memory reads interrupts why v
+  does : (why : End) → EndsBy why c → DoesWithinPeak e extra cs m memory reads interrupts why v
   does OutOfClock h = goes h
   does OutOfDepth h = goes h
   does (Stops code at) h = over (Stops code at) h
@@ -103,12 +103,12 @@ module _ (e : Run) (x : Links) (new : Program) (st : Stands e x new) (b : Begins
   does Wrong h = over Wrong h
 
 pub within_peak : (k : Codes) (lay : Layout) (f : FirmProgram) (p new : Program) → AreFlat k lay f p → RunsAsRead p new → (e : Run) (x : Links)
-    → Stands e x new → Begins e x new → (cs : List ℕ) → HasFitFrames x new cs → (memory : PowerOn) → IsPowerOn memory
+    → Stands e x new → Begins e x new → (extra : ℕ) (cs : List ℕ) → HasFitFrames x new extra cs → (memory : PowerOn) → IsPowerOn memory
     → (clock : ℕ) (deepest : Option ℕ) (reads interrupts : List ℕ) (t : Firm) (v : World History) (why : End)
     → AreReads reads → AreVectors interrupts → IsLegal why
     → running full k f (length interrupts) (first_state f) (world clock deepest reads interrupts) ≡ Ends (Over why) t v → e.whole ≡ v.outside.trace
-    → (n : ℕ) × (clock ≤ v.clock + n) × DoesWithinPeak e cs n memory reads interrupts why v
-within_peak k lay f p new flat as' e x st b cs has memory powered clock deepest reads interrupts t v why r is legal over' whole =
+    → (n : ℕ) × (clock ≤ v.clock + n) × DoesWithinPeak e extra cs n memory reads interrupts why v
+within_peak k lay f p new flat as' e x st b extra cs has memory powered clock deepest reads interrupts t v why r is legal over' whole =
     by_run (follows k lay f p flat clock deepest reads interrupts t v why r legal over')
   where
     ticked : AreTicked v.history
@@ -116,14 +116,14 @@ within_peak k lay f p new flat as' e x st b cs has memory powered clock deepest 
         openings_tick k f (length interrupts) (first_state f) t (world clock deepest reads interrupts) v (Over why) (λ calls h. absurd h) over'
 
     by_run : (j : ℕ) × (clock ≤ v.clock + counted_steps p j reads interrupts) × ShowsEnd why v (run p j reads interrupts)
-        → (n : ℕ) × (clock ≤ v.clock + n) × DoesWithinPeak e cs n memory reads interrupts why v
+        → (n : ℕ) × (clock ≤ v.clock + n) × DoesWithinPeak e extra cs n memory reads interrupts why v
     by_run (j, spent, shows) = by_steps (as' j reads interrupts r (not_wrong why (run p j reads interrupts) legal shows.ending))
       where
         by_steps : (m : ℕ) × (counted_steps p j reads interrupts ≤ m) × ShowsSame (run p j reads interrupts) (run new m reads interrupts)
-            → (n : ℕ) × (clock ≤ v.clock + n) × DoesWithinPeak e cs n memory reads interrupts why v
+            → (n : ℕ) × (clock ≤ v.clock + n) × DoesWithinPeak e extra cs n memory reads interrupts why v
         by_steps (m, more, same) = (
           m,
           omega (arith, spent, more),
-          does e x new st b cs has memory powered reads interrupts r is v whole ticked (run p j reads interrupts) m same shows.outside shows.openings
+          does e x new st b extra cs has memory powered reads interrupts r is v whole ticked (run p j reads interrupts) m same shows.outside shows.openings
               (not_wrong why (run p j reads interrupts) legal shows.ending) why shows.ending,
         )

@@ -1,8 +1,11 @@
-ghost use Rattle.std.specs.Prelude.{◌≡◌, ◌≤◌};
+ghost use Rattle.std.specs.Prelude.{◌≡◌, ◌<◌, ◌≤◌, length};
 
-use crate::sample::{lasting_locations, sample_locations, wide_locations};
+use crate::sample::{
+    lasting_locations, pushing_locations, sample_locations, taking_locations, wide_locations,
+};
 use avr_instr::{FlagBit, Instr, NearOffset, encode};
 use std::alloc::Global;
+use vg_alloc::Locations;
 use vg_base::{NoMemory, Row};
 use vg_codes::Case;
 use vg_lin::{Address, Comparison, Computation, Operand, Operator, Test};
@@ -41,11 +44,11 @@ fn is_spelled(alloc: Global, code: &Result<Row<Instr>, NoMemory>, expected: &[u1
 }
 
 fn entered(alloc: Global) -> Result<Row<Instr>, NoMemory> {
-    let locations = sample_locations(alloc, 1)?;
+    let locations = pushing_locations(alloc, 3)?;
     let mut code = Row::new(alloc);
     put_prologue(&mut code, &locations)?;
-    put_copies(&mut code, &locations, 1, Operand::Local(0))?;
-    put_returns_value(&mut code, &locations, Operand::Local(1), 1)?;
+    put_copies(&mut code, &locations, 3, Operand::Local(2))?;
+    put_returns_value(&mut code, &locations, Operand::Local(3), 1)?;
     Ok(code)
 }
 
@@ -64,18 +67,18 @@ fn a_procedure_enters_and_returns(rt: HostRuntime) {
 }
 
 fn computed(alloc: Global) -> Result<Row<Instr>, NoMemory> {
-    let locations = sample_locations(alloc, 2)?;
+    let locations = pushing_locations(alloc, 4)?;
     let mut code = Row::new(alloc);
     let sum = Computation {
         operator: Operator::Plus,
         width: 1,
-        to: 1,
-        left: Operand::Local(1),
+        to: 3,
+        left: Operand::Local(3),
         right: Operand::Known(3),
     };
     put_computes(alloc, &mut code, &locations, sum)?;
-    put_pushes_value(alloc, &mut code, &locations, 2, Operand::Local(0))?;
-    put_writes_device(alloc, &mut code, &locations, 0x38, Operand::Local(1))?;
+    put_pushes_value(alloc, &mut code, &locations, 2, Operand::Local(2))?;
+    put_writes_device(alloc, &mut code, &locations, 0x38, Operand::Local(3))?;
     put_stops(&mut code, 2)?;
     Ok(code)
 }
@@ -96,18 +99,18 @@ fn plain_instructions_are_put(rt: HostRuntime) {
 }
 
 fn reached(alloc: Global) -> Result<Row<Instr>, NoMemory> {
-    let locations = sample_locations(alloc, 2)?;
+    let locations = pushing_locations(alloc, 4)?;
     let mut code = Row::new(alloc);
     let column = Address {
         base: 0x100,
-        index: Operand::Local(0),
+        index: Operand::Local(2),
     };
     let table = Address {
         base: 0x8C,
         index: Operand::Known(4),
     };
-    put_loads_column(&mut code, &locations, 1, 1, column)?;
-    put_loads_table(&mut code, &locations, 2, 0, table)?;
+    put_loads_column(&mut code, &locations, 1, 3, column)?;
+    put_loads_table(&mut code, &locations, 2, 2, table)?;
     Ok(code)
 }
 
@@ -127,14 +130,14 @@ fn columns_and_tables_are_reached(rt: HostRuntime) {
 }
 
 fn at_addresses(alloc: Global) -> Result<Row<Instr>, NoMemory> {
-    let locations = sample_locations(alloc, 2)?;
+    let locations = pushing_locations(alloc, 4)?;
     let mut code = Row::new(alloc);
     let element = Address {
         base: 0,
-        index: Operand::Local(0),
+        index: Operand::Local(2),
     };
-    put_loads_column(&mut code, &locations, 1, 1, element)?;
-    put_loads_table(&mut code, &locations, 1, 1, element)?;
+    put_loads_column(&mut code, &locations, 1, 3, element)?;
+    put_loads_table(&mut code, &locations, 1, 3, element)?;
     Ok(code)
 }
 
@@ -153,12 +156,12 @@ fn addresses_in_locals_are_reached(rt: HostRuntime) {
 }
 
 fn branched(alloc: Global) -> Result<Row<Instr>, NoMemory> {
-    let locations = sample_locations(alloc, 1)?;
+    let locations = pushing_locations(alloc, 3)?;
     let mut code = Row::new(alloc);
     let test = Test {
         comparison: Comparison::Same,
         width: 2,
-        left: Operand::Local(0),
+        left: Operand::Local(2),
         right: Operand::Known(0),
     };
     put_tests(alloc, &mut code, &locations, test)?;
@@ -192,15 +195,15 @@ fn branches_are_put(rt: HostRuntime) {
 }
 
 fn operated(alloc: Global) -> Result<Row<Instr>, NoMemory> {
-    let locations = sample_locations(alloc, 2)?;
+    let locations = pushing_locations(alloc, 4)?;
     let mut code = Row::new(alloc);
-    put_shifts_left(&mut code, &locations, 1, 1, Operand::Local(1), 3)?;
+    put_shifts_left(&mut code, &locations, 1, 3, Operand::Local(3), 3)?;
     put_multiplies(
         alloc,
         &mut code,
         &locations,
-        0,
-        Operand::Local(1),
+        2,
+        Operand::Local(3),
         Operand::Known(5),
     )?;
     Ok(code)
@@ -221,9 +224,9 @@ fn shifts_and_products_are_put(rt: HostRuntime) {
 }
 
 fn divided(alloc: Global) -> Result<Row<Instr>, NoMemory> {
-    let locations = sample_locations(alloc, 2)?;
+    let locations = pushing_locations(alloc, 4)?;
     let mut code = Row::new(alloc);
-    put_divides_steps(&mut code, &locations, 1, 0, Operand::Known(5))?;
+    put_divides_steps(&mut code, &locations, 3, 2, Operand::Known(5))?;
     Ok(code)
 }
 
@@ -252,7 +255,7 @@ fn divisions_are_put(rt: HostRuntime) {
 }
 
 fn dispatched(alloc: Global) -> Result<Row<Instr>, NoMemory> {
-    let locations = sample_locations(alloc, 1)?;
+    let locations = pushing_locations(alloc, 3)?;
     let mut code = Row::new(alloc);
     let cases = [
         Case {
@@ -276,8 +279,8 @@ fn dispatched(alloc: Global) -> Result<Row<Instr>, NoMemory> {
         &locations,
         &[0x0123, 0x0456],
         &cases,
-        0,
-        Operand::Local(0),
+        2,
+        Operand::Local(2),
     )?;
     Ok(code)
 }
@@ -321,6 +324,27 @@ fn locals_are_in_registers(rt: HostRuntime) {
     assert!(rt; holds);
 }
 
+fn entered_with_arguments(alloc: Global) -> Result<Row<Instr>, NoMemory> {
+    let locations = taking_locations(alloc)?;
+    let mut code = Row::new(alloc);
+    put_prologue(&mut code, &locations)?;
+    put_writes_device(alloc, &mut code, &locations, 0x38, Operand::Local(1))?;
+    Ok(code)
+}
+
+// A parameter that is needed goes from the register in which it arrives to that of its local, and one that is not needed goes nowhere.
+#[test]
+fn parameters_arrive_in_registers(rt: HostRuntime) {
+    let alloc = rt.alloc();
+    let code = entered_with_arguments(alloc);
+    let expected = [
+        0x2EA4, // MOV r10, r20
+        0xBAA8, // OUT 0x18, r10
+    ];
+    let holds = is_spelled(alloc, &code, &expected);
+    assert!(rt; holds);
+}
+
 fn entered_and_waited(alloc: Global) -> Result<Row<Instr>, NoMemory> {
     let locations = lasting_locations(alloc)?;
     let mut code = Row::new(alloc);
@@ -347,9 +371,9 @@ fn entered_wide(alloc: Global) -> Result<Row<Instr>, NoMemory> {
     let locations = wide_locations(alloc)?;
     let mut code = Row::new(alloc);
     put_prologue(&mut code, &locations)?;
-    put_copies(&mut code, &locations, 6, Operand::Local(0))?;
-    put_copies(&mut code, &locations, 2, Operand::Local(1))?;
-    put_returns_value(&mut code, &locations, Operand::Local(6), 1)?;
+    put_copies(&mut code, &locations, 8, Operand::Local(2))?;
+    put_copies(&mut code, &locations, 4, Operand::Local(3))?;
+    put_returns_value(&mut code, &locations, Operand::Local(8), 1)?;
     Ok(code)
 }
 
@@ -373,28 +397,43 @@ fn other_locals_are_in_slots(rt: HostRuntime) {
     assert!(rt; holds);
 }
 
-fn copied(alloc: Global, params: u8) -> Result<Row<Instr>, NoMemory>
-    requires { params ≤ 2 }
+fn copied(
+    alloc: Global,
+    locations: &Locations,
+    wide: u8,
+    narrow: u8,
+) -> Result<Row<Instr>, NoMemory>
+    requires wide { wide < length locations.now.widths }
+    requires narrow { narrow < length locations.now.widths }
 {
-    let locations = sample_locations(alloc, params)?;
     let mut code = Row::new(alloc);
-    put_copies(&mut code, &locations, 1, Operand::Known(0))?;
-    put_copies(&mut code, &locations, 0, Operand::Known(5))?;
-    put_copies_whole(&mut code, &locations, 0, Operand::Known(5))?;
+    put_copies(&mut code, locations, narrow, Operand::Known(0))?;
+    put_copies(&mut code, locations, wide, Operand::Known(5))?;
+    put_copies_whole(&mut code, locations, wide, Operand::Known(5))?;
     Ok(code)
+}
+
+fn copied_in_the_frame(alloc: Global) -> Result<Row<Instr>, NoMemory> {
+    let locations = pushing_locations(alloc, 4)?;
+    copied(alloc, &locations, 2, 3)
+}
+
+fn copied_in_registers(alloc: Global) -> Result<Row<Instr>, NoMemory> {
+    let locations = sample_locations(alloc, 0)?;
+    copied(alloc, &locations, 0, 1)
 }
 
 // The zeros with which a known number ends come from r1, unless all numbers are to take as many words.
 #[test]
 fn zeros_are_not_loaded(rt: HostRuntime) {
     let alloc = rt.alloc();
-    let in_frame = copied(alloc, 2);
+    let in_frame = copied_in_the_frame(alloc);
     let expected_in_frame = [
         0x821D, // STD Y+5, r1
         0xE065, 0x836E, 0x821F, // LDI r22, 5; STD Y+6, r22; STD Y+7, r1
         0xE065, 0xE070, 0x836E, 0x837F, // LDI r22, 5; LDI r23, 0; STD Y+6, r22; STD Y+7, r23
     ];
-    let in_registers = copied(alloc, 0);
+    let in_registers = copied_in_registers(alloc);
     let expected_in_registers = [
         0x2CA1, // MOV r10, r1
         0xE065, 0x2E86, 0x2C91, // LDI r22, 5; MOV r8, r22; MOV r9, r1
@@ -405,38 +444,53 @@ fn zeros_are_not_loaded(rt: HostRuntime) {
     assert!(rt; holds);
 }
 
-fn stored(alloc: Global, params: u8) -> Result<Row<Instr>, NoMemory>
-    requires { params ≤ 2 }
+fn stored(
+    alloc: Global,
+    locations: &Locations,
+    wide: u8,
+    narrow: u8,
+) -> Result<Row<Instr>, NoMemory>
+    requires wide { wide < length locations.now.widths }
+    requires narrow { narrow < length locations.now.widths }
 {
-    let locations = sample_locations(alloc, params)?;
     let mut code = Row::new(alloc);
     let element = Address {
         base: 0x100,
-        index: Operand::Local(0),
+        index: Operand::Local(wide),
     };
     let field = Address {
         base: 0x100,
         index: Operand::Known(4),
     };
-    put_stores_column(alloc, &mut code, &locations, 2, element, Operand::Known(5))?;
-    put_stores_column(alloc, &mut code, &locations, 2, field, Operand::Local(0))?;
+    put_stores_column(alloc, &mut code, locations, 2, element, Operand::Known(5))?;
+    put_stores_column(alloc, &mut code, locations, 2, field, Operand::Local(wide))?;
     put_stores_column(
         alloc,
         &mut code,
-        &locations,
+        locations,
         4,
         field,
         Operand::Known(0x0001_0000),
     )?;
-    put_loads_column(&mut code, &locations, 1, 1, field)?;
+    put_loads_column(&mut code, locations, 1, narrow, field)?;
     Ok(code)
+}
+
+fn stored_in_the_frame(alloc: Global) -> Result<Row<Instr>, NoMemory> {
+    let locations = pushing_locations(alloc, 4)?;
+    stored(alloc, &locations, 2, 3)
+}
+
+fn stored_in_registers(alloc: Global) -> Result<Row<Instr>, NoMemory> {
+    let locations = sample_locations(alloc, 0)?;
+    stored(alloc, &locations, 0, 1)
 }
 
 // Values are stored from where they are, zero bytes of a known number from r1; and one or two bytes at a known address need no pointer.
 #[test]
 fn columns_are_stored(rt: HostRuntime) {
     let alloc = rt.alloc();
-    let in_frame = stored(alloc, 2);
+    let in_frame = stored_in_the_frame(alloc);
     let expected_in_frame = [
         0x81AE, 0x81BF, 0x50A0, 0x4FBF, // LDD r26, Y+6; LDD r27, Y+7; SUBI r26, 0; SBCI r27, 0xFF
         0xE065, 0x936D, 0x921D, // LDI r22, 5; ST X+, r22; ST X+, r1
@@ -445,7 +499,7 @@ fn columns_are_stored(rt: HostRuntime) {
         0x921D, 0x921D, 0x938D, 0x921D, // ST X+, r1; ST X+, r1; ST X+, r24; ST X+, r1
         0x9160, 0x0104, 0x836D, // LDS r22, 0x104; STD Y+5, r22
     ];
-    let in_registers = stored(alloc, 0);
+    let in_registers = stored_in_registers(alloc);
     let expected_in_registers = [
         0x01D4, 0x50A0, 0x4FBF, // MOVW r26, r8; SUBI r26, 0; SBCI r27, 0xFF
         0xE065, 0x936D, 0x921D, // LDI r22, 5; ST X+, r22; ST X+, r1
@@ -494,7 +548,7 @@ fn registers_are_loaded(rt: HostRuntime) {
 fn copied_to_the_frame(alloc: Global) -> Result<Row<Instr>, NoMemory> {
     let locations = wide_locations(alloc)?;
     let mut code = Row::new(alloc);
-    put_copies(&mut code, &locations, 6, Operand::Local(1))?;
+    put_copies(&mut code, &locations, 8, Operand::Local(3))?;
     Ok(code)
 }
 
@@ -552,16 +606,16 @@ fn computed_in_place(alloc: Global) -> Result<Row<Instr>, NoMemory> {
     let sum = Computation {
         operator: Operator::Plus,
         width: 4,
-        to: 2,
-        left: Operand::Local(1),
-        right: Operand::Local(4),
+        to: 4,
+        left: Operand::Local(3),
+        right: Operand::Local(6),
     };
     let difference = Computation {
         operator: Operator::Minus,
         width: 4,
-        to: 2,
-        left: Operand::Local(1),
-        right: Operand::Local(2),
+        to: 4,
+        left: Operand::Local(3),
+        right: Operand::Local(4),
     };
     put_computes(alloc, &mut code, &locations, sum)?;
     put_computes(alloc, &mut code, &locations, difference)?;

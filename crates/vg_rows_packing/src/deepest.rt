@@ -11,13 +11,13 @@ pub fn deepest_text(alloc: Global, whole: &Whole) -> Result<String, NoMemory> {
     for _method in whole.fitted.alive.start.program.tables.methods.as_slice() {
         costs.push(1)?;
     }
-    match stack_need(alloc, &whole.program, costs.as_slice())? {
-        // Four bytes are for what lies below the first call.
-        Some(Need::Bytes(calls)) => {
-            let active = calls.saturating_sub(4);
-            Ok(format!(in alloc; "{active}")?)
-        }
-        Some(Need::Cycle(_)) => said(alloc, "round"),
-        None => said(alloc, "unknown"),
+    let firm = &whole.program;
+    let count = firm.procedures.len();
+    if count > 65_536 || usize::from(firm.main) >= count {
+        return said(alloc, "unknown");
+    }
+    match stack_need(alloc, firm, costs.as_slice(), 0)? {
+        Need::Bytes(active) => Ok(format!(in alloc; "{active}")?),
+        Need::Cycle(_) => said(alloc, "round"),
     }
 }

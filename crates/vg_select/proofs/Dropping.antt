@@ -1,17 +1,38 @@
 -- The bytes of the arguments of a call.
-use Rattle.std.specs.Prelude.{ℕ, zero, suc, ◌+◌, ◌<◌, ◌≤◌, true, false, List, [], ◌∷◌, ◌++◌, length, take, drop, reverse, get_or, ◌-◌}
+use Rattle.std.specs.Prelude.{ℕ, zero, suc, ◌+◌, ◌<◌, ◌≤◌, true, false, ◌&&◌, nat_le, List, [], ◌∷◌, ◌++◌, length, take, drop, reverse, get_or, ◌-◌}
 use Rattle.std.specs.List.{AllByRecursion}
 use Rattle.std.proofs.Common.{◌≡◌, refl, sym, ap, ◌∙◌, subst, arith}
 use Rattle.std.proofs.lemmas.List.{length-reverse, reverse-append}
 use Rattle.vg_lin.specs.declared.instr.Passed.{Passed}
+use Rattle.vg_lin.specs.declared.instr.Registers.{Registers}
+use Rattle.vg_lin.specs.declared.instr.Registers.TheVariants.{Empty, One, Two, Three, Four}
+use Rattle.vg_lin.specs.Meaning.{operands}
 use Rattle.vg_templates.specs.Layouts.{Layout}
-use Rattle.vg_templates.specs.Calls.{sum_of}
-use Rattle.vg_templates.specs.Flow.{is_none}
+use Rattle.vg_templates.specs.Calls.{by_registers, sum_of}
+use Rattle.vg_templates.specs.Flow.{is_none, passed_bytes, passed_widths}
 use Rattle.vg_select.specs.Within.{IsNarrow, IsPassedWithin}
 
 pub all_narrow : (l : Layout) (xs : List Passed) → AllByRecursion (IsPassedWithin l) xs → AllByRecursion IsNarrow xs
 all_narrow l [] h = tt {0}
 all_narrow l (x ∷ xs) (h, g) = (h.0, all_narrow l xs g)
+
+-- At most four arguments are passed so, and their bytes alone tell whether they have room in registers.
+passed_few : (rs : Registers) → length (passed_widths (operands rs)) ≤ 4
+passed_few Empty = omega arith
+passed_few (One a) = omega arith
+passed_few (Two a b) = omega arith
+passed_few (Three a b c) = omega arith
+passed_few (Four a b c d) = omega arith
+
+passed_sum : (xs : List Passed) → sum_of (passed_widths xs) ≡ passed_bytes xs
+passed_sum [] = refl
+passed_sum (x ∷ xs) = ap (λ n. x.width + n) (passed_sum xs)
+
+pub by_bytes : (rs : Registers) (n : ℕ) → n ≡ passed_bytes (operands rs) → nat_le n 8 ≡ by_registers (passed_widths (operands rs))
+by_bytes rs n e =
+    let low = passed_few rs in
+    let few : nat_le (length (passed_widths (operands rs))) 4 ≡ true = grind (arith, low) in
+    ap (λ m. nat_le m 8) (e ∙ sym (passed_sum (operands rs))) ∙ (λ i. sym few i && nat_le (sum_of (passed_widths (operands rs))) 8)
 
 none_behind : (xs : List ℕ) (n : ℕ) → length xs ≤ n → true ≡ is_none (drop n xs)
 none_behind [] zero h = refl

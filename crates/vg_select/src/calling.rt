@@ -1,9 +1,10 @@
 // Calls with what stands before and behind them.
-ghost use Rattle.std.specs.Prelude.{◌≡◌, ◌≤◌, ◌*◌, [], ◌∷◌, ◌++◌, OnOk, take, drop, reverse};
+ghost use Rattle.std.specs.Prelude.{◌≡◌, ◌+◌, ◌≤◌, ◌*◌, [], ◌∷◌, ◌++◌, IsTrue, OnOk, take, drop, reverse};
 ghost use Rattle.std.specs.List.{AllByRecursion};
 ghost use Rattle.vg_lin.specs.Meaning.{operands};
-ghost use Rattle.vg_templates.specs.Calls.{call_code, sum_of};
-ghost use Rattle.vg_templates.specs.Flow.{passes, passed_bytes, drops_at_once, is_none, way_of};
+ghost use Rattle.vg_templates.specs.Calls.{call_code, by_registers, sum_of};
+ghost use Rattle.vg_templates.specs.Flow.{passes, passed_bytes, passed_widths, carries, goes_by_registers, passes_by, pushed_by_call};
+ghost use Rattle.vg_templates.specs.Flow.{drops_at_once, is_none, way_of};
 ghost use Rattle.vg_templates.specs.Whole.{call_front, call_bytes, call_back};
 ghost use Rattle.vg_templates.specs.Returns.{takes_result};
 ghost use Rattle.vg_alloc.specs.Locations.{layout};
@@ -17,7 +18,7 @@ use vg_base::{NoMemory, Row};
 use vg_lin::{Call, Callee, Passed, Registers, Target};
 use vg_put_flow::{Way, put_aims, put_call, put_drops};
 use vg_put_plain::put_pushes_value;
-use vg_put_values::put_gives;
+use vg_put_values::{put_brings, put_gives};
 
 fn put_pass(
     alloc: Global,
@@ -94,13 +95,109 @@ fn newest_bytes(waits: &[u8], count: u8) -> u16
     }
 }
 
-// How many bytes of arguments a call has.
+// One argument comes into registers, from this one on.
+fn put_carry(
+    code: &mut Row<Instr>,
+    locations: &Locations,
+    passed: Passed,
+    first: u8,
+) -> Result<(), NoMemory>
+    requires passed { IsPassedWithin (layout locations.now) passed }
+    requires from { 16 ≤ first }
+    requires top { first + passed.width ≤ 32 }
+    ensures { OnOk result (code.new ≡ code.old ++ carries (layout locations.now) first (passed ∷ [])) }
+{
+    put_brings(code, locations, passed.value, first, passed.width)
+}
+
+// The last arguments come into registers, one behind the other from r18 on.
+fn put_carries(
+    code: &mut Row<Instr>,
+    locations: &Locations,
+    registers: Registers,
+) -> Result<(), NoMemory>
+    requires passed { AllByRecursion (IsPassedWithin (layout locations.now)) (operands registers) }
+    requires room { passed_bytes (operands registers) ≤ 8 }
+    ensures { OnOk result (code.new ≡ code.old ++ carries (layout locations.now) 18 (operands registers)) }
+{
+    match registers {
+        Registers::Empty => Ok(()),
+        Registers::One(a) => put_carry(code, locations, a, 18),
+        Registers::Two(a, b) => {
+            put_carry(code, locations, a, 18)?;
+            put_carry(code, locations, b, 18 + a.width)
+        }
+        Registers::Three(a, b, c) => {
+            put_carry(code, locations, a, 18)?;
+            put_carry(code, locations, b, 18 + a.width)?;
+            put_carry(code, locations, c, 18 + a.width + b.width)
+        }
+        Registers::Four(a, b, c, d) => {
+            put_carry(code, locations, a, 18)?;
+            put_carry(code, locations, b, 18 + a.width)?;
+            put_carry(code, locations, c, 18 + a.width + b.width)?;
+            put_carry(code, locations, d, 18 + a.width + b.width + c.width)
+        }
+    }
+}
+
+// Whether the last arguments have room in registers.
+#[tactic(auto, using(crate::proofs::Dropping::by_bytes))]
+fn have_room(registers: Registers) -> bool
+    requires { AllByRecursion IsNarrow (operands registers) }
+    ensures way { result ≡ by_registers (passed_widths (operands registers)) }
+    ensures room { IsTrue result → passed_bytes (operands registers) ≤ 8 }
+{
+    passed_bytes(registers) <= 8
+}
+
+// Whether a call goes by registers.
+fn goes_by_registers(call: &Call) -> bool
+    requires { AllByRecursion IsNarrow (operands call.now.registers) }
+    ensures way { result ≡ goes_by_registers call.now }
+    ensures room { IsTrue result → passed_bytes (operands call.now.registers) ≤ 8 }
+{
+    call.pushed == 0 && have_room(call.registers)
+}
+
+// The last arguments come into registers, or are pushed.
+fn put_arguments(
+    alloc: Global,
+    code: &mut Row<Instr>,
+    locations: &Locations,
+    carried: bool,
+    registers: Registers,
+) -> Result<(), NoMemory>
+    requires passed { AllByRecursion (IsPassedWithin (layout locations.now)) (operands registers) }
+    requires room { IsTrue carried → passed_bytes (operands registers) ≤ 8 }
+    ensures { OnOk result (code.new ≡ code.old ++ passes_by carried (layout locations.now) (operands registers)) }
+{
+    if carried {
+        return put_carries(code, locations, registers);
+    }
+    put_passes(alloc, code, locations, registers)
+}
+
+// How many of their bytes are pushed.
+fn pushed_by_call(carried: bool, registers: Registers) -> u16
+    requires { AllByRecursion IsNarrow (operands registers) }
+    ensures bytes { result ≡ pushed_by_call carried (operands registers) }
+    ensures few { result ≤ 16 }
+{
+    if carried {
+        return 0;
+    }
+    passed_bytes(registers)
+}
+
+// How many bytes of the arguments of a call are pushed.
 #[tactic(auto, using(crate::proofs::Dropping::all_narrow))]
 fn call_bytes(locations: &Locations, waits: &[u8], call: &Call) -> u16
     requires { IsCallWithin (layout locations.now) call.now }
     ensures { result ≡ call_bytes (reverse waits.now) call.now }
 {
-    newest_bytes(waits, call.pushed) + passed_bytes(call.registers)
+    let carried = goes_by_registers(call);
+    newest_bytes(waits, call.pushed) + pushed_by_call(carried, call.registers)
 }
 
 // Whether nothing waits behind them.
@@ -139,6 +236,7 @@ fn put_takes_result(
 }
 
 /// A call up to the instruction that calls.
+#[tactic(auto, using(crate::proofs::Dropping::all_narrow))]
 pub fn put_call_front(
     alloc: Global,
     code: &mut Row<Instr>,
@@ -148,7 +246,8 @@ pub fn put_call_front(
     requires { IsCallWithin (layout locations.now) call.now }
     ensures { OnOk result (code.new ≡ code.old ++ call_front (layout locations.now) call.now) }
 {
-    put_passes(alloc, code, locations, call.registers)?;
+    let carried = goes_by_registers(call);
+    put_arguments(alloc, code, locations, carried, call.registers)?;
     put_aims(code, locations, call.callee)
 }
 

@@ -67,13 +67,13 @@ module _ (p : Program) (h : Heap) (s : LiveSet) (n : Numbers) (c : Columns) (f :
         let (u, e) = alike_end firm_answer (Over why) t v (subst (λ a. Alike a firm_answer) over same) in
         walks k packed all_awake (length interrupts) (firm.first_state packed) u (running_world no_history None reads interrupts clock) v (Over why) refl tt e
 
-room : (floor peak bytes : ℕ) → floor + (4 + bytes) ≤ 0x1100 → peak ≤ bytes → floor + (4 + peak) ≤ 0x1100
-room floor peak bytes h k = omega (arith, h, k)
+room : (floor extra peak bytes : ℕ) → floor + (extra + bytes) ≤ 0x1100 → peak ≤ bytes → floor + (extra + peak) ≤ 0x1100
+room floor extra peak bytes h k = omega (arith, h, k)
 
 pub holds : (p : Program) (h : Heap) (s : LiveSet) (n : Numbers) (c : Columns) (f : FirmProgram) → IsGiven p h s n c → IsReady p h → IsPackedFrom p h s n c f
-    → (k : Codes) → AreCodes (length f.procedures) k → (costs : List ℕ) (bytes : ℕ) → IsEnough (program_of k f) costs bytes → (floor : ℕ)
-    → floor + (4 + bytes) ≤ 0x1100 → HoldsPeaks floor costs p h
-holds p h s n c f given ready from k codes costs bytes enough floor fits reads interrupts clock t v why are_bytes vectors legal over =
-    room floor (most costs v.history.behind_ticks) bytes fits
+    → (k : Codes) → AreCodes (length f.procedures) k → (costs : List ℕ) (bytes : ℕ) → IsEnough (program_of k f) costs bytes → (floor extra : ℕ)
+    → floor + (extra + bytes) ≤ 0x1100 → HoldsPeaks floor extra costs p h
+holds p h s n c f given ready from k codes costs bytes enough floor extra fits reads interrupts clock t v why are_bytes vectors legal over =
+    room floor extra (most costs v.history.behind_ticks) bytes fits
     (within (program_of k f) costs bytes enough v.history.behind_ticks
     (are_walks p h s n c f given ready from k codes reads interrupts clock t v why are_bytes over))

@@ -14,12 +14,12 @@ use Rattle.avr_view.specs.View.{View, At}
 use Rattle.avr_view.proofs.Going.{below_or_not, goes_then, goes_fewer, goes_wider}
 use Rattle.avr_view.proofs.CallSteps.{goes_call}
 use Rattle.vg_templates.specs.Layouts.{Layout, IsLayout, IsReliable, IsIn, Outlive}
-use Rattle.vg_templates.specs.Linkage.{prologue, epilogue, AreOthers, Entered, Left}
+use Rattle.vg_templates.specs.Linkage.{saves, epilogue, AreOthers, Entered, Left}
 use Rattle.vg_templates.specs.Frames.{Fits, Waits, restored, saved_bytes, found, Places, word_bytes, between, back_to, needed, Points, Callers, Stacked}
 use Rattle.vg_templates.specs.CallOutcomes.{Begun, Resumed}
 use Rattle.vg_templates.proofs.Saving.{restored_still, saved_long}
 use Rattle.vg_templates.proofs.Openings.{opened, callers_begin, callers_resume}
-use Rattle.vg_templates.proofs.Linking.{goes_prologue, goes_epilogue}
+use Rattle.vg_templates.proofs.Linking.{goes_saves, goes_epilogue}
 
 -- what the saved registers leave alone
 restored_other : (ds bs : List ℕ) (g : Regs) (d : ℕ) → (IsIn d ds → ⊥) → (restored ds bs g).of d ≡ g.of d
@@ -58,20 +58,20 @@ module _ (e : Run) (deep : Type 0) (i : Places) (ok : (m : ℕ) → IsLayout (i.
   -- arguments
   pub goes_begin_from : (q entry : ℕ) (f : Frame LinState) (frames : List (Frame LinState)) (args wait own under : List ℕ) (v : View) (s : State)
       → Goes e deep 1 s (At e entry (record v { stack = word_bytes (back_to i f.awaits q f.proc f.pc) ++ v.stack }))
-      → AllStandAt e.flash entry (prologue (i.layouts q)) → entry + widths (prologue (i.layouts q)) < 65536
+      → AllStandAt e.flash entry (saves (i.layouts q)) → entry + widths (saves (i.layouts q)) < 65536
       → v.stack ≡ args ++ (between i f.awaits f.proc f.pc ++ (wait ++ (own ++ under))) → Points (i.layouts f.proc) own under v.regs
       → Waits f.kept.waiting wait
       → Fits (i.layouts f.proc) (needed i f.proc f.awaits f.pc) f.kept.locals own v.regs → Callers i frames f.proc own under v.regs
       → (0x1100 < e.floor + length v.stack + 2 + length (i.layouts q).saved + (i.layouts q).slots → deep)
-      → Goes e deep 1 s (Begun e i q f frames args (entry + widths (prologue (i.layouts q))) v)
+      → Goes e deep 1 s (Begun e i q f frames args (entry + widths (saves (i.layouts q))) v)
   goes_begin_from q entry f frames args wait own under v s first code low cut points waits fits more full =
       let l = i.layouts q in
       let to = back_to i f.awaits q f.proc f.pc in
       let v1 : View = record v { stack = word_bytes to ++ v.stack } in
-      let goal = Begun e i q f frames args (entry + widths (prologue l)) v in
+      let goal = Begun e i q f frames args (entry + widths (saves l)) v in
       goes_fewer e deep (1 + 0) 1 s goal (omega arith)
       (goes_then e deep 1 0 s (At e entry v1) goal first
-      (λ t b. goes_wider e deep 0 t (Entered e l (entry + widths (prologue l)) v1) goal
+      (λ t b. goes_wider e deep 0 t (Entered e l (entry + widths (saves l)) v1) goal
       (λ u n.
       let behind = between i f.awaits f.proc f.pc ++ (wait ++ (own ++ under)) in
       let frame = opened n.slots v.regs l.saved to args in
@@ -89,19 +89,19 @@ module _ (e : Run) (deep : Type 0) (i : Places) (ok : (m : ℕ) → IsLayout (i.
         others = n.others;
         points = λ h. ap (λ k. pair n.regs 28 + 1 + length k) (sym stack_is) ∙ n.points h;
         callers = callers;
-        at = subst (λ k. At e (entry + widths (prologue l)) (record v { regs = n.regs; stack = k }) u) stack_is n.at;
+        at = subst (λ k. At e (entry + widths (saves l)) (record v { regs = n.regs; stack = k }) u) stack_is n.at;
       })
-      (goes_prologue e deep l entry v1 t (ok q).no_pointer (ok q).small code low (λ h. full (omega arith)) b)))
+      (goes_saves e deep l entry v1 t (ok q).no_pointer (ok q).small code low (λ h. full (omega arith)) b)))
 
   -- a call of q, for which f waits, or at an interrupt the call in the stub of its handler
   pub goes_begin : (q pc entry : ℕ) (f : Frame LinState) (frames : List (Frame LinState)) (args wait own under : List ℕ) (v : View) (s : State)
       → StandsAt e.flash pc (Call entry) → pc + 2 < 65536 → back_to i f.awaits q f.proc f.pc ≡ pc + 2
-      → AllStandAt e.flash entry (prologue (i.layouts q)) → entry + widths (prologue (i.layouts q)) < 65536
+      → AllStandAt e.flash entry (saves (i.layouts q)) → entry + widths (saves (i.layouts q)) < 65536
       → v.stack ≡ args ++ (between i f.awaits f.proc f.pc ++ (wait ++ (own ++ under))) → Points (i.layouts f.proc) own under v.regs
       → Waits f.kept.waiting wait
       → Fits (i.layouts f.proc) (needed i f.proc f.awaits f.pc) f.kept.locals own v.regs → Callers i frames f.proc own under v.regs
       → (0x1100 < e.floor + length v.stack + 2 + length (i.layouts q).saved + (i.layouts q).slots → deep) → At e pc v s
-      → Goes e deep 1 s (Begun e i q f frames args (entry + widths (prologue (i.layouts q))) v)
+      → Goes e deep 1 s (Begun e i q f frames args (entry + widths (saves (i.layouts q))) v)
   goes_begin q pc entry f frames args wait own under v s call room back code low cut points waits fits more full a =
       goes_begin_from q entry f frames args wait own under v s
       (subst (λ n. Goes e deep 1 s (At e entry (record v { stack = word_bytes n ++ v.stack }))) (sym back)

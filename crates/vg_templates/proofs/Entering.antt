@@ -3,7 +3,7 @@ use Rattle.std.proofs.Common.{◌≡◌, ℕ, zero, suc, ◌+◌, ◌-◌, ◌%�
 use Rattle.std.proofs.Common.{List, [], ◌∷◌, ◌++◌, length, Some, None, refl, sym, ap, ◌∙◌, subst, arith, append_assoc, length-append, slice_get, slice_index}
 use Rattle.std.specs.Prelude.{map, take, drop}
 use Rattle.std.proofs.Math.Nat.{mod-eq_of_lt}
-use Rattle.std.proofs.lemmas.List.{get_or_append_left, get_or-append_right}
+use Rattle.std.proofs.lemmas.List.{get_or_append_left, get_or-append_right, append-nil}
 use Rattle.avr_isa.specs.Machine.{State as MachineState}
 use Rattle.avr_isa.specs.Standing.{widths, StandsAt, AllStandAt}
 use Rattle.vg_lin.specs.declared.instr.Call.{Call}
@@ -17,7 +17,7 @@ use Rattle.avr_view.proofs.Going.{below_or_not, goes_wider}
 use Rattle.avr_view.proofs.CallSteps.{goes_call, goes_rcall, goes_icall}
 use Rattle.vg_templates.specs.Spots.{InFrame, value_at}
 use Rattle.vg_templates.specs.Layouts.{Layout, IsLayout, frame_size, link_size, width_of}
-use Rattle.vg_templates.specs.Linkage.{prologue}
+use Rattle.vg_templates.specs.Linkage.{saves, settles_from, prologue}
 use Rattle.vg_templates.specs.Frames.{Fits, Waits, Pushed, bytes_of, bytes_behind, width_at, number_at, Places, word_bytes, needed}
 use Rattle.vg_templates.specs.CallOutcomes.{Begun}
 use Rattle.vg_templates.proofs.Arguments.{waits-pushed, arguments_fit}
@@ -28,7 +28,7 @@ use Rattle.vg_templates.specs.Pieces.{Sees}
 use Rattle.vg_templates.specs.Held.{Held}
 use Rattle.vg_templates.specs.Outcomes.{Lies}
 use Rattle.vg_templates.proofs.Bytes.{stack_below, read_small}
-use Rattle.vg_templates.specs.Calls.{Way, Far, Near, ByZ, call_code, call_words, leads_to, sum_of, behind_width, HasPushed, taken_by, kept_by, begins_with}
+use Rattle.vg_templates.specs.Calls.{Way, Far, Near, ByZ, call_code, call_words, leads_to, sum_of, behind_width, by_registers, lives_from, HasPushed, HasBy, HasParameters, taken_by, kept_by, begins_with}
 
 -- ---- what waits, cut in two
 
@@ -147,28 +147,40 @@ fits_begun l live ps front args g same lie long cut pushed =
     at inner k x low got (inl here) = inner.each k x low (grind (arith, here)) got
     at inner k x low got (inr beyond) = absurd (begun-none l.widths ps k x beyond got)
 
+-- nothing goes to its spot where nothing arrives in registers
+pub unsettled : (l : Layout) → l.arrives ≡ [] → prologue l ≡ saves l
+unsettled l none = ap (λ bs. saves l ++ settles_from l 0 18 bs) none ∙ append-nil (saves l)
+
+-- a procedure without parameters has none on the stack, and none that arrives
+pub no_parameters : (l : Layout) (live : ℕ → Bool) (n : ℕ) → HasParameters l live n → n ≡ 0 → (l.pushed ≡ 0) × (l.arrives ≡ [])
+no_parameters l live n has none = by_case (by_registers (take n l.widths)) has
+  where
+    by_case : (b : Bool) → HasBy b l live n → (l.pushed ≡ 0) × (l.arrives ≡ [])
+    by_case false h = (h.bytes ∙ ap (λ k. sum_of (take k l.widths)) none, h.arrive)
+    by_case true h = (h.bytes, h.kept ∙ ap (lives_from live 0) none)
+
 module _ (i : Places) (ok : (m : ℕ) → IsLayout (i.layouts m)) (e : Run) (deep : Type 0) where
   -- one call by each way
-  goes_way : (way : Way) (place : ℕ) (v : View) (t : MachineState) → StandsAt e.flash place (call_code way) → place + call_words way < 65536
+  pub goes_way : (way : Way) (place : ℕ) (v : View) (t : MachineState) → StandsAt e.flash place (call_code way) → place + call_words way < 65536
       → (0x1100 < e.floor + length v.stack + 2 → deep) → At e place v t
       → Goes e deep 1 t (At e (leads_to way place v.regs) (record v { stack = word_bytes (place + call_words way) ++ v.stack }))
   goes_way (Far entry) place v t stand room full a = goes_call e deep place v t a entry stand room full
   goes_way (Near k) place v t stand room full a = goes_rcall e deep place v t a k stand room full
   goes_way ByZ place v t stand room full a = goes_icall e deep place v t a stand room full
 
-  pub goes_enters : (way : Way) (q m pc place n entry : ℕ) (call : Call) (live live' : ℕ → Bool) (s : State) (frames : List (Frame State)) (v : View)
+  goes_enters_saved : (way : Way) (q m pc place n entry : ℕ) (call : Call) (live live' : ℕ → Bool) (s : State) (frames : List (Frame State)) (v : View)
       (t : MachineState) → StandsAt e.flash place (call_code way) → place + call_words way < 65536 → i.behind m pc ≡ place + call_words way
-      → leads_to way place v.regs ≡ entry → AllStandAt e.flash entry (prologue (i.layouts q)) → entry + widths (prologue (i.layouts q)) < 65536
+      → leads_to way place v.regs ≡ entry → AllStandAt e.flash entry (saves (i.layouts q)) → entry + widths (saves (i.layouts q)) < 65536
       → same_widths (i.layouts q).widths (taken_by n s) ≡ true → HasPushed (i.layouts q) (length (taken_by n s))
       → ((k : ℕ) → needed i m (Result call) pc k ≡ true → live k ≡ true) → Held i m live s frames v
       → (0x1100 < e.floor + length v.stack + 2 + length (i.layouts q).saved + (i.layouts q).slots → deep) → At e place v t
       → Goes e deep 1 t
       (Sees e (Lies i q live' (begins_with (i.layouts q) n s) (record { proc = m; pc = pc; kept = kept_by n s; awaits = Result call } ∷ frames) v.out)
-      (entry + widths (prologue (i.layouts q))))
-  goes_enters way q m pc place n entry call live live' s frames v t stand room behind leads code low same lie fewer k full a =
+      (entry + widths (saves (i.layouts q))))
+  goes_enters_saved way q m pc place n entry call live live' s frames v t stand room behind leads code low same lie fewer k full a =
       let f : Frame State = record { proc = m; pc = pc; kept = kept_by n s; awaits = Result call } in
       let l = i.layouts q in
-      let to = entry + widths (prologue l) in
+      let to = entry + widths (saves l) in
       let h = k.stacked in
       let c = waits_cut n s.waiting h.wait h.waits in
       let goal = Sees e (Lies i q live' (begins_with l n s) (f ∷ frames) v.out) to in
@@ -187,9 +199,9 @@ module _ (i : Places) (ok : (m : ℕ) → IsLayout (i.layouts m)) (e : Run) (dee
       f = record { proc = m; pc = pc; kept = kept_by n s; awaits = Result call }
 
       entered : (u : MachineState) (args : List ℕ) → Waits (take n s.waiting) args → AreSmall args
-          → Begun e i q (record { proc = m; pc = pc; kept = kept_by n s; awaits = Result call }) frames args (entry + widths (prologue (i.layouts q))) v u
+          → Begun e i q (record { proc = m; pc = pc; kept = kept_by n s; awaits = Result call }) frames args (entry + widths (saves (i.layouts q))) v u
           → Sees e (Lies i q live' (begins_with (i.layouts q) n s) (record { proc = m; pc = pc; kept = kept_by n s; awaits = Result call } ∷ frames) v.out)
-          (entry + widths (prologue (i.layouts q))) u
+          (entry + widths (saves (i.layouts q))) u
       entered u args waits small b =
           let l = i.layouts q in
           let saved = map v.regs.of l.saved in
@@ -228,3 +240,21 @@ module _ (i : Places) (ok : (m : ℕ) → IsLayout (i.layouts m)) (e : Run) (dee
                 };
             at = b.at;
           }
+
+  pub goes_enters : (way : Way) (q m pc place n entry : ℕ) (call : Call) (live live' : ℕ → Bool) (s : State) (frames : List (Frame State)) (v : View)
+      (t : MachineState) → StandsAt e.flash place (call_code way) → place + call_words way < 65536 → i.behind m pc ≡ place + call_words way
+      → leads_to way place v.regs ≡ entry → AllStandAt e.flash entry (prologue (i.layouts q)) → entry + widths (prologue (i.layouts q)) < 65536
+      → same_widths (i.layouts q).widths (taken_by n s) ≡ true → HasPushed (i.layouts q) (length (taken_by n s))
+      → ((k : ℕ) → needed i m (Result call) pc k ≡ true → live k ≡ true) → Held i m live s frames v
+      → (0x1100 < e.floor + length v.stack + 2 + length (i.layouts q).saved + (i.layouts q).slots → deep) → At e place v t
+      → Goes e deep 1 t
+      (Sees e (Lies i q live' (begins_with (i.layouts q) n s) (record { proc = m; pc = pc; kept = kept_by n s; awaits = Result call } ∷ frames) v.out)
+      (entry + widths (prologue (i.layouts q))))
+  goes_enters way q m pc place n entry call live live' s frames v t stand room behind leads code low same lie fewer k full a =
+      let l = i.layouts q in
+      let none = unsettled l lie.arrive in
+      subst (λ is. Goes e deep 1 t
+      (Sees e (Lies i q live' (begins_with l n s) (record { proc = m; pc = pc; kept = kept_by n s; awaits = Result call } ∷ frames) v.out) (entry + widths is)))
+      (sym none)
+      (goes_enters_saved way q m pc place n entry call live live' s frames v t stand room behind leads (subst (AllStandAt e.flash entry) none code)
+      (subst (λ is. entry + widths is < 65536) none low) same lie fewer k full a)

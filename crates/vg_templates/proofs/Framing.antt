@@ -5,10 +5,10 @@ use Rattle.avr_view.proofs.Going.{below_or_not}
 use Rattle.vg_templates.specs.Spots.{Spot, InFrame, InRegisters, Apart}
 use Rattle.vg_lin.specs.Program.{Procedure}
 use Rattle.vg_templates.specs.Layouts.{Layout, IsLayout, IsSpot, IsReliable, IsIn, outlives, frame_size, link_size}
-use Rattle.vg_templates.specs.Calls.{sum_of, behind_width, HasPushed}
-use Rattle.vg_templates.specs.Living.{lasts}
+use Rattle.vg_templates.specs.Calls.{sum_of, behind_width, by_registers, lives_from, HasPushed, HasArriving, HasBy, HasParameters}
+use Rattle.vg_templates.specs.Living.{is_live, lasts}
 use Rattle.vg_templates.specs.Framed.{Taken, taken, Seat, Lasting, Passing, Slot, seat_for, seat_spot, with_seat, spots_from, taken_from, spot_at}
-use Rattle.vg_templates.specs.Framed.{registers_from, saved_for, is_pointed, all_taken, lying, framed, CanBeFramed}
+use Rattle.vg_templates.specs.Framed.{registers_from, saved_for, is_pointed, all_taken, lying, on_stack, arriving, framed, live_in, CanBeFramed}
 
 -- ---- sums of widths
 
@@ -281,7 +281,7 @@ unpointed p n e = let none = not_below 0 n (neither (nat_lt 0 p) (nat_lt 0 n) e)
 none_small : Small (taken 0 0 0)
 none_small = record { lasting = omega arith; passing = omega arith }
 
-module _ (c : ℕ → Bool) (ws : List ℕ) (p : ℕ) (can : CanBeFramed ws p) where
+module _ (c : ℕ → Bool) (bs : List Bool) (ws : List ℕ) (p : ℕ) (can : CanBeFramed ws p) where
   abbrev others : List ℕ
   others = drop p ws
 
@@ -289,7 +289,7 @@ module _ (c : ℕ → Bool) (ws : List ℕ) (p : ℕ) (can : CanBeFramed ws p) w
   end = all_taken c ws p
 
   abbrev its_layout : Layout
-  its_layout = lying c ws p
+  its_layout = lying c bs ws p
 
   abbrev its_spots : List Spot
   its_spots = spots_from c p others (taken 0 0 0)
@@ -392,11 +392,11 @@ module _ (c : ℕ → Bool) (ws : List ℕ) (p : ℕ) (can : CanBeFramed ws p) w
         pointer = saved_pointer (is_pointed p end.slots) end.lasting;
         no_pointer = unpointed p end.slots;
         reliable = λ d h. saved_reliable (is_pointed p end.slots) end.lasting d end_small.lasting h;
-        small = let few = lying-counted in let small = can.small in omega (arith, few, small);
+        small = let few = lying-counted in let small = can.small in let parts = both_parts ws p in omega (arith, few, small, parts);
       }
 
-  lying-pushed : HasPushed its_layout p
-  lying-pushed = record { spots = λ k low. at (nat_lt k p) k refl low; bytes = refl }
+  lying-pushed : bs ≡ [] → HasPushed its_layout p
+  lying-pushed none = record { spots = λ k low. at (nat_lt k p) k refl low; bytes = refl; arrive = none }
     where
       at : (b : Bool) (k : ℕ) → nat_lt k p ≡ b → k < p → at_spot b k ≡ InFrame (its_layout.slots + link_size its_layout + behind_width (take p ws) k)
       at true k e low =
@@ -416,26 +416,69 @@ module _ (c : ℕ → Bool) (ws : List ℕ) (p : ℕ) (can : CanBeFramed ws p) w
           subst (λ w. outlives (spot_at its_spots (k - p)) w ≡ true) (width_behind ws p k beyond can.params)
           (spot_outlives c p others (taken 0 0 0) (k - p) (inside_others k beyond low) (subst (λ n. c n ≡ true) here e))
 
-module _ (m : Procedure) (can : CanBeFramed m.widths m.params) where
-  pub framed-layout : IsLayout (framed m)
-  framed-layout = lying-layout (lasts m.code) m.widths m.params can
+-- the same locals are live where these are numbers of some
+lives_alike : (one other : ℕ → Bool) (n k : ℕ) → ((j : ℕ) → k ≤ j → j < k + n → one j ≡ other j) → lives_from one k n ≡ lives_from other k n
+lives_alike one other zero k h = refl
+lives_alike one other (suc n) k h =
+    ap (λ b. b ∷ lives_from one (suc k) n) (h k (omega arith) (omega arith))
+    ∙ ap (λ bs. other k ∷ bs) (lives_alike one other n (suc k) (λ j lo hi. h j (omega (arith, lo)) (omega (arith, hi))))
 
-  pub framed-pushed : HasPushed (framed m) m.params
-  framed-pushed = lying-pushed (lasts m.code) m.widths m.params can
+module _ (m : Procedure) (can : CanBeFramed m.widths m.params) where
+  abbrev arrives : List Bool
+  arrives = arriving (λ k. is_live m.code k 0) m.widths m.params
+
+  abbrev on : ℕ
+  on = on_stack m.widths m.params
+
+  on_few : (b : Bool) → (if b then 0 else m.params) ≤ length m.widths
+  on_few true = omega arith
+  on_few false = can.params
+
+  can_on : CanBeFramed m.widths on
+  can_on = record { narrow = can.narrow; params = on_few (by_registers (take m.params m.widths)); small = can.small }
+
+  pub framed-layout : IsLayout (framed m)
+  framed-layout = lying-layout (lasts m.code) arrives m.widths on can_on
+
+  pub framed-parameters : HasParameters (framed m) (live_in m 0) m.params
+  framed-parameters = by_case (by_registers (take m.params m.widths))
+    where
+      numbered : (k : ℕ) → live_in m 0 k ≡ true → k < length m.widths
+      numbered k h = below k (length m.widths) (first (nat_lt k (length m.widths)) (is_live m.code k 0) h)
+        where
+          first : (a b : Bool) → (a && b) ≡ true → a ≡ true
+          first true b e = refl
+          first false b e = e
+
+      alike : (k : ℕ) → k < m.params → is_live m.code k 0 ≡ live_in m 0 k
+      alike k low =
+          let few = can.params in
+          sym (ap (λ b. b && is_live m.code k 0) (is_below k (length m.widths) (omega (arith, low, few))))
+
+      by_case : (b : Bool)
+          → HasBy b (lying (lasts m.code) (if b then lives_from (λ k. is_live m.code k 0) 0 m.params else []) m.widths (if b then 0 else m.params)) (live_in m 0) m.params
+      by_case true =
+          record {
+            kept = lives_alike (λ k. is_live m.code k 0) (live_in m 0) m.params 0 (λ j lo hi. alike j (omega (arith, hi)));
+            bytes = refl;
+            numbered = numbered;
+          }
+      by_case false = lying-pushed (lasts m.code) [] m.widths m.params can refl
 
   pub framed-outlives : (k : ℕ) → k < length m.widths → lasts m.code k ≡ true → outlives ((framed m).spots k) (slice_index m.widths k) ≡ true
-  framed-outlives = lying-outlives (lasts m.code) m.widths m.params can
+  framed-outlives = lying-outlives (lasts m.code) arrives m.widths on can_on
 
 -- ---- its bytes
 
--- The frame has at most four bytes beside those of the locals, and so has what is pushed at an entry beside those of the locals that are no parameters.
-lying-taken : (c : ℕ → Bool) (ws : List ℕ) (p : ℕ) → length (lying c ws p).saved + (lying c ws p).slots ≤ sum_of (drop p ws) + 2
-lying-taken c ws p =
+-- The frame has at most four bytes beside those of the locals, and so has what is pushed at an entry beside those of the locals that were not pushed.
+lying-taken : (c : ℕ → Bool) (bs : List Bool) (ws : List ℕ) (p : ℕ) → length (lying c bs ws p).saved + (lying c bs ws p).slots ≤ sum_of (drop p ws) + 2
+lying-taken c bs ws p =
     let all = all_counted c p (drop p ws) (taken 0 0 0) in
     omega (arith, all, saved-few (is_pointed p (all_taken c ws p).slots) (all_taken c ws p).lasting)
 
-pub framed-taken : (m : Procedure) → length (framed m).saved + (framed m).slots ≤ sum_of (drop m.params m.widths) + 2
-framed-taken m = lying-taken (lasts m.code) m.widths m.params
+pub framed-taken : (m : Procedure) → length (framed m).saved + (framed m).slots ≤ sum_of (drop (on_stack m.widths m.params) m.widths) + 2
+framed-taken m =
+    lying-taken (lasts m.code) (arriving (λ k. is_live m.code k 0) m.widths m.params) m.widths (on_stack m.widths m.params)
 
 pub framed-bytes : (m : Procedure) → frame_size (framed m) ≤ sum_of m.widths + 4
-framed-bytes m = let parts = both_parts m.widths m.params in let few = framed-taken m in omega (arith, parts, few)
+framed-bytes m = let parts = both_parts m.widths (on_stack m.widths m.params) in let few = framed-taken m in omega (arith, parts, few)

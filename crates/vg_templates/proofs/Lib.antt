@@ -33,4 +33,5 @@ pub mod Living
 pub mod Framing
 pub mod Returning
 pub mod Entering
+pub mod Arriving
 pub mod Choosing

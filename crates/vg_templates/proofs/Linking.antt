@@ -15,7 +15,7 @@ use Rattle.avr_view.proofs.Steps.{goes_plain, register_below}
 use Rattle.avr_view.proofs.StackSteps.{goes_push, goes_pop, goes_in_spl, goes_in_sph, goes_lower, goes_raise}
 use Rattle.avr_view.proofs.CallSteps.{goes_ret}
 use Rattle.vg_templates.specs.Layouts.{Layout}
-use Rattle.vg_templates.specs.Linkage.{pushes, pops, y_less, y_more, sp_is_y, takes_slots, drops_slots, frame_pointer, prologue, epilogue}
+use Rattle.vg_templates.specs.Linkage.{pushes, pops, y_less, y_more, sp_is_y, takes_slots, drops_slots, frame_pointer, saves, epilogue}
 use Rattle.vg_templates.specs.Linkage.{AreOthers, Entered, Left}
 use Rattle.vg_templates.specs.Frames.{restored, word_bytes}
 use Rattle.vg_templates.proofs.Numbers.{put_other}
@@ -226,19 +226,19 @@ module _ (e : Run) (deep : Type 0) where
       (λ u a2. goes_slots n pc v u stand.1.1 small room full a2)))
 
   -- the entry of a procedure
-  pub goes_prologue : (l : Layout) (pc : ℕ) (v : View) (s : State) → (l.pointed ≡ false → l.slots ≡ 0) → l.slots < 0x1000
-      → AllStandAt e.flash pc (prologue l) → pc + widths (prologue l) < 65536
-      → (0x1100 < e.floor + length v.stack + length l.saved + l.slots → deep) → At e pc v s → Goes e deep 0 s (Entered e l (pc + widths (prologue l)) v)
-  goes_prologue l pc v s none small stand room full a =
+  pub goes_saves : (l : Layout) (pc : ℕ) (v : View) (s : State) → (l.pointed ≡ false → l.slots ≡ 0) → l.slots < 0x1000
+      → AllStandAt e.flash pc (saves l) → pc + widths (saves l) < 65536
+      → (0x1100 < e.floor + length v.stack + length l.saved + l.slots → deep) → At e pc v s → Goes e deep 0 s (Entered e l (pc + widths (saves l)) v)
+  goes_saves l pc v s none small stand room full a =
       let n = length l.saved in
       let v1 : View = record v { stack = map v.regs.of l.saved ++ v.stack } in
-      let goal = Entered e l (pc + widths (prologue l)) v in
+      let goal = Entered e l (pc + widths (saves l)) v in
       let one = widths-pushes l.saved in
       let whole = widths-append (pushes l.saved) (frame_pointer l.pointed l.slots) in
       let behind = back_stands e.flash pc (pushes l.saved) (frame_pointer l.pointed l.slots) stand in
       let there : AllStandAt e.flash (pc + n) (frame_pointer l.pointed l.slots) =
       subst (λ m. AllStandAt e.flash (pc + m) (frame_pointer l.pointed l.slots)) one behind in
-      let to : pc + n + widths (frame_pointer l.pointed l.slots) ≡ pc + widths (prologue l) = omega (arith, one, whole) in
+      let to : pc + n + widths (frame_pointer l.pointed l.slots) ≡ pc + widths (saves l) = omega (arith, one, whole) in
       let size = length-append (map v.regs.of l.saved) v.stack in
       let long = map_long v.regs.of l.saved in
       goes_fewer e deep (n + 0) 0 s goal (omega arith)

@@ -13,7 +13,7 @@ use Rattle.avr_view.proofs.CallSteps.{goes_call, goes_ret}
 use Rattle.avr_view.proofs.JumpSteps.{goes_jmp}
 use Rattle.avr_view.proofs.WakingSteps.{ends_idle, goes_wake, goes_reti_cli}
 use Rattle.vg_templates.specs.Layouts.{IsLayout}
-use Rattle.vg_templates.specs.Linkage.{prologue}
+use Rattle.vg_templates.specs.Linkage.{saves}
 use Rattle.vg_templates.specs.Frames.{Fits, Waits, Places, word_bytes, between, back_to, needed, Points, Callers}
 use Rattle.vg_templates.specs.CallOutcomes.{Begun, Resumed}
 use Rattle.vg_templates.proofs.Calling.{goes_begin}
@@ -73,17 +73,17 @@ module _ (e : Run) (deep : Type 0) (i : Places) (idle : ℕ) (is : IsIdle e i id
       (λ t b. goes_out (2 * k) place v.stack (taken place v k ks) t reti refl b))
 
   module _ (ok : (m : ℕ) → IsLayout (i.layouts m)) where
-    -- from the slot of one with a handler the run leads behind the prologue of it
+    -- from the slot of one with a handler the run leads behind the first part of its prologue
     pub goes_from_slot : (place k q at entry m pc : ℕ) (kept : LinState) (frames : List (Frame LinState)) (wait own under : List ℕ) (v : View)
-        (s : State) → IsHandled e i k q at entry → i.behind m pc ≡ place + 2 → AllStandAt e.flash entry (prologue (i.layouts q))
-        → entry + widths (prologue (i.layouts q)) < 65536 → v.stack ≡ wait ++ (own ++ under) → Points (i.layouts m) own under v.regs
+        (s : State) → IsHandled e i k q at entry → i.behind m pc ≡ place + 2 → AllStandAt e.flash entry (saves (i.layouts q))
+        → entry + widths (saves (i.layouts q)) < 65536 → v.stack ≡ wait ++ (own ++ under) → Points (i.layouts m) own under v.regs
         → Waits kept.waiting wait → Fits (i.layouts m) (needed i m Interrupt pc) kept.locals own v.regs → Callers i frames m own under v.regs
         → (0x1100 < e.floor + length v.stack + 6 + length (i.layouts q).saved + (i.layouts q).slots → deep)
         → At e (2 * k) (record v { stack = word_bytes (idle + 2) ++ (word_bytes (place + 2) ++ v.stack) }) s
-        → Goes e deep 2 s (Begun e i q (record { proc = m; pc = pc; kept = kept; awaits = Interrupt }) frames [] (entry + widths (prologue (i.layouts q))) v)
+        → Goes e deep 2 s (Begun e i q (record { proc = m; pc = pc; kept = kept; awaits = Interrupt }) frames [] (entry + widths (saves (i.layouts q))) v)
     goes_from_slot place k q at entry m pc kept frames wait own under v s stub behind code low cut points waits fits more full b =
         let f : Frame LinState = record { proc = m; pc = pc; kept = kept; awaits = Interrupt } in
-        let goal = Begun e i q f frames [] (entry + widths (prologue (i.layouts q))) v in
+        let goal = Begun e i q f frames [] (entry + widths (saves (i.layouts q))) v in
         let u : View = record v { stack = word_bytes (idle + 2) ++ (word_bytes (place + 2) ++ v.stack) } in
         let l = i.layouts q in
         let small = stub.room in
@@ -92,7 +92,7 @@ module _ (e : Run) (deep : Type 0) (i : Places) (idle : ℕ) (is : IsIdle e i id
         ∙ ap (λ n. word_bytes i.woken ++ (word_bytes n ++ v.stack)) (sym behind)
         ∙ ap (λ x. word_bytes i.woken ++ (word_bytes (i.behind m pc) ++ x)) cut in
         goes_then e deep 1 1 s (At e at u) goal (goes_jmp e deep (2 * k) u s b at stub.slot stub.away)
-        (λ r c. goes_wider e deep 1 r (Begun e i q f frames [] (entry + widths (prologue l)) u) goal
+        (λ r c. goes_wider e deep 1 r (Begun e i q f frames [] (entry + widths (saves l)) u) goal
         (λ w n. record {
           slots = n.slots;
           under = n.under;
@@ -106,18 +106,18 @@ module _ (e : Run) (deep : Type 0) (i : Places) (idle : ℕ) (is : IsIdle e i id
         (goes_begin e deep i ok q at entry f frames [] wait own under u r stub.stands.0 (omega arith) stub.ends code low where_is points waits fits more
         (λ h. full (omega arith)) c))
 
-    -- one with a handler leads behind the prologue of it
+    -- one with a handler leads behind the first part of its prologue
     pub goes_handling : (place k q at entry m pc : ℕ) (ks : List ℕ) (kept : LinState) (frames : List (Frame LinState)) (wait own under : List ℕ) (v : View)
         (s : State) → IsHandled e i k q at entry → StandsAt e.flash place (Call idle) → place + 2 < 65536 → i.behind m pc ≡ place + 2
-        → AllStandAt e.flash entry (prologue (i.layouts q)) → entry + widths (prologue (i.layouts q)) < 65536 → v.stack ≡ wait ++ (own ++ under)
+        → AllStandAt e.flash entry (saves (i.layouts q)) → entry + widths (saves (i.layouts q)) < 65536 → v.stack ≡ wait ++ (own ++ under)
         → Points (i.layouts m) own under v.regs → Waits kept.waiting wait → Fits (i.layouts m) (needed i m Interrupt pc) kept.locals own v.regs
         → Callers i frames m own under v.regs → v.out.interrupts ≡ k ∷ ks → Front e (entered v.out k ks)
         → (0x1100 < e.floor + length v.stack + 6 + length (i.layouts q).saved + (i.layouts q).slots → deep) → At e place v s
-        → Goes e deep 1 s (Begun e i q (record { proc = m; pc = pc; kept = kept; awaits = Interrupt }) frames [] (entry + widths (prologue (i.layouts q)))
+        → Goes e deep 1 s (Begun e i q (record { proc = m; pc = pc; kept = kept; awaits = Interrupt }) frames [] (entry + widths (saves (i.layouts q)))
         (record v { out = entered v.out k ks }))
     goes_handling place k q at entry m pc ks kept frames wait own under v s stub call room behind code low cut points waits fits more some front full a =
         let f : Frame LinState = record { proc = m; pc = pc; kept = kept; awaits = Interrupt } in
-        let goal = Begun e i q f frames [] (entry + widths (prologue (i.layouts q))) (record v { out = entered v.out k ks }) in
+        let goal = Begun e i q f frames [] (entry + widths (saves (i.layouts q))) (record v { out = entered v.out k ks }) in
         goes_fewer e deep (1 + 2) 1 s goal (omega arith)
         (goes_then e deep 1 2 s (At e (2 * k) (taken place v k ks)) goal (goes_taken place k ks v s call room some front (λ h. full (omega arith)) a)
         (λ t b. goes_from_slot place k q at entry m pc kept frames wait own under (record v { out = entered v.out k ks }) t stub behind code low cut points waits fits more full b))

@@ -10,7 +10,7 @@ use Rattle.vg_templates.specs.Frames.{Places, word_bytes, back_to, between, need
 use Rattle.vg_templates.specs.Layouts.{IsReliable}
 use Rattle.vg_templates.specs.Linkage.{AreOthers}
 
--- Behind the prologue of a procedure for which another one waits: its frame has its slots, which hold what they held, what it has saved, the
+-- Behind the first part of the prologue of a procedure for which another one waits: its frame has its slots, which hold what they held, what it has saved, the
 -- return address and these arguments; the other one is its newest caller.
 pub record Begun (e : Run) (i : Places) (q : ℕ) (f : Frame LinState) (frames : List (Frame LinState)) (args : List ℕ) (pc : ℕ) (old : View) (s : State)
     : Type 0 where

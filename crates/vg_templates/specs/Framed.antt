@@ -4,7 +4,7 @@ use Rattle.std.specs.Prelude.{List, [], ◌∷◌, take, drop, length, slice_ind
 use Rattle.vg_lin.specs.Program.{Procedure}
 use Rattle.vg_templates.specs.Spots.{Spot, InFrame, InRegisters}
 use Rattle.vg_templates.specs.Layouts.{Layout}
-use Rattle.vg_templates.specs.Calls.{sum_of, behind_width}
+use Rattle.vg_templates.specs.Calls.{sum_of, behind_width, by_registers, lives_from}
 use Rattle.vg_templates.specs.Living.{is_live, lasts}
 
 -- How many bytes are taken: of the registers from r2 on, which outlive calls; of those from r8 on, which do not; and of the slots.
@@ -59,16 +59,23 @@ abbrev pub saved_for : (pointed : Bool) (bytes : ℕ) → List ℕ
 saved_for true n = 28 ∷ 29 ∷ registers_from 2 n
 saved_for false n = registers_from 2 n
 
--- The first locals are parameters that were pushed: they lie where they were pushed, behind the slots, the saved registers with Y, and the return address. Y is
--- the frame pointer where there are parameters or slots.
-abbrev pub is_pointed : (params slots : ℕ) → Bool
+-- how many parameters are pushed: all of them, or none where they go in registers; and of those that do, whether each is live where the procedure begins
+abbrev pub on_stack : (widths : List ℕ) (params : ℕ) → ℕ
+on_stack ws p = if by_registers (take p ws) then 0 else p
+
+abbrev pub arriving : (live : ℕ → Bool) (widths : List ℕ) (params : ℕ) → List Bool
+arriving live ws p = if by_registers (take p ws) then lives_from live 0 p else []
+
+-- The first locals, so many, are parameters that were pushed: they lie where they were pushed, behind the slots, the saved registers with Y, and the return
+-- address. Y is the frame pointer where there are such parameters or slots.
+abbrev pub is_pointed : (pushed slots : ℕ) → Bool
 is_pointed p n = nat_lt 0 p || nat_lt 0 n
 
-abbrev pub all_taken : (lasts : ℕ → Bool) (widths : List ℕ) (params : ℕ) → Taken
+abbrev pub all_taken : (lasts : ℕ → Bool) (widths : List ℕ) (pushed : ℕ) → Taken
 all_taken c ws p = taken_from c p (drop p ws) (taken 0 0 0)
 
-abbrev pub lying_by : (lasts : ℕ → Bool) (widths : List ℕ) (params : ℕ) → Taken → Layout
-lying_by c ws p t =
+abbrev pub lying_by : (lasts : ℕ → Bool) (arrives : List Bool) (widths : List ℕ) (pushed : ℕ) → Taken → Layout
+lying_by c bs ws p t =
     record {
       widths = ws;
       spots = λ k. if nat_lt k p then InFrame (t.slots + t.lasting + 4 + behind_width (take p ws) k)
@@ -77,20 +84,21 @@ lying_by c ws p t =
       saved = saved_for (is_pointed p t.slots) t.lasting;
       pointed = is_pointed p t.slots;
       pushed = sum_of (take p ws);
+      arrives = bs;
     }
 
-abbrev pub lying : (lasts : ℕ → Bool) (widths : List ℕ) (params : ℕ) → Layout
-lying c ws p = lying_by c ws p (all_taken c ws p)
+abbrev pub lying : (lasts : ℕ → Bool) (arrives : List Bool) (widths : List ℕ) (pushed : ℕ) → Layout
+lying c bs ws p = lying_by c bs ws p (all_taken c ws p)
 
 abbrev pub framed : Procedure → Layout
-framed m = lying (lasts m.code) m.widths m.params
+framed m = lying (lasts m.code) (arriving (λ k. is_live m.code k 0) m.widths m.params) m.widths (on_stack m.widths m.params)
 
 -- its locals that are live at a place
 abbrev pub live_in : Procedure → (place local : ℕ) → Bool
 live_in m pc k = nat_lt k (length m.widths) && is_live m.code k pc
 
--- widths of at most four bytes, and slots of fewer than 4,096
+-- widths of at most four bytes, and fewer than 4,096 in all
 pub record CanBeFramed (ws : List ℕ) (p : ℕ) : Type 0 where
   pub narrow : (k : ℕ) → k < length ws → slice_index ws k ≤ 4
   pub params : p ≤ length ws
-  pub small : sum_of (drop p ws) < 0x1000
+  pub small : sum_of ws < 0x1000

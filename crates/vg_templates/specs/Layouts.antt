@@ -4,7 +4,8 @@ use Rattle.avr_view.specs.Registers.{Regs}
 use Rattle.vg_templates.specs.Spots.{Spot, InFrame, InRegisters, Apart}
 
 -- The frame of a procedure, from its newest byte on: the slots of its locals, the saved registers with the one that was pushed last in
--- front, the two bytes of the return address with the high one in front, and the bytes of the arguments that were pushed.
+-- front, the two bytes of the return address with the high one in front, and the bytes of the arguments that were pushed. Arguments that were not
+-- pushed arrive in registers.
 pub record Layout : Type 0 where
   pub widths : List ℕ  -- of the locals, in bytes
   pub spots : ℕ → Spot  -- of each local
@@ -12,6 +13,7 @@ pub record Layout : Type 0 where
   pub saved : List ℕ  -- the registers that the procedure saves
   pub pointed : Bool  -- whether Y is its frame pointer, and points to the byte before the first slot
   pub pushed : ℕ  -- the bytes of the arguments that are pushed
+  pub arrives : List Bool  -- of each parameter that arrives in registers, whether the procedure keeps it
 
 -- how many bytes the return address and what it saves take, and the whole frame
 abbrev pub link_size : Layout → ℕ

@@ -8,7 +8,8 @@ use Rattle.avr_view.specs.Registers.{Regs, pair}
 use Rattle.avr_view.specs.Run.{Run}
 use Rattle.avr_view.specs.View.{View, At}
 use Rattle.vg_templates.specs.Frames.{restored}
-use Rattle.vg_templates.specs.Layouts.{Layout}
+use Rattle.vg_templates.specs.Layouts.{Layout, width_of}
+use Rattle.vg_templates.specs.Held.{gives}
 
 -- registers go on the stack, the first one last; and come back, the first one first
 abbrev pub pushes : List ℕ → List Instr
@@ -45,8 +46,22 @@ frame_pointer false n = []
 frame_pointer true n = In 28 0x3D ∷ In 29 0x3E ∷ takes_slots n
 
 -- a procedure saves registers, and takes its slots
+abbrev pub saves : Layout → List Instr
+saves l = pushes l.saved ++ frame_pointer l.pointed l.slots
+
+-- A parameter that arrived in registers goes to its spot, where it is kept. All that arrive do, one behind the other from this parameter and this
+-- register on.
+abbrev pub settles_one : (kept : Bool) → Layout → (param first : ℕ) → List Instr
+settles_one true l k r = gives l k r (width_of l k)
+settles_one false l k r = []
+
+abbrev pub settles_from : Layout → (param first : ℕ) → (kept : List Bool) → List Instr
+settles_from l k r [] = []
+settles_from l k r (b ∷ bs) = settles_one b l k r ++ settles_from l (suc k) (r + width_of l k) bs
+
+-- all of it: the first parameter that arrives is in r18 and behind it
 abbrev pub prologue : Layout → List Instr
-prologue l = pushes l.saved ++ frame_pointer l.pointed l.slots
+prologue l = saves l ++ settles_from l 0 18 l.arrives
 
 -- it drops its slots, gives back what it saved, and goes back
 abbrev pub epilogue : Layout → List Instr
@@ -56,7 +71,7 @@ epilogue l = drops_slots l.slots ++ (pops l.saved ++ Ret ∷ [])
 abbrev pub AreOthers : (old new : Regs) → Type 0
 AreOthers old new = (d : ℕ) → (d < 28) ⊎ (30 ≤ d) → new.of d ≡ old.of d
 
--- Behind the prologue: what is saved lies on the stack, and the slots before it, which hold what they held; Y is the frame pointer, where there is
+-- Behind the first part of the prologue: what is saved lies on the stack, and the slots before it, which hold what they held; Y is the frame pointer, where there is
 -- one, and no other register has changed.
 pub record Entered (e : Run) (l : Layout) (pc : ℕ) (old : View) (s : State) : Type 0 where
   pub slots : List ℕ

@@ -12,7 +12,7 @@ use Rattle.vg_templates.specs.Frames.{Places}
 use Rattle.vg_templates.specs.Branches.{tests, told_by}
 use Rattle.vg_templates.specs.Calls.{Way, call_code, sum_of}
 use Rattle.vg_templates.specs.Returns.{returns_value, behind_call}
-use Rattle.vg_templates.specs.Flow.{Hop, jump_code, Turn, branch_code, passes, passed_bytes, aims, way_of, drops_at_once}
+use Rattle.vg_templates.specs.Flow.{Hop, jump_code, Turn, branch_code, goes_by_registers, passes_by, pushed_by_call, aims, way_of, drops_at_once}
 use Rattle.vg_templates.specs.Plains.{plain_template}
 
 -- Where the code of a program stands, and how its instructions lead to one another. Places are word addresses.
@@ -26,12 +26,12 @@ pub record Links : Type 0 where
   pub call : (proc pc : ℕ) → Way
   pub idle : ℕ  -- where the piece stands in which the program waits for interrupts
 
--- a call up to the instruction that calls; how many bytes of arguments it has, where values of these widths wait; and what follows it
+-- a call up to the instruction that calls; how many bytes of its arguments are pushed, where values of these widths wait; and what follows it
 abbrev pub call_front : Layout → Calling → List Avr
-call_front l c = passes l (operands c.registers) ++ aims l c.callee
+call_front l c = passes_by (goes_by_registers c) l (operands c.registers) ++ aims l c.callee
 
 abbrev pub call_bytes : (waits : List ℕ) → Calling → ℕ
-call_bytes ws c = sum_of (take c.pushed ws) + passed_bytes (operands c.registers)
+call_bytes ws c = sum_of (take c.pushed ws) + pushed_by_call (goes_by_registers c) (operands c.registers)
 
 abbrev pub call_back : Layout → (waits : List ℕ) → Calling → List Avr
 call_back l ws c = behind_call l (drops_at_once l (drop c.pushed ws) (call_bytes ws c)) (call_bytes ws c) c.to

@@ -9,7 +9,7 @@ ghost use Rattle.vg_lin.specs.State.{State as LinState};
 ghost use Rattle.avr_view.specs.Run.{Run, Goes, Front, Ended};
 ghost use Rattle.avr_view.specs.View.{View, At};
 ghost use Rattle.vg_templates.specs.Layouts.{IsLayout};
-ghost use Rattle.vg_templates.specs.Linkage.{prologue};
+ghost use Rattle.vg_templates.specs.Linkage.{saves};
 ghost use Rattle.vg_templates.specs.Frames.{Fits, Waits, Places, needed, Points, Callers};
 ghost use Rattle.vg_templates.specs.CallOutcomes.{Begun, Resumed};
 ghost use Rattle.vg_templates.specs.Idle.{IsIdle, IsHandled, entered, Back};
@@ -25,19 +25,19 @@ pub fn waiting_ends()
         → Goes e (0x1100 < e.floor + length v.stack + 4) 1 s (At e (place + 2) (record v { out = entered v.out k ks })) }
 {}
 
-/// Laws of an interrupt with a handler. From the call of the idle piece the run comes behind the prologue of the handler, for which the procedure that
+/// Laws of an interrupt with a handler. From the call of the idle piece the run comes behind the first part of the prologue of the handler, for which the procedure that
 /// idles waits, or the stack reaches below the floor, which it does only where three return addresses, the saved registers and the slots are too many.
 /// And from where the epilogue of the handler leads, by RETI, CLI and RET, it comes behind that call: the procedure finds its registers, what waits and
 /// its locals again.
 pub fn handlers_run()
     ensures begin { (e : Run) (i : Places) (idle : ℕ) → IsIdle e i idle → ((m : ℕ) → IsLayout (i.layouts m)) → (place k q at entry m pc : ℕ)
         (ks : List ℕ) (kept : LinState) (frames : List (Frame LinState)) (wait own under : List ℕ) (v : View) (s : State) → IsHandled e i k q at entry
-        → StandsAt e.flash place (Call idle) → place + 2 < 65536 → i.behind m pc ≡ place + 2 → AllStandAt e.flash entry (prologue (i.layouts q))
-        → entry + widths (prologue (i.layouts q)) < 65536 → v.stack ≡ wait ++ (own ++ under) → Points (i.layouts m) own under v.regs
+        → StandsAt e.flash place (Call idle) → place + 2 < 65536 → i.behind m pc ≡ place + 2 → AllStandAt e.flash entry (saves (i.layouts q))
+        → entry + widths (saves (i.layouts q)) < 65536 → v.stack ≡ wait ++ (own ++ under) → Points (i.layouts m) own under v.regs
         → Waits kept.waiting wait → Fits (i.layouts m) (needed i m Interrupt pc) kept.locals own v.regs
         → Callers i frames m own under v.regs → v.out.interrupts ≡ k ∷ ks → Front e (entered v.out k ks) → At e place v s
         → Goes e (0x1100 < e.floor + length v.stack + 6 + length (i.layouts q).saved + (i.layouts q).slots) 1 s
-        (Begun e i q (record { proc = m; pc = pc; kept = kept; awaits = Interrupt }) frames [] (entry + widths (prologue (i.layouts q)))
+        (Begun e i q (record { proc = m; pc = pc; kept = kept; awaits = Interrupt }) frames [] (entry + widths (saves (i.layouts q)))
         (record v { out = entered v.out k ks })) }
     ensures back { (e : Run) (i : Places) (idle : ℕ) → IsIdle e i idle → ((m : ℕ) → IsLayout (i.layouts m)) → (q place : ℕ) (f : Frame LinState)
         (frames : List (Frame LinState)) (old : View) (s : State) → f.awaits ≡ Interrupt → (i.layouts q).pushed ≡ 0

@@ -173,30 +173,31 @@ module _ (bytes : List ℕ) (clock : ℕ) (f : Fitted) (is : IsFittedOf bytes cl
     woken : ((linked.idle + 2 == linked.idle + 1) || (linked.idle + 2 == linked.idle + 2)) ≡ true
     woken = either_true (linked.idle + 2 == linked.idle + 1) (linked.idle + 2 == linked.idle + 2) (is_itself (linked.idle + 2))
 
-    does_by : (by : List ℕ) → DoesInImage linked f.placed.columns by p s.heap → (whole : List Event) → DoesAsProgram (with_whole run whole) by p s.heap
-    does_by by image whole = image (with_whole run whole) m.flash refl (floor_low stack) slept woken
+    does_by : (extra : ℕ) (by : List ℕ) → DoesInImage linked f.placed.columns extra by p s.heap → (whole : List Event)
+        → DoesAsProgram (with_whole run whole) extra by p s.heap
+    does_by extra by image whole = image (with_whole run whole) m.flash refl (floor_low stack) slept woken
 
-    does : (whole : List Event) → DoesAsProgram (with_whole run whole) (costs text) p s.heap
-    does = does_by (costs text) (m.does s.names (ready bytes clock f is short))
+    does : (whole : List Event) → DoesAsProgram (with_whole run whole) 4 (costs text) p s.heap
+    does = does_by 4 (costs text) (m.does s.names (ready bytes clock f is short))
 
     agreed : Agrees (sessions text (named_start_heap s)) i.flash (0x1100 - stack) stack
     agreed = agrees names p text named is.alive.start.program.typed s.heap is.alive.start.typed run stack (floor_is n stack fits) does
 
     kept : KeepsMemory i.flash n (0x1100 - stack) (linked.idle + 1)
     kept =
-        keeps names p text named is.alive.start.program.typed s.heap is.alive.start.typed run (costs text) (linked.idle + 1)
+        keeps names p text named is.alive.start.program.typed s.heap is.alive.start.typed run 4 (costs text) (linked.idle + 1)
         (sleeps linked.idle) does
 
-    -- by costs of methods for which a stack of so many bytes holds what active calls cost
-    never_by : (by : List ℕ) → DoesInImage linked f.placed.columns by p s.heap → HoldsPeaks (0x1100 - stack) by p s.heap
+    -- by costs of methods for which a stack of so many bytes holds what active calls cost, and so many bytes beside them
+    never_by : (extra : ℕ) (by : List ℕ) → DoesInImage linked f.placed.columns extra by p s.heap → HoldsPeaks (0x1100 - stack) extra by p s.heap
         → NeverReaches i.flash (0x1100 - stack)
-    never_by by image holds =
-        never names p text named is.alive.start.program.typed s.heap is.alive.start.typed run by (does_by by image) holds
+    never_by extra by image holds =
+        never names p text named is.alive.start.program.typed s.heap is.alive.start.typed run extra by (does_by extra by image) holds
 
   never_below : (i : TextImage) (m : IsCompiledOf f i) (need : ℕ) → i.bound ≡ Bytes need → n + need ≤ 4096 → NeverReaches i.flash (0x1100 - need)
   never_below i m need same fits =
-      let (by, image, holds) = subst (λ z. HoldsBound m.linked f.placed.columns p s.heap z) same (m.bound (ready bytes clock f is short)) in
-      never_by i m need fits by image (holds (0x1100 - need) (floor_at n need fits))
+      let (extra, (by, image, holds)) = subst (λ z. HoldsBound m.linked f.placed.columns p s.heap z) same (m.bound (ready bytes clock f is short)) in
+      never_by i m need fits extra by image (holds (0x1100 - need) (floor_at n need fits))
 
   pub does_text : (i : TextImage) → IsCompiledOf f i → DoesText bytes clock i
   does_text i m = record {
@@ -218,7 +219,7 @@ module _ (bytes : List ℕ) (clock : ℕ) (f : Fitted) (is : IsFittedOf bytes cl
 -- what is linked of what fits is its image
 pub compiled_of : (f : Fitted) (i : TextImage) (linked : Linked) (cs : List ℕ) → ((texts : List (List ℕ)) → cs ≡ costs (tree_at texts f.alive.start.tree))
     → (IsReady (program_at f.alive.start.program) f.alive.start.heap
-    → DoesInImage linked f.placed.columns cs (program_at f.alive.start.program) f.alive.start.heap)
+    → DoesInImage linked f.placed.columns 4 cs (program_at f.alive.start.program) f.alive.start.heap)
     → (IsReady (program_at f.alive.start.program) f.alive.start.heap
     → HoldsBound linked f.placed.columns (program_at f.alive.start.program) f.alive.start.heap i.bound)
     → (IsReady (program_at f.alive.start.program) f.alive.start.heap
@@ -227,7 +228,7 @@ pub compiled_of : (f : Fitted) (i : TextImage) (linked : Linked) (cs : List ℕ)
     → IsCompiledOf f i
 compiled_of f i linked cs are does bound calls flash bytes static idle = record {
   linked = linked;
-  does = λ texts r. subst (λ z. DoesInImage linked f.placed.columns z (program_at f.alive.start.program) f.alive.start.heap) (are texts) (does r);
+  does = λ texts r. subst (λ z. DoesInImage linked f.placed.columns 4 z (program_at f.alive.start.program) f.alive.start.heap) (are texts) (does r);
   bound = bound;
   calls = λ texts r. subst (λ z. BoundsCalls z (program_at f.alive.start.program) f.alive.start.heap i.bound) (are texts) (calls r);
   flash = flash;

@@ -64,7 +64,7 @@ pub record CanCompile (f : Fitted) : Type 0 where
 pub record IsCompiledOf (f : Fitted) (i : TextImage) : Type 0 where
   pub linked : Linked
   pub does : (texts : List (List ℕ)) → IsReady (program_at f.alive.start.program) f.alive.start.heap
-      → DoesInImage linked f.placed.columns (costs (tree_at texts f.alive.start.tree)) (program_at f.alive.start.program) f.alive.start.heap
+      → DoesInImage linked f.placed.columns 4 (costs (tree_at texts f.alive.start.tree)) (program_at f.alive.start.program) f.alive.start.heap
   pub bound : IsReady (program_at f.alive.start.program) f.alive.start.heap
       → HoldsBound linked f.placed.columns (program_at f.alive.start.program) f.alive.start.heap i.bound
   pub calls : (texts : List (List ℕ)) → IsReady (program_at f.alive.start.program) f.alive.start.heap

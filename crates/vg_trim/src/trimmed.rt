@@ -14,6 +14,10 @@ pub fn trim(alloc: Global, old: &LinProc) -> Result<LinProc, NoMemory>
     ensures trimmed { IfOk result (λ new. IsTrimmedTo old.now new) }
     ensures short { IfOk result (λ new. length new.code ≤ length old.now.code) }
 {
+    let ranging = plan(alloc, old, Effort::Ranging)?;
+    if trims(old, &ranging) {
+        return Ok(trimmed(old, ranging));
+    }
     let leading = plan(alloc, old, Effort::Leading)?;
     if trims(old, &leading) {
         return Ok(trimmed(old, leading));

@@ -6,6 +6,7 @@ use Rattle.vg_lin.specs.declared.instr.Instr.{Instr}
 use Rattle.vg_lin.specs.declared.instr.Instr.TheVariants.{When, Unless}
 use Rattle.vg_lin.specs.Turns.{counts_at}
 use Rattle.vg_trimming.specs.declared.facts.Facts.{Facts}
+use Rattle.vg_trimming.specs.declared.facts.Learned.{Learned}
 use Rattle.vg_trimming.specs.declared.facts.Sets.{Sets}
 use Rattle.vg_trimming.specs.Walking.{Walk, none_set, decided, arrives, by_truth, further, walks, most_steps, way_leads}
 use Rattle.vg_trim_pairs.specs.declared.walking.Walk.{Walk as TheWalk}
@@ -34,7 +35,7 @@ or_second : (a b : Bool) → b ≡ true → (a || b) ≡ true
 or_second true b e = refl
 or_second false b e = e
 
-module _ (is : List Instr) (fs : List Facts) (ps : List ℕ) (before : Facts) (sure : Option ℕ) (place : ℕ) where
+module _ (is : List Instr) (fs : List Facts) (ps : List ℕ) (before : Facts) (sure : Learned) (place : ℕ) where
   abbrev Walks : ℕ → Walk → Type 0
   Walks most k = walks is fs ps before sure place most k ≡ true
 

@@ -74,9 +74,10 @@ pub fn call_change(old: &[u8], new: &[u8], c: Call, d: Call) -> Change
     Change {
         old: from,
         new: to,
-        gain: gain_in(old, new, from, to, 5),
+        gain: gain_in(old, new, from, to, 5, 4_294_967_295),
         filled: None,
         worked: None,
+        most: 4_294_967_295,
     }
 }
 

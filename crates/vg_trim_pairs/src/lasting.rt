@@ -2,12 +2,13 @@
 ghost use Rattle.std.specs.Prelude.{◌≡◌, true, nat_lt, slice_get, if◌then◌else◌};
 ghost use Rattle.vg_lin.specs.declared.instr.Operand.TheVariants.{Local};
 ghost use Rattle.vg_trimming.specs.Facts.{same_home, gains, twin_lasts, twins_last, stays_filled, all_stay_filled, leads, leads_at, begins_so};
-ghost use Rattle.vg_trimming.specs.Facts.{is_none_filled, is_none_worked, begins_with};
+ghost use Rattle.vg_trimming.specs.Facts.{is_none_filled, is_none_worked, is_none_bounded, begins_with, stays_bounded, all_stay_bounded};
 
+use crate::bounds::is_bounded;
 use crate::homes::{bytes_of, is_filled, is_it, is_twin, overwrites, same_home, stands_for};
 use crate::worked::all_stay_worked;
 use vg_lin::Operand;
-use vg_trimming::{Change, Facts, Gain, Twin, Worked};
+use vg_trimming::{Bound, Change, Facts, Gain, Twin, Worked};
 
 /// Whether the newer code has the new value there.
 fn gains(widths: &[u8], twins: &[Twin], new: Option<u8>, gain: Gain, home: Operand) -> bool
@@ -62,6 +63,27 @@ fn all_stay_filled(before: &[u8], change: Change, behind: &[u8]) -> bool
     }
 }
 
+fn stays_bounded(before: &[Bound], change: Change, bound: Bound) -> bool
+    ensures { result ≡ stays_bounded before.now change bound }
+{
+    if is_it(change.old, bound.local) {
+        change.most <= bound.most
+    } else {
+        is_bounded(before, bound)
+    }
+}
+
+fn all_stay_bounded(before: &[Bound], change: Change, behind: &[Bound]) -> bool
+    ensures { result ≡ all_stay_bounded before.now change behind.now }
+{
+    match behind {
+        [] => true,
+        [bound, more @ ..] => {
+            stays_bounded(before, change, *bound) && all_stay_bounded(before, change, more)
+        }
+    }
+}
+
 fn leads(widths: &[u8], before: &Facts, change: Change, behind: &Facts) -> bool
     ensures { result ≡ leads widths.now before.now change behind.now }
 {
@@ -74,6 +96,7 @@ fn leads(widths: &[u8], before: &Facts, change: Change, behind: &Facts) -> bool
         )
         && all_stay_filled(before.filled.as_slice(), change, behind.filled.as_slice())
         && all_stay_worked(before.worked.as_slice(), change, behind.worked.as_slice())
+        && all_stay_bounded(before.bounds.as_slice(), change, behind.bounds.as_slice())
 }
 
 /// Whether what is known at a place follows from what is known before an instruction that leads there, by what it changes.
@@ -119,6 +142,15 @@ fn is_none_worked(worked: &[Worked]) -> bool
     }
 }
 
+fn is_none_bounded(bounds: &[Bound]) -> bool
+    ensures { result ≡ is_none_bounded bounds.now }
+{
+    match bounds {
+        [] => true,
+        _ => false,
+    }
+}
+
 /// Whether no more is known at the first place than what holds there.
 pub fn begins_with(params: u8, facts: &[Facts]) -> bool
     ensures { result ≡ begins_with params (slice_get facts.now 0) }
@@ -129,6 +161,7 @@ pub fn begins_with(params: u8, facts: &[Facts]) -> bool
                 && begins_so(params, known.twins.as_slice())
                 && is_none_filled(known.filled.as_slice())
                 && is_none_worked(known.worked.as_slice())
+                && is_none_bounded(known.bounds.as_slice())
         }
         None => false,
     }

@@ -2,10 +2,12 @@
 #![tactic(auto)]
 
 pub mod both;
+pub mod bounds;
 pub mod branches;
 pub mod calls;
 pub mod homes;
 pub mod lasting;
+pub mod learning;
 pub mod places;
 pub mod plains;
 pub mod turns;

@@ -1,20 +1,22 @@
 // What stands for the instruction at a place of the older code.
 ghost use Rattle.std.specs.Prelude.{◌≡◌, ℕ, true, suc, slice_get, IsTrue, None, Some};
 ghost use Rattle.vg_lin.specs.Turns.{counts_at};
-ghost use Rattle.vg_trimming.specs.Walking.{checked};
+ghost use Rattle.vg_trimming.specs.Walking.{learned_met, learned_unmet};
 ghost use Rattle.vg_trimming.specs.Trimming.{gives_same, stops_so, is_there, leads_on, passed_over, instr_stands, stands_by, place_stands, stands_at};
+ghost use Rattle.vg_trimming.specs.Trimming.{same_test};
 ghost use Rattle.vg_trim_pairs.specs.Views.{both_in};
 
 use crate::both::Both;
-use crate::branches::{never_holds, no_change, same_test};
+use crate::branches::{always_holds, never_holds, no_change, same_test};
 use crate::calls::{call_change, same_call};
 use crate::homes::stands_for;
 use crate::lasting::leads_at;
+use crate::learning::{learned_met, learned_unmet, none_learned};
 use crate::plains::{is_stop, plain_passed, plain_stands, shorter_stands, work_passed};
 use crate::turns::{counts_at, instr_at};
-use crate::walking::{Ground, checked, is_there, way_leads};
+use crate::walking::{Ground, is_there, way_leads};
 use vg_lin::{Call, Instr, Operand, Plain, Test};
-use vg_trimming::{Facts, Twin};
+use vg_trimming::{Facts, Learned, Twin};
 
 // Whether this instruction gives the same back, in so many bytes.
 fn gives_same(twins: &[Twin], width: u8, value: Operand, instr: Option<Instr>) -> bool
@@ -37,14 +39,7 @@ fn stops_so(plain: Plain, instr: Option<Instr>) -> bool
 }
 
 // Whether a way behind a step of the older code leads to a place of the newer code.
-fn leads_on(
-    both: Both<'_>,
-    before: &Facts,
-    sure: Option<u8>,
-    spent: bool,
-    to: u16,
-    place: u16,
-) -> bool
+fn leads_on(both: Both<'_>, before: &Facts, sure: Learned, spent: bool, to: u16, place: u16) -> bool
     ensures { IsTrue result → leads_on (both_in both.entry) before.now sure spent to place ≡ true }
 {
     let ground = Ground {
@@ -71,18 +66,39 @@ fn is_plain_passed(both: Both<'_>, before: &Facts, at: u16, place: u16, plain: P
     }
 }
 
+// Whether this branch, which does not count, comes out in one way that leads to the newer code's place.
+fn when_passed(both: Both<'_>, before: &Facts, at: u16, place: u16, test: Test, to: u16) -> bool
+    ensures { IsTrue result → passed_over (both_in both.entry) before.now at place (Instr.When test to) ≡ true }
+{
+    if at == 65_535 || counts_at(both.older, at) {
+        return false;
+    }
+    never_holds(both.old, before, test)
+        && leads_on(both, before, none_learned(), true, at + 1, place)
+        || always_holds(both.old, before, test)
+            && leads_on(both, before, none_learned(), true, to, place)
+}
+
+fn unless_passed(both: Both<'_>, before: &Facts, at: u16, place: u16, test: Test, to: u16) -> bool
+    ensures { IsTrue result → passed_over (both_in both.entry) before.now at place (Instr.Unless test to) ≡ true }
+{
+    if at == 65_535 || counts_at(both.older, at) {
+        return false;
+    }
+    never_holds(both.old, before, test) && leads_on(both, before, none_learned(), true, to, place)
+        || always_holds(both.old, before, test)
+            && leads_on(both, before, none_learned(), true, at + 1, place)
+}
+
 // Whether the newer code stays at its place where the older one makes this step, which doesn't count.
 fn passed_over(both: Both<'_>, before: &Facts, at: u16, place: u16, instr: Instr) -> bool
     ensures { IsTrue result → passed_over (both_in both.entry) before.now at place instr ≡ true }
 {
     match instr {
         Instr::Plain(plain) => is_plain_passed(both, before, at, place, plain),
-        Instr::Unless(test, to) => {
-            !counts_at(both.older, at)
-                && never_holds(both.old, before, test)
-                && leads_on(both, before, None, true, to, place)
-        }
-        Instr::Jump(to) => leads_on(both, before, None, true, to, place),
+        Instr::When(test, to) => when_passed(both, before, at, place, test, to),
+        Instr::Unless(test, to) => unless_passed(both, before, at, place, test, to),
+        Instr::Jump(to) => leads_on(both, before, none_learned(), true, to, place),
         _ => false,
     }
 }
@@ -112,8 +128,8 @@ fn both_lead(
     before: &Facts,
     at: u16,
     place: u16,
-    there: (Option<u8>, u16, u16),
-    next: Option<u8>,
+    there: (Learned, u16, u16),
+    next: Learned,
 ) -> bool
     ensures { IsTrue result
         → (leads_on (both_in both.entry) before.now there.0 (counts_at both.entry.older.now at) there.1 there.2 ≡ true)
@@ -134,8 +150,8 @@ fn both_turn(
     before: &Facts,
     at: u16,
     place: u16,
-    there: (Option<u8>, u16),
-    next: (Option<u8>, u16),
+    there: (Learned, u16),
+    next: (Learned, u16),
 ) -> bool
     ensures { IsTrue result
         → (leads_on (both_in both.entry) before.now there.0 (counts_at both.entry.older.now at) there.1 (suc place) ≡ true)
@@ -176,7 +192,42 @@ fn checks_stand(
     ensures { IsTrue result → instr_stands (both_in both.entry) before.now at place (Instr.Unless test to) (Instr.Jump other) ≡ true }
 {
     let counts = counts_at(both.older, at);
-    never_holds(both.old, before, test) && leads_on(both, before, None, counts, to, other)
+    never_holds(both.old, before, test) && leads_on(both, before, none_learned(), counts, to, other)
+}
+
+fn takes_stand(
+    both: Both<'_>,
+    before: &Facts,
+    at: u16,
+    place: u16,
+    test: Test,
+    to: u16,
+    other: u16,
+) -> bool
+    ensures { IsTrue result → instr_stands (both_in both.entry) before.now at place (Instr.When test to) (Instr.Jump other) ≡ true }
+{
+    let counts = counts_at(both.older, at);
+    always_holds(both.old, before, test)
+        && leads_on(both, before, none_learned(), counts, to, other)
+}
+
+fn tests_stand(both: Both<'_>, before: &Facts, t: Test, u: Test) -> bool
+    ensures { IsTrue result → same_test both.entry.old.now both.entry.new.now before.now t u ≡ true }
+{
+    same_test(both.old, both.new, before, t, u)
+}
+
+// What is known where the test holds.
+fn met(both: Both<'_>, before: &Facts, test: Test) -> Learned
+    ensures { result ≡ learned_met both.entry.old.now before.now.bounds test }
+{
+    learned_met(both.old, before.bounds.as_slice(), test)
+}
+
+fn unmet(both: Both<'_>, before: &Facts, test: Test) -> Learned
+    ensures { result ≡ learned_unmet both.entry.old.now before.now.bounds test }
+{
+    learned_unmet(both.old, before.bounds.as_slice(), test)
 }
 
 // Whether an instruction of the newer code, at its place, stands for one of the older code, by what is known before that.
@@ -188,25 +239,63 @@ fn instr_stands(both: Both<'_>, before: &Facts, at: u16, place: u16, i: Instr, j
         (Instr::Plain(p), Instr::Plain(q)) => plains_stand(both, before, at, place, p, q),
         (Instr::Plain(p), Instr::Jump(to)) => stops_so(p, instr_at(both.newer, to)),
         (Instr::When(t, to), Instr::When(u, other)) => {
-            same_test(both.new, twins, t, u)
-                && both_lead(both, before, at, place, (None, to, other), checked(t))
+            tests_stand(both, before, t, u)
+                && both_lead(
+                    both,
+                    before,
+                    at,
+                    place,
+                    (met(both, before, t), to, other),
+                    unmet(both, before, t),
+                )
         }
         (Instr::Unless(t, to), Instr::Unless(u, other)) => {
-            same_test(both.new, twins, t, u)
-                && both_lead(both, before, at, place, (checked(t), to, other), None)
+            tests_stand(both, before, t, u)
+                && both_lead(
+                    both,
+                    before,
+                    at,
+                    place,
+                    (unmet(both, before, t), to, other),
+                    met(both, before, t),
+                )
         }
         (Instr::When(t, to), Instr::Unless(u, other)) => {
-            same_test(both.new, twins, t, u)
-                && both_turn(both, before, at, place, (None, to), (checked(t), other))
+            tests_stand(both, before, t, u)
+                && both_turn(
+                    both,
+                    before,
+                    at,
+                    place,
+                    (met(both, before, t), to),
+                    (unmet(both, before, t), other),
+                )
         }
         (Instr::Unless(t, to), Instr::When(u, other)) => {
-            same_test(both.new, twins, t, u)
-                && both_turn(both, before, at, place, (checked(t), to), (None, other))
+            tests_stand(both, before, t, u)
+                && both_turn(
+                    both,
+                    before,
+                    at,
+                    place,
+                    (unmet(both, before, t), to),
+                    (met(both, before, t), other),
+                )
         }
         (Instr::Unless(t, to), Instr::Jump(other)) => checks_stand(
             both, before, at, place, t, to, other,
         ),
-        (Instr::Jump(to), Instr::Jump(other)) => leads_on(both, before, None, false, to, other),
+        (Instr::When(t, to), Instr::Jump(other)) => takes_stand(
+            both, before, at, place, t, to, other,
+        ),
+        (Instr::Jump(to), Instr::Jump(other)) => leads_on(
+            both,
+            before,
+            none_learned(),
+            false,
+            to,
+            other,
+        ),
         (Instr::Call(c), Instr::Call(d)) => calls_stand(both, before, at, place, c, d),
         (Instr::Return(w, u), Instr::Return(v, z)) => w == v && stands_for(twins, u, z),
         (Instr::Return(w, u), Instr::Jump(to)) => gives_same(twins, w, u, instr_at(both.newer, to)),

@@ -2,15 +2,18 @@
 ghost use Rattle.std.specs.Prelude.{◌≡◌, ◌&&◌, ℕ, true, suc, IsTrue, None};
 ghost use Rattle.vg_trimming.specs.Facts.{found_for, leads_at};
 ghost use Rattle.vg_lin.specs.declared.instr.Plain.TheVariants.{Compute};
-ghost use Rattle.vg_trimming.specs.Trimming.{same_memory, same_plain, target_of, result_bytes, is_paired, gain_in, keeps_operands, worked_in, both_change, is_pure};
+ghost use Rattle.vg_trimming.specs.Trimming.{same_memory, same_plain, target_of, result_bytes, is_paired, gain_in, keeps_operands, worked_in, both_change};
+ghost use Rattle.vg_trimming.specs.Trimming.{is_pure};
 ghost use Rattle.vg_trimming.specs.Trimming.{copied, left_out, is_stop, plain_stands, left_out_stands, fits_result, narrower, narrower_stands};
 ghost use Rattle.vg_trimming.specs.Trimming.{found_in, reused, reuses, reused_stands, shorter_stands};
+ghost use Rattle.vg_trimming.specs.Trimming.{most_given, has_bytes, fits_most, fits_bounds};
 
+use crate::bounds::{most_computed, most_in, most_made, most_of};
 use crate::homes::{bytes_of, is_it, overwrites, stands_for, width_of};
 use crate::lasting::leads_at;
 use crate::worked::{found_for, same_operator};
 use vg_lin::{Computation, Memory, Operand, Operator, Plain};
-use vg_trimming::{Change, Facts, Gain, Twin, Worked};
+use vg_trimming::{Bound, Change, Facts, Gain, Twin, Worked};
 
 fn same_memory(a: Memory, b: Memory) -> bool
     ensures { IsTrue result → same_memory a b ≡ true }
@@ -87,21 +90,43 @@ fn result_bytes(widths: &[u8], plain: Plain) -> u8
     }
 }
 
-/// Whether both locals hold the same of a value of so many bytes.
-fn is_paired(old: &[u8], new: &[u8], x: u8, y: u8, bytes: u8) -> bool
-    ensures { result ≡ is_paired old.now new.now x y bytes }
+/// The most that an instruction gives the local that gets its result.
+fn most_given(old: &[u8], bounds: &[Bound], plain: Plain) -> u32
+    ensures { result ≡ most_given old.now bounds.now plain }
+{
+    match plain {
+        Plain::Copy(_, from) => most_of(old, bounds, from),
+        Plain::Compute(c) => most_computed(old, bounds, c),
+        Plain::Load(_, width, _, _) => most_in(width),
+        Plain::ReadDevice(_, _) => 255,
+        _ => 4_294_967_295,
+    }
+}
+
+// Whether the newer local has no more bytes than the older one, and as many as the value that the latter has.
+fn has_bytes(old: &[u8], new: &[u8], x: u8, y: u8, most: u32) -> bool
+    ensures { result ≡ has_bytes old.now new.now x y most }
+{
+    width_of(new, y, 0) <= width_of(old, x, 0) && most <= most_in(width_of(new, y, 0))
+}
+
+/// Whether both locals hold the same of a value of so many bytes, of which the older one has at most so much.
+fn is_paired(old: &[u8], new: &[u8], x: u8, y: u8, bytes: u8, most: u32) -> bool
+    ensures { result ≡ is_paired old.now new.now x y bytes most }
 {
     width_of(old, x, 5) == width_of(new, y, 6)
         || bytes <= width_of(old, x, 0) && bytes <= width_of(new, y, 0)
+        || has_bytes(old, new, x, y, most)
 }
 
-/// Where the newer code has the new value of a local of the older code, where both give a local a value of so many bytes.
-pub fn gain_in(old: &[u8], new: &[u8], x: Option<u8>, y: Option<u8>, bytes: u8) -> Gain
-    ensures { result ≡ gain_in old.now new.now x y bytes }
+/// Where the newer code has the new value of a local of the older code, where both give a local a value of so many bytes, of which the older one has at
+/// most so much.
+pub fn gain_in(old: &[u8], new: &[u8], x: Option<u8>, y: Option<u8>, bytes: u8, most: u32) -> Gain
+    ensures { result ≡ gain_in old.now new.now x y bytes most }
 {
     match (x, y) {
         (Some(from), Some(to)) => {
-            if is_paired(old, new, from, to, bytes) {
+            if is_paired(old, new, from, to, bytes, most) {
                 Gain::In(to)
             } else {
                 Gain::Nothing
@@ -119,10 +144,11 @@ fn keeps_operands(c: Computation) -> bool
 }
 
 // What the newer code has of a computation, where both compute the same and it keeps all of it.
-fn worked_of(new: &[u8], c: Computation, d: Computation) -> Option<Worked>
-    ensures { result ≡ worked_in new.now (Compute c) (Compute d) }
+fn worked_of(new: &[u8], most: u32, c: Computation, d: Computation) -> Option<Worked>
+    ensures { result ≡ worked_in new.now most (Compute c) (Compute d) }
 {
-    if c.width == d.width && d.width <= width_of(new, d.to, 0) && keeps_operands(c) {
+    let width = width_of(new, d.to, 0);
+    if (d.width <= width || most <= most_in(width)) && keeps_operands(c) {
         Some(Worked {
             operator: c.operator,
             width: c.width,
@@ -135,26 +161,28 @@ fn worked_of(new: &[u8], c: Computation, d: Computation) -> Option<Worked>
     }
 }
 
-fn worked_in(new: &[u8], p: Plain, q: Plain) -> Option<Worked>
-    ensures { result ≡ worked_in new.now p q }
+fn worked_in(new: &[u8], most: u32, p: Plain, q: Plain) -> Option<Worked>
+    ensures { result ≡ worked_in new.now most p q }
 {
     match (p, q) {
-        (Plain::Compute(c), Plain::Compute(d)) => worked_of(new, c, d),
+        (Plain::Compute(c), Plain::Compute(d)) => worked_of(new, most, c, d),
         _ => None,
     }
 }
 
-fn both_change(old: &[u8], new: &[u8], p: Plain, q: Plain) -> Change
-    ensures { result ≡ both_change old.now new.now p q }
+fn both_change(old: &[u8], new: &[u8], bounds: &[Bound], p: Plain, q: Plain) -> Change
+    ensures { result ≡ both_change old.now new.now bounds.now p q }
 {
     let from = target_of(p);
     let to = target_of(q);
+    let most = most_given(old, bounds, p);
     Change {
         old: from,
         new: to,
-        gain: gain_in(old, new, from, to, result_bytes(new, q)),
+        gain: gain_in(old, new, from, to, result_bytes(new, q), most),
         filled: None,
-        worked: worked_in(new, p, q),
+        worked: worked_in(new, most, p, q),
+        most,
     }
 }
 
@@ -182,8 +210,8 @@ fn copied(old: &[u8], plain: Plain) -> Gain
 }
 
 /// What changes where an instruction is left out; in its place a local of the newer code may get a value that nobody needs.
-fn left_out(old: &[u8], plain: Plain, spoiled: Option<u8>) -> Change
-    ensures { result ≡ left_out old.now plain spoiled }
+fn left_out(old: &[u8], bounds: &[Bound], plain: Plain, spoiled: Option<u8>) -> Change
+    ensures { result ≡ left_out old.now bounds.now plain spoiled }
 {
     Change {
         old: target_of(plain),
@@ -191,6 +219,7 @@ fn left_out(old: &[u8], plain: Plain, spoiled: Option<u8>) -> Change
         gain: copied(old, plain),
         filled: None,
         worked: None,
+        most: most_given(old, bounds, plain),
     }
 }
 
@@ -223,7 +252,7 @@ pub fn plain_stands(
             new,
             facts,
             before,
-            both_change(old, new, p, q),
+            both_change(old, new, before.bounds.as_slice(), p, q),
             usize::from(at) + 1,
         )
 }
@@ -240,22 +269,48 @@ fn fits_result(new: &[u8], operator: Operator, width: u8, left: Operand, right: 
     }
 }
 
-fn is_narrower(new: &[u8], twins: &[Twin], c: Computation, d: Computation) -> bool
-    ensures { IsTrue result → narrower new.now twins.now (Compute c) (Compute d) ≡ true }
+// Whether so many bytes are all of a result, of operands of at most so much.
+fn fits_most(operator: Operator, width: u8, left: u32, right: u32, by: Operand) -> bool
+    ensures { IsTrue result → fits_most operator width left right by ≡ true }
+{
+    let all = most_in(width);
+    let made = most_made(operator, left, right, by);
+    match operator {
+        Operator::Plus => made <= u64::from(all),
+        Operator::Times => made <= u64::from(all),
+        Operator::And => made <= u64::from(all),
+        Operator::Or => made <= u64::from(all),
+        Operator::Xor => made <= u64::from(all),
+        Operator::ShiftRight => left <= all,
+        _ => false,
+    }
+}
+
+fn fits_bounds(old: &[u8], bounds: &[Bound], c: Computation, width: u8) -> bool
+    ensures { IsTrue result → fits_bounds old.now bounds.now c width ≡ true }
+{
+    let left = most_of(old, bounds, c.left);
+    let right = most_of(old, bounds, c.right);
+    fits_most(c.operator, width, left, right, c.right)
+}
+
+fn is_narrower(old: &[u8], new: &[u8], before: &Facts, c: Computation, d: Computation) -> bool
+    ensures { IsTrue result → narrower old.now new.now before.now (Compute c) (Compute d) ≡ true }
 {
     same_operator(c.operator, d.operator)
         && d.width <= c.width
-        && stands_for(twins, c.left, d.left)
-        && stands_for(twins, c.right, d.right)
-        && fits_result(new, d.operator, d.width, d.left, d.right)
+        && stands_for(before.twins.as_slice(), c.left, d.left)
+        && stands_for(before.twins.as_slice(), c.right, d.right)
+        && (fits_result(new, d.operator, d.width, d.left, d.right)
+            || fits_bounds(old, before.bounds.as_slice(), c, d.width))
 }
 
 /// Whether the second instruction computes the same as the first, with fewer bytes.
-fn narrower(new: &[u8], twins: &[Twin], p: Plain, q: Plain) -> bool
-    ensures { IsTrue result → narrower new.now twins.now p q ≡ true }
+fn narrower(old: &[u8], new: &[u8], before: &Facts, p: Plain, q: Plain) -> bool
+    ensures { IsTrue result → narrower old.now new.now before.now p q ≡ true }
 {
     match (p, q) {
-        (Plain::Compute(c), Plain::Compute(d)) => is_narrower(new, twins, c, d),
+        (Plain::Compute(c), Plain::Compute(d)) => is_narrower(old, new, before, c, d),
         _ => false,
     }
 }
@@ -272,12 +327,12 @@ fn narrower_stands(
 ) -> bool
     ensures { IsTrue result → narrower_stands old.now new.now facts.now before.now at p q ≡ true }
 {
-    narrower(new, before.twins.as_slice(), p, q)
+    narrower(old, new, before, p, q)
         && leads_at(
             new,
             facts,
             before,
-            both_change(old, new, p, q),
+            both_change(old, new, before.bounds.as_slice(), p, q),
             usize::from(at) + 1,
         )
 }
@@ -301,7 +356,7 @@ fn left_out_stands(
                     new,
                     facts,
                     before,
-                    left_out(old, p, Some(spoiled)),
+                    left_out(old, before.bounds.as_slice(), p, Some(spoiled)),
                     usize::from(at) + 1,
                 )
         }
@@ -325,8 +380,8 @@ fn found_in(old: &[u8], c: Computation, spoiled: Option<u8>, known: Option<Worke
     }
 }
 
-fn reused(spoiled: Option<u8>, c: Computation, home: u8) -> Change
-    ensures { result ≡ reused spoiled c home }
+fn reused(most: u32, spoiled: Option<u8>, c: Computation, home: u8) -> Change
+    ensures { result ≡ reused most spoiled c home }
 {
     Change {
         old: Some(c.to),
@@ -334,10 +389,12 @@ fn reused(spoiled: Option<u8>, c: Computation, home: u8) -> Change
         gain: Gain::In(home),
         filled: None,
         worked: None,
+        most,
     }
 }
 
 fn reuses(
+    old: &[u8],
     new: &[u8],
     facts: &[Facts],
     before: &Facts,
@@ -346,16 +403,19 @@ fn reuses(
     spoiled: Option<u8>,
     home: Option<u8>,
 ) -> bool
-    ensures { result ≡ reuses new.now facts.now before.now at c spoiled home }
+    ensures { result ≡ reuses old.now new.now facts.now before.now at c spoiled home }
 {
     match home {
-        Some(local) => leads_at(
-            new,
-            facts,
-            before,
-            reused(spoiled, c, local),
-            usize::from(at) + 1,
-        ),
+        Some(local) => {
+            let most = most_computed(old, before.bounds.as_slice(), c);
+            leads_at(
+                new,
+                facts,
+                before,
+                reused(most, spoiled, c, local),
+                usize::from(at) + 1,
+            )
+        }
         None => false,
     }
 }
@@ -376,7 +436,7 @@ fn reused_stands(
         (Plain::Compute(c), Plain::Copy(spoiled, Operand::Known(_))) => {
             let known = found_for(before.worked.as_slice(), c);
             let home = found_in(old, c, Some(spoiled), known);
-            reuses(new, facts, before, at, c, Some(spoiled), home)
+            reuses(old, new, facts, before, at, c, Some(spoiled), home)
         }
         _ => false,
     }
@@ -409,14 +469,14 @@ pub fn plain_passed(
     p: Plain,
 ) -> bool
     ensures { IsTrue result
-        → (is_pure p && leads_at new.now facts.now before.now (left_out old.now p None) (suc at)) ≡ true }
+        → (is_pure p && leads_at new.now facts.now before.now (left_out old.now before.now.bounds p None) (suc at)) ≡ true }
 {
     is_pure(p)
         && leads_at(
             new,
             facts,
             before,
-            left_out(old, p, None),
+            left_out(old, before.bounds.as_slice(), p, None),
             usize::from(at) + 1,
         )
 }
@@ -431,8 +491,8 @@ pub fn work_passed(
     c: Computation,
 ) -> bool
     ensures { IsTrue result
-        → reuses new.now facts.now before.now at c None (found_in old.now c None (found_for before.now.worked c)) ≡ true }
+        → reuses old.now new.now facts.now before.now at c None (found_in old.now c None (found_for before.now.worked c)) ≡ true }
 {
     let home = found_in(old, c, None, found_for(before.worked.as_slice(), c));
-    reuses(new, facts, before, at, c, None, home)
+    reuses(old, new, facts, before, at, c, None, home)
 }

@@ -1,15 +1,18 @@
 // Walks through the older code.
 ghost use Rattle.std.specs.Prelude.{◌≡◌, ℕ, Bool, true, slice_get, IfSome, IsTrue, Some};
 ghost use Rattle.vg_trimming.specs.Walking.{zero_operand, checked_by, checked, decided, none_set, is_set, is_set_in, has_room, with_second, with_set};
-ghost use Rattle.vg_trimming.specs.Walking.{twins_over, filled_over, worked_over, leads_over, leads_over_in, arrives, past, by_truth, further, walks, way_leads};
+ghost use Rattle.vg_trimming.specs.Walking.{twins_over, filled_over, worked_over, bounded_over, leads_over, leads_over_in, arrives, past, by_truth};
+ghost use Rattle.vg_trimming.specs.Walking.{further, walks, way_leads};
 ghost use Rattle.vg_trimming.specs.Facts.{is_it};
 ghost use Rattle.vg_trim_pairs.specs.Views.{walk_in};
 
+use crate::bounds::is_bounded;
 use crate::homes::{is_filled, is_it, is_twin};
+use crate::learning::is_told;
 use crate::turns::{counts_at, instr_at};
 use crate::worked::is_worked;
 use vg_lin::{Comparison, Instr, Operand, Plain, Test};
-use vg_trimming::{Facts, Met, Sets, Twin, Worked};
+use vg_trimming::{Bound, Facts, Learned, Met, Sets, Twin, Worked};
 
 fn zero_operand(left: Operand, right: Operand) -> Option<u8>
     ensures { result ≡ zero_operand left right }
@@ -142,22 +145,41 @@ fn worked_over(sets: Sets, before: &[Worked], behind: &[Worked]) -> bool
     }
 }
 
-// Whether what is known behind a walk was known before it, of other locals than those that got numbers.
-fn leads_over(sets: Sets, sure: Option<u8>, before: &Facts, behind: &Facts) -> bool
+fn bounded_over(sets: Sets, told: Option<Bound>, before: &[Bound], behind: &[Bound]) -> bool
+    ensures { IsTrue result → bounded_over sets told before.now behind.now ≡ true }
+{
+    match behind {
+        [] => true,
+        [bound, more @ ..] => {
+            !is_set(sets, bound.local)
+                && (is_told(told, *bound) || is_bounded(before, *bound))
+                && bounded_over(sets, told, before, more)
+        }
+    }
+}
+
+// Whether what is known behind a walk was known before it or is learned, of other locals than those that got numbers.
+fn leads_over(sets: Sets, sure: Learned, before: &Facts, behind: &Facts) -> bool
     ensures { IsTrue result → leads_over sets sure before.now behind.now ≡ true }
 {
     behind.reached
         && twins_over(sets, before.twins.as_slice(), behind.twins.as_slice())
         && filled_over(
             sets,
-            sure,
+            sure.filled,
             before.filled.as_slice(),
             behind.filled.as_slice(),
         )
         && worked_over(sets, before.worked.as_slice(), behind.worked.as_slice())
+        && bounded_over(
+            sets,
+            sure.bound,
+            before.bounds.as_slice(),
+            behind.bounds.as_slice(),
+        )
 }
 
-fn leads_over_in(sets: Sets, sure: Option<u8>, before: &Facts, facts: &[Facts], at: u16) -> bool
+fn leads_over_in(sets: Sets, sure: Learned, before: &Facts, facts: &[Facts], at: u16) -> bool
     ensures { IsTrue result → leads_over_in sets sure before.now (slice_get facts.now at) ≡ true }
 {
     match facts.get(usize::from(at)) {
@@ -193,7 +215,7 @@ pub fn is_there(places: &[u16], to: u16, place: u16) -> bool
     }
 }
 
-fn arrives(ground: Ground<'_>, before: &Facts, sure: Option<u8>, place: u16, walk: Walk) -> bool
+fn arrives(ground: Ground<'_>, before: &Facts, sure: Learned, place: u16, walk: Walk) -> bool
     ensures { IsTrue result → arrives ground.entry.facts.now ground.entry.places.now before.now sure place (walk_in walk) ≡ true }
 {
     is_there(ground.places, walk.at, place)
@@ -272,7 +294,7 @@ fn further(counts: bool, walk: Walk, instr: Option<Instr>) -> Option<Walk>
 fn walks(
     ground: Ground<'_>,
     before: &Facts,
-    sure: Option<u8>,
+    sure: Learned,
     place: u16,
     most: u8,
     walk: Walk,
@@ -297,7 +319,7 @@ fn walks(
 pub fn way_leads(
     ground: Ground<'_>,
     before: &Facts,
-    sure: Option<u8>,
+    sure: Learned,
     spent: bool,
     to: u16,
     place: u16,

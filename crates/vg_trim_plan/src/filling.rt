@@ -1,5 +1,5 @@
 // Which places runs reach, and which locals are not 0 there.
-use crate::flow::{Next, at, checked, target_of};
+use crate::flow::{Next, checked, target_of};
 use crate::grid::Grid;
 use crate::joining::next_in;
 use crate::sizes::width_of;
@@ -81,9 +81,9 @@ fn is_local(some: Option<u8>, local: usize) -> bool {
 }
 
 /// Whether the instruction at a place is a branch that is always taken, since its local is not 0.
-pub fn is_needless(filled: &Grid, widths: &[u8], code: &[Instr], place: usize) -> bool {
-    match at(code, place) {
-        Some(Instr::Unless(test, _)) => match checked(test) {
+pub fn is_filled_test(filled: &Grid, widths: &[u8], instr: Instr, place: usize) -> bool {
+    match instr {
+        Instr::Unless(test, _) => match checked(test) {
             Some(local) => {
                 filled.has(place, usize::from(local)) && width_of(widths, local) <= test.width
             }

@@ -2,6 +2,7 @@
 //! at the whole of it.
 #![tactic(auto)]
 
+pub mod deciding;
 pub mod filling;
 pub mod flow;
 pub mod grid;
@@ -15,6 +16,7 @@ pub mod mapping;
 pub mod ordering;
 pub mod placing;
 pub mod planning;
+pub mod ranges;
 pub mod returning;
 pub mod sizes;
 pub mod working;

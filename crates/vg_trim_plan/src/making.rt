@@ -6,7 +6,8 @@ use crate::homes::{Homes, NoRoom, is_same};
 use crate::joining::{Ways, is_at};
 use crate::living::{Life, is_behind, is_crossing_behind};
 use crate::mapping::{mapped, mapped_call, mapped_test};
-use crate::sizes::{bytes_of, narrowed, result_bytes, width_of};
+use crate::ranges::{Ranges, Spot, result_most};
+use crate::sizes::{Size, bytes_of, narrowed, result_bytes, width_of};
 use crate::working::{Seen, Works};
 use vg_base::Refusal;
 use vg_lin::{Call, Instr, Operand, Operator, Plain, Target, Test};
@@ -26,11 +27,20 @@ pub struct Older<'a> {
     pub works: &'a Works,
     /// Whether no value ever waits.
     pub is_free: bool,
+    /// What the values of locals are at most.
+    pub ranges: &'a Ranges,
 }
 
 impl Older<'_> {
     fn next(&self, place: usize) -> Next {
         self.ways.next(place)
+    }
+
+    fn spot(&self, place: usize) -> Spot<'_> {
+        Spot {
+            ranges: self.ranges,
+            place,
+        }
     }
 
     // The kept computation that an instruction does.
@@ -70,29 +80,26 @@ impl Older<'_> {
 }
 
 /// For each local how many bytes hold all its values that are needed where ways meet.
-pub fn note_bytes(code: &[Instr], widths: &[u8], ways: &Ways, life: &Life, bytes: &mut [u8]) {
+pub fn note_bytes(seen: &Seen<'_>, ranges: &Ranges, bytes: &mut [u8]) {
     let mut place = 0usize;
-    for instr in code {
-        if is_at(ways.reached.as_slice(), place) {
-            note_bytes_at(*instr, place, widths, ways, life, bytes);
+    for instr in seen.code {
+        if is_at(seen.ways.reached.as_slice(), place) {
+            note_bytes_at(seen, ranges, *instr, place, bytes);
         }
         place = place.saturating_add(1);
     }
 }
 
-fn note_bytes_at(
-    instr: Instr,
-    place: usize,
-    widths: &[u8],
-    ways: &Ways,
-    life: &Life,
-    bytes: &mut [u8],
-) {
+fn note_bytes_at(seen: &Seen<'_>, ranges: &Ranges, instr: Instr, place: usize, bytes: &mut [u8]) {
     if let Some(local) = target_of(instr) {
-        let next = ways.next(place);
+        let next = seen.ways.next(place);
         let index = usize::from(local);
-        let most = result_bytes(widths, instr);
-        if is_crossing_behind(&life.live, &life.crossing, ways, next, index)
+        let size = Size {
+            bytes: result_bytes(seen.widths, instr),
+            most: result_most(ranges, place, instr),
+        };
+        let most = size.least();
+        if is_crossing_behind(&seen.life.live, &seen.life.crossing, seen.ways, next, index)
             && index < bytes.len()
             && bytes[index] < most
         {
@@ -112,18 +119,26 @@ pub fn made(
     let next = older.next(place);
     match instr {
         Instr::Plain(plain) => made_plain(older, homes, plain, place),
-        Instr::When(test, _) => Ok(Some(made_branch(older, mapped_test(homes, test), true, place))),
-        Instr::Unless(test, _) => {
-            if is_at(older.ways.needless.as_slice(), place) {
-                Ok(Some(Instr::Jump(led_to(next))))
-            } else {
-                Ok(Some(made_branch(older, mapped_test(homes, test), false, place)))
-            }
-        }
+        Instr::When(test, _) => Ok(Some(made_test(older, homes, test, true, place))),
+        Instr::Unless(test, _) => Ok(Some(made_test(older, homes, test, false, place))),
         Instr::Jump(_) => Ok(Some(Instr::Jump(led_to(next)))),
         Instr::Call(call) => made_call(older, homes, call, place),
         Instr::Return(width, value) => Ok(Some(Instr::Return(width, homes.home(value)))),
         Instr::Idle => Ok(Some(Instr::Idle)),
+    }
+}
+
+// A branch, or the jump that stands for a needless one.
+fn made_test(older: &Older<'_>, homes: &Homes, test: Test, when: bool, place: usize) -> Instr {
+    if is_at(older.ways.needless.as_slice(), place) {
+        Instr::Jump(led_to(older.next(place)))
+    } else {
+        made_branch(
+            older,
+            mapped_test(homes, older.spot(place), test),
+            when,
+            place,
+        )
     }
 }
 
@@ -168,7 +183,7 @@ fn made_plain(
 ) -> Result<Option<Instr>, Refusal<NoRoom>> {
     let instr = Instr::Plain(plain);
     let Some(local) = target_of(instr) else {
-        return Ok(Some(Instr::Plain(mapped(homes, plain, 0))));
+        return Ok(Some(Instr::Plain(mapped(homes, older.spot(place), plain, 0))));
     };
     let next = older.next(place);
     if !older.is_needed(next, local) {
@@ -177,7 +192,7 @@ fn made_plain(
             return Ok(None);
         }
         let spare = homes.spare()?;
-        let made = mapped(homes, plain, spare);
+        let made = mapped(homes, older.spot(place), plain, spare);
         homes.set(local, None);
         return Ok(Some(Instr::Plain(made)));
     }
@@ -190,7 +205,7 @@ fn made_plain(
         Plain::Copy(_, value) => made_copy(older, homes, local, value, place),
         _ => {
             let to = place_for(older, homes, instr, local, place, next)?;
-            let made = mapped(homes, plain, to);
+            let made = mapped(homes, older.spot(place), plain, to);
             homes.give(local, to);
             Ok(Some(Instr::Plain(made)))
         }
@@ -214,7 +229,7 @@ fn made_work(
         homes.set(local, Some(Operand::Local(home)));
         return Ok(None);
     }
-    let made = mapped(homes, plain, home);
+    let made = mapped(homes, older.spot(place), plain, home);
     homes.give(local, home);
     Ok(Some(Instr::Plain(made)))
 }
@@ -245,7 +260,10 @@ fn made_copy(
     let wish = Wish {
         local,
         width,
-        bytes,
+        size: Size {
+            bytes,
+            most: older.ranges.most_of(place, value),
+        },
         place,
         next,
         apart: None,
@@ -305,12 +323,12 @@ fn place_for(
         return homes.own(local, older.own_width(local));
     }
     let width = width_of(older.widths, local);
-    let bytes = mapped_bytes(homes, instr);
+    let size = mapped_size(older, homes, instr, place);
     if let Some(aim) = aim_of(older, homes, local, place) {
         let aimed = older.own_width(aim);
         let own = homes.own(aim, aimed)?;
         let has = homes.width(own);
-        if has == width || (bytes <= has && bytes <= width) {
+        if size.is_held(width, has) {
             return Ok(own);
         }
     }
@@ -318,7 +336,7 @@ fn place_for(
     let wish = Wish {
         local,
         width,
-        bytes,
+        size,
         place,
         next,
         apart,
@@ -326,14 +344,18 @@ fn place_for(
     pooled(older, homes, wish)
 }
 
-// How many bytes hold the result of an instruction whose operands stand where they do now.
-fn mapped_bytes(homes: &Homes, instr: Instr) -> u8 {
-    match instr {
+// How large the result of an instruction is whose operands stand where they do now.
+fn mapped_size(older: &Older<'_>, homes: &Homes, instr: Instr, place: usize) -> Size {
+    let bytes = match instr {
         Instr::Plain(plain) => {
-            let made = Instr::Plain(mapped(homes, plain, 0));
+            let made = Instr::Plain(mapped(homes, older.spot(place), plain, 0));
             result_bytes(homes.widths.as_slice(), made)
         }
         _ => 5,
+    };
+    Size {
+        bytes,
+        most: result_most(older.ranges, place, instr),
     }
 }
 
@@ -354,8 +376,7 @@ struct Wish {
     // the local of the older code that has it, and the bytes of that
     local: u8,
     width: u8,
-    // how many bytes hold it
-    bytes: u8,
+    size: Size,
     // the place of the instruction that gives it, and where that leads
     place: usize,
     next: Next,
@@ -368,7 +389,7 @@ fn pooled(older: &Older<'_>, homes: &mut Homes, wish: Wish) -> Result<u8, Refusa
     let wanted = if older.is_tight {
         wish.width
     } else {
-        narrowed(wish.width, wish.bytes)
+        narrowed(wish.width, wish.size.least())
     };
     for index in 0..homes.widths.len() {
         let number = (index % 256) as u8;
@@ -388,8 +409,7 @@ fn pooled(older: &Older<'_>, homes: &mut Homes, wish: Wish) -> Result<u8, Refusa
 // Whether a local has the width that is wanted, or, where there should be few, holds the value as the older code does.
 fn is_wide(older: &Older<'_>, homes: &Homes, wish: Wish, number: u8, wanted: u8) -> bool {
     let has = homes.width(number);
-    let holds = has == wish.width || (wish.bytes <= has && wish.bytes <= wish.width);
-    has == wanted || (older.is_tight && holds)
+    has == wanted || (older.is_tight && wish.size.is_held(wish.width, has))
 }
 
 // The local that is kept for one of the older code, as long as that needs none.

@@ -1,16 +1,17 @@
 // Instructions with their operands where these stand.
 use crate::homes::Homes;
-use crate::sizes::{bytes_of, computed_bytes, larger};
+use crate::ranges::{Spot, computed_most, tells_less};
+use crate::sizes::{bytes_of, bytes_to, computed_bytes, larger, narrowed, smaller};
 use vg_lin::{
-    Address, Call, Callee, Comparison, Computation, Instr, Operand, Passed, Plain, Registers,
-    Target, Test,
+    Address, Call, Callee, Comparison, Computation, Instr, Operand, Operator, Passed, Plain,
+    Registers, Target, Test,
 };
 
-/// A plain instruction with its operands where they stand and its result in this local.
-pub fn mapped(homes: &Homes, plain: Plain, to: u8) -> Plain {
+/// A plain instruction at a spot, with its operands where they stand and its result in this local.
+pub fn mapped(homes: &Homes, spot: Spot<'_>, plain: Plain, to: u8) -> Plain {
     match plain {
         Plain::Copy(_, value) => Plain::Copy(to, homes.home(value)),
-        Plain::Compute(c) => Plain::Compute(mapped_computation(homes, c, to)),
+        Plain::Compute(c) => Plain::Compute(mapped_computation(homes, spot, c, to)),
         Plain::Load(memory, width, _, address) => {
             Plain::Load(memory, width, to, address_at(homes, address))
         }
@@ -27,18 +28,52 @@ pub fn mapped(homes: &Homes, plain: Plain, to: u8) -> Plain {
     }
 }
 
-// A computation of as few bytes as its operands need.
-fn mapped_computation(homes: &Homes, c: Computation, to: u8) -> Computation {
+// A computation of as few bytes as its operands and its result need.
+fn mapped_computation(homes: &Homes, spot: Spot<'_>, c: Computation, to: u8) -> Computation {
     let left = homes.home(c.left);
     let right = homes.home(c.right);
     let first = bytes_of(homes.widths.as_slice(), left);
     let second = bytes_of(homes.widths.as_slice(), right);
+    let most = made_bytes(c, spot.most_of(c.left), spot.most_of(c.right));
     Computation {
         operator: c.operator,
-        width: computed_bytes(c.operator, c.width, first, second),
+        width: smaller(
+            computed_bytes(c.operator, c.width, first, second),
+            narrowed(c.width, most),
+        ),
         to,
         left,
         right,
+    }
+}
+
+// How many bytes a computation needs whose operands are at most these. What becomes a call of a routine is not narrowed: its result would be cut.
+fn made_bytes(c: Computation, left: u32, right: u32) -> u8 {
+    match c.operator {
+        Operator::Plus => bytes_to(computed_most(c, left, right)),
+        Operator::And => bytes_to(computed_most(c, left, right)),
+        Operator::Or => bytes_to(computed_most(c, left, right)),
+        Operator::Xor => bytes_to(computed_most(c, left, right)),
+        Operator::Times => {
+            if is_power(c.left) || is_power(c.right) {
+                bytes_to(computed_most(c, left, right))
+            } else {
+                c.width
+            }
+        }
+        Operator::ShiftRight => match c.right {
+            Operand::Known(_) => bytes_to(left),
+            Operand::Local(_) => c.width,
+        },
+        _ => c.width,
+    }
+}
+
+// Whether an operand is a power of 2.
+fn is_power(value: Operand) -> bool {
+    match value {
+        Operand::Known(number) => 0 < number && number & (number - 1) == 0,
+        Operand::Local(_) => false,
     }
 }
 
@@ -49,24 +84,56 @@ fn address_at(homes: &Homes, address: Address) -> Address {
     }
 }
 
-/// A test with its operands where they stand, of as few bytes as they have.
-pub fn mapped_test(homes: &Homes, test: Test) -> Test {
-    let left = homes.home(test.left);
-    let right = homes.home(test.right);
-    let most = larger(
-        bytes_of(homes.widths.as_slice(), left),
-        bytes_of(homes.widths.as_slice(), right),
-    );
-    let width = if is_signed(test.comparison) || test.width < most || most == 0 {
-        test.width
+/// A test at a spot with its operands where they stand, of as few bytes as they have.
+pub fn mapped_test(homes: &Homes, spot: Spot<'_>, test: Test) -> Test {
+    let by_homes = homed_test(homes, test);
+    let by_mosts = bounded_test(spot, test);
+    let chosen = if by_mosts.width < by_homes.width {
+        by_mosts
     } else {
-        most
+        by_homes
     };
     Test {
-        comparison: test.comparison,
-        width,
-        left,
-        right,
+        comparison: chosen.comparison,
+        width: chosen.width,
+        left: homes.home(test.left),
+        right: homes.home(test.right),
+    }
+}
+
+// A test of as few bytes as the locals have in which its operands stand.
+fn homed_test(homes: &Homes, test: Test) -> Test {
+    let most = larger(
+        bytes_of(homes.widths.as_slice(), homes.home(test.left)),
+        bytes_of(homes.widths.as_slice(), homes.home(test.right)),
+    );
+    if is_signed(test.comparison) {
+        test
+    } else {
+        with_width(test, test.comparison, most)
+    }
+}
+
+// A test of as few bytes as the values have. Values that are not negative are less where they are below.
+fn bounded_test(spot: Spot<'_>, test: Test) -> Test {
+    let left = spot.most_of(test.left);
+    let right = spot.most_of(test.right);
+    let most = larger(bytes_to(left), bytes_to(right));
+    if !is_signed(test.comparison) {
+        with_width(test, test.comparison, most)
+    } else if tells_less(test, left, right) {
+        with_width(test, Comparison::Below, most)
+    } else {
+        test
+    }
+}
+
+fn with_width(test: Test, comparison: Comparison, bytes: u8) -> Test {
+    Test {
+        comparison,
+        width: narrowed(test.width, bytes),
+        left: test.left,
+        right: test.right,
     }
 }
 

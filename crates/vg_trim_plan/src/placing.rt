@@ -127,6 +127,7 @@ fn may_go(older: &[Instr], place: usize) -> bool {
     match at(older, place) {
         Some(Instr::Jump(_)) => true,
         Some(Instr::Unless(_, _)) => !counts(older, place),
+        Some(Instr::When(_, _)) => !counts(older, place),
         _ => false,
     }
 }

@@ -1,31 +1,43 @@
 // A guess at a trimmed procedure.
-use crate::filling::{filled, is_needless, is_stop};
-use crate::flow::{Next, at, checked, is_known};
+use crate::deciding::{Values, sure_ways, take_back};
+use crate::filling::{filled, is_stop};
+use crate::flow::{Next, at, is_known};
 use crate::grid::Grid;
 use crate::guess::{Given, Plan};
 use crate::homes::{Homes, NoRoom};
-use crate::joining::{Ways, is_at, joins, next_in, nexts_of, reach};
+use crate::joining::{Ways, is_at, joins, nexts_of, note, reach};
 use crate::leading::{Led, lead, may_lead, unled};
 use crate::living::{Life, find_life, find_live};
 use crate::making::{Older, is_filled, is_live, made, note_bytes};
 use crate::mapping::{filler, stand_in};
 use crate::ordering::ordered;
 use crate::placing::{Placed, close_up, in_place};
+use crate::ranges::{Ranges, find_ranges};
 use crate::returning::{Shape, shared};
+use crate::sizes::{full, width_of};
 use crate::working::{Seen, Works, find_works};
 use std::alloc::Global;
 use vg_base::{NoMemory, Refusal, Row};
 use vg_lin::{Instr, LinProc, Operand, Operator, Plain};
-use vg_trimming::{Facts, Twin, Worked};
+use vg_trimming::{Bound, Facts, Twin, Worked};
 
 /// How much a guess tries.
 #[derive(Clone, Copy, PartialEq, Eq)]
 pub enum Effort {
-    /// Branches are led past others that are decided, and results of computations are kept.
+    /// What values are at most is looked for, branches are led past others that are decided, and results of computations are kept.
+    Ranging,
+    /// The same without a look at values.
     Leading,
     /// Results of computations that are done again are kept.
     Keeping,
     Careful,
+}
+
+// What a guess tries besides keeping results of computations.
+#[derive(Clone, Copy)]
+struct Tries {
+    ranges: bool,
+    leads: bool,
 }
 
 /// A guess at the trimmed procedure. Where there is none nothing is known at any place.
@@ -40,17 +52,20 @@ pub fn plan(alloc: Global, procedure: &LinProc, effort: Effort) -> Result<Plan, 
 
 /// The same for the parts of a procedure.
 pub fn plan_of(alloc: Global, given: Given<'_>, effort: Effort) -> Result<Plan, NoMemory> {
-    let leads = effort == Effort::Leading;
+    let tries = Tries {
+        ranges: effort == Effort::Ranging,
+        leads: effort == Effort::Ranging || effort == Effort::Leading,
+    };
     if are_known(given.code) && given.code.len() < 65_536 {
         if effort != Effort::Careful {
-            if let Some(plan) = plan_within(alloc, given, leads, Manner::Bold)? {
+            if let Some(plan) = plan_within(alloc, given, tries, Manner::Bold)? {
                 return Ok(plan);
             }
         }
-        if let Some(plan) = plan_within(alloc, given, leads, Manner::Plain)? {
+        if let Some(plan) = plan_within(alloc, given, tries, Manner::Plain)? {
             return Ok(plan);
         }
-        if let Some(plan) = plan_within(alloc, given, leads, Manner::Tight)? {
+        if let Some(plan) = plan_within(alloc, given, tries, Manner::Tight)? {
             return Ok(plan);
         }
     }
@@ -71,10 +86,10 @@ enum Manner {
 fn plan_within(
     alloc: Global,
     given: Given<'_>,
-    leads: bool,
+    tries: Tries,
     manner: Manner,
 ) -> Result<Option<Plan>, NoMemory> {
-    match planned(alloc, given, leads, manner) {
+    match planned(alloc, given, tries, manner) {
         Ok(plan) => {
             if sum_of(plan.widths.as_slice()) <= most_of(given) {
                 Ok(Some(plan))
@@ -159,41 +174,64 @@ fn as_it_is(alloc: Global) -> Result<Plan, NoMemory> {
 fn planned(
     alloc: Global,
     given: Given<'_>,
-    leads: bool,
+    tries: Tries,
     manner: Manner,
 ) -> Result<Plan, Refusal<NoRoom>> {
-    let code = given.code;
-    let widths = given.widths;
-    let is_free = pushes_nothing(code);
-    let led = led_ways(alloc, code, widths.len(), leads && is_free)?;
-    let filled = filled(alloc, code, led.nexts.as_slice(), widths.len())?;
-    let (ways, life) = lived(alloc, code, widths, &filled, &led)?;
-    let mut bytes = Vec::from_elem(alloc, 0u8, widths.len())?;
-    note_bytes(code, widths, &ways, &life, bytes.as_mut_slice());
+    let locals = given.widths.len();
+    let is_free = pushes_nothing(given.code);
+    let led = led_ways(alloc, given.code, locals, tries.leads && is_free)?;
+    let filled = filled(alloc, given.code, led.nexts.as_slice(), locals)?;
+    let ranges = if tries.ranges {
+        find_ranges(alloc, given, led.nexts.as_slice())?
+    } else {
+        Ranges::none(alloc)
+    };
+    let values = Values {
+        code: given.code,
+        widths: given.widths,
+        filled: &filled,
+        ranges: &ranges,
+        is_free,
+    };
+    let (ways, life) = lived(alloc, &values, &led)?;
+    let seen = Seen {
+        code: given.code,
+        widths: given.widths,
+        ways: &ways,
+        life: &life,
+    };
+    let params = usize::from(given.params);
+    let plan = guessed(alloc, &values, &seen, manner, params)?;
+    Ok(ordered(alloc, plan, params)?)
+}
+
+// A guess by what is known of the values, the ways and the life of locals.
+fn guessed(
+    alloc: Global,
+    values: &Values<'_>,
+    seen: &Seen<'_>,
+    manner: Manner,
+    params: usize,
+) -> Result<Plan, Refusal<NoRoom>> {
+    let mut bytes = Vec::from_elem(alloc, 0u8, seen.widths.len())?;
+    note_bytes(seen, values.ranges, bytes.as_mut_slice());
     let works = if manner == Manner::Bold {
-        let seen = Seen {
-            code,
-            widths,
-            ways: &ways,
-            life: &life,
-        };
-        find_works(alloc, &seen)?
+        find_works(alloc, seen)?
     } else {
         Works::none(alloc)?
     };
     let older = Older {
-        code,
-        widths,
-        ways: &ways,
-        life: &life,
+        code: seen.code,
+        widths: seen.widths,
+        ways: seen.ways,
+        life: seen.life,
         bytes: bytes.as_slice(),
         is_tight: manner == Manner::Tight,
         works: &works,
-        is_free,
+        is_free: values.is_free,
+        ranges: values.ranges,
     };
-    let params = usize::from(given.params);
-    let plan = laid(alloc, &older, &filled, params)?;
-    Ok(ordered(alloc, plan, params)?)
+    laid(alloc, &older, values.filled, params)
 }
 
 // Whether no instruction lets a value wait.
@@ -210,36 +248,26 @@ fn pushes_nothing(code: &[Instr]) -> bool {
 fn led_ways(alloc: Global, code: &[Instr], locals: usize, leads: bool) -> Result<Led, NoMemory> {
     let mut led = unled(alloc, nexts_of(alloc, code)?, locals)?;
     if leads && may_lead(code, led.nexts.as_slice()) {
-        let ways = ways_of(alloc, &led, Vec::new(alloc))?;
+        let ways = ways_of(alloc, &led, &[])?;
         let live = find_live(alloc, code, &ways, locals)?;
         lead(alloc, code, &live, &mut led)?;
     }
     Ok(led)
 }
 
-// The ways where needless branches are left out, and the life of locals there. A branch stays whose local is needed for nothing else: that it is not 0 is known
-// only where it is needed.
-fn lived(
-    alloc: Global,
-    code: &[Instr],
-    widths: &[u8],
-    filled: &Grid,
-    led: &Led,
-) -> Result<(Ways, Life), NoMemory> {
-    let mut needless = Vec::new(alloc);
-    for place in 0..code.len() {
-        let is = is_needless(filled, widths, code, place);
-        needless.push(is && !is_at(led.paid.as_slice(), place))?;
-    }
+// The ways where needless branches are left out, and the life of locals there. A branch stays whose local is needed for nothing else.
+fn lived(alloc: Global, values: &Values<'_>, led: &Led) -> Result<(Ways, Life), NoMemory> {
+    let locals = values.widths.len();
+    let mut sure = sure_ways(alloc, values, led)?;
     for _round in 0..3u8 {
-        let ways = ways_of(alloc, led, copy_of(alloc, needless.as_slice())?)?;
-        let life = find_life(alloc, code, &ways, widths.len())?;
-        if !take_back(code, &life, &mut needless) {
+        let ways = ways_of(alloc, led, sure.as_slice())?;
+        let life = find_life(alloc, values.code, &ways, locals)?;
+        if !take_back(values.code, &life, &mut sure) {
             return Ok((ways, life));
         }
     }
-    let ways = ways_of(alloc, led, Vec::from_elem(alloc, false, code.len())?)?;
-    let life = find_life(alloc, code, &ways, widths.len())?;
+    let ways = ways_of(alloc, led, &[])?;
+    let life = find_life(alloc, values.code, &ways, locals)?;
     Ok((ways, life))
 }
 
@@ -247,31 +275,16 @@ fn copy_of(alloc: Global, noted: &[bool]) -> Result<Vec<bool>, NoMemory> {
     Ok(Vec::from_slice(alloc, noted)?)
 }
 
-// Whether there was a needless branch whose local is needed for nothing else; it is needless no longer.
-fn take_back(code: &[Instr], life: &Life, needless: &mut Vec<bool>) -> bool {
-    let mut is_changed = false;
-    for place in 0..needless.len() {
-        if let Some(Instr::Unless(test, _)) = at(code, place) {
-            if let Some(local) = checked(test) {
-                let is_needed = life.live.has(place, usize::from(local));
-                if place < needless.len() && needless[place] && !is_needed {
-                    needless[place] = false;
-                    is_changed = true;
-                }
-            }
-        }
-    }
-    is_changed
-}
-
-// The ways that are led so, where needless branches are left out.
-fn ways_of(alloc: Global, led: &Led, needless: Vec<bool>) -> Result<Ways, NoMemory> {
+// The ways that are led so, where branches lead to the places to which they lead for sure.
+fn ways_of(alloc: Global, led: &Led, sure: &[Option<usize>]) -> Result<Ways, NoMemory> {
     let mut nexts = Vec::from_slice(alloc, led.nexts.as_slice())?;
+    let mut needless = Vec::from_elem(alloc, false, nexts.len())?;
     for place in 0..nexts.len() {
-        if let Next::Two(to, _) = next_in(nexts.as_slice(), place) {
-            if is_at(needless.as_slice(), place) && place < nexts.len() {
-                nexts[place] = Next::One(to);
+        if let Some(Some(to)) = sure.get(place) {
+            if place < nexts.len() {
+                nexts[place] = Next::One(*to);
             }
+            note(&mut needless, place);
         }
     }
     let reached = reach(alloc, nexts.as_slice())?;
@@ -436,6 +449,7 @@ fn unreached(alloc: Global) -> Facts {
         twins: Row::new(alloc),
         filled: Row::new(alloc),
         worked: Row::new(alloc),
+        bounds: Row::new(alloc),
     }
 }
 
@@ -471,7 +485,21 @@ fn known(
         twins,
         filled: sure,
         worked: worked_at(alloc, older, homes, place)?,
+        bounds: bounds_at(alloc, older, place)?,
     })
+}
+
+// What the needed values of a place are at most, where that is less than what their bytes hold.
+fn bounds_at(alloc: Global, older: &Older<'_>, place: usize) -> Result<Row<Bound>, NoMemory> {
+    let mut bounds = Row::new(alloc);
+    for index in 0..older.widths.len() {
+        let local = (index % 256) as u8;
+        let most = older.ranges.most(place, index);
+        if is_live(older.life, place, index) && most < full(width_of(older.widths, local)) {
+            bounds.push(Bound { local, most })?;
+        }
+    }
+    Ok(bounds)
 }
 
 // The results of kept computations that are there at a place.

@@ -39,6 +39,53 @@ pub fn result_bytes(widths: &[u8], instr: Instr) -> u8 {
     }
 }
 
+/// The largest number of so many bytes.
+pub fn full(width: u8) -> u32 {
+    match width {
+        0 => 0,
+        1 => 255,
+        2 => 65_535,
+        3 => 16_777_215,
+        _ => u32::MAX,
+    }
+}
+
+/// How many bytes hold all numbers up to this one: more than any local has for the largest, of which nothing is known.
+pub fn bytes_to(most: u32) -> u8 {
+    if most < 256 {
+        1
+    } else if most < 65_536 {
+        2
+    } else if most < 16_777_216 {
+        3
+    } else if most < u32::MAX {
+        4
+    } else {
+        5
+    }
+}
+
+/// How large a value is: the bytes that hold it, by where it comes from, and what it is at most.
+#[derive(Clone, Copy)]
+pub struct Size {
+    pub bytes: u8,
+    pub most: u32,
+}
+
+impl Size {
+    /// How many bytes hold it.
+    pub fn least(self) -> u8 {
+        smaller(self.bytes, bytes_to(self.most))
+    }
+
+    /// Whether a local of so many bytes holds what the older code has in one of this width.
+    pub fn is_held(self, width: u8, has: u8) -> bool {
+        has == width
+            || (self.bytes <= has && self.bytes <= width)
+            || (has <= width && self.most <= full(has))
+    }
+}
+
 /// The width that a local needs for a value of so many bytes, where the older code has it in a local of this width.
 pub fn narrowed(width: u8, bytes: u8) -> u8 {
     if 0 < bytes && bytes < width {

@@ -68,6 +68,7 @@ fn facts_of(alloc: Global, known: Known) -> Result<Facts, NoMemory> {
         twins,
         filled: locals,
         worked: Row::new(alloc),
+        bounds: Row::new(alloc),
     })
 }
 
@@ -264,6 +265,7 @@ fn facts_with(
         twins,
         filled: Row::new(alloc),
         worked,
+        bounds: Row::new(alloc),
     })
 }
 

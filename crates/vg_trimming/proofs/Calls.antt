@@ -16,19 +16,22 @@ use Rattle.vg_lin.specs.declared.instr.Call.{Call as Calling}
 use Rattle.vg_lin.specs.Values.{low}
 use Rattle.vg_lin.specs.Program.{Procedure, Program}
 use Rattle.vg_lin.specs.Sound.{IsTo, IsSound}
-use Rattle.vg_lin.specs.State.{Waiting, State, value}
+use Rattle.vg_lin.specs.State.{Waiting, State, value, sets}
 use Rattle.vg_lin.specs.Steps.{Result, Entry}
 use Rattle.vg_lin.specs.Meaning.{begun, called, with_code, entry_by, entry_with, entry_of, operands, with_value, values, values_of, same_widths, gives_to}
 use Rattle.vg_lin.specs.Meaning.{with_result, resume}
-use Rattle.vg_expand.proofs.Holding.{begun_holds, resume_holds}
+use Rattle.vg_expand.proofs.Holding.{begun_holds, resume_holds, sets_holds}
 use Rattle.vg_trimming.specs.declared.facts.Twin.{Twin}
+use Rattle.vg_trimming.specs.declared.facts.Bound.{Bound}
 use Rattle.vg_trimming.specs.declared.facts.Facts.{Facts}
 use Rattle.vg_trimming.specs.declared.facts.Worked.{Worked}
-use Rattle.vg_trimming.specs.Facts.{same_home, is_twin, stands_for, is_filled, is_it, leads_in, begins_so, is_none_filled, is_none_worked, begins_with}
+use Rattle.vg_trimming.specs.Facts.{same_home, is_twin, stands_for, is_filled, is_it, leads_in, begins_so, is_none_filled, is_none_worked, is_none_bounded}
+use Rattle.vg_trimming.specs.Facts.{begins_with, greatest}
 use Rattle.vg_trimming.specs.Trimming.{gain_in, same_callee, same_passed, same_registers, same_target, local_of, call_change, same_call}
 use Rattle.vg_trimming.specs.Trimmed.{Trims, IsTrimmedTo}
 use Rattle.vg_trimming.specs.Runs.{AreBytes}
-use Rattle.vg_trimming.proofs.Homes.{no, same_number, is_named, same_home_is, local, other_local, Twinned, AreThere, Steady, Agree, stands, Changed, behind}
+use Rattle.vg_trimming.proofs.Homes.{no, same_number, is_named, same_home_is, local, local_small, other_local, Twinned, AreThere, AreBounded, Steady}
+use Rattle.vg_trimming.proofs.Homes.{Agree, stands, Changed, behind}
 use Rattle.vg_trimming.proofs.Places.{none_changed, both_changed}
 
 -- ---- at a place
@@ -62,6 +65,7 @@ with_ram old now pc at s u r r' e h (trimmed fs ps trim a f k g) =
       twins = twins;
       filled = g.filled;
       worked = worked a.worked g.worked;
+      bounded = bounded a.bounds g.bounded;
       waiting = g.waiting;
       ram = e;
       steady = record { held = g.steady.held; held_too = g.steady.held_too; bytes = h };
@@ -73,6 +77,10 @@ with_ram old now pc at s u r r' e h (trimmed fs ps trim a f k g) =
 
     twins : Twinned a.twins (record s { ram = r }) (record u { ram = r' })
     twins x h v k q = same_value h ∙ g.twins x h v k q
+
+    bounded : (bs : List Bound) → AreBounded bs s → AreBounded bs (record s { ram = r })
+    bounded [] k = tt {0}
+    bounded (b ∷ bs) (f, k) = (f, bounded bs k)
 
     worked : (ws : List Worked) → AreThere ws s u → AreThere ws (record s { ram = r }) (record u { ram = r' })
     worked [] k = tt {0}
@@ -160,6 +168,10 @@ none_worked : (ws : List Worked) (s u : State) → is_none_worked ws ≡ true �
 none_worked [] s u e = tt {0}
 none_worked (w ∷ ws) s u e = no e
 
+none_bounded : (bs : List Bound) (s : State) → is_none_bounded bs ≡ true → AreBounded bs s
+none_bounded [] s e = tt {0}
+none_bounded (b ∷ bs) s e = no e
+
 -- the state in which a procedure begins
 abbrev pub fresh : Procedure → (xs ram : List ℕ) → State
 fresh m xs r = record { locals = begun m.widths xs; waiting = []; ram = r }
@@ -177,13 +189,17 @@ begins_at m n is xs r r' e h le = by_how is.how
           twins = twins;
           filled = λ x v q w. none_filled a.filled x z2.1 q;
           worked = none_worked a.worked (fresh m xs r) (fresh n xs r') z0.1;
+          bounded = none_bounded a.bounds (fresh m xs r) z.1;
           waiting = refl;
           ram = e;
           steady = record { held = begun_holds m.widths xs; held_too = begun_holds n.widths xs; bytes = h };
         })
       where
+        z : ((a.reached && begins_so m.params a.twins && is_none_filled a.filled && is_none_worked a.worked) ≡ true) × (is_none_bounded a.bounds ≡ true)
+        z = and_parts (a.reached && begins_so m.params a.twins && is_none_filled a.filled && is_none_worked a.worked) _ k
+
         z0 : ((a.reached && begins_so m.params a.twins && is_none_filled a.filled) ≡ true) × (is_none_worked a.worked ≡ true)
-        z0 = and_parts (a.reached && begins_so m.params a.twins && is_none_filled a.filled) _ k
+        z0 = and_parts (a.reached && begins_so m.params a.twins && is_none_filled a.filled) _ z.0
 
         z2 : ((a.reached && begins_so m.params a.twins) ≡ true) × (is_none_filled a.filled ≡ true)
         z2 = and_parts (a.reached && begins_so m.params a.twins) _ z0.0
@@ -342,7 +358,14 @@ module _ (p : Program) (tables : AreBytes p.tables) (old now : Procedure) (sound
 
   given_back : (x y : Option Target) (ws ws' : List Waiting) (r r' : List ℕ) (v : ℕ) → same_target x y ≡ true → IsTo now y → ws' ≡ ws → r' ≡ r
       → Changed now.widths a
-      (record { old = local_of x; new = local_of y; gain = gain_in old.widths now.widths (local_of x) (local_of y) 5; filled = None; worked = None })
+      (record {
+        old = local_of x;
+        new = local_of y;
+        gain = gain_in old.widths now.widths (local_of x) (local_of y) 5 greatest;
+        filled = None;
+        worked = None;
+        most = greatest;
+      })
       s u (with_result x v (record s { waiting = ws; ram = r })) (with_result y v (record u { waiting = ws'; ram = r' }))
   given_back None None ws ws' r r' v e h ew er = none_changed p tables old now sound a s u g _ _ refl refl ew er
   given_back None (Some t') ws ws' r r' v e h ew er = no e
@@ -353,6 +376,7 @@ module _ (p : Program) (tables : AreBytes p.tables) (old now : Procedure) (sound
         gained = λ y k w e q f. no q;
         filled = λ y w e q. no e;
         worked = λ w e. absurd (none-some w e);
+        bounded = λ y w e q. local_small old.widths (sets t.local v s).locals y w sound.widths (sets_holds old.widths s.locals t.local v g.steady.held) q;
         waiting = ew;
         ram = er;
       }
@@ -361,7 +385,7 @@ module _ (p : Program) (tables : AreBytes p.tables) (old now : Procedure) (sound
       new_kept (Local i) e = refl
       new_kept (Known w) e = refl
   given_back (Some t) (Some t') ws ws' r r' v e h ew er =
-      both_changed p tables old now sound a s u g t.local t'.local 5 v _ _ h.1 (λ k. absurd (omega (arith, k))) refl refl ew er
+      both_changed p tables old now sound a s u g t.local t'.local 5 greatest v _ _ h.1 (λ k. absurd (omega (arith, k))) (λ k le few. few) refl refl ew er
 
   pub calls_same : (fs : List Facts) (ps : List ℕ) (trim : Trims fs ps old now) (pc at : ℕ) (c d : Calling) → same_call a.twins c d ≡ true → IsTo now d.to
       → is_it (slice_get ps (suc pc)) (suc at) ≡ true → leads_in now.widths a (call_change old.widths now.widths c d) (slice_get fs (suc pc)) ≡ true

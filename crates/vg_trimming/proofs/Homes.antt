@@ -3,7 +3,7 @@ use Rattle.std.specs.Prelude.{◌≢◌, ℕ, zero, suc, ◌<◌, ◌≤◌, ◌
 use Rattle.std.specs.Prelude.{Option, Some, None, slice_get, get_or, if◌then◌else◌}
 use Rattle.std.specs.List.{AllByRecursion}
 use Rattle.std.proofs.Common.{◌≡◌, refl, sym, ap, ◌∙◌, subst, arith}
-use Rattle.std.proofs.Math.Nat.{mod-eq_of_lt, pow-le-pow_right}
+use Rattle.std.proofs.Math.Nat.{mod-eq_of_lt, mod-le, mod-lt, one-le-pow, pow-le-pow_right}
 use Rattle.std.proofs.lemmas.Bool.{and_parts, not-true}
 use Rattle.std.proofs.lemmas.Option.{same_Some, none-some}
 use Rattle.vg_lin.specs.declared.instr.Operand.{Operand}
@@ -17,11 +17,12 @@ use Rattle.vg_lin.specs.State.{LocalState, State, value_in, value, with_local}
 use Rattle.vg_expand.specs.Expansion.{IsHeld, Holds}
 use Rattle.vg_trimming.specs.declared.facts.Twin.{Twin}
 use Rattle.vg_trimming.specs.declared.facts.Worked.{Worked}
+use Rattle.vg_trimming.specs.declared.facts.Bound.{Bound}
 use Rattle.vg_trimming.specs.declared.facts.Facts.{Facts}
 use Rattle.vg_trimming.specs.declared.facts.Change.{Change}
 use Rattle.vg_trimming.specs.Facts.{same_home, is_twin, stands_for, is_filled, bytes_of, is_it, overwrites, gains, twin_lasts, twins_last}
 use Rattle.vg_trimming.specs.Facts.{stays_filled, all_stay_filled, same_operator, is_of, found_for, same_worked, is_worked, is_new}
-use Rattle.vg_trimming.specs.Facts.{stays_worked, all_stay_worked, leads}
+use Rattle.vg_trimming.specs.Facts.{stays_worked, all_stay_worked, leads, greatest, most_in, most_known, most_of, is_bounded, stays_bounded, all_stay_bounded}
 use Rattle.vg_trimming.specs.Runs.{AreBytes}
 
 -- ---- tests
@@ -34,6 +35,9 @@ same_number a b e = grind arith
 
 pub at_most : (a b : ℕ) → nat_le a b ≡ true → a ≤ b
 at_most a b e = grind arith
+
+pub is_more : (a b : ℕ) → nat_le a b ≡ false → b < a
+is_more a b e = grind arith
 
 pub same_home_is : (g h : Operand) → same_home g h ≡ true → g ≡ h
 same_home_is (Local i) (Local j) e = ap Local (same_number i j e)
@@ -112,6 +116,9 @@ few_bytes [] x h = omega arith
 few_bytes (w ∷ ws) zero ((g, i), h) = i
 few_bytes (w ∷ ws) (suc x) (g, h) = few_bytes ws x h
 
+pub low_below : (w x : ℕ) → low w x < 256 ^ w
+low_below w x = mod-lt x (let h = one-le-pow w 256 (omega arith) in omega (arith, h))
+
 -- so many bytes hold a value
 pub low_small : (w v b : ℕ) → v < 256 ^ b → b ≤ w → low w v ≡ v
 low_small w v b h g = mod-eq_of_lt (let k : 256 ^ b ≤ 256 ^ w = pow-le-pow_right (omega arith) g in omega (arith, h, k))
@@ -131,6 +138,72 @@ fits_bytes n (Known w) u v g e f = subst (λ k. k < 256 ^ bytes_of n (Known w)) 
         → w < 256 ^ (if b then 1 else if nat_lt w 65536 then 2 else 5)
     by_first true e f = below w 256 e
     by_first false e f = by_second (nat_lt w 65536) refl f
+
+-- the greatest value of so many bytes is one of them
+pub most_fits : (w m : ℕ) → m ≤ most_in w → m < 256 ^ w
+most_fits w m h = by_four (nat_le 4 w) refl h
+  where
+    wide : (k : ℕ) → nat_le k w ≡ true → 256 ^ k ≤ 256 ^ w
+    wide k e = pow-le-pow_right (omega arith) (at_most k w e)
+
+    by_one : (b : Bool) → nat_le 1 w ≡ b → m ≤ (if b then 255 else 0) → m < 256 ^ w
+    by_one true e h = let k : 256 ≤ 256 ^ w = wide 1 e in omega (arith, h, k)
+    by_one false e h = let k = one-le-pow w 256 (omega arith) in omega (arith, h, k)
+
+    by_two : (b : Bool) → nat_le 2 w ≡ b → m ≤ (if b then 65535 else if nat_le 1 w then 255 else 0) → m < 256 ^ w
+    by_two true e h = let k : 65536 ≤ 256 ^ w = wide 2 e in omega (arith, h, k)
+    by_two false e h = by_one (nat_le 1 w) refl h
+
+    by_three : (b : Bool) → nat_le 3 w ≡ b → m ≤ (if b then 16777215 else if nat_le 2 w then 65535 else if nat_le 1 w then 255 else 0) → m < 256 ^ w
+    by_three true e h = let k : 16777216 ≤ 256 ^ w = wide 3 e in omega (arith, h, k)
+    by_three false e h = by_two (nat_le 2 w) refl h
+
+    by_four : (b : Bool) → nat_le 4 w ≡ b
+        → m ≤ (if b then greatest else if nat_le 3 w then 16777215 else if nat_le 2 w then 65535 else if nat_le 1 w then 255 else 0) → m < 256 ^ w
+    by_four true e h = let k : 4294967296 ≤ 256 ^ w = wide 4 e in omega (arith, h, k)
+    by_four false e h = by_three (nat_le 3 w) refl h
+
+pub fits_most_in : (w m : ℕ) → m < 256 ^ w → m ≤ greatest → m ≤ most_in w
+fits_most_in w m h f = by_four (nat_le 4 w) refl
+  where
+    narrow : (k : ℕ) → nat_le (suc k) w ≡ false → 256 ^ w ≤ 256 ^ k
+    narrow k e = let le = is_more (suc k) w e in pow-le-pow_right (omega arith) (omega (arith, le))
+
+    by_one : (b : Bool) → nat_le 1 w ≡ b → nat_le 2 w ≡ false → m ≤ (if b then 255 else 0)
+    by_one true e g = let k : 256 ^ w ≤ 256 = narrow 1 g in omega (arith, h, k)
+    by_one false e g = let k : 256 ^ w ≤ 1 = narrow 0 e in omega (arith, h, k)
+
+    by_two : (b : Bool) → nat_le 2 w ≡ b → nat_le 3 w ≡ false → m ≤ (if b then 65535 else if nat_le 1 w then 255 else 0)
+    by_two true e g = let k : 256 ^ w ≤ 65536 = narrow 2 g in omega (arith, h, k)
+    by_two false e g = by_one (nat_le 1 w) refl e
+
+    by_three : (b : Bool) → nat_le 3 w ≡ b → nat_le 4 w ≡ false
+        → m ≤ (if b then 16777215 else if nat_le 2 w then 65535 else if nat_le 1 w then 255 else 0)
+    by_three true e g = let k : 256 ^ w ≤ 16777216 = narrow 3 g in omega (arith, h, k)
+    by_three false e g = by_two (nat_le 2 w) refl e
+
+    by_four : (b : Bool) → nat_le 4 w ≡ b
+        → m ≤ (if b then greatest else if nat_le 3 w then 16777215 else if nat_le 2 w then 65535 else if nat_le 1 w then 255 else 0)
+    by_four true e = f
+    by_four false e = by_three (nat_le 3 w) refl e
+
+-- a local has at most four bytes
+pub local_small : (o : List ℕ) (ls : List LocalState) (x v : ℕ) → AllByRecursion IsWidth o → Holds o ls → local ls x ≡ Some v → v ≤ greatest
+local_small o ls x v ws h e =
+    let few = few_bytes o x ws in
+    let k : 256 ^ get_or o x 0 ≤ 4294967296 = pow-le-pow_right (omega arith) few in
+    let g = held_value o ls x v 0 h e in omega (arith, k, g)
+
+-- what a local gets is no more than what it is given
+pub gets_most : (o : List ℕ) (ls : List LocalState) (x z m v : ℕ) → AllByRecursion IsWidth o → Holds o ls → ((v : ℕ) → v ≤ z → v ≤ greatest → v ≤ m)
+    → local (with_local ls x z) x ≡ Some v → v ≤ m
+gets_most o ls x z m v ws h top e =
+    let same = own_value o ls x z v 0 h e in
+    let less = mod-le z (256 ^ get_or o x 0) in
+    let few = few_bytes o x ws in
+    let k : 256 ^ get_or o x 0 ≤ 4294967296 = pow-le-pow_right (omega arith) few in
+    let below = low_below (get_or o x 0) z in
+    top v (omega (arith, same, less)) (omega (arith, same, k, below))
 
 -- ---- what is known of two states
 
@@ -194,6 +267,41 @@ found_there (a ∷ ws) c w s u x y v (g, h) e f k q = by_first (is_of a c) refl 
     by_first true i e more = subst (λ z. value (Local z.home) u ≡ Some v) (same_Some a w e) (here i)
     by_first false i e more = more e
 
+-- a local has at most so much
+abbrev pub HasAtMost : Bound → State → Type 0
+HasAtMost b s = (v : ℕ) → value (Local b.local) s ≡ Some v → v ≤ b.most
+
+abbrev pub AreBounded : List Bound → State → Type 0
+AreBounded bs s = AllByRecursion (λ b. HasAtMost b s) bs
+
+pub bounded_by : (bs : List Bound) (b : Bound) (s : State) → AreBounded bs s → is_bounded bs b ≡ true → HasAtMost b s
+bounded_by [] b s h e = no e
+bounded_by (k ∷ ks) b s (g, h) e = by_first (k.local == b.local) refl e (λ f. bounded_by ks b s h f)
+  where
+    by_first : (t : Bool) → (k.local == b.local) ≡ t → (if t then nat_le k.most b.most else is_bounded ks b) ≡ true
+        → (is_bounded ks b ≡ true → HasAtMost b s) → HasAtMost b s
+    by_first true f e more =
+        λ v q.
+        let le = at_most k.most b.most e in
+        let h = g v (ap (λ y. local s.locals y) (same_number k.local b.local f) ∙ q) in omega (arith, h, le)
+    by_first false f e more = more e
+
+most_known_holds : (d : ℕ) (bs : List Bound) (x v : ℕ) (s : State) → AreBounded bs s → value (Local x) s ≡ Some v → v ≤ d → v ≤ most_known d bs x
+most_known_holds d [] x v s h e f = f
+most_known_holds d (b ∷ bs) x v s (g, h) e f = by_first (b.local == x) refl (most_known_holds d bs x v s h e f)
+  where
+    by_first : (t : Bool) → (b.local == x) ≡ t → v ≤ most_known d bs x → v ≤ (if t then b.most else most_known d bs x)
+    by_first true k more = g v (ap (λ y. local s.locals y) (same_number b.local x k) ∙ e)
+    by_first false k more = more
+
+-- an operand has no more than is known
+pub most_holds : (o : List ℕ) (bs : List Bound) (h : Operand) (v : ℕ) (s : State) → AllByRecursion IsWidth o → Holds o s.locals → AreBounded bs s
+    → value h s ≡ Some v → v ≤ most_of o bs h
+most_holds o bs (Local x) v s ws held b e =
+    most_known_holds (most_in (get_or o x 4)) bs x v s b e
+    (fits_most_in (get_or o x 4) v (held_value o s.locals x v 4 held e) (local_small o s.locals x v ws held e))
+most_holds o bs (Known w) v s ws held b e = let same = same_Some w v e in omega (arith, same)
+
 -- what every step keeps
 pub record Steady (o n : List ℕ) (s u : State) : Type 0 where
   pub held : Holds o s.locals
@@ -206,6 +314,7 @@ pub record Agree (o n : List ℕ) (a : Facts) (s u : State) : Type 0 where
   pub twins : Twinned a.twins s u
   pub filled : Filled a.filled s
   pub worked : AreThere a.worked s u
+  pub bounded : AreBounded a.bounds s
   pub waiting : u.waiting ≡ s.waiting
   pub ram : u.ram ≡ s.ram
   pub steady : Steady o n s u
@@ -223,6 +332,7 @@ pub record Changed (n : List ℕ) (a : Facts) (c : Change) (s u s1 u1 : State) :
       → value h u1 ≡ Some v
   pub filled : (x v : ℕ) → is_it c.filled x ≡ true → value (Local x) s1 ≡ Some v → v ≢ 0
   pub worked : (w : Worked) → c.worked ≡ Some w → IsThere w s1 u1
+  pub bounded : (x v : ℕ) → is_it c.old x ≡ true → value (Local x) s1 ≡ Some v → v ≤ c.most
   pub waiting : u1.waiting ≡ s1.waiting
   pub ram : u1.ram ≡ s1.ram
 
@@ -286,6 +396,17 @@ worked_kept n a c s u s1 u1 (w ∷ ws) ch h e =
               ∙ (there_for a.worked w s u h z2.0).has x y v (sym (operand_kept w.left z2.1) ∙ el) (sym (operand_kept w.right z1.1) ∙ er) q;
         }
 
+bounded_kept : (n : List ℕ) (a : Facts) (c : Change) (s u s1 u1 : State) (bs : List Bound) → Changed n a c s u s1 u1 → AreBounded a.bounds s
+    → all_stay_bounded a.bounds c bs ≡ true → AreBounded bs s1
+bounded_kept n a c s u s1 u1 [] ch h e = tt {0}
+bounded_kept n a c s u s1 u1 (b ∷ bs) ch h e =
+    let z = and_parts (stays_bounded a.bounds c b) (all_stay_bounded a.bounds c bs) e in
+    (by_old (is_it c.old b.local) refl z.0, bounded_kept n a c s u s1 u1 bs ch h z.1)
+  where
+    by_old : (t : Bool) → is_it c.old b.local ≡ t → (if t then nat_le c.most b.most else is_bounded a.bounds b) ≡ true → HasAtMost b s1
+    by_old true k f = λ v q. let le = at_most c.most b.most f in let g = ch.bounded b.local v k q in omega (arith, g, le)
+    by_old false k f = λ v q. bounded_by a.bounds b s h f v (sym (ch.old_kept b.local k) ∙ q)
+
 -- what is known behind an instruction holds of both states behind it
 pub behind : (o n : List ℕ) (a b : Facts) (c : Change) (s u s1 u1 : State) → leads n a c b ≡ true → Agree o n a s u → Changed n a c s u s1 u1
     → Steady o n s1 u1 → Agree o n b s1 u1
@@ -295,13 +416,18 @@ behind o n a b c s u s1 u1 e g ch st =
       twins = twins;
       filled = filled;
       worked = worked_kept n a c s u s1 u1 b.worked ch g.worked parts.1;
+      bounded = bounded_kept n a c s u s1 u1 b.bounds ch g.bounded whole.1;
       waiting = ch.waiting;
       ram = ch.ram;
       steady = st;
     }
   where
+    whole : ((b.reached && twins_last n a.twins c b.twins && all_stay_filled a.filled c b.filled && all_stay_worked a.worked c b.worked) ≡ true)
+        × (all_stay_bounded a.bounds c b.bounds ≡ true)
+    whole = and_parts (b.reached && twins_last n a.twins c b.twins && all_stay_filled a.filled c b.filled && all_stay_worked a.worked c b.worked) _ e
+
     parts : ((b.reached && twins_last n a.twins c b.twins && all_stay_filled a.filled c b.filled) ≡ true) × (all_stay_worked a.worked c b.worked ≡ true)
-    parts = and_parts (b.reached && twins_last n a.twins c b.twins && all_stay_filled a.filled c b.filled) (all_stay_worked a.worked c b.worked) e
+    parts = and_parts (b.reached && twins_last n a.twins c b.twins && all_stay_filled a.filled c b.filled) (all_stay_worked a.worked c b.worked) whole.0
 
     both : (b.reached && twins_last n a.twins c b.twins) ≡ true
     both = (and_parts (b.reached && twins_last n a.twins c b.twins) (all_stay_filled a.filled c b.filled) parts.0).0

@@ -1,5 +1,6 @@
 pub mod Homes
 pub mod Values
+pub mod Bounds
 pub mod Places
 pub mod Branches
 pub mod Calls

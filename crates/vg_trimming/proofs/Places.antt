@@ -1,9 +1,10 @@
 -- Plain instructions and branches: where one stands for another one, both do the same, and what is known behind them holds.
-use Rattle.std.specs.Prelude.{ℕ, zero, suc, ◌+◌, ◌*◌, ◌<◌, ◌≤◌, ◌^◌, bit_and, bit_or, bit_xor, Bool, true, false, ◌==◌, ◌&&◌, not, nat_le, List, [], ◌∷◌, length}
+use Rattle.std.specs.Prelude.{ℕ, zero, suc, ◌+◌, ◌-◌, ◌*◌, ◌%◌, ◌<◌, ◌≤◌, ◌^◌, bit_and, bit_or, bit_xor, Bool, true, false, ◌==◌, ◌&&◌, ◌||◌, not, nat_le}
+use Rattle.std.specs.Prelude.{List, [], ◌∷◌, length}
 use Rattle.std.specs.Prelude.{Option, Some, None, get_or, if◌then◌else◌}
 use Rattle.std.proofs.Common.{◌≡◌, refl, sym, ap, ◌∙◌, subst, arith, inl, inr, ◌⊎◌}
 use Rattle.std.proofs.Common.{pow-add}
-use Rattle.std.proofs.Math.Nat.{pow-suc, pow-le-pow_right}
+use Rattle.std.proofs.Math.Nat.{pow-suc, pow-le-pow_right, mod-mod_of_dvd, dvd-mul_right}
 use Rattle.std.proofs.lemmas.Bool.{and_parts, or_cases, not-true}
 use Rattle.std.proofs.lemmas.Option.{same_Some, none-some}
 use Rattle.std.proofs.lemmas.Nat.{and_le_l, and_le_r, or_lt, xor_lt}
@@ -33,12 +34,16 @@ use Rattle.vg_trimming.specs.declared.facts.Gain.TheVariants.{Nothing, In, Copie
 use Rattle.vg_trimming.specs.declared.facts.Worked.{Worked}
 use Rattle.vg_trimming.specs.declared.facts.Change.{Change}
 use Rattle.vg_trimming.specs.Facts.{same_operator, found_for, bytes_of, stands_for, is_it, overwrites, gains, no_change}
+use Rattle.vg_trimming.specs.Facts.{greatest, most_in, most_computed}
 use Rattle.vg_trimming.specs.Trimming.{same_memory, same_plain, is_paired, gain_in, keeps_operands, worked_in, both_change, is_pure, left_out, is_stop}
+use Rattle.vg_trimming.specs.Trimming.{most_given, has_bytes, fits_bounds}
 use Rattle.vg_trimming.specs.Trimming.{same_comparison, fits_result, narrower, found_in, reused}
 use Rattle.vg_trimming.specs.Runs.{AreBytes}
 use Rattle.vg_trimming.proofs.Homes.{no, same_number, at_most, same_operator_is, local, own_value, gets_value, other_local, same_default, few_bytes}
-use Rattle.vg_trimming.proofs.Homes.{low_small, fits_bytes, IsThere, found_there, Agree, stands, same_home_is, Changed}
+use Rattle.vg_trimming.proofs.Homes.{gets_most, most_fits, fits_most_in, most_holds, low_small, fits_bytes, IsThere, found_there, Agree}
+use Rattle.vg_trimming.proofs.Homes.{stands, same_home_is, Changed}
 use Rattle.vg_trimming.proofs.Values.{computed_below, loaded_below}
+use Rattle.vg_trimming.proofs.Bounds.{computed_most, computed_fewer}
 
 -- ---- what two instructions do
 
@@ -90,6 +95,13 @@ same_comparison_is Less Less e = refl
 same_comparison_is Same Same e = refl
 same_comparison_is _ _ e = no e
 
+-- fewer low bytes of low bytes
+low_low : (w v z : ℕ) → v ≤ w → low v (low w z) ≡ low v z
+low_low w v z le =
+    let rest = w - v in
+    let e : w ≡ v + rest = omega (arith, le) in
+    ap (λ m. z % m % 256 ^ v) (ap (λ k. 256 ^ k) e ∙ pow-add 256 v rest) ∙ mod-mod_of_dvd (256 ^ v) z (dvd-mul_right (256 ^ v) (256 ^ rest))
+
 -- ---- at a place
 
 module _ (p : Program) (tables : AreBytes p.tables) (old now : Procedure) (sound : IsSound old) (a : Facts) (s u : State)
@@ -118,6 +130,7 @@ module _ (p : Program) (tables : AreBytes p.tables) (old now : Procedure) (sound
         gained = λ y h v e k q. no e;
         filled = λ y v e q. no e;
         worked = λ w e. absurd (none-some w e);
+        bounded = λ x v e q. no e;
         waiting = ew;
         ram = er;
       }
@@ -126,27 +139,44 @@ module _ (p : Program) (tables : AreBytes p.tables) (old now : Procedure) (sound
       new_kept (Local i) e = ap (λ k. local k i) eu
       new_kept (Known w) e = refl
 
+  -- a local gets no more than what it is given
+  gets_at_most : (x z m v : ℕ) → ((v : ℕ) → v ≤ z → v ≤ greatest → v ≤ m) → local (with_local s.locals x z) x ≡ Some v → v ≤ m
+  gets_at_most x z m v top q = gets_most o s.locals x z m v sound.widths g.steady.held top q
+
   -- both give a local the same value
-  pub both_changed : (x y b z : ℕ) (s1 u1 : State) → y < length n → (b ≤ 4 → z < 256 ^ b) → s1.locals ≡ with_local s.locals x z
-      → u1.locals ≡ with_local u.locals y z → u1.waiting ≡ s1.waiting → u1.ram ≡ s1.ram
-      → Changed n a (record { old = Some x; new = Some y; gain = gain_in o n (Some x) (Some y) b; filled = None; worked = None }) s u s1 u1
-  both_changed x y b z s1 u1 lt small es eu ew er =
+  pub both_changed : (x y b m z : ℕ) (s1 u1 : State) → y < length n → (b ≤ 4 → z < 256 ^ b) → ((v : ℕ) → v ≤ z → v ≤ greatest → v ≤ m)
+      → s1.locals ≡ with_local s.locals x z → u1.locals ≡ with_local u.locals y z → u1.waiting ≡ s1.waiting → u1.ram ≡ s1.ram
+      → Changed n a (record { old = Some x; new = Some y; gain = gain_in o n (Some x) (Some y) b m; filled = None; worked = None; most = m }) s u s1 u1
+  both_changed x y b m z s1 u1 lt small top es eu ew er =
       record {
         old_kept = λ k e. ap (λ ls. local ls k) es ∙ other_local s.locals x k z e;
         new_kept = λ h e. value_kept y z h u u1 eu e;
-        gained = λ k h v e f q. by_pair h v (is_paired o n x y b) refl f
+        gained = λ k h v e f q. by_pair h v (is_paired o n x y b m) refl f
             (sym (ap (λ ls. local ls x) es) ∙ (ap (λ i. local s1.locals i) (same_number x k e) ∙ q));
         filled = λ k v e q. no e;
         worked = λ w e. absurd (none-some w e);
+        bounded = λ k v e q. gets_at_most x z m v top
+            (sym (ap (λ ls. local ls x) es) ∙ (ap (λ i. local s1.locals i) (same_number x k e) ∙ q));
         waiting = ew;
         ram = er;
       }
     where
+      -- the older local has the value in as few bytes as the newer one has
+      of_bytes : (v : ℕ) → local (with_local s.locals x z) x ≡ Some v → has_bytes o n x y m ≡ true → low (get_or n y 6) z ≡ v
+      of_bytes v q e =
+          let h = and_parts (nat_le (get_or n y 0) (get_or o x 0)) (nat_le m (most_in (get_or n y 0))) e in
+          let le = gets_at_most x z m v top q in
+          let k = at_most m (most_in (get_or n y 0)) h.1 in
+          let fits = most_fits (get_or n y 0) v (omega (arith, le, k)) in
+          ap (λ w. low w z) (same_default n y 6 0 lt)
+          ∙ (sym (low_low (get_or o x 0) (get_or n y 0) z (at_most (get_or n y 0) (get_or o x 0) h.0))
+          ∙ (ap (low (get_or n y 0)) (sym (own_value o s.locals x z v 0 g.steady.held q))
+          ∙ low_small (get_or n y 0) v (get_or n y 0) fits (omega arith)))
+
       of_width : (v : ℕ) → local (with_local s.locals x z) x ≡ Some v
-          → ((get_or o x 5 == get_or n y 6) ≡ true) ⊎ ((nat_le b (get_or o x 0) && nat_le b (get_or n y 0)) ≡ true) → low (get_or n y 6) z ≡ v
+          → ((nat_le b (get_or o x 0) && nat_le b (get_or n y 0)) ≡ true) ⊎ (has_bytes o n x y m ≡ true) → low (get_or n y 6) z ≡ v
+      of_width v q (inr e) = of_bytes v q e
       of_width v q (inl e) =
-          ap (λ w. low w z) (sym (same_number (get_or o x 5) (get_or n y 6) e)) ∙ sym (own_value o s.locals x z v 5 g.steady.held q)
-      of_width v q (inr e) =
           let h = and_parts (nat_le b (get_or o x 0)) (nat_le b (get_or n y 0)) e in
           let k = few_bytes o x sound.widths in
           let h0 = at_most b (get_or o x 0) h.0 in
@@ -155,19 +185,26 @@ module _ (p : Program) (tables : AreBytes p.tables) (old now : Procedure) (sound
           ap (λ w. low w z) (same_default n y 6 0 lt) ∙ (low_small (get_or n y 0) z b small' h1
           ∙ (sym (low_small (get_or o x 0) z b small' h0) ∙ sym (own_value o s.locals x z v 0 g.steady.held q)))
 
-      by_pair : (h : Operand) (v : ℕ) (t : Bool) → is_paired o n x y b ≡ t → gains n a.twins (Some y) (if t then In y else Nothing) h ≡ true
+      as_wide : (v : ℕ) → local (with_local s.locals x z) x ≡ Some v
+          → ((get_or o x 5 == get_or n y 6) ≡ true) ⊎ ((nat_le b (get_or o x 0) && nat_le b (get_or n y 0) || has_bytes o n x y m) ≡ true)
+          → low (get_or n y 6) z ≡ v
+      as_wide v q (inl e) =
+          ap (λ w. low w z) (sym (same_number (get_or o x 5) (get_or n y 6) e)) ∙ sym (own_value o s.locals x z v 5 g.steady.held q)
+      as_wide v q (inr e) = of_width v q (or_cases (nat_le b (get_or o x 0) && nat_le b (get_or n y 0)) (has_bytes o n x y m) e)
+
+      by_pair : (h : Operand) (v : ℕ) (t : Bool) → is_paired o n x y b m ≡ t → gains n a.twins (Some y) (if t then In y else Nothing) h ≡ true
           → local (with_local s.locals x z) x ≡ Some v → value h u1 ≡ Some v
       by_pair h v true e f q =
           subst (λ k. value k u1 ≡ Some v) (same_home_is (Local y) h f)
           (ap (λ ls. local ls y) eu ∙ (gets_value n u.locals y z 6 g.steady.held_too lt
-          ∙ ap Some (of_width v q (or_cases (get_or o x 5 == get_or n y 6) (nat_le b (get_or o x 0) && nat_le b (get_or n y 0)) e))))
+          ∙ ap Some (as_wide v q (or_cases (get_or o x 5 == get_or n y 6) _ e))))
       by_pair h v false e f q = no f
 
   -- both give a local the same result of a computation, and the newer code may have all of it
   with_worked : (ch : Change) (k : Option Worked) (s1 u1 : State)
-      → Changed n a (record { old = ch.old; new = ch.new; gain = ch.gain; filled = ch.filled; worked = None }) s u s1 u1
+      → Changed n a (record { old = ch.old; new = ch.new; gain = ch.gain; filled = ch.filled; worked = None; most = ch.most }) s u s1 u1
       → ((w : Worked) → k ≡ Some w → IsThere w s1 u1)
-      → Changed n a (record { old = ch.old; new = ch.new; gain = ch.gain; filled = ch.filled; worked = k }) s u s1 u1
+      → Changed n a (record { old = ch.old; new = ch.new; gain = ch.gain; filled = ch.filled; worked = k; most = ch.most }) s u s1 u1
   with_worked ch k s1 u1 c f =
       record {
         old_kept = c.old_kept;
@@ -175,26 +212,44 @@ module _ (p : Program) (tables : AreBytes p.tables) (old now : Procedure) (sound
         gained = c.gained;
         filled = c.filled;
         worked = f;
+        bounded = c.bounded;
         waiting = c.waiting;
         ram = c.ram;
       }
 
-  both_computed : (c d : Computation) (x y v : ℕ) → d.to < length n → value c.left s ≡ Some x → value c.right s ≡ Some y
+  both_computed : (c d : Computation) (x y v : ℕ) → d.width ≤ 4 → d.to < length n → value c.left s ≡ Some x → value c.right s ≡ Some y
       → computed c.operator c.width x y ≡ Some v → computed d.operator d.width x y ≡ Some v
-      → Changed n a (both_change o n (Compute c) (Compute d)) s u (sets c.to v s) (sets d.to v u)
-  both_computed c d x y v lt ex ey q q' =
-      with_worked (both_change o n (Compute c) (Compute d)) (worked_in n (Compute c) (Compute d)) (sets c.to v s) (sets d.to v u)
-      (both_changed c.to d.to d.width v (sets c.to v s) (sets d.to v u) lt (λ small. computed_below d.operator d.width x y v q') refl refl g.waiting g.ram)
-      (λ w e. by_test w ((c.width == d.width) && nat_le d.width (get_or n d.to 0) && keeps_operands c) refl e)
+      → Changed n a (both_change o n a.bounds (Compute c) (Compute d)) s u (sets c.to v s) (sets d.to v u)
+  both_computed c d x y v four lt ex ey q q' =
+      with_worked (both_change o n a.bounds (Compute c) (Compute d)) (worked_in n most (Compute c) (Compute d)) (sets c.to v s) (sets d.to v u)
+      (both_changed c.to d.to d.width most v (sets c.to v s) (sets d.to v u) lt (λ small. computed_below d.operator d.width x y v q') top refl refl
+      g.waiting g.ram)
+      (λ w e. by_test w ((nat_le d.width (get_or n d.to 0) || nat_le most (most_in (get_or n d.to 0))) && keeps_operands c) refl e)
     where
+      most : ℕ
+      most = most_computed o a.bounds c
+
+      top : (k : ℕ) → k ≤ v → k ≤ greatest → k ≤ most
+      top k = computed_most o a.bounds c s x y v k sound.widths g.steady.held g.bounded ex ey q
+
+      below : v < 256 ^ d.width
+      below = computed_below d.operator d.width x y v q'
+
+      all_of_it : (nat_le d.width (get_or n d.to 0) ≡ true) ⊎ (nat_le most (most_in (get_or n d.to 0)) ≡ true) → low (get_or n d.to 0) v ≡ v
+      all_of_it (inl e) = low_small (get_or n d.to 0) v d.width below (at_most d.width (get_or n d.to 0) e)
+      all_of_it (inr e) =
+          let wide : 256 ^ d.width ≤ 4294967296 = pow-le-pow_right (omega arith) four in
+          let le = top v (omega arith) (omega (arith, below, wide)) in
+          let k = at_most most (most_in (get_or n d.to 0)) e in
+          low_small (get_or n d.to 0) v (get_or n d.to 0) (most_fits (get_or n d.to 0) v (omega (arith, le, k))) (omega arith)
+
       kept : (h : Operand) → not (overwrites (Some c.to) h) ≡ true → value h (sets c.to v s) ≡ value h s
       kept h e = value_kept c.to v h s (sets c.to v s) refl (not-true (overwrites (Some c.to) h) e)
 
-      there : ((c.width == d.width) && nat_le d.width (get_or n d.to 0) && keeps_operands c) ≡ true
+      there : ((nat_le d.width (get_or n d.to 0) || nat_le most (most_in (get_or n d.to 0))) && keeps_operands c) ≡ true
           → IsThere (record { operator = c.operator; width = c.width; left = c.left; right = c.right; home = d.to }) (sets c.to v s) (sets d.to v u)
       there e =
-          let z0 = and_parts ((c.width == d.width) && nat_le d.width (get_or n d.to 0)) (keeps_operands c) e in
-          let z1 = and_parts (c.width == d.width) (nat_le d.width (get_or n d.to 0)) z0.0 in
+          let z0 = and_parts (nat_le d.width (get_or n d.to 0) || nat_le most (most_in (get_or n d.to 0))) (keeps_operands c) e in
           let z2 = and_parts (not (overwrites (Some c.to) c.left)) (not (overwrites (Some c.to) c.right)) z0.1 in
           record {
             has =
@@ -203,10 +258,10 @@ module _ (p : Program) (tables : AreBytes p.tables) (old now : Procedure) (sound
                 let same_y = same_Some y y' (sym ey ∙ (sym (kept c.right z2.1) ∙ er)) in
                 let same_v = same_Some v v' (sym q ∙ (ap (λ k. computed c.operator c.width k y) same_x ∙ (ap (λ k. computed c.operator c.width x' k) same_y ∙ q2))) in
                 gets_value n u.locals d.to v 0 g.steady.held_too lt
-                ∙ ap Some (low_small (get_or n d.to 0) v d.width (computed_below d.operator d.width x y v q') (at_most d.width (get_or n d.to 0) z1.1) ∙ same_v);
+                ∙ ap Some (all_of_it (or_cases (nat_le d.width (get_or n d.to 0)) _ z0.0) ∙ same_v);
           }
 
-      by_test : (w : Worked) (b : Bool) → ((c.width == d.width) && nat_le d.width (get_or n d.to 0) && keeps_operands c) ≡ b
+      by_test : (w : Worked) (b : Bool) → ((nat_le d.width (get_or n d.to 0) || nat_le most (most_in (get_or n d.to 0))) && keeps_operands c) ≡ b
           → (if b then Some (record { operator = c.operator; width = c.width; left = c.left; right = c.right; home = d.to }) else None) ≡ Some w
           → IsThere w (sets c.to v s) (sets d.to v u)
       by_test w true i e = subst (λ z. IsThere z (sets c.to v s) (sets d.to v u)) (same_Some _ w e) (there i)
@@ -215,7 +270,7 @@ module _ (p : Program) (tables : AreBytes p.tables) (old now : Procedure) (sound
   -- ---- plain instructions
 
   abbrev pub BothGo : PlainInstr → PlainInstr → State → State → Outside → Type 0
-  BothGo i j s1 u1 o1 = (is_stop i ≡ false) × Changed n a (both_change o n i j) s u s1 u1
+  BothGo i j s1 u1 o1 = (is_stop i ≡ false) × Changed n a (both_change o n a.bounds i j) s u s1 u1
 
   loaded_same : (m : Memory) (w : ℕ) (i : Option ℕ) → loaded p m u w i ≡ loaded p m s w i
   loaded_same Ram w (Some i) = ap (λ r. number_at r w i) g.ram
@@ -231,8 +286,10 @@ module _ (p : Program) (tables : AreBytes p.tables) (old now : Procedure) (sound
       (loaded p m' u w' (index_of m' (k' + i))) _ _ (λ z h. sym (same i) ∙ h)
       (λ z h h'. both_go (sets x z s) (sets y z u) o1 (
         refl,
-        both_changed x y w' z (sets x z s) (sets y z u) lt
-            (λ small. loaded_below p m' u w' (index_of m' (k' + i)) z tables (subst AreBytes (sym g.ram) g.steady.bytes) h') refl refl g.waiting g.ram,
+        both_changed x y w' (most_in w) z (sets x z s) (sets y z u) lt
+            (λ small. loaded_below p m' u w' (index_of m' (k' + i)) z tables (subst AreBytes (sym g.ram) g.steady.bytes) h')
+            (λ v le few. let b = loaded_below p m s w (index_of m (k + i)) z tables g.steady.bytes h in fits_most_in w v (omega (arith, b, le)) few)
+            refl refl g.waiting g.ram,
       )))
     where
       C : State → State → Outside → Type 0
@@ -268,7 +325,8 @@ module _ (p : Program) (tables : AreBytes p.tables) (old now : Procedure) (sound
       by_test : (v : Waiting) (vs : List Waiting) (b : Bool)
           → SameWent C (if b then Goes (sets x v.value (record s { waiting = vs })) o1 else Fails)
           (if b then Goes (sets y v.value (record u { waiting = vs })) o1 else Fails)
-      by_test v vs true = both_go _ _ o1 (refl, both_changed x y 5 v.value _ _ lt (λ k. absurd (omega (arith, k))) refl refl refl g.ram)
+      by_test v vs true =
+          both_go _ _ o1 (refl, both_changed x y 5 greatest v.value _ _ lt (λ k. absurd (omega (arith, k))) (λ v le few. few) refl refl refl g.ram)
       by_test v vs false = wrong Fails
 
       here : (ws : List Waiting) → SameWent C (pops_from ws w x s o1) (pops_from ws w y u o1)
@@ -285,7 +343,14 @@ module _ (p : Program) (tables : AreBytes p.tables) (old now : Procedure) (sound
 
       here : (vs : List ℕ) → AreReads vs → SameWent C (reads_from vs x b s o1) (reads_from vs y b u o1)
       here [] h = both_lack b
-      here (v ∷ vs) (h, k) = both_go _ _ _ (refl, both_changed x y 1 v (sets x v s) (sets y v u) lt (λ z. h) refl refl g.waiting g.ram)
+      here (v ∷ vs) (h, k) = both_go _ _ _ (
+        refl,
+        both_changed x y 1 255 v (sets x v s) (sets y v u) lt (λ z. h) (λ k le few. omega (arith, h, le)) refl refl g.waiting g.ram,
+      )
+
+  -- a copy gives no more than what is known of what is copied
+  given_most : (x : ℕ) (b : Operand) (v : ℕ) → value b s ≡ Some v → (k : ℕ) → k ≤ v → k ≤ greatest → k ≤ most_given o a.bounds (Copy x b)
+  given_most x b v f k le few = let h = most_holds o a.bounds b v s sound.widths g.steady.held g.bounded f in omega (arith, h, le)
 
   pub plain_follows : (i j : PlainInstr) (o1 : Outside) → AreReads o1.reads → IsPlain now j → same_plain a.twins i j ≡ true
       → SameWent (BothGo i j) (plain p i s o1) (plain p j u o1)
@@ -293,14 +358,14 @@ module _ (p : Program) (tables : AreBytes p.tables) (old now : Procedure) (sound
       using_same (BothGo (Copy x b) (Copy y c)) (value b s) (value c u) _ _ (λ v f. operand b c v e f)
       (λ v f k. both_go (sets x v s) (sets y v u) o1 (
         refl,
-        both_changed x y (bytes_of n c) v (sets x v s) (sets y v u) h.0
-            (λ small. fits_bytes n c u v g.steady.held_too k small) refl refl g.waiting g.ram,
+        both_changed x y (bytes_of n c) (most_given o a.bounds (Copy x b)) v (sets x v s) (sets y v u) h.0
+            (λ small. fits_bytes n c u v g.steady.held_too k small) (given_most x b v f) refl refl g.waiting g.ram,
       ))
   plain_follows (Compute c) (Compute d) o1 reads h e =
       using_same C (value c.left s) (value d.left u) _ _ (λ v. operand c.left d.left v z1.1) (λ x f f'.
       using_same C (value c.right s) (value d.right u) _ _ (λ v. operand c.right d.right v z0.1) (λ y k k'.
       using_same C (computed c.operator c.width x y) (computed d.operator d.width x y) _ _ (λ v q. sym (same x y) ∙ q) (λ v q q'.
-      both_go (sets c.to v s) (sets d.to v u) o1 (refl, both_computed c d x y v h.1 f k q q'))))
+      both_go (sets c.to v s) (sets d.to v u) o1 (refl, both_computed c d x y v h.0.1 h.1 f k q q'))))
     where
       C : State → State → Outside → Type 0
       C = BothGo (Compute c) (Compute d)
@@ -365,8 +430,8 @@ module _ (p : Program) (tables : AreBytes p.tables) (old now : Procedure) (sound
       (sym (same_number d d' z0.0)) ∙ k) (λ q k k'.
       both_go _ _ o1 (
         refl,
-        both_changed x y 5 (p.codes.code q) (sets x (p.codes.code q) s) (sets y (p.codes.code q) u) h.0
-            (λ small. absurd (omega (arith, small))) refl refl g.waiting g.ram,
+        both_changed x y 5 greatest (p.codes.code q) (sets x (p.codes.code q) s) (sets y (p.codes.code q) u) h.0
+            (λ small. absurd (omega (arith, small))) (λ v le few. few) refl refl g.waiting g.ram,
       )))
     where
       C : State → State → Outside → Type 0
@@ -376,8 +441,8 @@ module _ (p : Program) (tables : AreBytes p.tables) (old now : Procedure) (sound
       (same_number q r e)
       (both_go _ _ o1 (
         refl,
-        both_changed x y 5 (p.codes.code q) (sets x (p.codes.code q) s) (sets y (p.codes.code q) u) h
-            (λ small. absurd (omega (arith, small))) refl refl g.waiting g.ram,
+        both_changed x y 5 greatest (p.codes.code q) (sets x (p.codes.code q) s) (sets y (p.codes.code q) u) h
+            (λ small. absurd (omega (arith, small))) (λ v le few. few) refl refl g.waiting g.ram,
       ))
   plain_follows (Stop c) (Stop d) o1 reads h e =
       subst (λ k. SameWent (BothGo (Stop c) (Stop d)) (Raises c) (Raises k)) (same_number c d e) (both_raise c)
@@ -386,16 +451,17 @@ module _ (p : Program) (tables : AreBytes p.tables) (old now : Procedure) (sound
   -- ---- instructions that are left out
 
   -- the older code gives a local a value, the newer one at most another local one that nobody needs
-  alone_changed : (x k : ℕ) (new : Option ℕ) (u1 : State) (gain : Gain) → Spoils new u u1
+  alone_changed : (x k m : ℕ) (new : Option ℕ) (u1 : State) (gain : Gain) → Spoils new u u1 → ((v : ℕ) → v ≤ k → v ≤ greatest → v ≤ m)
       → ((h : Operand) (r : ℕ) → gains n a.twins new gain h ≡ true → local (with_local s.locals x k) x ≡ Some r → value h u1 ≡ Some r)
-      → Changed n a (record { old = Some x; new = new; gain = gain; filled = None; worked = None }) s u (sets x k s) u1
-  alone_changed x k new u1 gain sp f =
+      → Changed n a (record { old = Some x; new = new; gain = gain; filled = None; worked = None; most = m }) s u (sets x k s) u1
+  alone_changed x k m new u1 gain sp top f =
       record {
         old_kept = λ y e. other_local s.locals x y k e;
         new_kept = sp.kept;
         gained = λ y h r e q w. f h r q (ap (λ i. local (with_local s.locals x k) i) (same_number x y e) ∙ w);
         filled = λ y r e q. no e;
         worked = λ w e. absurd (none-some w e);
+        bounded = λ y r e q. gets_at_most x k m r top (ap (λ i. local (with_local s.locals x k) i) (same_number x y e) ∙ q);
         waiting = sp.waiting ∙ g.waiting;
         ram = sp.ram ∙ g.ram;
       }
@@ -443,19 +509,19 @@ module _ (p : Program) (tables : AreBytes p.tables) (old now : Procedure) (sound
   narrower_same ShiftLeft w v x y l r four le el er f = no f
   narrower_same ShiftRight w v x y l r four le el er f = no f
 
-  computed_narrower : (c d : Computation) (o1 : Outside) → IsPlain now (Compute d) → narrower n a.twins (Compute c) (Compute d) ≡ true
+  computed_narrower : (c d : Computation) (o1 : Outside) → IsPlain now (Compute d) → narrower o n a (Compute c) (Compute d) ≡ true
       → SameWent (BothGo (Compute c) (Compute d)) (plain p (Compute c) s o1) (plain p (Compute d) u o1)
   computed_narrower c d o1 h e =
       using_same C (value c.left s) (value d.left u) _ _ (λ v. operand c.left d.left v z2.1) (λ x f f'.
       using_same C (value c.right s) (value d.right u) _ _ (λ v. operand c.right d.right v z1.1) (λ y k k'.
-      using_same C (computed c.operator c.width x y) (computed d.operator d.width x y) _ _ (λ v q. sym (same x y f' k') ∙ q) (λ v q q'.
-      both_go (sets c.to v s) (sets d.to v u) o1 (refl, both_computed c d x y v h.1 f k q q'))))
+      using_same C (computed c.operator c.width x y) (computed d.operator d.width x y) _ _ (λ v q. sym (same x y f k f' k') ∙ q) (λ v q q'.
+      both_go (sets c.to v s) (sets d.to v u) o1 (refl, both_computed c d x y v h.0.1 h.1 f k q q'))))
     where
       C : State → State → Outside → Type 0
       C = BothGo (Compute c) (Compute d)
 
       z0 : ((same_operator c.operator d.operator && nat_le d.width c.width && stands_for a.twins c.left d.left && stands_for a.twins c.right d.right) ≡ true)
-          × (fits_result n d.operator d.width d.left d.right ≡ true)
+          × ((fits_result n d.operator d.width d.left d.right || fits_bounds o a.bounds c d.width) ≡ true)
       z0 = and_parts (same_operator c.operator d.operator && nat_le d.width c.width && stands_for a.twins c.left d.left && stands_for a.twins c.right d.right) _ e
 
       z1 : ((same_operator c.operator d.operator && nat_le d.width c.width && stands_for a.twins c.left d.left) ≡ true)
@@ -468,23 +534,36 @@ module _ (p : Program) (tables : AreBytes p.tables) (old now : Procedure) (sound
       z3 : (same_operator c.operator d.operator ≡ true) × (nat_le d.width c.width ≡ true)
       z3 = and_parts (same_operator c.operator d.operator) _ z2.0
 
-      same : (x y : ℕ) → value d.left u ≡ Some x → value d.right u ≡ Some y → computed c.operator c.width x y ≡ computed d.operator d.width x y
-      same x y f k =
-          ap (λ m. computed m c.width x y) (same_operator_is c.operator d.operator z3.0)
-          ∙ narrower_same d.operator c.width d.width x y d.left d.right h.0.1 (at_most d.width c.width z3.1) f k z0.1
+      same : (x y : ℕ) → value c.left s ≡ Some x → value c.right s ≡ Some y → value d.left u ≡ Some x → value d.right u ≡ Some y
+          → computed c.operator c.width x y ≡ computed d.operator d.width x y
+      same x y f k f' k' = by_way (or_cases (fits_result n d.operator d.width d.left d.right) _ z0.1)
+        where
+          by_way : (fits_result n d.operator d.width d.left d.right ≡ true) ⊎ (fits_bounds o a.bounds c d.width ≡ true)
+              → computed c.operator c.width x y ≡ computed d.operator d.width x y
+          by_way (inl e) =
+              ap (λ m. computed m c.width x y) (same_operator_is c.operator d.operator z3.0)
+              ∙ narrower_same d.operator c.width d.width x y d.left d.right h.0.1 (at_most d.width c.width z3.1) f' k' e
+          by_way (inr e) =
+              computed_fewer o a.bounds c s d.width x y sound.widths g.steady.held g.bounded f k (at_most d.width c.width z3.1) e
+              ∙ ap (λ m. computed m d.width x y) (same_operator_is c.operator d.operator z3.0)
 
-  pub narrower_follows : (i j : PlainInstr) (o1 : Outside) → IsPlain now j → narrower n a.twins i j ≡ true
+  pub narrower_follows : (i j : PlainInstr) (o1 : Outside) → IsPlain now j → narrower o n a i j ≡ true
       → SameWent (BothGo i j) (plain p i s o1) (plain p j u o1)
   narrower_follows (Compute c) (Compute d) o1 h e = computed_narrower c d o1 h e
   narrower_follows i j o1 h e = no e
 
+  made : (c : Computation) (x y r : ℕ) → value c.left s ≡ Some x → value c.right s ≡ Some y → computed c.operator c.width x y ≡ Some r
+      → (v : ℕ) → v ≤ r → v ≤ greatest → v ≤ most_computed o a.bounds c
+  made c x y r f k q v = computed_most o a.bounds c s x y r v sound.widths g.steady.held g.bounded f k q
+
   pub left_follows : (i : PlainInstr) (new : Option ℕ) (u1 : State) (o1 : Outside) → Spoils new u u1 → is_pure i ≡ true
-      → Alone (λ s1. Changed n a (left_out o i new) s u s1 u1) o1 (plain p i s o1)
+      → Alone (λ s1. Changed n a (left_out o a.bounds i new) s u s1 u1) o1 (plain p i s o1)
   left_follows (Copy x b) new u1 o1 sp e =
-      using_alone C o1 (value b s) _ (λ k f. alone_goes (sets x k s) (alone_changed x k new u1 (Copied b (get_or o x 0)) sp (stays k f)))
+      using_alone C o1 (value b s) _ (λ k f. alone_goes (sets x k s)
+      (alone_changed x k (most_given o a.bounds (Copy x b)) new u1 (Copied b (get_or o x 0)) sp (given_most x b k f) (stays k f)))
     where
       C : State → Type 0
-      C s1 = Changed n a (left_out o (Copy x b) new) s u s1 u1
+      C s1 = Changed n a (left_out o a.bounds (Copy x b) new) s u s1 u1
 
       stays : (k : ℕ) → value b s ≡ Some k → (h : Operand) (r : ℕ) → gains n a.twins new (Copied b (get_or o x 0)) h ≡ true
           → local (with_local s.locals x k) x ≡ Some r → value h u1 ≡ Some r
@@ -499,36 +578,41 @@ module _ (p : Program) (tables : AreBytes p.tables) (old now : Procedure) (sound
           ∙ (stood ∙ ap Some (sym (low_small (get_or o x 0) k (bytes_of n h) small wide) ∙ sym (own_value o s.locals x k r 0 g.steady.held w)))
   left_follows (Compute c) new u1 o1 sp e =
       using_alone C o1 (value c.left s) _ (λ x f. using_alone C o1 (value c.right s) _ (λ y k. using_alone C o1 (computed c.operator c.width x y) _
-      (λ r q. alone_goes (sets c.to r s) (alone_changed c.to r new u1 Nothing sp (λ h r k. no k)))))
+      (λ r q. alone_goes (sets c.to r s) (alone_changed c.to r (most_computed o a.bounds c) new u1 Nothing sp (made c x y r f k q) (λ h r k. no k)))))
     where
       C : State → Type 0
-      C s1 = Changed n a (left_out o (Compute c) new) s u s1 u1
+      C s1 = Changed n a (left_out o a.bounds (Compute c) new) s u s1 u1
   left_follows (Load m w x b) new u1 o1 sp e =
       using_alone C o1 (value b.index s) _ (λ i f. using_alone C o1 (loaded p m s w (index_of m (b.base + i))) _
-      (λ r q. alone_goes (sets x r s) (alone_changed x r new u1 Nothing sp (λ h r k. no k))))
+      (λ r q. alone_goes (sets x r s)
+      (alone_changed x r (most_in w) new u1 Nothing sp
+      (λ v le few. let h = loaded_below p m s w (index_of m (b.base + i)) r tables g.steady.bytes q in fits_most_in w v (omega (arith, h, le)) few)
+      (λ h r k. no k))))
     where
       C : State → Type 0
-      C s1 = Changed n a (left_out o (Load m w x b) new) s u s1 u1
+      C s1 = Changed n a (left_out o a.bounds (Load m w x b) new) s u s1 u1
   left_follows (Find d x t) new u1 o1 sp e =
       using_alone C o1 (value t s) _ (λ i f. using_alone C o1 (dispatched p.dispatches d i) _
-      (λ r q. alone_goes (sets x (p.codes.code r) s) (alone_changed x (p.codes.code r) new u1 Nothing sp (λ h r k. no k))))
+      (λ r q. alone_goes (sets x (p.codes.code r) s) (alone_changed x (p.codes.code r) greatest new u1 Nothing sp (λ v le few. few) (λ h r k. no k))))
     where
       C : State → Type 0
-      C s1 = Changed n a (left_out o (Find d x t) new) s u s1 u1
+      C s1 = Changed n a (left_out o a.bounds (Find d x t) new) s u s1 u1
   left_follows (CodeOf q x) new u1 o1 sp e =
-      alone_goes (sets x (p.codes.code q) s) (alone_changed x (p.codes.code q) new u1 Nothing sp (λ h r k. no k))
+      alone_goes (sets x (p.codes.code q) s) (alone_changed x (p.codes.code q) greatest new u1 Nothing sp (λ v le few. few) (λ h r k. no k))
   left_follows _ new u1 o1 sp e = no e
 
   -- what is computed is there already
   pub reused_follows : (c : Computation) (new : Option ℕ) (u1 : State) (h : ℕ) (o1 : Outside) → Spoils new u u1
       → found_in o c new (found_for a.worked c) ≡ Some h
-      → Alone (λ s1. Changed n a (reused new c h) s u s1 u1) o1 (plain p (Compute c) s o1)
+      → Alone (λ s1. Changed n a (reused (most_computed o a.bounds c) new c h) s u s1 u1) o1 (plain p (Compute c) s o1)
   reused_follows c new u1 h o1 sp e =
       using_alone C o1 (value c.left s) _ (λ x f. using_alone C o1 (value c.right s) _ (λ y k. using_alone C o1 (computed c.operator c.width x y) _
-      (λ r q. alone_goes (sets c.to r s) (alone_changed c.to r new u1 (In h) sp (gains_it x y r f k q (found_for a.worked c) refl e)))))
+      (λ r q. alone_goes (sets c.to r s)
+      (alone_changed c.to r (most_computed o a.bounds c) new u1 (In h) sp (made c x y r f k q)
+      (gains_it x y r f k q (found_for a.worked c) refl e)))))
     where
       C : State → Type 0
-      C s1 = Changed n a (reused new c h) s u s1 u1
+      C s1 = Changed n a (reused (most_computed o a.bounds c) new c h) s u s1 u1
 
       apart : (z : Option ℕ) (y : ℕ) → is_it z y ≡ false → overwrites z (Local y) ≡ false
       apart (Some z) y e = e

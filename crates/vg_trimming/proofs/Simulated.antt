@@ -35,7 +35,8 @@ use Rattle.vg_trimming.proofs.Homes.{no}
 use Rattle.vg_trimming.proofs.Places.{SameWent, both_go, both_raise, both_lack, wrong, Alone, alone_goes, alone_fails}
 use Rattle.vg_trimming.proofs.Calls.{AtPlace, same, trimmed, with_ram, alike, fresh, begins_at, BothEnter, entered, no_entry, SameCall, entries}
 use Rattle.vg_trimming.proofs.Walks.{Ahead, there}
-use Rattle.vg_trimming.proofs.Standing.{Onward, Does, plainly, when_so, unless_so, when_turned, unless_turned, never_so, jumps, calls_so, returns_so, returns_there, stops_there, idles}
+use Rattle.vg_trimming.proofs.Standing.{Onward, Does, plainly, when_so, unless_so, when_turned, unless_turned, never_so, always_so, jumps, calls_so}
+use Rattle.vg_trimming.proofs.Standing.{returns_so, returns_there, stops_there, idles}
 use Rattle.vg_trimming.proofs.Standing.{Passes, step_passed, jump_passed, when_passed, unless_passed, Moves, moves_at, ahead_moves}
 
 -- ---- procedures, one for one
@@ -294,6 +295,15 @@ module _ (p : Program) (ms : List Procedure) (all : AreAllTrimmed p.procedures m
         by_test (Some true) e = no (sym (never true e))
         by_test None e = fails refl
 
+    always_step : (t : Test) (to to' : ℕ) → ((b : Bool) → holds t s ≡ Some b → b ≡ true) → Ahead old now counts to to' s u
+        → To 1 d (going q to' u gs None o opens) → Steps (branched c true to (holds t s))
+    always_step t to to' always h k = by_test (holds t s) refl
+      where
+        by_test : (x : Option Bool) → holds t s ≡ x → Steps (branched c true to x)
+        by_test (Some true) e = leads_to to to' h k
+        by_test (Some false) e = no (always false e)
+        by_test None e = fails refl
+
     -- a procedure is entered
     entering : (f g : Frame State) (r : ℕ) (m n : Procedure) (s1 u1 : State) → slice_get p.procedures r ≡ Some m → slice_get ms r ≡ Some n
         → IsTrimmedTo m n → AtPlace m n 0 0 s1 u1 → FrameStands f g → To 1 d (begins (language new) d r u1 g) → Steps (begins (language p) c r s1 f)
@@ -403,6 +413,7 @@ module _ (p : Program) (ms : List Procedure) (all : AreAllTrimmed p.procedures m
     by_does _ _ has (when_turned t t' to to' h f g) e = when_turned_step t t' to to' h f g (one (Unless t' to') e)
     by_does _ _ has (unless_turned t t' to to' h f g) e = unless_turned_step t t' to to' h f g (one (When t' to') e)
     by_does _ _ has (never_so t to to' h f) e = never_step t to to' h f (one (Jump to') e)
+    by_does _ _ has (always_so t to to' h f) e = always_step t to to' h f (one (Jump to') e)
     by_does _ _ has (jumps to to' h) e =
         goes_to true false 1 to to' s u o h reads (paid_jump counts (uncounted (Jump to) has refl)) (one (Jump to') e)
     by_does _ _ has (calls_so i j h) e = call_step i j h (one (Call j) e)

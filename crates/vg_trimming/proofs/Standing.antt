@@ -1,12 +1,12 @@
 -- What both procedures do where both are at a place, or the newer one is ahead: the same, or what leads to the same.
-use Rattle.std.specs.Prelude.{◌≢◌, ℕ, zero, suc, ◌<◌, Bool, true, false, ◌==◌, ◌&&◌, ◌||◌, not, List, [], ◌∷◌, length, drop}
+use Rattle.std.specs.Prelude.{ℕ, zero, suc, ◌<◌, Bool, true, false, ◌==◌, ◌&&◌, ◌||◌, not, List, [], ◌∷◌, length, drop}
 use Rattle.std.specs.Prelude.{Option, Some, None, slice_get, if◌then◌else◌}
 use Rattle.std.proofs.Common.{◌≡◌, refl, sym, ap, ◌∙◌, subst, arith, inl, inr, ◌⊎◌}
 use Rattle.std.proofs.lemmas.Bool.{and_parts, or_cases, not-true, both_ways}
 use Rattle.std.proofs.lemmas.Option.{none-some}
 use Rattle.vg_meaning.specs.Outside.{Outside, AreReads}
 use Rattle.vg_lin.specs.declared.instr.Operand.{Operand}
-use Rattle.vg_lin.specs.declared.instr.Operand.TheVariants.{Local, Known}
+use Rattle.vg_lin.specs.declared.instr.Operand.TheVariants.{Known}
 use Rattle.vg_lin.specs.declared.instr.Test.{Test}
 use Rattle.vg_lin.specs.declared.instr.Plain.{Plain as PlainInstr}
 use Rattle.vg_lin.specs.declared.instr.Plain.TheVariants.{Copy, Compute, Stop}
@@ -25,11 +25,13 @@ use Rattle.vg_expand.specs.Expansion.{Holds}
 use Rattle.vg_expand.proofs.Holding.{sets_holds, Keeps, plain_keeps}
 use Rattle.vg_trimming.specs.declared.facts.Facts.{Facts}
 use Rattle.vg_trimming.specs.declared.facts.Change.{Change}
+use Rattle.vg_trimming.specs.declared.facts.Learned.{Learned}
 use Rattle.vg_trimming.specs.declared.facts.Met.{Met}
 use Rattle.vg_trimming.specs.declared.facts.Sets.{Sets}
-use Rattle.vg_trimming.specs.Facts.{is_it, stands_for, found_for, leads_at, no_change}
-use Rattle.vg_trimming.specs.Walking.{checked, decided, has_room, with_set, Walk, arrives, past, by_truth, further, walks}
+use Rattle.vg_trimming.specs.Facts.{is_it, stands_for, found_for, leads_at, no_change, most_computed}
+use Rattle.vg_trimming.specs.Walking.{none_learned, learned_met, learned_unmet, decided, has_room, with_set, Walk, arrives, past, by_truth, further, walks}
 use Rattle.vg_trimming.specs.Trimming.{same_plain, both_change, is_pure, left_out, is_stop, plain_stands, left_out_stands, same_test, never_holds}
+use Rattle.vg_trimming.specs.Trimming.{always_holds}
 use Rattle.vg_trimming.specs.Trimming.{narrower, narrower_stands, found_in, reused, reuses, reused_stands, shorter_stands, gives_same, stops_so}
 use Rattle.vg_trimming.specs.Trimming.{call_change, same_call, Both, is_there, leads_on, plain_passed, work_passed, passed_over}
 use Rattle.vg_trimming.specs.Trimming.{instr_stands, stands_by, stands_at}
@@ -39,7 +41,7 @@ use Rattle.vg_trimming.proofs.Homes.{no, same_number, Steady, Agree, stands, Cha
 use Rattle.vg_trimming.proofs.Values.{KeepsBytes, bytes_kept}
 use Rattle.vg_trimming.proofs.Places.{SameWent, both_go, both_raise, both_lack, wrong, Alone, alone_goes, alone_fails, Spoils, spoils_none, spoils_one}
 use Rattle.vg_trimming.proofs.Places.{none_changed, BothGo, plain_follows, left_follows, narrower_follows, reused_follows}
-use Rattle.vg_trimming.proofs.Branches.{test_follows, checks, never}
+use Rattle.vg_trimming.proofs.Branches.{Learns, learns_none, test_follows, learns_met, learns_unmet, never, always}
 use Rattle.vg_trimming.proofs.Calls.{AtPlace, same, trimmed, led, SameCall, calls_same}
 use Rattle.vg_trimming.proofs.Walks.{OnWalk, walks_copy, walks_test, Ahead, there, on_way, ended, sets_out}
 
@@ -64,6 +66,8 @@ pub data Does (p : Program) (old now : Procedure) (pc at : ℕ) (s u : State) (o
       → (holds t s ≡ Some true → Ahead old now (counts_at old.code pc) (suc pc) to' s u) → Does p old now pc at s u o (Unless t to) (When t' to')
   never_so : (t : Test) (to to' : ℕ) → ((b : Bool) → holds t s ≡ Some b → b ≡ false) → Ahead old now (counts_at old.code pc) to to' s u
       → Does p old now pc at s u o (Unless t to) (Jump to')
+  always_so : (t : Test) (to to' : ℕ) → ((b : Bool) → holds t s ≡ Some b → b ≡ true) → Ahead old now (counts_at old.code pc) to to' s u
+      → Does p old now pc at s u o (When t to) (Jump to')
   jumps : (to to' : ℕ) → Ahead old now false to to' s u → Does p old now pc at s u o (Jump to) (Jump to')
   calls_so : (c d : Calling) → SameCall p old now pc at c d s u → Does p old now pc at s u o (Call c) (Call d)
   returns_so : (w : ℕ) (b c : Operand) → ((v : ℕ) → result w b s ≡ Some v → result w c u ≡ Some v) → u.ram ≡ s.ram → AreBytes s.ram
@@ -132,12 +136,25 @@ module _ (p : Program) (tables : AreBytes p.tables) (old now : Procedure) (is : 
   codes = both_of fs ps old now
 
   -- in the same states, at the end of a way
-  way : (x : Option ℕ) (spent : Bool) (to to' : ℕ) → ((y v : ℕ) → is_it x y ≡ true → value (Local y) s ≡ Some v → v ≢ 0)
-      → leads_on codes a x spent to to' ≡ true → Ahead old now spent to to' s u
+  way : (x : Learned) (spent : Bool) (to to' : ℕ) → Learns x s → leads_on codes a x spent to to' ≡ true → Ahead old now spent to to' s u
   way x spent to to' f e = sets_out old now fs ps trim a x spent to to' s u g f e
 
-  way_so : (spent : Bool) (to to' : ℕ) → leads_on codes a None spent to to' ≡ true → Ahead old now spent to to' s u
-  way_so spent to to' e = way None spent to to' (λ y v e. no e) e
+  way_so : (spent : Bool) (to to' : ℕ) → leads_on codes a none_learned spent to to' ≡ true → Ahead old now spent to to' s u
+  way_so spent to to' e = way none_learned spent to to' (learns_none s) e
+
+  abbrev met : Test → Learned
+  met t = learned_met old.widths a.bounds t
+
+  abbrev unmet : Test → Learned
+  unmet t = learned_unmet old.widths a.bounds t
+
+  way_met : (t : Test) (spent : Bool) (to to' : ℕ) → leads_on codes a (met t) spent to to' ≡ true → holds t s ≡ Some true
+      → Ahead old now spent to to' s u
+  way_met t spent to to' e f = way (met t) spent to to' (learns_met old now is.sound a s u g t f) e
+
+  way_unmet : (t : Test) (spent : Bool) (to to' : ℕ) → leads_on codes a (unmet t) spent to to' ≡ true → holds t s ≡ Some false
+      → Ahead old now spent to to' s u
+  way_unmet t spent to to' e f = way (unmet t) spent to to' (learns_unmet old now is.sound a s u g t f) e
 
   onto : (C : State → State → Outside → Type 0) (z z' : Went State) → SameWent C z z' → Keeps old.widths z → Keeps now.widths z' → KeepsBytes z
       → ((s1 u1 : State) (o1 : Outside) → C s1 u1 o1 → Steady old.widths now.widths s1 u1 → AtPlace old now (suc pc) (suc at) s1 u1)
@@ -173,14 +190,14 @@ module _ (p : Program) (tables : AreBytes p.tables) (old now : Procedure) (is : 
       plainly i j
       (onto (BothGo p tables old now is.sound a s u g i j) (plain p i s o) (plain p j u o) (plain_follows p tables old now is.sound a s u g i j o reads h z.0)
       (plain_keeps p i old.widths s o g.steady.held) (plain_keeps p j now.widths u o g.steady.held_too) (bytes_kept p i s o g.steady.bytes reads)
-      (λ s1 u1 o1 c st. led fs ps old now trim a (suc pc) (suc at) s u s1 u1 (both_change old.widths n i j) g c.1 st (next c.0)
+      (λ s1 u1 o1 c st. led fs ps old now trim a (suc pc) (suc at) s u s1 u1 (both_change old.widths n a.bounds i j) g c.1 st (next c.0)
       (goes_on c.0 (or_cases (is_stop i) _ z.1))))
     where
-      z : (same_plain a.twins i j ≡ true) × ((is_stop i || leads_at n fs a (both_change old.widths n i j) (suc pc)) ≡ true)
+      z : (same_plain a.twins i j ≡ true) × ((is_stop i || leads_at n fs a (both_change old.widths n a.bounds i j) (suc pc)) ≡ true)
       z = and_parts (same_plain a.twins i j) _ e
 
-      goes_on : is_stop i ≡ false → (is_stop i ≡ true) ⊎ (leads_at n fs a (both_change old.widths n i j) (suc pc) ≡ true)
-          → leads_at n fs a (both_change old.widths n i j) (suc pc) ≡ true
+      goes_on : is_stop i ≡ false → (is_stop i ≡ true) ⊎ (leads_at n fs a (both_change old.widths n a.bounds i j) (suc pc) ≡ true)
+          → leads_at n fs a (both_change old.widths n a.bounds i j) (suc pc) ≡ true
       goes_on f (inl t) = absurd (both_ways (is_stop i) f t)
       goes_on f (inr t) = t
 
@@ -190,28 +207,29 @@ module _ (p : Program) (tables : AreBytes p.tables) (old now : Procedure) (is : 
       plainly i j
       (onto (BothGo p tables old now is.sound a s u g i j) (plain p i s o) (plain p j u o) (narrower_follows p tables old now is.sound a s u g i j o h z.0)
       (plain_keeps p i old.widths s o g.steady.held) (plain_keeps p j now.widths u o g.steady.held_too) (bytes_kept p i s o g.steady.bytes reads)
-      (λ s1 u1 o1 c st. led fs ps old now trim a (suc pc) (suc at) s u s1 u1 (both_change old.widths n i j) g c.1 st (next c.0) z.1))
+      (λ s1 u1 o1 c st. led fs ps old now trim a (suc pc) (suc at) s u s1 u1 (both_change old.widths n a.bounds i j) g c.1 st (next c.0) z.1))
     where
-      z : (narrower n a.twins i j ≡ true) × (leads_at n fs a (both_change old.widths n i j) (suc pc) ≡ true)
-      z = and_parts (narrower n a.twins i j) _ e
+      z : (narrower old.widths n a i j ≡ true) × (leads_at n fs a (both_change old.widths n a.bounds i j) (suc pc) ≡ true)
+      z = and_parts (narrower old.widths n a i j) _ e
 
   -- the older code goes on alone, and then the newer one is at this place
   left_alone : (i : PlainInstr) (new : Option ℕ) (u1 : State) (to : ℕ) → Spoils new u u1 → Holds now.widths u1.locals
-      → is_it (slice_get ps (suc pc)) to ≡ true → is_pure i ≡ true → leads_at n fs a (left_out old.widths i new) (suc pc) ≡ true
+      → is_it (slice_get ps (suc pc)) to ≡ true → is_pure i ≡ true → leads_at n fs a (left_out old.widths a.bounds i new) (suc pc) ≡ true
       → Alone (λ s1. AtPlace old now (suc pc) to s1 u1) o (plain p i s o)
   left_alone i new u1 to sp h there' pure e =
-      alone_onto u1 to (left_out old.widths i new) (plain p i s o) (left_follows p tables old now is.sound a s u g i new u1 o sp pure)
+      alone_onto u1 to (left_out old.widths a.bounds i new) (plain p i s o) (left_follows p tables old now is.sound a s u g i new u1 o sp pure)
       (plain_keeps p i old.widths s o g.steady.held) h (bytes_kept p i s o g.steady.bytes reads) there' e
 
   reused_alone : (c : Computation) (new : Option ℕ) (u1 : State) (to : ℕ) → Spoils new u u1 → Holds now.widths u1.locals
-      → is_it (slice_get ps (suc pc)) to ≡ true → reuses n fs a pc c new (found_in old.widths c new (found_for a.worked c)) ≡ true
+      → is_it (slice_get ps (suc pc)) to ≡ true → reuses old.widths n fs a pc c new (found_in old.widths c new (found_for a.worked c)) ≡ true
       → Alone (λ s1. AtPlace old now (suc pc) to s1 u1) o (plain p (Compute c) s o)
   reused_alone c new u1 to sp h there' e = by_found (found_in old.widths c new (found_for a.worked c)) refl e
     where
-      by_found : (k : Option ℕ) → found_in old.widths c new (found_for a.worked c) ≡ k → reuses n fs a pc c new k ≡ true
+      by_found : (k : Option ℕ) → found_in old.widths c new (found_for a.worked c) ≡ k → reuses old.widths n fs a pc c new k ≡ true
           → Alone (λ s1. AtPlace old now (suc pc) to s1 u1) o (plain p (Compute c) s o)
       by_found (Some home) f q =
-          alone_onto u1 to (reused new c home) (plain p (Compute c) s o) (reused_follows p tables old now is.sound a s u g c new u1 home o sp f)
+          alone_onto u1 to (reused (most_computed old.widths a.bounds c) new c home) (plain p (Compute c) s o)
+          (reused_follows p tables old now is.sound a s u g c new u1 home o sp f)
           (plain_keeps p (Compute c) old.widths s o g.steady.held) h (bytes_kept p (Compute c) s o g.steady.bytes reads) there' q
       by_found None f q = no q
 
@@ -221,7 +239,7 @@ module _ (p : Program) (tables : AreBytes p.tables) (old now : Procedure) (is : 
   left_does : (i j : PlainInstr) → (is_stop i ≡ false → Next) → left_out_stands old.widths n fs a pc i j ≡ true
       → Does p old now pc at s u o (Plain i) (Plain j)
   left_does i (Copy z (Known v)) next e =
-      let k = and_parts (is_pure i) (leads_at n fs a (left_out old.widths i (Some z)) (suc pc)) e in
+      let k = and_parts (is_pure i) (leads_at n fs a (left_out old.widths a.bounds i (Some z)) (suc pc)) e in
       plainly i (Copy z (Known v))
       (beside (sets z v u) (plain p i s o)
       (left_alone i (Some z) (sets z v u) (suc at) (spoils_one z v u) (held_with z v) (next (pure_goes i k.0)) k.0 k.1))
@@ -267,38 +285,38 @@ module _ (p : Program) (tables : AreBytes p.tables) (old now : Procedure) (is : 
       → Does p old now pc at s u o (When t to) (When t' to')
   when_does t t' to to' h e =
       let counts = counts_at old.code pc in
-      let z0 = and_parts (same_test n a.twins t t' && leads_on codes a None counts to to') (leads_on codes a (checked t) counts (suc pc) (suc at)) e in
-      let z1 = and_parts (same_test n a.twins t t') (leads_on codes a None counts to to') z0.0 in
-      when_so t t' to to' (test_follows old now a s u g t t' h z1.0) (λ f. way_so counts to to' z1.1)
-      (λ f. way (checked t) counts (suc pc) (suc at) (λ y v k q. checks old now a s u g t y v f k q) z0.1)
+      let z0 = and_parts (same_test old.widths n a t t' && leads_on codes a (met t) counts to to') (leads_on codes a (unmet t) counts (suc pc) (suc at)) e in
+      let z1 = and_parts (same_test old.widths n a t t') (leads_on codes a (met t) counts to to') z0.0 in
+      when_so t t' to to' (test_follows old now is.sound a s u g t t' h z1.0) (way_met t counts to to' z1.1)
+      (way_unmet t counts (suc pc) (suc at) z0.1)
 
   unless_does : (t t' : Test) (to to' : ℕ) → IsTest now t' → instr_stands codes a pc at (Unless t to) (Unless t' to') ≡ true
       → Does p old now pc at s u o (Unless t to) (Unless t' to')
   unless_does t t' to to' h e =
       let counts = counts_at old.code pc in
-      let z0 = and_parts (same_test n a.twins t t' && leads_on codes a (checked t) counts to to') (leads_on codes a None counts (suc pc) (suc at)) e in
-      let z1 = and_parts (same_test n a.twins t t') (leads_on codes a (checked t) counts to to') z0.0 in
-      unless_so t t' to to' (test_follows old now a s u g t t' h z1.0)
-      (λ f. way (checked t) counts to to' (λ y v k q. checks old now a s u g t y v f k q) z1.1) (λ f. way_so counts (suc pc) (suc at) z0.1)
+      let z0 = and_parts (same_test old.widths n a t t' && leads_on codes a (unmet t) counts to to') (leads_on codes a (met t) counts (suc pc) (suc at)) e in
+      let z1 = and_parts (same_test old.widths n a t t') (leads_on codes a (unmet t) counts to to') z0.0 in
+      unless_so t t' to to' (test_follows old now is.sound a s u g t t' h z1.0)
+      (way_unmet t counts to to' z1.1) (way_met t counts (suc pc) (suc at) z0.1)
 
   -- the other branch, with its places the other way round
   when_turns : (t t' : Test) (to to' : ℕ) → IsTest now t' → instr_stands codes a pc at (When t to) (Unless t' to') ≡ true
       → Does p old now pc at s u o (When t to) (Unless t' to')
   when_turns t t' to to' h e =
       let counts = counts_at old.code pc in
-      let z0 = and_parts (same_test n a.twins t t' && leads_on codes a None counts to (suc at)) (leads_on codes a (checked t) counts (suc pc) to') e in
-      let z1 = and_parts (same_test n a.twins t t') (leads_on codes a None counts to (suc at)) z0.0 in
-      when_turned t t' to to' (test_follows old now a s u g t t' h z1.0) (λ f. way_so counts to (suc at) z1.1)
-      (λ f. way (checked t) counts (suc pc) to' (λ y v k q. checks old now a s u g t y v f k q) z0.1)
+      let z0 = and_parts (same_test old.widths n a t t' && leads_on codes a (met t) counts to (suc at)) (leads_on codes a (unmet t) counts (suc pc) to') e in
+      let z1 = and_parts (same_test old.widths n a t t') (leads_on codes a (met t) counts to (suc at)) z0.0 in
+      when_turned t t' to to' (test_follows old now is.sound a s u g t t' h z1.0) (way_met t counts to (suc at) z1.1)
+      (way_unmet t counts (suc pc) to' z0.1)
 
   unless_turns : (t t' : Test) (to to' : ℕ) → IsTest now t' → instr_stands codes a pc at (Unless t to) (When t' to') ≡ true
       → Does p old now pc at s u o (Unless t to) (When t' to')
   unless_turns t t' to to' h e =
       let counts = counts_at old.code pc in
-      let z0 = and_parts (same_test n a.twins t t' && leads_on codes a (checked t) counts to (suc at)) (leads_on codes a None counts (suc pc) to') e in
-      let z1 = and_parts (same_test n a.twins t t') (leads_on codes a (checked t) counts to (suc at)) z0.0 in
-      unless_turned t t' to to' (test_follows old now a s u g t t' h z1.0)
-      (λ f. way (checked t) counts to (suc at) (λ y v k q. checks old now a s u g t y v f k q) z1.1) (λ f. way_so counts (suc pc) to' z0.1)
+      let z0 = and_parts (same_test old.widths n a t t' && leads_on codes a (unmet t) counts to (suc at)) (leads_on codes a (met t) counts (suc pc) to') e in
+      let z1 = and_parts (same_test old.widths n a t t') (leads_on codes a (unmet t) counts to (suc at)) z0.0 in
+      unless_turned t t' to to' (test_follows old now is.sound a s u g t t' h z1.0)
+      (way_unmet t counts to (suc at) z1.1) (way_met t counts (suc pc) to' z0.1)
 
   gives : (w : ℕ) (b c : Operand) → stands_for a.twins b c ≡ true → (v : ℕ) → result w b s ≡ Some v → result w c u ≡ Some v
   gives w b c f v q = ap (result_of w c u) g.waiting ∙ by_waiting s.waiting v q
@@ -336,8 +354,11 @@ module _ (p : Program) (tables : AreBytes p.tables) (old now : Procedure) (is : 
   instr_does (When t to) (Unless t' to') h e = when_turns t t' to to' h e
   instr_does (Unless t to) (When t' to') h e = unless_turns t t' to to' h e
   instr_does (Unless t to) (Jump to') h e =
-      let z = and_parts (never_holds old.widths a t) (leads_on codes a None (counts_at old.code pc) to to') e in
-      never_so t to to' (never old now a s u g t z.0) (way_so (counts_at old.code pc) to to' z.1)
+      let z = and_parts (never_holds old.widths a t) (leads_on codes a none_learned (counts_at old.code pc) to to') e in
+      never_so t to to' (never old now is.sound a s u g t z.0) (way_so (counts_at old.code pc) to to' z.1)
+  instr_does (When t to) (Jump to') h e =
+      let z = and_parts (always_holds old.widths a t) (leads_on codes a none_learned (counts_at old.code pc) to to') e in
+      always_so t to to' (always old now is.sound a s u g t z.0) (way_so (counts_at old.code pc) to to' z.1)
   instr_does (Jump to) (Jump to') h e = jumps to to' (way_so false to to' e)
   instr_does (Call c) (Call d) h e =
       let z0 = and_parts (is_there codes (suc pc) (suc at) && same_call a.twins c d) (leads_at n fs a (call_change old.widths n c d) (suc pc)) e in
@@ -362,18 +383,45 @@ module _ (p : Program) (tables : AreBytes p.tables) (old now : Procedure) (is : 
   plain_passes : (i : PlainInstr) → is_it (slice_get ps (suc pc)) at ≡ true
       → (plain_passed codes a pc i ≡ true) ⊎ (work_passed codes a pc i ≡ true) → Alone (λ s1. AtPlace old now (suc pc) at s1 u) o (plain p i s o)
   plain_passes i next (inl e) =
-      let z = and_parts (is_pure i) (leads_at n fs a (left_out old.widths i None) (suc pc)) e in
+      let z = and_parts (is_pure i) (leads_at n fs a (left_out old.widths a.bounds i None) (suc pc)) e in
       left_alone i None u at (spoils_none u) g.steady.held_too next z.0 z.1
   plain_passes i next (inr e) = work_passes i next e
+
+  -- a test that comes out in one way
+  abbrev Never : Test → ℕ → Bool
+  Never t to = never_holds old.widths a t && leads_on codes a none_learned true to at
+
+  abbrev Always : Test → ℕ → Bool
+  Always t to = always_holds old.widths a t && leads_on codes a none_learned true to at
+
+  when_passes : (t : Test) (to : ℕ) → counts_at old.code pc ≡ false → (Never t (suc pc) ≡ true) ⊎ (Always t to ≡ true)
+      → Passes p old now true pc at s u o (When t to)
+  when_passes t to f (inl e) =
+      let z = and_parts (never_holds old.widths a t) (leads_on codes a none_learned true (suc pc) at) e in
+      when_passed t to false (never old now is.sound a s u g t z.0) f (way_so true (suc pc) at z.1)
+  when_passes t to f (inr e) =
+      let z = and_parts (always_holds old.widths a t) (leads_on codes a none_learned true to at) e in
+      when_passed t to true (always old now is.sound a s u g t z.0) f (way_so true to at z.1)
+
+  unless_passes : (t : Test) (to : ℕ) → counts_at old.code pc ≡ false → (Never t to ≡ true) ⊎ (Always t (suc pc) ≡ true)
+      → Passes p old now true pc at s u o (Unless t to)
+  unless_passes t to f (inl e) =
+      let z = and_parts (never_holds old.widths a t) (leads_on codes a none_learned true to at) e in
+      unless_passed t to false (never old now is.sound a s u g t z.0) f (way_so true to at z.1)
+  unless_passes t to f (inr e) =
+      let z = and_parts (always_holds old.widths a t) (leads_on codes a none_learned true (suc pc) at) e in
+      unless_passed t to true (always old now is.sound a s u g t z.0) f (way_so true (suc pc) at z.1)
 
   pub instr_passes : (i : Instr) → passed_over codes a pc at i ≡ true → Passes p old now true pc at s u o i
   instr_passes (Plain i) e =
       let z = and_parts (is_there codes (suc pc) at) (plain_passed codes a pc i || work_passed codes a pc i) e in
       step_passed i (passes (plain p i s o) (plain_passes i z.0 (or_cases (plain_passed codes a pc i) _ z.1)))
+  instr_passes (When t to) e =
+      let z = and_parts (not (counts_at old.code pc)) (Never t (suc pc) || Always t to) e in
+      when_passes t to (not-true (counts_at old.code pc) z.0) (or_cases (Never t (suc pc)) (Always t to) z.1)
   instr_passes (Unless t to) e =
-      let z0 = and_parts (not (counts_at old.code pc) && never_holds old.widths a t) (leads_on codes a None true to at) e in
-      let z1 = and_parts (not (counts_at old.code pc)) (never_holds old.widths a t) z0.0 in
-      unless_passed t to false (never old now a s u g t z1.1) (not-true (counts_at old.code pc) z1.0) (way_so true to at z0.1)
+      let z = and_parts (not (counts_at old.code pc)) (Never t to || Always t (suc pc)) e in
+      unless_passes t to (not-true (counts_at old.code pc) z.0) (or_cases (Never t to) (Always t (suc pc)) z.1)
   instr_passes (Jump to) e = jump_passed to (way_so true to at e)
   instr_passes _ e = no e
 
@@ -419,7 +467,7 @@ moves_at p tables old now is pc at s u o reads (trimmed fs ps trim a f k g) i e 
 -- ---- on a way
 
 module _ (p : Program) (old now : Procedure) (is : IsTrimmedTo old now) (fs : List Facts) (ps : List ℕ) (trim : Trims fs ps old now) (spent : Bool)
-    (pc at : ℕ) (a : Facts) (f : Option ℕ) (xs : Sets) (m : Option Met) (first s u : State) (o : Outside) (on : OnWalk old now a f xs m first s u) where
+    (pc at : ℕ) (a : Facts) (f : Learned) (xs : Sets) (m : Option Met) (first s u : State) (o : Outside) (on : OnWalk old now a f xs m first s u) where
   abbrev k : Walk
   k = record { at = pc; spent = spent; sets = xs; met = m }
 
@@ -433,25 +481,25 @@ module _ (p : Program) (old now : Procedure) (is : IsTrimmedTo old now) (fs : Li
       let z = and_parts (not (spent && counts)) (walks old.code fs ps a f at most (record { at = to; spent = spent || counts; sets = xs; met = m })) e in
       (not-true (spent && counts) z.0, on_way fs ps trim a f most xs m first z.1 on)
 
-  when_passes : (most : ℕ) (t : Test) (to : ℕ) → IsTest old t → (d : Option Bool) → decided m t ≡ d
+  when_walks : (most : ℕ) (t : Test) (to : ℕ) → IsTest old t → (d : Option Bool) → decided m t ≡ d
       → by_truth (walks old.code fs ps a f at most) counts k to (suc pc) d ≡ true → Passes p old now spent pc at s u o (When t to)
-  when_passes most t to h (Some true) q e =
+  when_walks most t to h (Some true) q e =
       let z = leads_past most to e in
       when_passed t to true (λ r. walks_test old now is.sound a f xs m first s u on t true r h q) z.0 z.1
-  when_passes most t to h (Some false) q e =
+  when_walks most t to h (Some false) q e =
       let z = leads_past most (suc pc) e in
       when_passed t to false (λ r. walks_test old now is.sound a f xs m first s u on t false r h q) z.0 z.1
-  when_passes most t to h None q e = no e
+  when_walks most t to h None q e = no e
 
-  unless_passes : (most : ℕ) (t : Test) (to : ℕ) → IsTest old t → (d : Option Bool) → decided m t ≡ d
+  unless_walks : (most : ℕ) (t : Test) (to : ℕ) → IsTest old t → (d : Option Bool) → decided m t ≡ d
       → by_truth (walks old.code fs ps a f at most) counts k (suc pc) to d ≡ true → Passes p old now spent pc at s u o (Unless t to)
-  unless_passes most t to h (Some true) q e =
+  unless_walks most t to h (Some true) q e =
       let z = leads_past most (suc pc) e in
       unless_passed t to true (λ r. walks_test old now is.sound a f xs m first s u on t true r h q) z.0 z.1
-  unless_passes most t to h (Some false) q e =
+  unless_walks most t to h (Some false) q e =
       let z = leads_past most to e in
       unless_passed t to false (λ r. walks_test old now is.sound a f xs m first s u on t false r h q) z.0 z.1
-  unless_passes most t to h None q e = no e
+  unless_walks most t to h None q e = no e
 
   instr_walks : (most : ℕ) (i : Instr) → AreOperands old i → further (walks old.code fs ps a f at most) counts k (Some i) ≡ true
       → Passes p old now spent pc at s u o i
@@ -463,8 +511,8 @@ module _ (p : Program) (old now : Procedure) (is : IsTrimmedTo old now) (fs : Li
       (on_way fs ps trim a f most (with_set xs x) (Some (record { local = x; number = v })) first z.1
       (walks_copy old now is.sound a f xs m first s u on x v z.0)))
   instr_walks most (Jump to) h e = jump_passed to (on_way fs ps trim a f most xs m first e on)
-  instr_walks most (When t to) h e = when_passes most t to h (decided m t) refl e
-  instr_walks most (Unless t to) h e = unless_passes most t to h (decided m t) refl e
+  instr_walks most (When t to) h e = when_walks most t to h (decided m t) refl e
+  instr_walks most (Unless t to) h e = unless_walks most t to h (decided m t) refl e
   instr_walks most _ h e = no e
 
   -- the older code makes the next step of the walk

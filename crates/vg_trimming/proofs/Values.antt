@@ -21,9 +21,7 @@ use Rattle.vg_lin.specs.Program.{Program}
 use Rattle.vg_lin.specs.State.{Waiting, State, using, value, sets, joined, number_at, with_number, index_of, loaded, stores, pops_from}
 use Rattle.vg_lin.specs.State.{reads_from, division_steps, divides, plain}
 use Rattle.vg_trimming.specs.Runs.{AreBytes}
-
-low_below : (w x : ℕ) → low w x < 256 ^ w
-low_below w x = mod-lt x (let h = one-le-pow w 256 (omega arith) in omega (arith, h))
+use Rattle.vg_trimming.proofs.Homes.{low_below}
 
 -- ---- computations
 

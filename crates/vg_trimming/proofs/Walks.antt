@@ -1,5 +1,5 @@
 -- Walks through the older code: what holds of both states on the way, and what is known where the walk ends.
-use Rattle.std.specs.Prelude.{◌≢◌, ℕ, zero, suc, ◌<◌, ◌≤◌, Bool, true, false, ◌==◌, ◌&&◌, ◌||◌, not, nat_lt, List, [], ◌∷◌, length}
+use Rattle.std.specs.Prelude.{◌≢◌, ℕ, zero, suc, ◌<◌, ◌≤◌, Bool, true, false, ◌==◌, ◌&&◌, ◌||◌, not, nat_lt, nat_le, List, [], ◌∷◌, length}
 use Rattle.std.specs.Prelude.{Option, Some, None, slice_get, get_or, if◌then◌else◌}
 use Rattle.std.specs.List.{AllByRecursion}
 use Rattle.std.proofs.Common.{◌≡◌, refl, sym, ap, ◌∙◌, arith, inl, inr, ◌⊎◌}
@@ -17,15 +17,19 @@ use Rattle.vg_lin.specs.State.{State, value, sets, both, holds}
 use Rattle.vg_expand.proofs.Holding.{sets_holds}
 use Rattle.vg_trimming.specs.declared.facts.Twin.{Twin}
 use Rattle.vg_trimming.specs.declared.facts.Worked.{Worked}
+use Rattle.vg_trimming.specs.declared.facts.Bound.{Bound}
 use Rattle.vg_trimming.specs.declared.facts.Facts.{Facts}
+use Rattle.vg_trimming.specs.declared.facts.Learned.{Learned}
 use Rattle.vg_trimming.specs.declared.facts.Met.{Met}
 use Rattle.vg_trimming.specs.declared.facts.Sets.{Sets}
-use Rattle.vg_trimming.specs.Facts.{same_home, is_it, is_twin, is_filled, is_worked}
+use Rattle.vg_trimming.specs.Facts.{same_home, is_it, is_twin, is_filled, is_worked, is_bounded}
 use Rattle.vg_trimming.specs.Walking.{checked, decided, none_set, is_set, is_set_in, has_room, with_second, with_set}
-use Rattle.vg_trimming.specs.Walking.{twins_over, filled_over, worked_over, leads_over, leads_over_in, arrives, walks, most_steps, way_leads}
+use Rattle.vg_trimming.specs.Walking.{twins_over, filled_over, worked_over, is_told, bounded_over, leads_over, leads_over_in, arrives, walks, most_steps}
+use Rattle.vg_trimming.specs.Walking.{way_leads}
 use Rattle.vg_trimming.specs.Trimmed.{Trims}
 use Rattle.vg_trimming.proofs.Homes.{no, same_number, same_home_is, is_named, local, own_value, has_value, other_local, low_small, there_for}
-use Rattle.vg_trimming.proofs.Homes.{Twinned, Filled, AreThere, Steady, Agree}
+use Rattle.vg_trimming.proofs.Homes.{at_most, Twinned, Filled, AreThere, HasAtMost, AreBounded, bounded_by, Steady, Agree}
+use Rattle.vg_trimming.proofs.Branches.{HasTold, Learns}
 use Rattle.vg_trimming.proofs.Calls.{AtPlace, trimmed}
 
 -- ---- the locals that get numbers
@@ -127,16 +131,16 @@ HasMet None s = Unit {0}
 HasMet (Some m) s = (v : ℕ) → m.number < 2 → value (Local m.local) s ≡ Some v → v ≡ m.number
 
 -- a walk began in states where something is known and a local is not 0; the older code has given numbers to locals since
-pub record OnWalk (old now : Procedure) (a : Facts) (f : Option ℕ) (xs : Sets) (m : Option Met) (first s u : State) : Type 0 where
+pub record OnWalk (old now : Procedure) (a : Facts) (f : Learned) (xs : Sets) (m : Option Met) (first s u : State) : Type 0 where
   pub began : Agree old.widths now.widths a first u
-  pub filled : (x v : ℕ) → is_it f x ≡ true → value (Local x) first ≡ Some v → v ≢ 0
+  pub learned : Learns f first
   pub kept : (x : ℕ) → is_set xs x ≡ false → value (Local x) s ≡ value (Local x) first
   pub met : HasMet m s
   pub waiting : u.waiting ≡ s.waiting
   pub ram : u.ram ≡ s.ram
   pub steady : Steady old.widths now.widths s u
 
-module _ (old now : Procedure) (sound : IsSound old) (a : Facts) (f : Option ℕ) (xs : Sets) (m : Option Met) (first s u : State)
+module _ (old now : Procedure) (sound : IsSound old) (a : Facts) (f : Learned) (xs : Sets) (m : Option Met) (first s u : State)
     (on : OnWalk old now a f xs m first s u) where
   worked_kept : (ws : List Worked) → worked_over xs a.worked ws ≡ true → AreThere ws s u
   worked_kept [] e = tt {0}
@@ -156,6 +160,26 @@ module _ (old now : Procedure) (sound : IsSound old) (a : Facts) (f : Option ℕ
       operand_kept (Local i) k = on.kept i (not-true (is_set xs i) k)
       operand_kept (Known v) k = refl
 
+  -- what a branch told, or was known
+  told : (k : Option Bound) (b : Bound) → HasTold k first → is_told k b ≡ true → HasAtMost b first
+  told (Some k) b h e =
+      let z = and_parts (k.local == b.local) (nat_le k.most b.most) e in
+      λ v q.
+      let le = at_most k.most b.most z.1 in
+      let g = h v (ap (λ x. value (Local x) first) (same_number k.local b.local z.0) ∙ q) in omega (arith, g, le)
+  told None b h e = no e
+
+  bounded_kept : (bs : List Bound) → bounded_over xs f.bound a.bounds bs ≡ true → AreBounded bs s
+  bounded_kept [] e = tt {0}
+  bounded_kept (b ∷ bs) e =
+      let z0 = and_parts (not (is_set xs b.local) && (is_told f.bound b || is_bounded a.bounds b)) (bounded_over xs f.bound a.bounds bs) e in
+      let z1 = and_parts (not (is_set xs b.local)) (is_told f.bound b || is_bounded a.bounds b) z0.0 in
+      (λ v q. by_which (or_cases (is_told f.bound b) _ z1.1) v (sym (on.kept b.local (not-true (is_set xs b.local) z1.0)) ∙ q), bounded_kept bs z0.1)
+    where
+      by_which : (is_told f.bound b ≡ true) ⊎ (is_bounded a.bounds b ≡ true) → HasAtMost b first
+      by_which (inl i) = told f.bound b on.learned.told i
+      by_which (inr i) = bounded_by a.bounds b first on.began.bounded i
+
   -- where the walk ends
   pub arrived : (b : Facts) → leads_over xs f a b ≡ true → Agree old.widths now.widths b s u
   arrived b e =
@@ -164,15 +188,20 @@ module _ (old now : Procedure) (sound : IsSound old) (a : Facts) (f : Option ℕ
         twins = twins;
         filled = filled;
         worked = worked_kept b.worked z0.1;
+        bounded = bounded_kept b.bounds z.1;
         waiting = on.waiting;
         ram = on.ram;
         steady = on.steady;
       }
     where
-      z0 : ((b.reached && twins_over xs a.twins b.twins && filled_over xs f a.filled b.filled) ≡ true) × (worked_over xs a.worked b.worked ≡ true)
-      z0 = and_parts (b.reached && twins_over xs a.twins b.twins && filled_over xs f a.filled b.filled) _ e
+      z : ((b.reached && twins_over xs a.twins b.twins && filled_over xs f.filled a.filled b.filled && worked_over xs a.worked b.worked) ≡ true)
+          × (bounded_over xs f.bound a.bounds b.bounds ≡ true)
+      z = and_parts (b.reached && twins_over xs a.twins b.twins && filled_over xs f.filled a.filled b.filled && worked_over xs a.worked b.worked) _ e
 
-      z1 : ((b.reached && twins_over xs a.twins b.twins) ≡ true) × (filled_over xs f a.filled b.filled ≡ true)
+      z0 : ((b.reached && twins_over xs a.twins b.twins && filled_over xs f.filled a.filled b.filled) ≡ true) × (worked_over xs a.worked b.worked ≡ true)
+      z0 = and_parts (b.reached && twins_over xs a.twins b.twins && filled_over xs f.filled a.filled b.filled) _ z.0
+
+      z1 : ((b.reached && twins_over xs a.twins b.twins) ≡ true) × (filled_over xs f.filled a.filled b.filled ≡ true)
       z1 = and_parts (b.reached && twins_over xs a.twins b.twins) _ z0.0
 
       z2 : (b.reached ≡ true) × (twins_over xs a.twins b.twins ≡ true)
@@ -184,11 +213,11 @@ module _ (old now : Procedure) (sound : IsSound old) (a : Facts) (f : Option ℕ
 
       filled : Filled b.filled s
       filled x v k q =
-          let t = number_over xs f a.filled b.filled x z1.1 k in
-          by_which (or_cases (is_it f x) (is_filled a.filled x) t.1) (sym (on.kept x t.0) ∙ q)
+          let t = number_over xs f.filled a.filled b.filled x z1.1 k in
+          by_which (or_cases (is_it f.filled x) (is_filled a.filled x) t.1) (sym (on.kept x t.0) ∙ q)
         where
-          by_which : (is_it f x ≡ true) ⊎ (is_filled a.filled x ≡ true) → value (Local x) first ≡ Some v → v ≢ 0
-          by_which (inl i) q = on.filled x v i q
+          by_which : (is_it f.filled x ≡ true) ⊎ (is_filled a.filled x ≡ true) → value (Local x) first ≡ Some v → v ≢ 0
+          by_which (inl i) q = on.learned.filled x v i q
           by_which (inr i) q = on.began.filled x v i q
 
   -- behind a copy of a number
@@ -197,7 +226,7 @@ module _ (old now : Procedure) (sound : IsSound old) (a : Facts) (f : Option ℕ
   walks_copy x v e =
       record {
         began = on.began;
-        filled = on.filled;
+        learned = on.learned;
         kept = λ y k.
             let z = unset_before xs.first xs.second x y e k in other_local s.locals x y v z.0 ∙ on.kept y z.1;
         met = met;
@@ -237,12 +266,12 @@ module _ (old now : Procedure) (sound : IsSound old) (a : Facts) (f : Option ℕ
 -- both are at a place, or the newer code is already where a walk of the older code will end; a step of it may count that is not spent
 pub data Ahead (old now : Procedure) (spent : Bool) (pc at : ℕ) (s u : State) : Type 0 where
   there : AtPlace old now pc at s u → Ahead old now spent pc at s u
-  on_way : (fs : List Facts) (ps : List ℕ) → Trims fs ps old now → (a : Facts) (f : Option ℕ) (most : ℕ) (xs : Sets) (m : Option Met) (first : State)
+  on_way : (fs : List Facts) (ps : List ℕ) → Trims fs ps old now → (a : Facts) (f : Learned) (most : ℕ) (xs : Sets) (m : Option Met) (first : State)
       → walks old.code fs ps a f at most (record { at = pc; spent = spent; sets = xs; met = m }) ≡ true → OnWalk old now a f xs m first s u
       → Ahead old now spent pc at s u
 
 -- where a walk has ended both are at a place
-pub ended : (old now : Procedure) (sound : IsSound old) (fs : List Facts) (ps : List ℕ) (trim : Trims fs ps old now) (a : Facts) (f : Option ℕ)
+pub ended : (old now : Procedure) (sound : IsSound old) (fs : List Facts) (ps : List ℕ) (trim : Trims fs ps old now) (a : Facts) (f : Learned)
     (spent : Bool) (pc at : ℕ) (xs : Sets) (m : Option Met) (first s u : State) → OnWalk old now a f xs m first s u
     → arrives fs ps a f at (record { at = pc; spent = spent; sets = xs; met = m }) ≡ true → AtPlace old now pc at s u
 ended old now sound fs ps trim a f spent pc at xs m first s u on e = by_facts (slice_get fs pc) refl z.1
@@ -255,9 +284,9 @@ ended old now sound fs ps trim a f spent pc at xs m first s u on e = by_facts (s
     by_facts None g e = no e
 
 -- a way begins
-pub sets_out : (old now : Procedure) (fs : List Facts) (ps : List ℕ) (trim : Trims fs ps old now) (a : Facts) (f : Option ℕ) (spent : Bool) (to at : ℕ)
-    (s u : State) → Agree old.widths now.widths a s u → ((x v : ℕ) → is_it f x ≡ true → value (Local x) s ≡ Some v → v ≢ 0)
+pub sets_out : (old now : Procedure) (fs : List Facts) (ps : List ℕ) (trim : Trims fs ps old now) (a : Facts) (f : Learned) (spent : Bool) (to at : ℕ)
+    (s u : State) → Agree old.widths now.widths a s u → Learns f s
     → way_leads old.code fs ps a f spent to at ≡ true → Ahead old now spent to at s u
 sets_out old now fs ps trim a f spent to at s u g fl e =
     on_way fs ps trim a f most_steps none_set None s e
-    (record { began = g; filled = fl; kept = λ x e. refl; met = tt {0}; waiting = g.waiting; ram = g.ram; steady = g.steady })
+    (record { began = g; learned = fl; kept = λ x e. refl; met = tt {0}; waiting = g.waiting; ram = g.ram; steady = g.steady })

@@ -1,9 +1,10 @@
 -- Walks through the older code, whose steps the newer code does not make: over copies of known numbers, jumps, and branches that these numbers decide.
-use Rattle.std.specs.Prelude.{ℕ, zero, suc, Bool, true, false, ◌==◌, ◌&&◌, ◌||◌, not, nat_lt, List, [], ◌∷◌, Option, Some, None, slice_get, if◌then◌else◌}
+use Rattle.std.specs.Prelude.{ℕ, zero, suc, ◌-◌, ◌/◌, Bool, true, false, ◌==◌, ◌&&◌, ◌||◌, not, nat_lt, nat_le, List, [], ◌∷◌, Option, Some, None}
+use Rattle.std.specs.Prelude.{slice_get, if◌then◌else◌}
 use Rattle.vg_lin.specs.declared.instr.Operand.{Operand}
 use Rattle.vg_lin.specs.declared.instr.Operand.TheVariants.{Local, Known}
 use Rattle.vg_lin.specs.declared.instr.Comparison.{Comparison}
-use Rattle.vg_lin.specs.declared.instr.Comparison.TheVariants.{Same}
+use Rattle.vg_lin.specs.declared.instr.Comparison.TheVariants.{Below, Less, Same}
 use Rattle.vg_lin.specs.declared.instr.Test.{Test}
 use Rattle.vg_lin.specs.declared.instr.Plain.TheVariants.{Copy}
 use Rattle.vg_lin.specs.declared.instr.Instr.{Instr}
@@ -11,10 +12,12 @@ use Rattle.vg_lin.specs.declared.instr.Instr.TheVariants.{Plain, When, Unless, J
 use Rattle.vg_lin.specs.Turns.{counts_at}
 use Rattle.vg_trimming.specs.declared.facts.Twin.{Twin}
 use Rattle.vg_trimming.specs.declared.facts.Worked.{Worked}
+use Rattle.vg_trimming.specs.declared.facts.Bound.{Bound}
 use Rattle.vg_trimming.specs.declared.facts.Facts.{Facts}
+use Rattle.vg_trimming.specs.declared.facts.Learned.{Learned}
 use Rattle.vg_trimming.specs.declared.facts.Met.{Met}
 use Rattle.vg_trimming.specs.declared.facts.Sets.{Sets}
-use Rattle.vg_trimming.specs.Facts.{is_it, is_twin, is_filled, is_worked}
+use Rattle.vg_trimming.specs.Facts.{is_it, is_twin, is_filled, is_worked, is_bounded, most_in, most_of}
 
 -- ---- tests
 
@@ -34,6 +37,36 @@ checked t = checked_by t.comparison t
 abbrev pub decided : Option Met → Test → Option Bool
 decided (Some m) t = if is_it (checked t) m.local && nat_lt m.number 2 then Some (m.number == 0) else None
 decided None t = None
+
+-- ---- what a branch tells
+
+abbrev pub none_learned : Learned
+none_learned = record { filled = None; bound = None }
+
+-- Of operands of at most so much the test says whether the left one is less; values that are not negative are less where they are below.
+abbrev pub tells_less : Comparison → (width left right : ℕ) → Bool
+tells_less Below w a b = true
+tells_less Less w a b = nat_le a (most_in w / 2) && nat_le b (most_in w / 2)
+tells_less Same w a b = false
+
+abbrev pub bound_of : Operand → (most : ℕ) → Option Bound
+bound_of (Local x) m = Some (record { local = x; most = m })
+bound_of (Known v) m = None
+
+-- The left operand, seen whole, is less than the right one.
+abbrev pub bound_met : Test → (left right : ℕ) → Option Bound
+bound_met t a b = if tells_less t.comparison t.width a b && nat_le a (most_in t.width) then bound_of t.left (b - 1) else None
+
+-- The right operand, seen whole, is no more than the left one.
+abbrev pub bound_unmet : Test → (left right : ℕ) → Option Bound
+bound_unmet t a b = if tells_less t.comparison t.width a b && nat_le b (most_in t.width) then bound_of t.right a else None
+
+-- What is known where a test holds, and where it doesn't.
+abbrev pub learned_met : (old : List ℕ) → List Bound → Test → Learned
+learned_met o bs t = record { filled = None; bound = bound_met t (most_of o bs t.left) (most_of o bs t.right) }
+
+abbrev pub learned_unmet : (old : List ℕ) → List Bound → Test → Learned
+learned_unmet o bs t = record { filled = checked t; bound = bound_unmet t (most_of o bs t.left) (most_of o bs t.right) }
 
 -- ---- the locals that get numbers
 
@@ -76,12 +109,22 @@ abbrev pub worked_over : Sets → (before behind : List Worked) → Bool
 worked_over xs ws [] = true
 worked_over xs ws (w ∷ more) = not (is_set_in xs w.left) && not (is_set_in xs w.right) && is_worked ws w && worked_over xs ws more
 
--- What is known behind a walk was known before it, of other locals than those that got numbers; and this one is not 0.
-abbrev pub leads_over : Sets → (filled : Option ℕ) → (before behind : Facts) → Bool
-leads_over xs f a b =
-    b.reached && twins_over xs a.twins b.twins && filled_over xs f a.filled b.filled && worked_over xs a.worked b.worked
+abbrev pub is_told : Option Bound → Bound → Bool
+is_told (Some k) b = (k.local == b.local) && nat_le k.most b.most
+is_told None b = false
 
-abbrev pub leads_over_in : Sets → (filled : Option ℕ) → (before : Facts) → Option Facts → Bool
+abbrev pub bounded_over : Sets → (told : Option Bound) → (before behind : List Bound) → Bool
+bounded_over xs k bs [] = true
+bounded_over xs k bs (b ∷ more) =
+    not (is_set xs b.local) && (is_told k b || is_bounded bs b) && bounded_over xs k bs more
+
+-- What is known behind a walk was known before it or is learned, of other locals than those that got numbers.
+abbrev pub leads_over : Sets → Learned → (before behind : Facts) → Bool
+leads_over xs f a b =
+    b.reached && twins_over xs a.twins b.twins && filled_over xs f.filled a.filled b.filled && worked_over xs a.worked b.worked
+    && bounded_over xs f.bound a.bounds b.bounds
+
+abbrev pub leads_over_in : Sets → Learned → (before : Facts) → Option Facts → Bool
 leads_over_in xs f a (Some b) = leads_over xs f a b
 leads_over_in xs f a None = false
 
@@ -95,7 +138,7 @@ pub record Walk : Type 0 where
   pub met : Option Met
 
 -- The newer code is at this place where the older one is where the walk is.
-abbrev pub arrives : List Facts → (places : List ℕ) → (before : Facts) → (filled : Option ℕ) → (place : ℕ) → Walk → Bool
+abbrev pub arrives : List Facts → (places : List ℕ) → (before : Facts) → Learned → (place : ℕ) → Walk → Bool
 arrives fs ps a f p k = is_it (slice_get ps k.at) p && leads_over_in k.sets f a (slice_get fs k.at)
 
 abbrev pub past : (walk : Walk → Bool) → (counts : Bool) → Walk → (to : ℕ) → Bool
@@ -116,7 +159,7 @@ further walk c k (Some (Unless t to)) = by_truth walk c k (suc k.at) to (decided
 further walk c k _ = false
 
 -- In at most so many steps the walk comes to where the newer code is at this place.
-abbrev pub walks : (older : List Instr) → List Facts → (places : List ℕ) → (before : Facts) → (filled : Option ℕ) → (place : ℕ) → (most : ℕ) → Walk → Bool
+abbrev pub walks : (older : List Instr) → List Facts → (places : List ℕ) → (before : Facts) → Learned → (place : ℕ) → (most : ℕ) → Walk → Bool
 walks is fs ps a f p zero k = arrives fs ps a f p k
 walks is fs ps a f p (suc n) k =
     arrives fs ps a f p k || further (walks is fs ps a f p n) (counts_at is k.at) k (slice_get is k.at)
@@ -126,5 +169,5 @@ unfoldable pub most_steps : ℕ
 most_steps = 24
 
 -- A way to a place of the older code, behind a step that counts or may, leads to a place of the newer code.
-abbrev pub way_leads : (older : List Instr) → List Facts → (places : List ℕ) → (before : Facts) → (filled : Option ℕ) → (spent : Bool) → (to place : ℕ) → Bool
+abbrev pub way_leads : (older : List Instr) → List Facts → (places : List ℕ) → (before : Facts) → Learned → (spent : Bool) → (to place : ℕ) → Bool
 way_leads is fs ps a f c to p = walks is fs ps a f p most_steps (record { at = to; spent = c; sets = none_set; met = None })

@@ -24,6 +24,13 @@ pub struct Worked {
     pub home: u8,
 }
 
+/// The most that a local of the older code has, where it has a value.
+#[derive(Clone, Copy)]
+pub struct Bound {
+    pub local: u8,
+    pub most: u32,
+}
+
 /// What is known at a place, whenever a run comes there.
 #[derive(Drop)]
 pub struct Facts {
@@ -35,6 +42,8 @@ pub struct Facts {
     pub filled: Row<u8>,
     /// What the newer code has of computations, of the values that the older code's locals have.
     pub worked: Row<Worked>,
+    /// How much locals of the older code have at most. Where nothing is said, it is what their bytes hold.
+    pub bounds: Row<Bound>,
 }
 
 /// Where the newer code has the new value of a local of the older code.
@@ -61,6 +70,17 @@ pub struct Change {
     pub filled: Option<u8>,
     /// A computation of which the newer code then has the result.
     pub worked: Option<Worked>,
+    /// The most that the local of the older code has then.
+    pub most: u32,
+}
+
+/// What a branch of the older code tells, on one of its two ways.
+#[derive(Clone, Copy)]
+pub struct Learned {
+    /// A local that is not 0.
+    pub filled: Option<u8>,
+    /// The most that a local has.
+    pub bound: Option<Bound>,
 }
 
 /// On a walk through the older code: the local that got a known number last.

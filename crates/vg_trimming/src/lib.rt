@@ -5,4 +5,4 @@
 pub mod facts;
 pub mod laws;
 
-pub use facts::{Change, Facts, Gain, Met, Sets, Twin, Worked};
+pub use facts::{Bound, Change, Facts, Gain, Learned, Met, Sets, Twin, Worked};

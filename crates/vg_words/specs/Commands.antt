@@ -43,9 +43,9 @@ steps_in given = at_most_once (Some 10000000) (number 10 1000000000) (values_of 
 abbrev pub init_steps_in : List Item → Option ℕ
 init_steps_in given = at_most_once (Some 1000000) (number 9 100000000) (values_of (codes "--init-steps") given)
 
--- `--stack N`: N from 1 to 4096 in at most four digits, and no stack is asked for where it is absent
+-- `--stack N`: N from 1 to 4096 in at most nine digits, and no stack is asked for where it is absent
 abbrev pub stack_value : List ℕ → Option (Option ℕ)
-stack_value text = option_map Some (number 4 4096 text)
+stack_value text = option_map Some (number 9 4096 text)
 
 abbrev pub stack_in : List Item → Option (Option ℕ)
 stack_in given = at_most_once (Some None) stack_value (values_of (codes "--stack") given)

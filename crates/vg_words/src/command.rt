@@ -49,7 +49,7 @@ pub enum Command<'a> {
 ///
 /// The first word is the command, and behind it stand options and plain words in any order. `--name VALUE` and
 /// `--name=VALUE` are options, each of which may stand once; behind `--` each word is plain. `build FILE` has one plain
-/// word and two options: `--stack N`, with N from 1 to 4096 in at most four digits, which asks for no stack where it is absent,
+/// word and two options: `--stack N`, with N from 1 to 4096 in at most nine digits, which asks for no stack where it is absent,
 /// and `--init-steps N`, with N from 1 to 100,000,000 in at most nine digits, and 1,000,000 where it is absent. `run FILE SCRIPT`
 /// and `sim HEX SCRIPT` have two and the option `--steps N`, with N from 1 to 1,000,000,000 in at most ten digits, and 10,000,000
 /// where it is absent. `why FILE MEMBER` has two and no option, and `try N` has one, which is a number from 1 to 500 in at most nine digits, and no option.
@@ -205,7 +205,7 @@ fn stack_value(text: &[u8]) -> Option<Option<u16>>
     ensures meaning { result ≡ stack_value text.now }
     ensures within { IfSome result (λ stack. IfSome stack (λ bytes. (1 ≤ bytes) × (bytes ≤ 4096))) }
 {
-    match number(4, 4096, text) {
+    match number(9, 4096, text) {
         Some(bytes) => Some(Some(bytes as u16)),
         None => None,
     }

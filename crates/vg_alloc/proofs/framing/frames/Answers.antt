@@ -1,5 +1,5 @@
 use Rattle.std.proofs.lemmas.Result.{IfOk-weaker}
-use Rattle.vg_alloc.proofs.Spotting.{all_fit, pushed_fit, others_fit, widths_few, layout_fits, params_fit, locations_are, widths_are}
+use Rattle.vg_alloc.proofs.Spotting.{all_fit, widths_few, layout_fits, params_fit, locations_are, widths_are}
 use Rattle.vg_alloc.proofs.framing.frames.Goals as goal
 
 pub located-requires-clause-params : goal.located-requires-clause-params
@@ -10,12 +10,6 @@ located-requires-clause-few c = widths_few c.args.procedure.now c.keeps.ensures 
 
 pub located-requires-clause-all : goal.located-requires-clause-all
 located-requires-clause-all c = all_fit c.args.procedure.now c.keeps.ensures _ _ _ c.code.ensures c.widths.ensures c.params.ensures
-
-pub located-requires-clause-pushed : goal.located-requires-clause-pushed
-located-requires-clause-pushed c = pushed_fit c.args.procedure.now c.keeps.ensures _ _ _ c.code.ensures c.widths.ensures c.params.ensures
-
-pub located-requires-clause-others : goal.located-requires-clause-others
-located-requires-clause-others c = others_fit c.args.procedure.now c.keeps.ensures _ _ _ c.code.ensures c.widths.ensures c.params.ensures
 
 pub located-requires-clause-sound : goal.located-requires-clause-sound
 located-requires-clause-sound c = layout_fits c.args.procedure.now c.keeps.ensures _ _ _ c.code.ensures c.widths.ensures c.params.ensures

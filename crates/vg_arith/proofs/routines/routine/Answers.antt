@@ -33,14 +33,14 @@ returns-then-which-eq1-clause-routine c =
 
 pub returns-then-which-eq2-clause-routine : goal.returns-then-which-eq2-clause-routine
 returns-then-which-eq2-clause-routine c =
-    IfOk-weaker c.shift_routine.result (λ p. p ≡ shl) (IsRoutine c.args.which) (made 2 c.args.which shl shl_routine c.if-which-eq2.true)
-    c.shift_routine.ensures
+    IfOk-weaker c.left_shift_routine.result (λ p. p ≡ shl) (IsRoutine c.args.which) (made 2 c.args.which shl shl_routine c.if-which-eq2.true)
+    c.left_shift_routine.ensures
 
 pub returns-else-which-eq2-clause-routine : goal.returns-else-which-eq2-clause-routine
 returns-else-which-eq2-clause-routine c =
-    IfOk-weaker c.shift_routine-else-which-eq2.result (λ p. p ≡ shr) (IsRoutine c.args.which) (made 3 c.args.which shr shr_routine
+    IfOk-weaker c.right_shift_routine.result (λ p. p ≡ shr) (IsRoutine c.args.which) (made 3 c.args.which shr shr_routine
     (three c.args.which c.requires c.if-which-eq0.false c.if-which-eq1.false c.if-which-eq2.false))
-    c.shift_routine-else-which-eq2.ensures
+    c.right_shift_routine.ensures
 
 pub returns-then-which-eq0-clause-exactly : goal.returns-then-which-eq0-clause-exactly
 returns-then-which-eq0-clause-exactly c =
@@ -54,11 +54,11 @@ returns-then-which-eq1-clause-exactly c =
 
 pub returns-then-which-eq2-clause-exactly : goal.returns-then-which-eq2-clause-exactly
 returns-then-which-eq2-clause-exactly c =
-    IfOk-weaker c.shift_routine.result (λ p. p ≡ shl) (λ p. p ≡ routine_with c.args.which) (numbered 2 c.args.which shl refl c.if-which-eq2.true)
-    c.shift_routine.ensures
+    IfOk-weaker c.left_shift_routine.result (λ p. p ≡ shl) (λ p. p ≡ routine_with c.args.which) (numbered 2 c.args.which shl refl c.if-which-eq2.true)
+    c.left_shift_routine.ensures
 
 pub returns-else-which-eq2-clause-exactly : goal.returns-else-which-eq2-clause-exactly
 returns-else-which-eq2-clause-exactly c =
-    IfOk-weaker c.shift_routine-else-which-eq2.result (λ p. p ≡ shr) (λ p. p ≡ routine_with c.args.which) (numbered 3 c.args.which shr refl
+    IfOk-weaker c.right_shift_routine.result (λ p. p ≡ shr) (λ p. p ≡ routine_with c.args.which) (numbered 3 c.args.which shr refl
     (three c.args.which c.requires c.if-which-eq0.false c.if-which-eq1.false c.if-which-eq2.false))
-    c.shift_routine-else-which-eq2.ensures
+    c.right_shift_routine.ensures

@@ -1,7 +1,6 @@
 use Rattle.std.proofs.Common.{refl, arith}
 use Rattle.vg_arith.proofs.ShiftRoutines.{shl_is, shr_is}
-use Rattle.vg_lin.specs.declared.instr.Operator.TheVariants.{ShiftLeft, ShiftRight}
-use Rattle.vg_arith.proofs.Keeping.{shift_sound}
+use Rattle.vg_arith.proofs.Keeping.{shl_sound, shr_sound}
 use Rattle.vg_arith.proofs.shifts.shifts_are_right.Goals as goal
 
 pub returns-clause-left : goal.returns-clause-left
@@ -14,4 +13,4 @@ pub returns-clause-short : goal.returns-clause-short
 returns-clause-short c = (record { few = omega arith; onwards = refl }, record { few = omega arith; onwards = refl })
 
 pub returns-clause-sound : goal.returns-clause-sound
-returns-clause-sound c = (shift_sound ShiftLeft, shift_sound ShiftRight)
+returns-clause-sound c = (shl_sound, shr_sound)

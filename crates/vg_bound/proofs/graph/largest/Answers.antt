@@ -1,4 +1,4 @@
-use Rattle.std.proofs.Common.{◌+◌, sym, subst}
+use Rattle.std.proofs.Common.{◌+◌, max, sym, subst}
 use Rattle.std.proofs.lemmas.Option.{slice_get-get_or}
 use Rattle.vg_bound.proofs.Roots.{SoFar, so_far_more, largest_is, no_cycle_is}
 use Rattle.vg_bound.proofs.graph.largest.Goals as goal
@@ -11,7 +11,9 @@ loop-root-preserved c =
     c.loop-root.invariant.2 in (
       c.search_from.ensures.searching,
       found.0,
-      subst (SoFar c.args.frames.now c.args.calls.now c.args.roots.now (c.loop-root.root-index + 1)) (sym c.max-most.ensures) more,
+      subst (SoFar c.args.frames.now c.args.calls.now c.args.roots.now (c.loop-root.root-index + 1)) (sym c.max-most.ensures)
+          (subst (λ z. SoFar c.args.frames.now c.args.calls.now c.args.roots.now (c.loop-root.root-index + 1) (max c.loop-root.most (z + c.in-Cost.cost)))
+          (sym c.from.ensures) more),
     )
 
 pub returns-clause-outcome : goal.returns-clause-outcome

@@ -66,4 +66,4 @@ returns-in-Done c =
 pub returns-in-None : goal.returns-in-None
 returns-in-None c =
     step_leaves c.args.frames.now c.args.calls.now c.args.search.now c.requires.searching c.args.node _ c.args.visit c.leave.new.self c.leave.ensures
-    (ap (λ z. c.args.visit.most + get_or c.args.frames.now z 0) c.from.ensures) c.requires.open_ c.requires.top (sym c.call_of.ensures.is ∙ c.in-None.is)
+    (ap (λ z. c.args.visit.most + z) (c.from-in-None.ensures ∙ ap (λ z. get_or c.args.frames.now z 0) c.from.ensures)) c.requires.open_ c.requires.top (sym c.call_of.ensures.is ∙ c.in-None.is)

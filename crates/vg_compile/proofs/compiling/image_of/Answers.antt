@@ -3,13 +3,18 @@ use Rattle.vg_compile.proofs.compiling.image_of.Goals as goal
 pub returns-in-Ok-linked_of-clause-image : goal.returns-in-Ok-linked_of-clause-image
 returns-in-Ok-linked_of-clause-image c = record {
   linear = c.in-Ok.linear;
-  is_linear = c.in-Ok.ensures.linear.0;
-  fit = c.in-Ok.ensures.linear.1;
+  is_linear = c.in-Ok.ensures.linear;
+  frames = c.in-Ok-frames_of.frames;
+  are_frames = c.in-Ok-frames_of.ensures.frames;
   unlinked = c.in_ok-unlinked.unlinked;
   is_unlinked = c.in_ok-unlinked.ensures;
   can_be_linked = c.in-Ok-linked_of.ensures.linked.0;
   is_linked = c.in-Ok-linked_of.ensures.linked.1;
   need = c.in-Ok-need_of.need;
-  has_need = c.in-Ok-need_of.ensures.need;
+  is_need = c.in-Ok-need_of.ensures.need;
   is_bound = c.in_ok-bound.ensures.bound;
 }
+
+-- what is said where the parts are not linked is said whatever the costs are
+pub returns-clause-deep : goal.returns-clause-deep
+returns-clause-deep c = c.in-Err-linked_of.ensures.deep c.args.firm c.args.costs.now

@@ -1,3 +1,4 @@
+use Rattle.std.proofs.Common.{inl, refl}
 use Rattle.vg_fit_code.proofs.Making.{flattened_made, eased, each_of, all_fit}
 use Rattle.vg_fit_code.proofs.Expanding.{expanded_fit, routine_fit}
 use Rattle.vg_fit_code.proofs.laws.code_is_fit.Goals as goal
@@ -15,7 +16,7 @@ pub returns-clause-routines : goal.returns-clause-routines
 returns-clause-routines c = routine_fit
 
 pub returns-clause-start : goal.returns-clause-start
-returns-clause-start c = λ p main receives. (tt, (tt, (tt, tt)))
+returns-clause-start c = λ p main receives. (inl refl, (tt, (tt, tt)))
 
 pub returns-clause-simple : goal.returns-clause-simple
 returns-clause-simple c = all_fit

@@ -1,5 +1,5 @@
 use Rattle.std.proofs.Common.{◌≡◌, ◌≤◌, max, drop}
-use Rattle.vg_frame_costs.specs.Fitting.{most_waiting}
+use Rattle.vg_frame_costs.specs.Bytes.{most_waiting}
 use Rattle.vg_frame_costs.proofs.counting.most_waiting.Given as goal
 
 abbrev pub invariant-loop-instr : goal.invariant-loop-instr

@@ -1,8 +1,12 @@
-use Rattle.vg_open_costs.proofs.Costing.{first_takes, costs}
+use Rattle.vg_open_costs.proofs.Costing.{opening_takes, costs, takes_within}
 use Rattle.vg_open_costs.proofs.laws.open_procedures_cost.Goals as goal
 
 pub returns-clause-first : goal.returns-clause-first
-returns-clause-first c = λ p cs ready fit before. first_takes p cs ready fit before
+returns-clause-first c = λ p extra cs ready fit before. opening_takes p ready before extra cs fit
 
 pub returns-clause-steps : goal.returns-clause-steps
-returns-clause-steps c = λ p cs ready fit before j n reads interrupts less legal. costs p cs ready fit before reads interrupts j n less legal
+returns-clause-steps c = λ p extra cs ready fit before j n reads interrupts less legal. costs p ready before extra cs fit reads interrupts j n less legal
+
+pub returns-clause-frames : goal.returns-clause-frames
+returns-clause-frames c = λ p frames below above ready within before j n reads interrupts less legal.
+    takes_within p ready before reads interrupts frames below above within j n less legal

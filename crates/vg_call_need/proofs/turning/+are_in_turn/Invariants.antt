@@ -1,5 +1,0 @@
-use Rattle.std.proofs.Common.{length}
-use Rattle.vg_call_need.proofs.turning.+are_in_turn.Given as goal
-
-abbrev pub decreases-are_in_turn : goal.decreases-are_in_turn
-decreases-are_in_turn l = length l.others.now

@@ -1,5 +1,0 @@
-use Rattle.std.proofs.Common.{length}
-use Rattle.vg_call_need.proofs.ways.+handler_of.Given as goal
-
-abbrev pub decreases-handler_of : goal.decreases-handler_of
-decreases-handler_of l = length l.handlers.now

@@ -1,0 +1,217 @@
+// The frames of methods, and what lies beside them.
+ghost use Rattle.std.specs.Prelude.{◌≡◌, ◌+◌, ◌<◌, ◌≤◌, IfOk, IfSome, IsTrue, Some, drop, length, max, take};
+ghost use Rattle.std.specs.List.{AllByRecursion};
+ghost use Rattle.vg_source.specs.Peak.{cost_of};
+ghost use Rattle.vg_frame_costs.specs.Fitting.{IsMethodWithin, IsRoutineWithin, IsStartWithin};
+ghost use Rattle.vg_frame_costs.specs.Noted.{AreAtLeast, HoldsAll};
+
+use crate::codes::{are_of_method, are_of_routine, are_of_start, begins_with_call};
+use crate::sizes::size_of;
+use std::alloc::Global;
+use vg_base::{NoMemory, Row};
+use vg_lin::LinProc;
+
+/// The frames of methods, by their numbers, in bytes of the stack; 0 for a method that has no procedure. So many bytes lie beside the frames of all methods
+/// that are open at one time: below them those that the procedure takes with which a run begins, also where it idles, and above them what a routine takes, or what
+/// a caller passes and does not push.
+#[derive(Drop)]
+pub struct Frames {
+    pub by_method: Row<u32>,
+    pub beside: u32,
+}
+
+/// The frames of so many methods, where a run begins with the procedure of the number `start`.
+///
+/// There are none where one of the procedures before that is no method or one of a higher number, or idles, or calls that one; where one behind it is a method,
+/// idles, or calls another; where that one takes more than four bytes, does not begin with a call by number, or calls one that is not before it; and where
+/// bytes do not fit into 32 bits.
+pub fn method_frames(
+    alloc: Global,
+    procedures: &[LinProc],
+    start: u16,
+    methods: usize,
+) -> Result<Option<Frames>, NoMemory>
+    ensures { IfOk result (λ frames. IfSome frames (HoldsAll procedures.now start)) }
+{
+    let at = usize::from(start);
+    if at >= procedures.len() {
+        return Ok(None);
+    }
+    let below = match start_bytes(alloc, &procedures[at], start)? {
+        Some(below) => below,
+        None => return Ok(None),
+    };
+    let routines = match bytes_behind(alloc, procedures, start)? {
+        Some(routines) => routines,
+        None => return Ok(None),
+    };
+    let mut frames = Vec::from_elem(alloc, 0, methods)?;
+    match note_before(alloc, procedures, start, &mut frames)? {
+        Some(unpushed) => Ok(frames_with(frames, below, larger(routines, unpushed))),
+        None => Ok(None),
+    }
+}
+
+// Frames with so many bytes below and above them.
+fn frames_with(frames: Vec<u32>, below: u32, above: u32) -> Option<Frames>
+    ensures { IfSome result (λ f. (f.by_method ≡ frames.items) × (f.beside ≡ below + above)) }
+{
+    let beside = below.checked_add(above)?;
+    Some(Frames {
+        by_method: Row::from_vec(frames),
+        beside,
+    })
+}
+
+fn larger(first: u32, second: u32) -> u32
+    ensures { result ≡ max first second }
+{
+    if first < second { second } else { first }
+}
+
+// What the procedure takes with which a run begins, with the four bytes of its idling: at most eight.
+fn start_bytes(alloc: Global, first: &LinProc, start: u16) -> Result<Option<u32>, NoMemory>
+    ensures start { IfOk result (λ bytes. IfSome bytes (λ below. IsStartWithin start below first.now)) }
+    ensures few { IfOk result (λ bytes. IfSome bytes (λ below. below ≤ 8)) }
+{
+    if first.method().is_some()
+        || !begins_with_call(first.code())
+        || !are_of_start(first.code(), start)
+    {
+        return Ok(None);
+    }
+    match size_of(alloc, first)? {
+        Some(size) => Ok(at_most_eight(sum(size.bytes, size.unpushed, 4))),
+        None => Ok(None),
+    }
+}
+
+fn at_most_eight(bytes: Option<u32>) -> Option<u32>
+    ensures { IfSome result (λ few. (bytes ≡ Some few) × (few ≤ 8)) }
+{
+    match bytes {
+        Some(few) => { if few <= 8 { Some(few) } else { None } }
+        None => None,
+    }
+}
+
+// The sum, where it fits into 32 bits.
+fn sum(first: u32, second: u32, third: u32) -> Option<u32>
+    ensures { IfSome result (λ sum. sum ≡ first + second + third) }
+{
+    let sum = first.checked_add(second)?;
+    sum.checked_add(third)
+}
+
+// The most that one of the routines takes, which stand behind the procedure with which a run begins.
+fn bytes_behind(alloc: Global, procedures: &[LinProc], start: u16) -> Result<Option<u32>, NoMemory>
+    requires { start < length procedures.now }
+    ensures { IfOk result (λ bytes. IfSome bytes (λ above. AllByRecursion (IsRoutineWithin above) (drop (start + 1) procedures.now))) }
+{
+    let behind = usize::from(start) + 1;
+    routine_bytes(alloc, &procedures[behind..])
+}
+
+// The most that one of these routines takes.
+fn routine_bytes(alloc: Global, routines: &[LinProc]) -> Result<Option<u32>, NoMemory>
+    ensures { IfOk result (λ bytes. IfSome bytes (λ above. AllByRecursion (IsRoutineWithin above) routines.now)) }
+{
+    let mut most = 0;
+    for routine in routines {
+        match bytes_of_routine(alloc, routine)? {
+            Some(bytes) => most = larger(most, bytes),
+            None => return Ok(None),
+        }
+    }
+    Ok(Some(most))
+}
+
+fn bytes_of_routine(alloc: Global, routine: &LinProc) -> Result<Option<u32>, NoMemory>
+    ensures { IfOk result (λ bytes. IfSome bytes (λ above. IsRoutineWithin above routine.now)) }
+{
+    if routine.method().is_some() || !are_of_routine(routine.code()) {
+        return Ok(None);
+    }
+    match size_of(alloc, routine)? {
+        Some(size) => Ok(sum(size.bytes, size.unpushed, 0)),
+        None => Ok(None),
+    }
+}
+
+// Notes what the methods take that stand before the procedure with which a run begins.
+fn note_before(
+    alloc: Global,
+    procedures: &[LinProc],
+    start: u16,
+    frames: &mut Vec<u32>,
+) -> Result<Option<u32>, NoMemory>
+    requires { start < length procedures.now }
+    ensures { IfOk result (λ unpushed. IfSome unpushed (λ above. AllByRecursion (IsMethodWithin start frames.new.items above) (take start procedures.now))) }
+{
+    let end = usize::from(start);
+    note_methods(alloc, &procedures[..end], start, frames)
+}
+
+// Notes what these methods take by their numbers. It answers the most bytes that callers pass them and do not push.
+fn note_methods(
+    alloc: Global,
+    methods: &[LinProc],
+    start: u16,
+    frames: &mut Vec<u32>,
+) -> Result<Option<u32>, NoMemory>
+    ensures { IfOk result (λ unpushed. IfSome unpushed (λ above. AllByRecursion (IsMethodWithin start frames.new.items above) methods.now)) }
+{
+    let mut most = 0;
+    for method in methods {
+        match note_method(alloc, method, start, frames)? {
+            Some(unpushed) => most = larger(most, unpushed),
+            None => return Ok(None),
+        }
+    }
+    Ok(Some(most))
+}
+
+fn note_method(
+    alloc: Global,
+    procedure: &LinProc,
+    start: u16,
+    frames: &mut Vec<u32>,
+) -> Result<Option<u32>, NoMemory>
+    ensures grows { AreAtLeast frames.old.items frames.new.items }
+    ensures within { IfOk result (λ unpushed. IfSome unpushed (λ above. IsMethodWithin start frames.new.items above procedure.now)) }
+{
+    match procedure.method() {
+        Some(method) => {
+            if !are_of_method(procedure.code(), start) {
+                return Ok(None);
+            }
+            match size_of(alloc, procedure)? {
+                Some(size) => {
+                    if note(frames, method, size.bytes) {
+                        Ok(Some(size.unpushed))
+                    } else {
+                        Ok(None)
+                    }
+                }
+                None => Ok(None),
+            }
+        }
+        None => Ok(None),
+    }
+}
+
+// Notes that a method takes so many bytes, where it has a place.
+#[tactic(auto, using(crate::proofs::Counted::cost_at, crate::proofs::Grown::set_at, crate::proofs::Grown::grown, crate::proofs::Grown::same_frames))]
+fn note(frames: &mut Vec<u32>, method: u16, bytes: u32) -> bool
+    ensures grows { AreAtLeast frames.old.items frames.new.items }
+    ensures noted { IsTrue result → bytes ≤ cost_of frames.new.items method }
+{
+    let at = usize::from(method);
+    if at >= frames.len() {
+        return false;
+    }
+    if frames[at] < bytes {
+        frames[at] = bytes;
+    }
+    true
+}

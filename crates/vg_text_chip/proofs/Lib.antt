@@ -1,0 +1,4 @@
+mod Shapes
+mod Walks
+mod Registers
+pub mod Named
