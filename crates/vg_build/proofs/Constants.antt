@@ -1,8 +1,7 @@
 -- A program of constants makes nothing, has one live method and no other live member, and needs no bytes.
-use Rattle.std.specs.Prelude.{ℕ, ◌+◌, ◌&&◌, Bool, true, false, List, [], ◌∷◌, Option, Some, None, if◌then◌else◌, bytes_eq}
+use Rattle.std.specs.Prelude.{ℕ, ◌+◌, ◌&&◌, Bool, true, false, List, [], ◌∷◌, Some, None, if◌then◌else◌, bytes_eq}
 use Rattle.std.proofs.Common.{◌≡◌, inl, arith, zero, suc, refl, sym, ap, ◌∙◌, subst, slice_get, codes}
 use Rattle.std.proofs.lemmas.Slice.Eq.{bytes_eq-Decides}
-use Rattle.vg_syntax.specs.Reads.{Reads}
 use Rattle.vg_syntax.specs.Tree.{Spot, Node}
 use Rattle.vg_syntax.specs.Tree as tree
 use Rattle.vg_source.specs.Names.{Name}
@@ -17,10 +16,10 @@ use Rattle.vg_source.specs.Session.{Started, started}
 use Rattle.vg_live_source.specs.Uses.{steps_in, steps_of, uses, component_method}
 use Rattle.vg_live_source.specs.Members.{Member, Place, OfComponent, OfObject, OfArray, value_at}
 use Rattle.vg_live_source.specs.Members as member
-use Rattle.vg_live_source.specs.Rules.{Closed, InSet, Live, Rule}
+use Rattle.vg_live_source.specs.Rules.{Closed, Live}
 use Rattle.vg_live_source.specs.Rules as rules
 use Rattle.vg_live_source.specs.Least.{least}
-use Rattle.vg_live_source.specs.Making.{MakesNothing, least_made, made_in}
+use Rattle.vg_live_source.specs.Making.{least_made, made_in}
 use Rattle.vg_first_text.specs.declared.device_write.DeviceWrite.{DeviceWrite}
 use Rattle.vg_first_text.specs.FirstText.{First, FirstFits, IsFirst, writes_of}
 use Rattle.vg_first_laws.specs.Trees.{assignment_row, empty_heap, first_declarations, first_tree}

@@ -1,6 +1,7 @@
 -- What an answer says of the bytes: which texts are refused, and which are built.
-use Rattle.std.proofs.Common.{◌≡◌, ℕ, zero, suc, ◌+◌, ◌<◌, ◌≤◌, ◌⊎◌, ◌↔◌, List, Option, Some, None, Result, Ok, Err, refl, sym, ap, ◌∙◌, subst, inl, inr, arith}
+use Rattle.std.proofs.Common.{◌≡◌, ℕ, zero, suc, ◌+◌, ◌<◌, ◌≤◌, ◌⊎◌, ◌↔◌, List, length, Option, Some, None, Result, Ok, Err, refl, sym, ap, ◌∙◌, subst, inl, inr, arith}
 use Rattle.std.specs.Prelude.{IfSome, IsOk}
+use Rattle.vg_base.specs.Limits.{text_limit}
 use Rattle.vg_base.specs.declared.place.Place.{Place}
 use Rattle.vg_base.specs.declared.refusal.Refusal.{Refusal}
 use Rattle.vg_base.specs.declared.refusal.Refusal.TheVariants as refusal
@@ -10,9 +11,7 @@ use Rattle.vg_source.specs.Values.{Heap}
 use Rattle.vg_source.specs.Program.{source_of}
 use Rattle.vg_source.specs.Session.{Started, started}
 use Rattle.vg_first_text.specs.declared.device_write.DeviceWrite.{DeviceWrite}
-use Rattle.vg_first_text.specs.FirstSession.{first_session}
 use Rattle.vg_first_text.specs.FirstText.{IsFirst}
-use Rattle.avr_isa.specs.Agrees.{Agrees, NeverReaches}
 use Rattle.vg_texts.proofs.Values.{some_tree}
 use Rattle.vg_first_laws.specs.Trees.{empty_heap}
 use Rattle.vg_first_laws.proofs.Texts.{first_is_text}
@@ -27,15 +26,17 @@ use Rattle.vg_faults.specs.Starting.{FailsIn}
 use Rattle.vg_faults.proofs.Room.{is_room_fault, no_room_fault, one_room_fault}
 use Rattle.vg_fits.specs.declared.fitting.Fitted.{Fitted}
 use Rattle.vg_fits.specs.Answer.{IsFittedOf, Fits}
-use Rattle.vg_build.specs.Image.{IsBuiltOf}
+use Rattle.vg_layout.specs.declared.layout.Bound.TheVariants.{Bytes}
+use Rattle.vg_text_image.proofs.Texts.{deep_calls}
+use Rattle.vg_build.specs.Image.{IsBuiltOf, SaysOfCalls}
 use Rattle.vg_build.specs.declared.building.Built.{Built}
 use Rattle.vg_build.specs.Answer.{Answer, Answers, HasFault, IsCause, IsNoFirst, IsNotBuilt, IsOverStack, IsSettled, fault_in, first_place}
 use Rattle.vg_build.specs.Mirrors.{CompiledBy, FlashBy, Lays, WrittenBy}
 use Rattle.vg_build.specs.Stated.{stated}
 use Rattle.vg_build.specs.declared.flash.Flash.{Flash}
 use Rattle.vg_build.specs.declared.room.Room.{Room}
-use Rattle.vg_build.proofs.Rooms.{over_of, room_of}
-use Rattle.vg_build.proofs.Constants.{fitting_of, static_of}
+use Rattle.vg_build.proofs.Rooms.{heap_of, over_of, room_of, text_of}
+use Rattle.vg_build.proofs.Constants.{calls_of, fitting_of, static_of}
 
 same_fault : (a b : Fault) → Some a ≡ Some b → a ≡ b
 same_fault a b e = cc
@@ -275,7 +276,7 @@ pub fits_by : (bytes : List ℕ) (asked : Option ℕ) (clock : ℕ) (why : Refus
 fits_by bytes asked clock (refusal.Fault why) h = has_fault why bytes asked clock (is_room_fault why bytes asked clock h)
 fits_by bytes asked clock refusal.NoMemory h = tt
 
-module _ (bytes : List ℕ) (asked : Option ℕ) (clock : ℕ) (f : Fitted) (is : IsFittedOf bytes clock f) (room : Room)
+module _ (bytes : List ℕ) (asked : Option ℕ) (clock : ℕ) (f : Fitted) (is : IsFittedOf bytes clock f) (short : length bytes ≤ text_limit) (room : Room)
     (lays : Lays f.placed.columns.static_bytes asked (Ok room)) where
   abbrev stack : ℕ
   stack = room.stack
@@ -286,17 +287,24 @@ module _ (bytes : List ℕ) (asked : Option ℕ) (clock : ℕ) (f : Fitted) (is 
   has_room : HasRoomIn bytes asked clock
   has_room = room_of bytes clock f is asked lays.0
 
-  over : (need left : ℕ) → left ≡ stack → left < need → ((writes : List DeviceWrite) → IsFirst bytes writes → need ≡ 4)
+  over : (need left : ℕ) → left ≡ stack → left < need → SaysOfCalls (text_of f) (heap_of f) (Bytes need) → ((writes : List DeviceWrite) → IsFirst bytes writes → need ≡ 4)
       → HasFault (StackFull need left) bytes asked clock
-  over need left same more few = inr (over_of bytes clock f is asked lays.0 need left (same ∙ stack_is) more few)
+  over need left same more calls few = inr (over_of bytes clock f is asked lays.0 need left (same ∙ stack_is) more calls few)
+
+  four_calls : (writes : List DeviceWrite) → IsFirst bytes writes → (need : ℕ) → need ≡ 4 → SaysOfCalls (text_of f) (heap_of f) (Bytes need)
+  four_calls writes first need four =
+      subst (λ z. SaysOfCalls (text_of f) (heap_of f) (Bytes z)) (sym four)
+      (calls_of bytes clock writes (text_of f) (heap_of f) is.fitting.firm.legal is.fitting.firm.starts first)
 
   pub flash_by : (why : Refusal Fault) → FlashBy bytes f stack (Err why) → IsCause why bytes asked clock
   flash_by (refusal.Fault (NotBuilt place)) (inl (writes, first, h)) = absurd h
   flash_by (refusal.Fault (NotBuilt place)) (inr (none, h)) = ((has_room, none), h)
   flash_by (refusal.Fault (CodeFull words)) (inl (writes, first, h)) = absurd h
   flash_by (refusal.Fault (CodeFull words)) (inr (none, h)) = ((has_room, none), h)
-  flash_by (refusal.Fault (StackFull need left)) (inl (writes, first, (four, same, more))) = over need left same more (λ ws fst. four)
-  flash_by (refusal.Fault (StackFull need left)) (inr (none, (same, more))) = over need left same more (λ ws fst. absurd (none ws fst))
+  flash_by (refusal.Fault (StackFull need left)) (inl (writes, first, (four, same, more))) =
+      over need left same more (four_calls writes first need four) (λ ws fst. four)
+  flash_by (refusal.Fault (StackFull need left)) (inr (none, (same, more, needs))) =
+      over need left same more (deep_calls bytes clock f is short need needs) (λ ws fst. absurd (none ws fst))
   flash_by refusal.NoMemory h = tt
   flash_by (refusal.Fault (NoTree p)) (inl (writes, first, h)) = absurd h
   flash_by (refusal.Fault (NoTree p)) (inr (none, h)) = absurd h

@@ -1,5 +1,5 @@
 -- The flash of a text, with its layout and its texts, is built of it.
-use Rattle.std.proofs.Common.{◌≡◌, ℕ, zero, suc, ◌+◌, ◌-◌, ◌<◌, ◌≤◌, ◌⊎◌, inl, inr, List, length, map, Option, Some, None, Ok, Err, refl, sym, ap, ◌∙◌, subst, arith}
+use Rattle.std.proofs.Common.{◌≡◌, ℕ, zero, suc, ◌+◌, ◌-◌, ◌<◌, ◌≤◌, ◌⊎◌, inl, inr, List, length, map, Option, Some, None, Ok, refl, sym, ap, ◌∙◌, subst, arith}
 use Rattle.vg_base.specs.Limits.{text_limit}
 use Rattle.vg_syntax.specs.Tree.{Node}
 use Rattle.vg_source.specs.Values.{Heap}
@@ -7,7 +7,6 @@ use Rattle.vg_source.specs.Peak.{sessions}
 use Rattle.vg_first_text.specs.declared.device_write.DeviceWrite.{DeviceWrite}
 use Rattle.vg_first_text.specs.FirstSession.{first_session}
 use Rattle.vg_first_text.specs.FirstText.{IsFirst}
-use Rattle.vg_first_laws.specs.Trees.{empty_heap}
 use Rattle.vg_first_laws.proofs.Means.{text_sessions}
 use Rattle.avr_isa.specs.Agrees.{Agrees, NeverReaches}
 use Rattle.vg_text_image.specs.Made.{KeepsMemory}
@@ -25,7 +24,7 @@ use Rattle.vg_written.specs.Written.{parts_of}
 use Rattle.vg_fits.specs.declared.fitting.Fitted.{Fitted}
 use Rattle.vg_fits.specs.Answer.{IsFittedOf}
 use Rattle.vg_text_image.specs.declared.making.TextImage.{TextImage}
-use Rattle.vg_text_image.specs.Made.{BoundsCallsOf, DoesText, IsCompiledOf}
+use Rattle.vg_text_image.specs.Made.{BoundsCallsOf, DoesText}
 use Rattle.vg_text_image.proofs.Texts.{does_text}
 use Rattle.vg_build.specs.declared.building.Built.{Built}
 use Rattle.vg_build.specs.declared.flash.Flash.{Flash}

@@ -7,7 +7,9 @@ use Rattle.vg_tree_walks.specs.Whole.{tree_at}
 use Rattle.vg_faults.specs.Room.{HasRoomIn, HasStack, LacksStack, StackFullIn}
 use Rattle.vg_first_text.specs.declared.device_write.DeviceWrite.{DeviceWrite}
 use Rattle.vg_first_text.specs.FirstText.{IsFirst}
+use Rattle.vg_layout.specs.declared.layout.Bound.TheVariants.{Bytes}
 use Rattle.vg_build.specs.Answer.{IsOverStack}
+use Rattle.vg_build.specs.Image.{SaysOfCalls}
 use Rattle.vg_build.specs.Stated.{stated}
 use Rattle.vg_fits.specs.Answer.{named_start_heap}
 use Rattle.vg_fits.specs.declared.fitting.Fitted.{Fitted}
@@ -51,8 +53,9 @@ module _ (bytes : List ℕ) (clock : ℕ) (f : Fitted) (is : IsFittedOf bytes cl
       }
 
   pub over_of : (asked : Option ℕ) → HasStack asked f.placed.columns.static_bytes → (need left : ℕ) → left ≡ stated asked f.placed.columns.static_bytes
-      → left < need → ((writes : List DeviceWrite) → IsFirst bytes writes → need ≡ 4) → IsOverStack bytes asked clock need left
-  over_of asked room need left left_is more few =
+      → left < need → SaysOfCalls (text_of f) (heap_of f) (Bytes need) → ((writes : List DeviceWrite) → IsFirst bytes writes → need ≡ 4)
+      → IsOverStack bytes asked clock need left
+  over_of asked room need left left_is more calls few =
       record {
         tree = text_of f;
         heap = heap_of f;
@@ -62,5 +65,6 @@ module _ (bytes : List ℕ) (clock : ℕ) (f : Fitted) (is : IsFittedOf bytes cl
         room = room;
         left_is = left_is;
         more = more;
+        calls = calls;
         few = few;
       }

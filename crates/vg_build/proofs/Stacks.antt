@@ -5,7 +5,6 @@ use Rattle.std.proofs.lemmas.List.{append-nil, append_assoc}
 use Rattle.vg_meaning.specs.declared.event.Event.{Event}
 use Rattle.vg_meaning.specs.declared.event.Event.TheVariants.{Read, Write, Enter}
 use Rattle.vg_meaning.specs.Ending.{Ending, Idle, Stop, Wants, Beyond, Deep}
-use Rattle.vg_meaning.specs.Outside.{AreReads, AreVectors}
 use Rattle.vg_meaning.specs.Seen.{Seen}
 use Rattle.avr_instr.specs.declared.instr.Instr.{Instr}
 use Rattle.avr_isa.specs.declared.effect.Effect.{Effect}
@@ -13,9 +12,8 @@ use Rattle.avr_isa.specs.declared.effect.Effect.TheVariants.{Next, ReadDevice, W
 use Rattle.avr_isa.specs.declared.ending.MachineEnd.{MachineEnd}
 use Rattle.avr_isa.specs.Access.{can_push_two}
 use Rattle.avr_isa.specs.Agrees.{Agrees, Follows, FollowsSeen, IsAt, ReachesFloor}
-use Rattle.avr_isa.specs.Cpu.{PowerOn, IsPowerOn}
 use Rattle.avr_isa.specs.Effect.{change}
-use Rattle.avr_isa.specs.Machine.{State, answered, woken, done, performed, word_here, instr_here, next_by, next_state, run_from, machine, started}
+use Rattle.avr_isa.specs.Machine.{State, answered, woken, done, performed, word_here, instr_here, next_by, next_state, run_from, started}
 use Rattle.avr_isa.specs.Stack.{lowest_behind}
 use Rattle.avr_isa.proofs.Runs.{run-longer}
 

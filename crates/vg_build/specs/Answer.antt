@@ -14,7 +14,8 @@ use Rattle.vg_source.specs.Values.{Heap}
 use Rattle.vg_static_source.specs.Sums.{IsStatic}
 use Rattle.vg_build.specs.Stated.{stated}
 use Rattle.vg_build.specs.declared.building.Built.{Built}
-use Rattle.vg_build.specs.Image.{IsBuiltOf}
+use Rattle.vg_layout.specs.declared.layout.Bound.TheVariants.{Bytes}
+use Rattle.vg_build.specs.Image.{IsBuiltOf, SaysOfCalls}
 
 -- an image with its texts, or why there is none
 abbrev pub Answer : Type 0
@@ -45,8 +46,9 @@ IsNotBuilt bytes asked clock = HasRoomIn bytes asked clock × IsNoFirst bytes
 abbrev pub first_place : Place
 first_place = record { line = 1; col = 1 }
 
--- The bytes are a legal text that starts with this clock, whose live methods make nothing, which fits and whose stack has room; its calls may need so many bytes
--- of stack, which are more than are stated. A program of constants needs four.
+-- The bytes are a legal text that starts with this clock, whose live methods make nothing, which fits and whose stack has room. No cycle of its calls is reached,
+-- and these need so many bytes, which are more than are stated, and at most four more than the methods of some way of calls cost. A program of constants needs
+-- four.
 pub record IsOverStack (bytes : List ℕ) (asked : Option ℕ) (clock need left : ℕ) : Type 0 where
   pub tree : Node
   pub heap : Heap
@@ -56,6 +58,7 @@ pub record IsOverStack (bytes : List ℕ) (asked : Option ℕ) (clock need left 
   pub room : HasStack asked static_bytes
   pub left_is : left ≡ stated asked static_bytes
   pub more : left < need
+  pub calls : SaysOfCalls tree heap (Bytes need)
   pub few : (writes : List DeviceWrite) → IsFirst bytes writes → need ≡ 4
 
 -- the bytes have this fault, where this stack is asked for, or none, and initialisation has this clock; what is not built stands at the first place, and code

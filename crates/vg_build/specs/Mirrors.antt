@@ -21,7 +21,7 @@ use Rattle.vg_faults.specs.Room.{HasStack, LacksStack}
 use Rattle.vg_fits.specs.declared.fitting.Fitted.{Fitted}
 use Rattle.vg_inventory.specs.Names.{method_name}
 use Rattle.vg_text_image.specs.declared.making.TextImage.{TextImage}
-use Rattle.vg_text_image.specs.Made.{IsCompiledOf}
+use Rattle.vg_text_image.specs.Made.{IsCompiledOf, NeedsOf}
 use Rattle.vg_build.specs.declared.building.Built.{Built}
 use Rattle.vg_build.specs.declared.flash.Flash.{Flash}
 use Rattle.vg_build.specs.declared.room.NoRoom.{NoRoom}
@@ -64,7 +64,7 @@ pub record IsFlashOf (i : TextImage) (flash : Flash) : Type 0 where
 abbrev pub CompiledBy : Fitted → (stack : ℕ) → Result Flash (Refusal Fault) → Type 0
 CompiledBy f stack (Ok flash) = (i : TextImage) × IsCompiledOf f i × IsFlashOf i flash × IsFew stack i.bound
 CompiledBy f stack (Err (refusal.Fault (CodeFull words))) = 65536 ≤ words
-CompiledBy f stack (Err (refusal.Fault (StackFull need left))) = (left ≡ stack) × (left < need)
+CompiledBy f stack (Err (refusal.Fault (StackFull need left))) = (left ≡ stack) × (left < need) × NeedsOf f need
 CompiledBy f stack (Err (refusal.Fault (NotBuilt place))) = place ≡ first_place
 CompiledBy f stack (Err (refusal.Fault why)) = ⊥
 CompiledBy f stack (Err refusal.NoMemory) = Unit {0}

@@ -30,7 +30,6 @@ use vg_inventory::{count_methods, count_objects};
 use vg_layout::{Layout, layout_text};
 
 /// What is built of a source text.
-#[derive(Drop)]
 pub struct Built {
     /// The bytes of the flash.
     pub image: Image,
@@ -43,6 +42,37 @@ pub struct Built {
     pub objects: u32,
     /// How many methods are live.
     pub methods: u32,
+}
+
+impl Drop for Built {
+    // By hand: a function that may drop one calls this, where it would have a copy of a derived one.
+    fn drop(self) {
+        let Built {
+            image: _,
+            layout: _,
+            hex: _,
+            note: _,
+            objects: _,
+            methods: _,
+        } = self;
+    }
+}
+
+impl Built {
+    /// The HEX text alone.
+    pub fn into_hex(self) -> Row<u8>
+        ensures { result ≡ self.hex }
+    {
+        let Built {
+            image: _,
+            layout: _,
+            hex,
+            note: _,
+            objects: _,
+            methods: _,
+        } = self;
+        hex
+    }
 }
 
 /// Builds the image of a source text of at most 262,144 bytes. Its stack has the bytes that are asked for, from 1 to 4,096 of them; where none are, it has

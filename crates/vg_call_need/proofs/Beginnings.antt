@@ -9,7 +9,7 @@ use Rattle.vg_packed.specs.declared.program.FirmProgram.{FirmProgram}
 use Rattle.vg_bound.specs.declared.root.Root.{Root}
 use Rattle.vg_calls_packed.specs.Ways.{IsEntry}
 use Rattle.vg_call_need.specs.Graph.{entries_of, handlers_of, one_or_none, root}
-use Rattle.vg_call_need.proofs.Edges.{among_first, among_more, false_true, is_same, same_number}
+use Rattle.vg_call_need.proofs.Edges.{among_first, among_more, false_true, same_number}
 
 handler_told : (all es : List Entrance) (q : ℕ) → is_among (handlers_of all es) q ≡ true → (v : ℕ) × (handler_in all v ≡ Some q)
 handler_told all [] q e = absurd (false_true e)

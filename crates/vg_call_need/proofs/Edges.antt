@@ -1,12 +1,12 @@
 -- The edges of the call graph of a packed program are what its procedures name, of those that are there.
-use Rattle.std.specs.Prelude.{ℕ, zero, suc, ◌+◌, ◌<◌, ◌≤◌, Bool, true, false, ◌==◌, nat_lt, List, [], ◌∷◌, ◌++◌, length, map, get_or, Option, Some, None, slice_get, if◌then◌else◌}
-use Rattle.std.proofs.Common.{◌≡◌, inl, inr, refl, sym, ap, ◌∙◌, subst, arith}
+use Rattle.std.specs.Prelude.{ℕ, zero, suc, ◌+◌, ◌<◌, ◌≤◌, Bool, true, false, ◌==◌, nat_lt, List, [], ◌∷◌, ◌++◌, length, get_or, Option, Some, None, slice_get, if◌then◌else◌}
+use Rattle.std.proofs.Common.{◌≡◌, refl, sym, ap, ◌∙◌, subst, arith}
 use Rattle.std.proofs.lemmas.Option.{same_Some, none-some, slice_get_within}
 use Rattle.vg_firm.specs.declared.procedure.Procedure.{Procedure as Held}
 use Rattle.vg_firm.specs.Session.{is_among}
 use Rattle.vg_bound.specs.Graph.{HasEdge, cost}
 use Rattle.vg_calls_packed.specs.Ways.{Calls, CallsAs, cost_at, way_cost}
-use Rattle.vg_call_need.specs.Graph.{below, frames_of, kept, named}
+use Rattle.vg_call_need.specs.Graph.{below, frames_of, named}
 
 pub same_number : (a b : ℕ) → (a == b) ≡ true → a ≡ b
 same_number a b e = grind arith

@@ -3,4 +3,3 @@ pub mod Beginnings
 pub mod Needs
 pub mod Calls
 pub mod Making
-pub mod Few

@@ -1,7 +1,6 @@
 -- The largest sum of the call graph of a packed program, or its cycle, is what its calls need.
 use Rattle.std.specs.Prelude.{ℕ, zero, suc, ◌+◌, ◌<◌, ◌≤◌, true, List, [], ◌∷◌, ◌++◌, length, map, Some, slice_get}
 use Rattle.std.proofs.Common.{◌≡◌, ◌⊎◌, inl, inr, refl, sym, ap, ◌∙◌, subst, arith}
-use Rattle.std.proofs.lemmas.List.{length-map}
 use Rattle.std.proofs.lemmas.Option.{same_Some, none-some, slice_get_within}
 use Rattle.vg_meaning.specs.History.{Active}
 use Rattle.vg_codes.specs.Codes.{Codes}
@@ -14,11 +13,11 @@ use Rattle.vg_packed.specs.Programs.{program_of}
 use Rattle.vg_packed.specs.declared.program.FirmProgram.{FirmProgram}
 use Rattle.vg_walks.specs.Walks.{IsCallOf, LiesOn}
 use Rattle.vg_bound.specs.declared.root.Root.{Root}
-use Rattle.vg_bound.specs.Graph.{Graph, HasEdge, IsPath, cost, last_of, Reaches, here, on, IsRoot, HasCycle, IsLargest, IsKeptCycle, IsBound, IsSameGraph}
+use Rattle.vg_bound.specs.Graph.{Graph, HasEdge, IsPath, cost, last_of, Reaches, here, on, IsRoot, HasCycle, IsLargest, IsKeptCycle, IsSameGraph}
 use Rattle.vg_calls_source.specs.Graphs.{LeadsTo}
 use Rattle.vg_calls_packed.specs.Enough.{IsEnough}
 use Rattle.vg_calls_packed.specs.Ways.{Calls, HasNoCycle, IsCycleIn, IsEntry, IsSpent, IsWayTo, cost_at, cost_in, way_cost}
-use Rattle.vg_call_need.specs.Graph.{below, calls_of, entries_of, frames_of, graph_of, root}
+use Rattle.vg_call_need.specs.Graph.{below, entries_of, graph_of, root}
 use Rattle.vg_call_need.specs.Need.{IsNeed}
 use Rattle.vg_call_need.specs.declared.need.Need.TheVariants as need
 use Rattle.vg_call_need.proofs.Edges.{below_of, calls_within, edge_of, edge_told, path_cost, some_calls}

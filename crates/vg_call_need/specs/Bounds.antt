@@ -3,7 +3,6 @@ use Rattle.std.specs.Prelude.{ℕ, ◌≡◌, ◌+◌, ◌≤◌, List, map}
 use Rattle.vg_source.specs.Peak.{cost_of}
 use Rattle.vg_core.specs.declared.heap.Heap.{Heap}
 use Rattle.vg_core.specs.Program.{Program}
-use Rattle.vg_firm.specs.declared.procedure.Procedure.{Procedure}
 use Rattle.vg_layout.specs.declared.stack_bound.StackBound.{StackBound}
 use Rattle.vg_layout.specs.declared.stack_bound.StackBound.TheVariants.{Bytes, Cycle}
 use Rattle.vg_packed.specs.declared.program.FirmProgram.{FirmProgram}

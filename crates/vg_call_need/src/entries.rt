@@ -1,7 +1,7 @@
 // The procedures at which calls begin.
 ghost use Rattle.std.specs.Prelude.{◌≡◌, ◌++◌, IfOk, OnOk};
 ghost use Rattle.vg_packed.specs.Programs.{handler_in};
-ghost use Rattle.vg_call_need.specs.Graph.{below, entries_of, handlers_of, kept, one_or_none};
+ghost use Rattle.vg_call_need.specs.Graph.{below, entries_of, kept, one_or_none};
 
 use std::alloc::Global;
 use vg_base::{NoMemory, Row};

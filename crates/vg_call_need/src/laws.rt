@@ -1,5 +1,5 @@
-// The laws of needs.
-ghost use Rattle.std.specs.Prelude.{ℕ, ◌≤◌, List, length};
+// The law of needs.
+ghost use Rattle.std.specs.Prelude.{ℕ, ◌≤◌, List};
 ghost use Rattle.vg_core.specs.declared.heap.Heap.{Heap};
 ghost use Rattle.vg_core.specs.Program.{Program};
 ghost use Rattle.vg_layout.specs.declared.stack_bound.StackBound.{StackBound};
@@ -26,10 +26,4 @@ pub fn needs_bound_calls()
     ensures bytes { (p : Program) (h : Heap) (s : LiveSet) (n : Numbers) (c : Columns) (f : FirmProgram) → IsGiven p h s n c → IsReady p h
         → IsPackedFrom p h s n c f → (extra : ℕ) (frames costs : List ℕ) (need total : ℕ) → 4 ≤ need → need ≤ total
         → IsNeedWithin extra f frames costs (needs.Bytes total) → BoundsCalls costs p h (bounds.Bytes need) }
-{}
-
-/// A law of packed programs. They have so few procedures that `stack_need` takes them. The body is empty: its contract is a law of the definitions.
-pub fn packed_programs_have_few_procedures()
-    ensures { (p : Program) (h : Heap) (s : LiveSet) (n : Numbers) (c : Columns) (f : FirmProgram) → IsGiven p h s n c → IsPackedFrom p h s n c f
-        → length f.procedures ≤ 65536 }
 {}

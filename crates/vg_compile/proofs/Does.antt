@@ -21,7 +21,7 @@ use Rattle.vg_call_need.proofs.Calls.{bounds_bytes, bounds_calls}
 use Rattle.vg_call_need.specs.Within.{IsNeedWithin}
 use Rattle.vg_compile.specs.Bounds.{HoldsBound}
 use Rattle.vg_compile.specs.Compile.{CallsNeedAsSaid, IsImageOf, NeedsAsSaid}
-use Rattle.vg_compile.specs.declared.no_image.NoImage.TheVariants.{NotLinear, Costly, Deep, Unfit, Full}
+use Rattle.vg_compile.specs.declared.no_image.NoImage.TheVariants.{NotLinear, Received, Costly, Deep, Full}
 use Rattle.vg_compile.specs.declared.no_image.NoImage.{NoImage}
 use Rattle.vg_base.specs.declared.refusal.Refusal.{Refusal}
 use Rattle.vg_base.specs.declared.refusal.Refusal.TheVariants.{Fault as Faulty, NoMemory}
@@ -85,7 +85,7 @@ pub refused_calls : (p : Program) (h : Heap) (s : LiveSet) (n : Numbers) (c : Co
 refused_calls p h s n c f costs given from (Faulty (Deep need)) (four, (extra, frames, total, most, is)) ready =
     bounds_bytes p h s n c f given ready from extra frames costs need total four most is
 refused_calls p h s n c f costs given from (Faulty (NotLinear fault)) is ready = tt
+refused_calls p h s n c f costs given from (Faulty Received) is ready = tt
 refused_calls p h s n c f costs given from (Faulty Costly) is ready = tt
-refused_calls p h s n c f costs given from (Faulty Unfit) is ready = tt
 refused_calls p h s n c f costs given from (Faulty (Full full)) is ready = tt
 refused_calls p h s n c f costs given from NoMemory is ready = tt

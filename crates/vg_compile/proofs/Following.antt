@@ -1,26 +1,19 @@
 -- The image of a program does what the program does.
-use Rattle.std.proofs.Common.{◌≡◌, refl, sym, ap, subst, ◌∙◌, arith, ℕ, zero, suc, ◌+◌, ◌<◌, ◌≤◌, true, List, [], ◌∷◌, ◌++◌, length, map, take, Option, Some, None, slice_get}
-use Rattle.std.proofs.lemmas.List.{length-map, length-append}
+use Rattle.std.proofs.Common.{◌≡◌, refl, sym, ap, subst, ◌∙◌, arith, ℕ, ◌+◌, ◌<◌, ◌≤◌, true, List, [], ◌∷◌, ◌++◌, length, map, take, Option, Some, None, slice_get}
+use Rattle.std.proofs.lemmas.List.{length-map}
 use Rattle.std.proofs.lemmas.Option.{same_Some, none-some}
-use Rattle.avr_isa.specs.Cpu.{PowerOn, IsPowerOn}
 use Rattle.avr_view.specs.Run.{Run}
 use Rattle.vg_codes.specs.Codes.{Codes, AreCodes}
 use Rattle.vg_meaning.specs.Answer.{Answer, End, Over, Gives, Ends}
-use Rattle.vg_meaning.specs.History.{full, no_history, History}
-use Rattle.vg_meaning.specs.Outside.{AreReads, AreVectors}
+use Rattle.vg_meaning.specs.History.{full, no_history}
 use Rattle.vg_meaning.specs.Safe.{Alike}
 use Rattle.vg_meaning.specs.World.{World}
 use Rattle.vg_core.specs.declared.heap.Heap.{Heap}
-use Rattle.vg_core.specs.Heap.{Kind}
 use Rattle.vg_core.specs.Program.{Program}
 use Rattle.vg_core.specs.Session.{handler_of, running}
-use Rattle.vg_core.specs.State.{State}
-use Rattle.vg_firm.specs.declared.step.ArrayPlace.{ArrayPlace}
 use Rattle.vg_firm.specs.Held.{procedure_of}
-use Rattle.vg_firm.specs.Meaning.{State as FirmState}
 use Rattle.vg_firm.specs.Session as firm
 use Rattle.vg_source.specs.Session.{running_world}
-use Rattle.vg_lin.specs.Follows.{IsLegal}
 use Rattle.vg_lin.specs.Program.{Procedure as LinProcedure, Program as LinProgram}
 use Rattle.vg_live.specs.declared.live_set.LiveSet.{LiveSet}
 use Rattle.vg_number.specs.declared.numbers.Numbers.{Numbers}
@@ -30,7 +23,6 @@ use Rattle.vg_packing.specs.Layout.{Layout}
 use Rattle.vg_place.specs.declared.placing.Columns.{Columns}
 use Rattle.vg_placement.specs.Needs.{needs}
 use Rattle.vg_packed.proofs.Whole.{is_laid}
-use Rattle.vg_tables.specs.declared.datum.Datum.{Datum}
 use Rattle.vg_tables.specs.Bytes.{byte_of}
 use Rattle.vg_packed.specs.declared.program.FirmProgram.{FirmProgram}
 use Rattle.vg_packed.specs.Given.{IsGiven}
@@ -42,11 +34,8 @@ use Rattle.vg_packed.proofs.Live.{is_of}
 use Rattle.vg_packed.proofs.Placed.{is_placed, do_the_same}
 use Rattle.vg_table_bytes.specs.Bytes.{columns_bytes, ram_widths, rows_bytes, table_bytes_of}
 use Rattle.vg_table_bytes.specs.Rows.{HasRows}
-use Rattle.vg_started_bytes.specs.Started.{bytes_in, ram_places, table_addresses}
-use Rattle.vg_started_bytes.proofs.Ends.{copy_length, columns_stand, tables_stand}
-use Rattle.vg_started_bytes.proofs.Stands as started_stands
 use Rattle.vg_flatten_shapes.specs.declared.layout.Layout.{Layout as LinLayout}
-use Rattle.vg_flatten.specs.Columns.{RamStands, TableStands}
+use Rattle.vg_flatten.specs.Columns.{RamStands}
 use Rattle.vg_flatten.specs.Flattened.{AreFlat}
 use Rattle.vg_trimming.specs.Runs.{RunsAsRead}
 use Rattle.vg_pack.specs.Rows.{IsPackedWhole}
@@ -54,12 +43,13 @@ use Rattle.vg_followed.specs.Stands.{Stands}
 use Rattle.vg_followed.specs.Runs.{Begins}
 use Rattle.vg_frame_costs.specs.Fitting.{FramesFit}
 use Rattle.vg_deep_costs.specs.Fit.{HasFitFrames}
-use Rattle.vg_peaks.proofs.Joining.{within_peak}
 use Rattle.vg_stack_bound.specs.Memory.{DoesAsProgram}
 use Rattle.vg_linear.specs.declared.whole.Linear.{Linear}
+use Rattle.vg_linear.specs.Laying.{bytes_in, ram_places}
 use Rattle.vg_linear.specs.Standing.{StandIn}
-use Rattle.vg_linear.specs.Whole.{IsLinear, linear_program, packed_of}
+use Rattle.vg_linear.specs.Whole.{IsLinear, linear_program}
 use Rattle.vg_linear.proofs.Following as linear_follows
+use Rattle.vg_linear.proofs.Started.{all_columns_stand, columns_known, columns_stand, copy_length, table_stands, tables_known, tables_stand}
 use Rattle.vg_link.specs.declared.linked.Linked.{Linked}
 use Rattle.vg_link.specs.declared.unlinked.Unlinked.{Unlinked}
 use Rattle.vg_link.specs.Linking.{codes_by}
@@ -70,7 +60,8 @@ use Rattle.vg_link.proofs.Beginning.{stands, begins}
 use Rattle.vg_stack_bound.specs.Memory.{HoldsPeaks}
 use Rattle.vg_call_need.specs.Bounds.{IsEnough}
 use Rattle.vg_stack_bound.proofs.Holding as stack_bound
-use Rattle.vg_compile.specs.Compiled.{IsUnlinked}
+use Rattle.vg_stack_bound.proofs.Memory.{within_peak}
+use Rattle.vg_compile.specs.Unlinked.{IsUnlinked}
 use Rattle.vg_compile.proofs.Bytes.{columns_are, tables_are}
 
 -- the first of what is made of two lists
@@ -146,13 +137,13 @@ module _ (p : Program) (h : Heap) (s : LiveSet) (n : Numbers) (c : Columns) (f :
   stand : StandIn k l.layout f tables ram (linking.handler_in u.handlers)
   stand = record {
     columns = subst (λ z. RamStands z (program_of k f).ram ram) (sym (ap (λ (z : LinLayout). z.ram) linear.layout))
-        (started_stands.columns_stand ram (ram_places c.list) (program_of k f).ram
+        (all_columns_stand ram (ram_places c.list) (program_of k f).ram
         (columns_stand k p.tables (needs p (kinds_of h) s) (kinds_of h) c f given.columns rows)
-        (started_stands.columns_known k c.list f rows.lengths));
-    arrays = λ t address places e1 e2. started_stands.table_stands tables address places
+        (columns_known k c.list f rows.lengths));
+    arrays = λ t address places e1 e2. table_stands tables address places
         (tables_stand k p.tables (needs p (kinds_of h) s) (kinds_of h) c f given.columns rows t address places
         (ap (λ (z : LinLayout). slice_get z.tables t) (sym linear.layout) ∙ e1) e2);
-    known = λ t e. started_stands.tables_known c.list f.tables rows.rows t
+    known = λ t e. tables_known c.list f.tables rows.rows t
         (ap (λ (z : LinLayout). slice_get z.tables t) (sym linear.layout) ∙ e);
     handlers = made.handlers;
     closed = closed;

@@ -1,5 +1,9 @@
 pub mod Bytes
 pub mod Following
+mod Tables
+mod Bodies
+mod Fit
+mod Entries
 pub mod Linking
 pub mod Unlinked
 pub mod Does

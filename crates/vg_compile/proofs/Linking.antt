@@ -1,99 +1,119 @@
--- What is fit and small can be linked.
-use Rattle.std.proofs.Common.{◌≡◌, refl, subst, arith, ℕ, zero, suc, ◌<◌, ◌==◌, Bool, true, false, if◌then◌else◌, List, [], ◌∷◌, Option, Some, None, slice_get}
-use Rattle.std.specs.List.{AllByRecursion}
-use Rattle.std.proofs.lemmas.Option.{same_Some, none-some}
+-- What was packed can be linked.
+use Rattle.std.proofs.Common.{◌≡◌, refl, sym, ap, subst, ◌∙◌, arith, ℕ, ◌+◌, ◌<◌, ◌≤◌, length}
+use Rattle.std.proofs.Common.{Option, Some, None}
+use Rattle.std.proofs.lemmas.Option.{none-some}
 use Rattle.vg_meaning.specs.Outside.{IsVector}
-use Rattle.vg_codes.specs.declared.case.Case.{Case}
-use Rattle.vg_codes.specs.Dispatch.{cases_of}
-use Rattle.vg_lin.specs.declared.instr.Plain.{Plain as PlainInstr}
-use Rattle.vg_lin.specs.declared.instr.Plain.TheVariants.{Copy, Compute, Product, DivideSteps, Load, Store, ReadDevice, WriteDevice, Push, Pop, Find, CodeOf, Stop}
-use Rattle.vg_lin.specs.declared.instr.Instr.{Instr}
-use Rattle.vg_lin.specs.declared.instr.Instr.TheVariants.{Plain, When, Unless, Jump, Call, Return, Idle}
-use Rattle.vg_lin.specs.Program.{Procedure}
-use Rattle.vg_followed.specs.Tables.{AreCases, IsCase}
-use Rattle.vg_covered.specs.Fitting.{IsFit, IsPlainFit}
+use Rattle.vg_core.specs.declared.heap.Heap.{Heap}
+use Rattle.vg_core.specs.Program.{Program}
+use Rattle.vg_core.specs.Session.{handler_of}
+use Rattle.vg_live.specs.Uses.{steps_in}
+use Rattle.vg_live.specs.declared.live_set.LiveSet.{LiveSet}
+use Rattle.vg_number.specs.declared.numbers.Numbers.{Numbers}
+use Rattle.vg_number.specs.Numbering.{kinds_of}
+use Rattle.vg_packing.specs.Laid.{SameEntry}
+use Rattle.vg_packing.specs.Layout.{Layout}
+use Rattle.vg_place.specs.declared.placing.Columns.{Columns}
+use Rattle.vg_placement.specs.Needs.{needs}
+use Rattle.vg_packed.specs.declared.program.FirmProgram.{FirmProgram}
+use Rattle.vg_packed.specs.Given.{IsGiven}
+use Rattle.vg_packed.specs.Packed.{IsPackedFrom}
+use Rattle.vg_packed.specs.Plans.{planned}
+use Rattle.vg_packed.specs.Programs.{handler_in}
+use Rattle.vg_packed.specs.Ready.{IsReady}
+use Rattle.vg_pack.specs.Rows.{IsPackedWhole, RowsFitIn}
+use Rattle.vg_table_bytes.specs.Bytes.{ram_widths, rows_bytes, table_bytes_of}
+use Rattle.vg_table_bytes.specs.Rows.{HasRows}
+use Rattle.vg_linear.specs.declared.whole.Linear.{Linear}
+use Rattle.vg_linear.specs.Whole.{IsLinear, first_routine, packed_of}
+use Rattle.vg_linear.proofs.Lists.{one_of}
 use Rattle.vg_link.specs.Linking.{with_codes}
-use Rattle.vg_link.specs.Linking.{AreSound}
-use Rattle.vg_link.specs.declared.unlinked.Handler.{Handler}
 use Rattle.vg_link.specs.declared.unlinked.Unlinked.{Unlinked}
-use Rattle.vg_link.specs.Linking.{handler_in, CanBeLinked, IsAlone}
-use Rattle.vg_compile.specs.Linkable.{AreAllSmall, AreFitAlone, AreHandlers, AreSmall, HasEntries, HasFewBytes, HasFitCode, IsFitAlone, IsHandler, IsPlainFitAlone, IsSmall}
+use Rattle.vg_link.specs.Linking as linking
+use Rattle.vg_link.specs.Linking.{AreSound, CanBeLinked, CanHandle, IsAlone}
+use Rattle.vg_fit_code.proofs.Making.{each_of}
+use Rattle.vg_text_chip.specs.Chip.{AreOfChip, NamesChip}
+use Rattle.vg_compile.specs.Handlers.{HandlersReceiveNothing}
+use Rattle.vg_packed_small.specs.Small.{AreAllSmall}
+use Rattle.vg_packed_small.proofs.Procedures.{codes, few_procedures, small, some_codes}
+use Rattle.vg_compile.specs.Unlinked.{AlwaysLinks, IsUnlinked}
+use Rattle.vg_compile.proofs.Bodies.{BodiesApt, methods_apt}
+use Rattle.vg_compile.proofs.Entries.{entered, received, start_alone}
+use Rattle.vg_compile.proofs.Fit.{AllApt, AreSoundIn, IsSoundIn, flats_apt, apt_behind, start_apt, trimmed_apt, all_in, dispatch_cases}
+use Rattle.vg_compile.proofs.Tables.{static_few, tables_few, tables_length}
 
-one_of : {A : Type 0} (P : A → Type 0) (xs : List A) (i : ℕ) (x : A) → AllByRecursion P xs → slice_get xs i ≡ Some x → P x
-one_of P [] i x a e = absurd (none-some x e)
-one_of P (y ∷ xs) zero x (h, a) e = subst P (same_Some y x e) h
-one_of P (y ∷ xs) (suc i) x (h, a) e = one_of P xs i x a e
+-- a packed program has at most 65,536 procedures
+pub few : (p : Program) (h : Heap) (s : LiveSet) (n : Numbers) (c : Columns) (f : FirmProgram) → IsGiven p h s n c → IsPackedFrom p h s n c f
+    → length f.procedures ≤ 65536
+few p h s n c f given from = let a = few_procedures p h s n c f from in let b = given.few_methods in omega (arith, a, b)
 
--- ---- instructions
+module _ (p : Program) (h : Heap) (s : LiveSet) (n : Numbers) (c : Columns) (f : FirmProgram) (whole : IsPackedWhole p h s n c f)
+    (given : IsGiven p h s n c) (ready : IsReady p h) where
+  abbrev its_layout : Layout
+  its_layout = planned h n whole.from.plan
 
-module _ (codes : ℕ → ℕ) (two : (q : ℕ) → codes q < 65536) where
-  is_case : (c : Case) → IsSmall c → IsCase codes c
-  is_case c h = record { first = h.first; count = h.count; last = h.last; code = two c.procedure }
+  rows : HasRows some_codes c.list f
+  rows = whole.rows ready some_codes (codes p h s n c f whole.from given)
 
-  are_cases : (cs : List Case) → AreSmall cs → AreCases codes cs
-  are_cases [] h = tt
-  are_cases (c ∷ cs) (h, hs) = (is_case c h, are_cases cs hs)
+  module _ (chip : NamesChip p) (l : Linear) (u : Unlinked) (nothing : HandlersReceiveNothing u) (linear : IsLinear c.list f l)
+      (made : IsUnlinked c f l u) where
+    bodies : BodiesApt (packed_of f)
+    bodies =
+        subst BodiesApt (sym whole.from.procedures)
+        (methods_apt p.tables n whole.from.plan 0 p.tables.methods p.methods (λ j b e. subst (λ o. AreOfChip (steps_in o)) e (chip.registers j)))
 
-  dispatch_cases : (ds : List (List Case)) → AreAllSmall ds → (place : ℕ) → AreCases codes (cases_of (slice_get ds place))
-  dispatch_cases [] h place = tt
-  dispatch_cases (d ∷ ds) (h, hs) zero = are_cases d h
-  dispatch_cases (d ∷ ds) (h, hs) (suc place) = dispatch_cases ds hs place
+    sound_in : (codes' : ℕ → ℕ) → ((q : ℕ) → codes' q < 65536) → AreSoundIn (with_codes codes' u.dispatches) u.procedures
+    sound_in codes' two =
+        subst (AreSoundIn (with_codes codes' u.dispatches)) (sym (made.procedures ∙ linear.made.routines))
+        (all_in (with_codes codes' u.dispatches)
+        (dispatch_cases codes' two u.dispatches (subst AreAllSmall (sym made.dispatches) (small p h s n c f whole.from given)))
+        (first_routine f) linear.made.trimmed linear.made.expanded linear.made.are_expanded
+        (trimmed_apt linear.made.begun linear.made.trimmed linear.made.keep_apt
+        (subst AllApt (sym linear.made.with_start.behind)
+        (apt_behind linear.made.flats _ (flats_apt l.layout (packed_of f) linear.made.flats linear.made.are_flat bodies)
+        (start_apt f.main linear.made.with_start.main.receives)))))
 
-  plain_fit : (ds : List (List Case)) → AreAllSmall ds → (q : PlainInstr) → IsPlainFitAlone q → IsPlainFit (with_codes codes ds) q
-  plain_fit ds all (Find place to a) h = dispatch_cases ds all place
-  plain_fit ds all (Compute c) h = h
-  plain_fit ds all (DivideSteps r d a) h = h
-  plain_fit ds all (ReadDevice to address) h = h
-  plain_fit ds all (WriteDevice address a) h = h
-  plain_fit ds all (Copy to a) h = tt
-  plain_fit ds all (Product to a b) h = tt
-  plain_fit ds all (Load m w to a) h = tt
-  plain_fit ds all (Store w a from) h = tt
-  plain_fit ds all (Push w a) h = tt
-  plain_fit ds all (Pop w to) h = tt
-  plain_fit ds all (CodeOf q to) h = tt
-  plain_fit ds all (Stop code) h = tt
+    sound : AreSound u.procedures u.dispatches
+    sound =
+        record {
+          sound = λ m procedure e.
+              (one_of (IsSoundIn (with_codes (λ q. 0) u.dispatches)) u.procedures m procedure (sound_in (λ q. 0) (λ q. omega arith)) e).sound;
+          fit = λ m procedure e pc i g codes' two.
+              each_of (with_codes codes' u.dispatches) procedure.code
+              (one_of (IsSoundIn (with_codes codes' u.dispatches)) u.procedures m procedure (sound_in codes' two) e).fit pc i g;
+        }
 
-  instr_fit : (ds : List (List Case)) → AreAllSmall ds → (i : Instr) → IsFitAlone i → IsFit (with_codes codes ds) i
-  instr_fit ds all (Plain q) h = plain_fit ds all q h
-  instr_fit ds all (When t to) h = tt
-  instr_fit ds all (Unless t to) h = tt
-  instr_fit ds all (Jump to) h = tt
-  instr_fit ds all (Call c) h = h
-  instr_fit ds all (Return w a) h = tt
-  instr_fit ds all Idle h = tt
+    handlers : (v q : ℕ) → linking.handler_in u.handlers v ≡ Some q → IsVector v × CanHandle u.procedures q
+    handlers v q e = (
+      by (handler_of p.handlers v) refl (handler_in f.handlers v) (sym (made.handlers v) ∙ e) (whole.from.handlers v),
+      received u.procedures u.handlers nothing v q e,
+    )
+      where
+        by : (a : Option ℕ) → handler_of p.handlers v ≡ a → (b : Option ℕ) → b ≡ Some q → SameEntry its_layout a b → IsVector v
+        by (Some m) em b g same = (entered p p.handlers given.typed.handlers chip.handlers v m em).1
+        by None em (Some r) g same = absurd same
+        by None em None g same = absurd (none-some q g)
 
-pub are_sound : (ms : List Procedure) (ds : List (List Case)) → AreFitAlone ms → AreAllSmall ds → AreSound ms ds
-are_sound ms ds fit small = record {
-  sound = λ m procedure e. (one_of HasFitCode ms m procedure fit e).sound;
-  fit = λ m procedure e pc i g codes two.
-      instr_fit codes two ds small i (one_of IsFitAlone procedure.code pc i (one_of HasFitCode ms m procedure fit e).fit g);
-}
+    pub can_be_linked : CanBeLinked u
+    can_be_linked =
+        record {
+          sound = sound;
+          start = subst (λ z. IsAlone z u.start) (sym made.procedures) (subst (IsAlone l.procedures) (sym made.start) (start_alone c.list f l linear));
+          handlers = handlers;
+          few_tables = subst (λ z. length z ≤ 60000) (sym made.tables) its_tables;
+          few_static = let a = its_static in let b = made.static_bytes in omega (arith, a, b);
+          within = let a = made.static_bytes in let b = ap length made.tables in let d = its_length in omega (arith, a, b, d);
+        }
+      where
+        its_static : c.static_bytes ≤ 4096
+        its_static = static_few some_codes p.tables (needs p (kinds_of h) s) (kinds_of h) c f given.columns rows
 
--- ---- handlers
+        its_length : length (table_bytes_of (ram_widths c.list) f.columns f.tables) ≡ c.static_bytes + length (rows_bytes f.tables)
+        its_length = tables_length some_codes p.tables (needs p (kinds_of h) s) (kinds_of h) c f given.columns rows
 
-same_number : (a b : ℕ) → (a == b) ≡ true → a ≡ b
-same_number a b e = grind arith
+        its_tables : length (table_bytes_of (ram_widths c.list) f.columns f.tables) ≤ 60000
+        its_tables = tables_few some_codes p.tables (needs p (kinds_of h) s) (kinds_of h) c f given.columns rows
 
-handler_at : (ms : List Procedure) (h : Handler) (hs : List Handler) (v m : ℕ) → IsHandler ms h
-    → (handler_in hs v ≡ Some m → IsVector v × IsAlone ms m) → (b : Bool) → (h.vector == v) ≡ b
-    → (if b then Some h.procedure else handler_in hs v) ≡ Some m → IsVector v × IsAlone ms m
-handler_at ms h hs v m x rest true same e = (subst IsVector (same_number h.vector v same) x.vector, subst (IsAlone ms) (same_Some h.procedure m e) x.alone)
-handler_at ms h hs v m x rest false same e = rest e
-
-pub handler_is : (ms : List Procedure) (hs : List Handler) → AreHandlers ms hs → (v m : ℕ) → handler_in hs v ≡ Some m → IsVector v × IsAlone ms m
-handler_is ms [] a v m e = absurd (none-some m e)
-handler_is ms (h ∷ hs) (x, a) v m e = handler_at ms h hs v m x (handler_is ms hs a v m) (h.vector == v) refl e
-
-pub entries : (u : Unlinked) → IsAlone u.procedures u.start → AreHandlers u.procedures u.handlers → HasEntries u
-entries u start handlers = record { start = start; handlers = handler_is u.procedures u.handlers handlers }
-
-pub linkable : (u : Unlinked) → AreSound u.procedures u.dispatches → HasEntries u → HasFewBytes u → CanBeLinked u
-linkable u sound entries few = record {
-  sound = sound;
-  start = entries.start;
-  handlers = entries.handlers;
-  few_tables = few.tables;
-  few_static = few.columns;
-  within = few.within;
-}
+pub always_links : (p : Program) (h : Heap) (s : LiveSet) (n : Numbers) (c : Columns) (f : FirmProgram) → IsPackedFrom p h s n c f → RowsFitIn p h c f
+    → IsGiven p h s n c → IsReady p h → NamesChip p → AlwaysLinks c f
+always_links p h s n c f from rows given ready chip l u nothing linear made =
+    can_be_linked p h s n c f (record { from = from; rows = rows }) given ready chip l u nothing linear made

@@ -12,9 +12,9 @@ pub use Rattle.vg_link.specs.declared.linked.Linked.{Linked}
 use Rattle.vg_link.specs.declared.unlinked.Handler.{Handler}
 use Rattle.vg_link.specs.declared.unlinked.Unlinked.{Unlinked}
 use Rattle.vg_link.specs.Linking.{CanBeLinked, IsLinked}
-use Rattle.vg_compile.specs.Compiled.{IsUnlinked}
+use Rattle.vg_compile.specs.Unlinked.{IsUnlinked}
 use Rattle.vg_compile.specs.declared.no_image.NoImage.{NoImage}
-use Rattle.vg_compile.specs.declared.no_image.NoImage.TheVariants.{NotLinear, Costly, Deep, Unfit, Full}
+use Rattle.vg_compile.specs.declared.no_image.NoImage.TheVariants.{NotLinear, Received, Costly, Deep, Full}
 use Rattle.vg_compile.specs.declared.compiled.Compiled.{Compiled}
 use Rattle.vg_compile.specs.Bounds.{AreFramesOf, BoundsCalls, NeedsAtLeast}
 use Rattle.vg_call_need.specs.Within.{IsNeedWithin}
@@ -47,8 +47,8 @@ abbrev pub IsCauseFor : (stack : ℕ) → NoImage → Type 0
 IsCauseFor stack (Full full) = 65536 ≤ full.words
 IsCauseFor stack (Deep need) = stack < need
 IsCauseFor stack (NotLinear fault) = Unit {0}
+IsCauseFor stack Received = Unit {0}
 IsCauseFor stack Costly = Unit {0}
-IsCauseFor stack Unfit = Unit {0}
 
 -- Where the cause is that calls go too deep, the calls of the packed program need as much as is said.
 abbrev pub NeedsAsSaid : FirmProgram → (costs : List ℕ) → Refusal NoImage → Type 0

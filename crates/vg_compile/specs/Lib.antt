@@ -1,7 +1,7 @@
 pub mod Runs
 pub mod Bounds
-pub mod Compiled
+pub mod Handlers
+pub mod Unlinked
 pub mod Compile
-pub mod Linkable
 pub mod Memory
 pub mod Given

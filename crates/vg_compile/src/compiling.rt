@@ -6,8 +6,11 @@ ghost use Rattle.vg_packed.specs.declared.program.FirmProgram.{FirmProgram as Th
 ghost use Rattle.vg_packed.specs.Given.{IsGiven};
 ghost use Rattle.vg_packed.specs.Ready.{IsReady};
 ghost use Rattle.vg_link.specs.Linking.{CanBeLinked, IsLinked};
+ghost use Rattle.vg_compile.specs.Given.{NamesChip};
+ghost use Rattle.vg_compile.specs.Handlers.{HandlersReceiveNothing};
+ghost use Rattle.vg_compile.specs.Unlinked.{AlwaysLinks};
 ghost use Rattle.vg_linear.specs.Whole.{IsLinear};
-ghost use Rattle.vg_call_need.specs.Bounds.{BoundsCalls, IsBoundOf, IsFewOf};
+ghost use Rattle.vg_call_need.specs.Bounds.{BoundsCalls, IsFewOf};
 ghost use Rattle.vg_call_need.specs.Within.{IsNeedWithin};
 ghost use Rattle.vg_compile.specs.Bounds.{AreFramesOf, HoldsBound};
 ghost use Rattle.vg_layout.specs.Few.{IsFew};
@@ -15,7 +18,7 @@ ghost use Rattle.vg_compile.specs.Compile.{CallsNeedAsSaid, IsImageOf, IsRefused
 ghost use Rattle.vg_compile.specs.Runs.{DoesInImage};
 
 use crate::compiled::Compiled;
-use crate::linkable::can_be_linked;
+use crate::handlers::all_can_handle;
 use crate::no_image::NoImage;
 use crate::pieces::pieces_of;
 use crate::unlinking::unlinked;
@@ -39,7 +42,8 @@ use vg_shape::Store;
 /// as is said is enough for each run, and they are at most four more than what the methods of some way of calls cost; where they do, a cycle of them is said.
 ///
 /// It refuses what has no linear code, what has a procedure whose frame is more than its method costs, what needs more than a stack of so many bytes (then calls
-/// do not go round, and what is said to be needed is at most four more than what the methods of some way of calls cost), what cannot be linked, and what takes more words than the flash has: 65,535, since the last word stays free.
+/// do not go round, and what is said to be needed is at most four more than what the methods of some way of calls cost), what has a handler whose procedure
+/// receives something, and what takes more words than the flash has: 65,535, since the last word stays free.
 pub fn compile(
     alloc: Global,
     program: &Program,
@@ -50,7 +54,9 @@ pub fn compile(
     costs: &[u32],
     stack: u16,
 ) -> Result<Compiled, Refusal<NoImage>>
-    requires { IsGiven (program_at program.now) heap.now live.now numbers.now columns.now }
+    requires given { IsGiven (program_at program.now) heap.now live.now numbers.now columns.now }
+    requires ready { IsReady (program_at program.now) heap.now }
+    requires chip { NamesChip (program_at program.now) }
     ensures does { IfOk result (λ compiled. IsReady (program_at program.now) heap.now
         → DoesInImage compiled.linked columns.now 4 costs.now (program_at program.now) heap.now) }
     ensures bound { IfOk result (λ compiled. IsReady (program_at program.now) heap.now
@@ -78,16 +84,15 @@ fn image_of(
     costs: &[u32],
     stack: u16,
 ) -> Result<Compiled, Refusal<NoImage>>
-    requires { length firm.procedures ≤ 65536 }
+    requires few { length firm.procedures ≤ 65536 }
+    requires main { firm.main < length firm.procedures }
+    requires links { AlwaysLinks columns.now firm }
     ensures image { IfOk result (IsImageOf columns.now firm costs.now) }
     ensures deep { IfErr result (NeedsAsSaid firm costs.now) }
     ensures few { IfOk result (λ compiled. IsFew stack compiled.bound) }
     ensures short { IfOk result (λ compiled. length compiled.linked.flash ≤ flash_bytes) }
     ensures refused { IsRefusedFor stack result }
 {
-    if usize::from(firm.main) >= firm.procedures.len() {
-        return Err(Refusal::Fault(NoImage::Unfit));
-    }
     let linear = match linear_of(alloc, columns, &firm, costs, stack) {
         Ok(linear) => linear,
         Err(why) => return Err(why),
@@ -210,15 +215,18 @@ fn need_by(
     }
 }
 
-// What can be linked, linked.
+// The linked program, where its handlers receive nothing.
 fn linked_of(alloc: Global, unlinked: &Unlinked, stack: u16) -> Result<Linked, Refusal<NoImage>>
+    requires { HandlersReceiveNothing unlinked.now → CanBeLinked unlinked.now }
     ensures linked { IfOk result (λ linked. CanBeLinked unlinked.now × IsLinked unlinked.now linked) }
     ensures short { IfOk result (λ linked. length linked.flash ≤ flash_bytes) }
     ensures refused { IsRefusedFor stack result }
     ensures deep { (f : TheFirm) (costs : List ℕ) → IfErr result (NeedsAsSaid f costs) }
 {
-    if !can_be_linked(unlinked) {
-        return Err(Refusal::Fault(NoImage::Unfit));
+    let procedures = unlinked.procedures.as_slice();
+    let can = all_can_handle(alloc, procedures, unlinked.handlers.as_slice())?;
+    if !can {
+        return Err(Refusal::Fault(NoImage::Received));
     }
     match link(alloc, unlinked) {
         Ok(linked) => Ok(linked),

@@ -1,4 +1,4 @@
-// The law of compiled programs.
+// The laws of compiled programs.
 ghost use Rattle.std.specs.Prelude.{ℕ, ◌≡◌, ◌+◌, ◌≤◌, true, List};
 ghost use Rattle.avr_view.specs.Run.{Run};
 ghost use Rattle.vg_core.specs.declared.heap.Heap.{Heap};
@@ -17,7 +17,9 @@ ghost use Rattle.vg_link.specs.declared.unlinked.Unlinked.{Unlinked};
 ghost use Rattle.vg_link.specs.Linking.{CanBeLinked, IsLinked};
 ghost use Rattle.vg_frame_costs.specs.Fitting.{FramesFit};
 ghost use Rattle.vg_stack_bound.specs.Memory.{DoesAsProgram};
-ghost use Rattle.vg_compile.specs.Compiled.{IsUnlinked};
+ghost use Rattle.vg_compile.specs.Unlinked.{IsUnlinked};
+ghost use Rattle.vg_compile.specs.Given.{NamesChip};
+ghost use Rattle.vg_compile.specs.Handlers.{HandlersReceiveNothing};
 
 /// A law of compiled programs. Where a typed program and its initialised heap are packed, the packed program is made linear, and that is linked, the machine
 /// does in the image what the program does from its heap: in every run of it from reset on, whatever registers and SRAM hold at power-on, the reads and the
@@ -30,4 +32,12 @@ pub fn compiled_programs_follow()
         → (extra : ℕ) (costs : List ℕ) → FramesFit l.procedures l.start extra costs → (e : Run) → e.flash ≡ linked.flash → e.static ≡ c.static_bytes
         → e.floor ≤ 0x1100
         → e.lets_in (linked.idle + 1) ≡ true → e.lets_in (linked.idle + 2) ≡ true → DoesAsProgram e extra costs p h }
+{}
+
+/// A law of packed programs. The linear program of what was packed of a ready program can be linked with its tables, where the program names registers and
+/// interrupts of the chip alone and the handlers of the linear one receive nothing. The body is empty: its contract is a law of the definitions.
+pub fn packed_programs_can_be_linked()
+    ensures { (p : Program) (h : Heap) (s : LiveSet) (n : Numbers) (c : Columns) (f : FirmProgram) (l : Linear) (u : Unlinked)
+        → IsGiven p h s n c → IsReady p h → NamesChip p → IsPackedWhole p h s n c f → HandlersReceiveNothing u → IsLinear c.list f l
+        → IsUnlinked c f l u → CanBeLinked u }
 {}

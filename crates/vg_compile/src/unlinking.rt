@@ -1,6 +1,6 @@
 // What is linked of a packed program and its linear one.
 ghost use Rattle.std.specs.Prelude.{◌≡◌, map, IfOk};
-ghost use Rattle.vg_compile.specs.Compiled.{IsUnlinked};
+ghost use Rattle.vg_compile.specs.Unlinked.{IsUnlinked};
 ghost use Rattle.vg_compile.specs.Compile.{handler_of};
 
 use std::alloc::Global;
@@ -22,10 +22,11 @@ pub fn unlinked(
 {
     let tables = tables(alloc, &firm, columns.list.as_slice())?;
     let handlers = handlers_of(alloc, firm.handlers.as_slice())?;
+    let start = linear.start;
     Ok(Unlinked {
-        procedures: linear.procedures,
-        start: linear.start,
-        dispatches: firm.dispatches,
+        procedures: linear.into_procedures(),
+        start,
+        dispatches: firm.into_dispatches(),
         tables,
         static_bytes: columns.static_bytes,
         handlers,

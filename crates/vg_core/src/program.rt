@@ -47,7 +47,6 @@ pub struct Method {
 }
 
 /// A class.
-#[derive(Drop)]
 pub struct Class {
     pub name: Name,
     /// Itself and all above it, the nearest first.
@@ -60,8 +59,20 @@ pub struct Class {
     pub params: Row<CoreType>,
 }
 
+impl Drop for Class {
+    // By hand: a function that may drop one calls this, where it would have a copy of a derived one.
+    fn drop(self) {
+        let Class {
+            name: _,
+            above: _,
+            fields: _,
+            methods: _,
+            params: _,
+        } = self;
+    }
+}
+
 /// All of a program but its bodies. Each list is in order of the text.
-#[derive(Drop)]
 pub struct Tables {
     pub classes: Row<Class>,
     pub components: Row<Name>,
@@ -75,6 +86,23 @@ pub struct Tables {
     pub literals: Row<Row<u8>>,
     /// The number of the type of the elements of literals.
     pub char_type: u32,
+}
+
+impl Drop for Tables {
+    // By hand: a function that may drop one calls this, where it would have a copy of a derived one.
+    fn drop(self) {
+        let Tables {
+            classes: _,
+            components: _,
+            fields: _,
+            globals: _,
+            methods: _,
+            targets: _,
+            types: _,
+            literals: _,
+            char_type: _,
+        } = self;
+    }
 }
 
 /// A body: the types of its locals behind the parameters, and its code.
@@ -92,7 +120,6 @@ pub struct Handler {
 }
 
 /// A whole program.
-#[derive(Drop)]
 pub struct Program {
     pub tables: Tables,
     /// The bodies of the methods, in their order.
@@ -103,4 +130,18 @@ pub struct Program {
     pub starts: Row<Body>,
     pub main: u16,
     pub handlers: Row<Handler>,
+}
+
+impl Drop for Program {
+    // By hand: a function that may drop one calls this, where it would have a copy of a derived one.
+    fn drop(self) {
+        let Program {
+            tables: _,
+            methods: _,
+            makings: _,
+            starts: _,
+            main: _,
+            handlers: _,
+        } = self;
+    }
 }

@@ -96,7 +96,7 @@ fn ready(alloc: Global, objects: u32, built: Built) -> Result<Trial, NoMemory>
     )?;
     let machine = Machine::new(alloc, &built.image)?;
     Ok(Trial {
-        hex: built.hex,
+        hex: built.into_hex(),
         summary,
         machine,
         script: Script::from_lists(Vec::new(alloc), Vec::new(alloc)),

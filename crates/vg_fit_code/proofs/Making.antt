@@ -22,7 +22,7 @@ use Rattle.vg_lin.specs.declared.instr.Passed.{Passed}
 use Rattle.vg_lin.specs.declared.instr.Target.{Target}
 use Rattle.vg_lin.specs.Meaning.{operands}
 use Rattle.vg_lin.specs.Program.{Procedure, Program}
-use Rattle.vg_arith.specs.Simple.{is_known, needs_no_routine, is_simple, are_simple}
+use Rattle.vg_arith.specs.Simple.{needs_no_routine, is_simple, are_simple}
 use Rattle.vg_flatten_shapes.specs.declared.layout.Layout.{Layout}
 use Rattle.vg_flatten_steps.specs.Calls.{registers_of, call_with}
 use Rattle.vg_flatten.specs.Flattened.{IsFlat}
@@ -50,7 +50,7 @@ many_or_few n = by_test (nat_lt 4 n) refl
     by_test true e = inl (grind (arith, e))
     by_test false e = inr (grind (arith, e))
 
-parts_last : (callee : Callee) (to : Option Target) (xs : List Passed) → IsDivided (call_with callee to xs)
+pub parts_last : (callee : Callee) (to : Option Target) (xs : List Passed) → IsDivided (call_with callee to xs)
 parts_last callee to xs = elim (many_or_few (length xs)) [
   | inl more ↦ inr
       (let last = four_passed (drop (length xs - 4) xs) (let whole = length-drop (length xs - 4) xs in omega (arith, whole, more)) in omega (arith, last, more))

@@ -1,5 +1,6 @@
 -- What is fit before arithmetic is expanded, and what the steps of packed code name for that.
 use Rattle.std.specs.Prelude.{slice_get}
+use Rattle.vg_meaning.specs.Code.{Code}
 use Rattle.vg_meaning.specs.Device.{IsDeviceAddress}
 use Rattle.vg_codes.specs.Dispatch.{cases_of}
 use Rattle.vg_firm.specs.declared.step.Step.{Step}
@@ -9,6 +10,8 @@ use Rattle.vg_lin.specs.declared.instr.Plain.TheVariants.{Compute}
 use Rattle.vg_lin.specs.declared.instr.Instr.{Instr}
 use Rattle.vg_lin.specs.declared.instr.Instr.TheVariants.{Plain}
 use Rattle.vg_lin.specs.Program.{Program}
+use Rattle.vg_apt.specs.Apt.{IsApt}
+use Rattle.vg_flat_each.specs.Each.{EachStep, StepHas}
 use Rattle.vg_followed.specs.Tables.{AreCases}
 use Rattle.vg_covered.specs.Fitting.{IsPlainFit, IsFit}
 
@@ -28,3 +31,10 @@ IsStepFit p (WriteDevice address) = IsDeviceAddress address
 IsStepFit p (BindFor d) = AreCases p.codes.code (cases_of (slice_get p.dispatches d))
 IsStepFit p (CallFor d count) = AreCases p.codes.code (cases_of (slice_get p.dispatches d))
 IsStepFit p s = Unit {0}
+
+-- What a step becomes asks for no more than flattened code does, whatever the dispatches are: it reads and writes device registers alone.
+abbrev pub StepApt : Step → Type 0
+StepApt = StepHas IsApt
+
+abbrev pub CodeApt : Code Step → Type 0
+CodeApt = EachStep StepApt

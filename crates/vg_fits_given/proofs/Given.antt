@@ -1,5 +1,5 @@
 -- What packing is given by a text that fits.
-use Rattle.std.proofs.Common.{◌≡◌, sym, subst, arith, ℕ, ◌<◌, ◌≤◌, ◌^◌, List, [], length, Some, None, slice_get}
+use Rattle.std.proofs.Common.{◌≡◌, sym, subst, arith, ℕ, ◌<◌, ◌≤◌, ◌^◌, List, [], length, Some, None}
 use Rattle.vg_base.specs.Limits.{text_limit}
 use Rattle.vg_source.specs.Steps.{Source}
 use Rattle.vg_tree_walks.specs.Whole.{tree_at}
@@ -14,12 +14,14 @@ use Rattle.vg_packed.specs.Given.{IsGiven}
 use Rattle.vg_packed.specs.Ready.{IsReady}
 use Rattle.vg_packed.specs.Ranges.{HaveRanges}
 use Rattle.vg_packed.proofs.Ready.{elements, is_ready}
+use Rattle.vg_text_limits.proofs.Limits.{is_legal}
+use Rattle.vg_text_chip.specs.Chip.{NamesChip}
+use Rattle.vg_text_chip.proofs.Named.{names_chip}
 use Rattle.vg_text_beside.proofs.Beside.{few_methods, few_parameters, few_arguments, ranges}
 use Rattle.vg_fits.specs.Answer.{Start}
 use Rattle.vg_fits.specs.Answer.{named_start_heap}
 use Rattle.vg_fits.specs.declared.fitting.Fitted.{Fitted}
 use Rattle.vg_fits.specs.Answer.{IsFittedOf}
-use Rattle.vg_fits.specs.Mirrors.{CanPlace}
 use Rattle.vg_fits.proofs.Answering.{can_place}
 use Rattle.vg_fits_given.proofs.Making.{nothing_back}
 
@@ -48,6 +50,11 @@ module _ (bytes : List ℕ) (clock : ℕ) (f : Fitted) (is : IsFittedOf bytes cl
 
     pub ready : IsReady p s.heap
     ready = is_ready p its_ranges is.alive.start.program.typed.tables clock s.heap is.alive.start.starts makes_nothing
+
+    pub chip : NamesChip p
+    chip =
+        names_chip names p bytes (tree_at s.names s.tree) is.alive.start.legal.reads (is_legal (tree_at s.names s.tree) is.alive.start.legal.legal)
+        is.alive.start.program.named is.alive.start.program.told is.alive.start.program.called
 
     pub given : IsGiven p s.heap f.alive.live f.placed.numbers f.placed.columns
     given =

@@ -2,6 +2,8 @@
 use Rattle.std.proofs.Common.{◌≡◌, ℕ, zero, suc, ◌+◌, ◌*◌, ◌<◌, inl, Bool, true, false, not, ◌&&◌, List, [], ◌∷◌, ◌++◌, length}
 use Rattle.std.proofs.Common.{Option, Some, None, refl, sym, ap, ◌∙◌, subst, arith, length-append, slice_get}
 use Rattle.std.specs.Prelude.{map, take}
+use Rattle.std.specs.List.{AllByRecursion}
+use Rattle.std.proofs.lemmas.List.{append-nil}
 use Rattle.vg_meaning.specs.Outside.{Outside, AreVectors}
 use Rattle.avr_isa.specs.declared.ending.MachineEnd.TheVariants as machine_end
 use Rattle.avr_isa.specs.Machine.{State as MachineState}
@@ -14,12 +16,11 @@ use Rattle.vg_lin.specs.Steps.{Interrupt, Frame, Config, takes, handles, fetch}
 use Rattle.avr_view.specs.Run.{Run, Goes, Front, Ended}
 use Rattle.avr_view.specs.View.{View, At}
 use Rattle.avr_view.proofs.Going.{goes_fewer, goes_wider}
-use Rattle.vg_templates.specs.Layouts.{Layout, frame_size}
+use Rattle.vg_templates.specs.Layouts.{Layout, frame_size, width_of}
 use Rattle.vg_templates.specs.Frames.{Places, word_bytes, back_to, wanted, needed}
 use Rattle.vg_templates.specs.CallOutcomes.{Begun}
-use Rattle.vg_templates.specs.Linkage.{saves, prologue}
+use Rattle.vg_templates.specs.Linkage.{saves, settles_one, settles_from, prologue}
 use Rattle.vg_templates.proofs.Openings.{saved-length}
-use Rattle.vg_templates.proofs.Entering.{unsettled, no_parameters}
 use Rattle.vg_templates.proofs.Saving.{fits_fewer}
 use Rattle.vg_templates.specs.Pieces.{Sees}
 use Rattle.vg_templates.specs.Outcomes.{Lies}
@@ -28,7 +29,7 @@ use Rattle.vg_templates.specs.Calls.{sum_of}
 use Rattle.vg_templates.specs.Idle.{entered}
 use Rattle.vg_templates.proofs.Waking.{taken, ends_waiting, goes_taken, goes_out, goes_from_slot}
 use Rattle.vg_templates.specs.Whole.{Links}
-use Rattle.vg_followed.specs.Stands.{Stands}
+use Rattle.vg_followed.specs.Stands.{ReceivesNothing, Stands}
 use Rattle.vg_followed.specs.Related.{Settled, Going, Woken, Related}
 use Rattle.vg_followed.specs.Depth.{stack_bytes, handler_bytes}
 use Rattle.vg_followed.proofs.Counting.{stacked_bytes}
@@ -36,6 +37,16 @@ use Rattle.vg_followed.proofs.Going.{at_rest}
 use Rattle.vg_followed.proofs.Places.{placed}
 
 -- ---- a procedure that begins without arguments
+
+-- what is not kept does not go to its spot
+unkept : (l : Layout) (k r : ℕ) (bs : List Bool) → AllByRecursion (λ kept. kept ≡ false) bs → settles_from l k r bs ≡ []
+unkept l k r [] h = refl
+unkept l k r (b ∷ bs) (none, h) =
+    ap (λ z. settles_one z l k r ++ settles_from l (suc k) (r + width_of l k) bs) none ∙ unkept l (suc k) (r + width_of l k) bs h
+
+-- so the prologue of a procedure that receives nothing is its first part alone
+saves_alone : (l : Layout) → ReceivesNothing l → prologue l ≡ saves l
+saves_alone l h = ap (λ is. saves l ++ is) (unkept l 0 18 l.arrives h.in_registers) ∙ append-nil (saves l)
 
 no_value : (ws : List ℕ) (k x : ℕ) → value_in (slice_get (begun ws []) k) ≡ Some x → ⊥
 no_value [] k x e = let clash : None ≡ Some x = e in cc
@@ -174,9 +185,8 @@ module _ (e : Run) (x : Links) (p : Program) (st : Stands e x p) (deep : Type 0)
       let f : Frame State = record { proc = c.proc; pc = c.pc; kept = c.state; awaits = Interrupt } in
       let t = w.held.stacked in
       let lq = x.places.layouts q in
-      let bare = no_parameters lq (x.places.live q 0) m.params ps.arguments hs.no_params in
-      let none : lq.pushed ≡ 0 = bare.0 in
-      let first : prologue lq ≡ saves lq = unsettled lq bare.1 in
+      let none : lq.pushed ≡ 0 = hs.receives_nothing.on_stack in
+      let first : prologue lq ≡ saves lq = saves_alone lq hs.receives_nothing in
       let begins : x.place q 0 ≡ x.entry q + widths (saves lq) = ps.begins ∙ ap (λ is. x.entry q + widths is) first in
       let locals : widths_of (slice_get p.procedures q) ≡ (x.places.layouts q).widths = ap widths_of hs.there ∙ sym ps.locals in
       let state_is : begun_with (x.places.layouts q).widths c.state.ram ≡ wake p q c.state = ap (λ ws. begun_with ws c.state.ram) (sym locals) in

@@ -1,5 +1,6 @@
 -- What it means that the code of a program of linear code stands in flash.
-use Rattle.std.specs.Prelude.{ℕ, suc, ◌≡◌, ◌≢◌, ◌+◌, ◌*◌, ◌<◌, ◌≤◌, List, [], ◌∷◌, length, drop, Some, None, slice_get}
+use Rattle.std.specs.Prelude.{ℕ, suc, ◌≡◌, ◌≢◌, ◌+◌, ◌*◌, ◌<◌, ◌≤◌, false, List, [], ◌∷◌, length, drop, Some, None, slice_get}
+use Rattle.std.specs.List.{AllByRecursion}
 use Rattle.vg_meaning.specs.Outside.{IsVector}
 use Rattle.avr_instr.specs.declared.instr.Instr.TheVariants.{Reti}
 use Rattle.avr_isa.specs.Flow.{near_from, far_from}
@@ -13,7 +14,7 @@ use Rattle.vg_lin.specs.declared.instr.Instr.{Instr}
 use Rattle.vg_lin.specs.declared.instr.Instr.TheVariants.{Plain, When, Unless, Jump, Call, Return, Idle}
 use Rattle.vg_lin.specs.Program.{Procedure, Program}
 use Rattle.avr_view.specs.Run.{Run}
-use Rattle.vg_templates.specs.Layouts.{IsLayout}
+use Rattle.vg_templates.specs.Layouts.{Layout, IsLayout}
 use Rattle.vg_templates.specs.Linkage.{prologue}
 use Rattle.vg_templates.specs.Branches.{tests}
 use Rattle.vg_templates.specs.Calls.{Way, Far, Near, ByZ, call_words, HasParameters}
@@ -107,11 +108,17 @@ pub record ProcedureStands (e : Run) (x : Links) (p : Program) (m : ℕ) (proced
   pub waits : x.waits m 0 ≡ []
   pub each : (pc : ℕ) (i : Instr) → slice_get procedure.code pc ≡ Some i → InstrStands e x p m procedure pc i
 
--- a handler is a procedure without parameters, to which its vector leads
+-- A procedure with this layout receives nothing: none of its arguments is pushed, and it keeps none of those that arrive in registers. So it can be called with
+-- whatever is in the registers.
+pub record ReceivesNothing (l : Layout) : Type 0 where
+  pub on_stack : l.pushed ≡ 0
+  pub in_registers : AllByRecursion (λ kept. kept ≡ false) l.arrives
+
+-- a handler is a procedure that receives nothing, to which its vector leads
 pub record HandlerStands (e : Run) (x : Links) (p : Program) (vector m : ℕ) : Type 0 where
   pub procedure : Procedure
   pub there : slice_get p.procedures m ≡ Some procedure
-  pub no_params : procedure.params ≡ 0
+  pub receives_nothing : ReceivesNothing (x.places.layouts m)
   pub stub : ℕ
   pub handled : IsHandled e x.places vector m stub (x.entry m)
 

@@ -19,7 +19,7 @@ use Rattle.vg_core.specs.HeldProgram.{program_at}
 use Rattle.vg_core.specs.Program.{Program}
 use Rattle.vg_core.specs.Session as core
 use Rattle.vg_renamed.specs.Stands.{named_start}
-use Rattle.vg_types_named.specs.Programs.{IsProgramOf}
+use Rattle.vg_types.specs.Checks.{IsProgramOf}
 use Rattle.vg_types.proofs.Alike.{initialised, sessions}
 use Rattle.vg_session.specs.declared.initialisation.InitFault.{InitFault}
 use Rattle.vg_session.specs.Initialises.{Initialises, why_of}

@@ -11,7 +11,7 @@ use Rattle.vg_tree_walks.specs.declared.tree.Tree.{Tree}
 use Rattle.vg_core.specs.HeldProgram.{program_at}
 use Rattle.vg_core.specs.Session as core
 use Rattle.vg_sound.specs.Good.{HasTypedHeap}
-use Rattle.vg_types_named.specs.Programs.{IsProgramOf}
+use Rattle.vg_types.specs.Checks.{IsProgramOf}
 use Rattle.vg_faults.specs.declared.fault.Fault.{Fault}
 use Rattle.vg_front.specs.declared.starting.Start.{Start}
 use Rattle.vg_faults.specs.Judged.{tree_fault}

@@ -4,7 +4,7 @@ ghost use Rattle.vg_base.specs.Limits.{text_limit};
 ghost use Rattle.vg_rules.specs.Refusal.{refusal_of};
 ghost use Rattle.vg_tree_walks.specs.Whole.{tree_at, node_count};
 ghost use Rattle.vg_core.specs.HeldProgram.{program_at};
-ghost use Rattle.vg_types_named.specs.Programs.{IsProgramOf};
+ghost use Rattle.vg_types.specs.Checks.{IsProgramOf};
 ghost use Rattle.vg_types.specs.Checks.{refused_view};
 ghost use Rattle.vg_session.specs.Initialises.{why_of};
 ghost use Rattle.vg_faults.specs.Judged.{fault_of, place_in};
@@ -24,7 +24,6 @@ use vg_tree_walks::Tree;
 use vg_types::{TypeFault, check};
 
 /// A source text that starts.
-#[derive(Drop)]
 pub struct Start {
     /// The names in the tree and in the program.
     pub names: Names,
@@ -33,6 +32,34 @@ pub struct Start {
     pub program: Program,
     /// The heap that its constructors leave.
     pub heap: Store,
+}
+
+impl Drop for Start {
+    // By hand: a function that may drop one calls this, where it would have a copy of a derived one.
+    fn drop(self) {
+        let Start {
+            names: _,
+            tree: _,
+            program: _,
+            heap: _,
+        } = self;
+    }
+}
+
+impl Start {
+    /// The typed program and the heap alone.
+    pub fn into_program_and_heap(self) -> (Program, Store)
+        ensures program { result.0 ≡ self.program }
+        ensures heap { result.1 ≡ self.heap }
+    {
+        let Start {
+            names: _,
+            tree: _,
+            program,
+            heap,
+        } = self;
+        (program, heap)
+    }
 }
 
 /// The tree of a source text of at most 262,144 bytes, its typed program, and the heap to which it is initialised in at most so many ticks;

@@ -56,7 +56,7 @@ module _ (e : Run) (x : Links) (p : Program) (parts : Parts) (flash : e.flash â‰
       record {
         procedure = g.procedure;
         there = g.there;
-        no_params = g.no_params;
+        receives_nothing = g.receives_nothing;
         stub = g.at;
         handled = record {
           slot = (subst (Î» o. AllStandAt e.flash (2 * vector) (slot_code o)) g.slot (slot vector g.is_vector)).0;

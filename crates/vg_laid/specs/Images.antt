@@ -6,15 +6,16 @@ use Rattle.vg_lin.specs.Sound.{IsSound}
 use Rattle.vg_templates.specs.Layouts.{IsLayout}
 use Rattle.vg_templates.specs.Idle.{idle_piece, stub}
 use Rattle.vg_templates.specs.Whole.{Links}
+use Rattle.vg_followed.specs.Stands.{ReceivesNothing}
 use Rattle.vg_image.specs.Image.{Parts, code_start}
 use Rattle.vg_laid.specs.Linked.{HasPiece, ProcedureLinked}
 
--- The slot of a vector leads to a stub, which calls the handler: a procedure without parameters.
+-- The slot of a vector leads to a stub, which calls the handler: a procedure that receives nothing.
 pub record HandlerLinked (x : Links) (p : Program) (parts : Parts) (vector m : ℕ) : Type 0 where
   pub is_vector : IsVector vector
   pub procedure : Procedure
   pub there : slice_get p.procedures m ≡ Some procedure
-  pub no_params : procedure.params ≡ 0
+  pub receives_nothing : ReceivesNothing (x.places.layouts m)
   pub at : ℕ
   pub slot : parts.slots vector ≡ Some at
   pub stands : HasPiece (code_start parts.tables) parts.code at (stub (x.entry m))

@@ -4,7 +4,6 @@ use vg_base::Row;
 /// How an image uses SRAM, which stands at the data addresses from 0x0100 to 0x10FF, and the flash.
 ///
 /// Names are texts: of a class, or of a class or component and what it declares, with a point between them.
-#[derive(Drop)]
 pub struct Layout {
     /// The bytes of the static area, which begins at 0x0100.
     pub static_bytes: u16,
@@ -24,6 +23,23 @@ pub struct Layout {
     pub live: Row<Row<u8>>,
     /// The pieces of code, by ascending addresses.
     pub pieces: Row<Piece>,
+}
+
+impl Drop for Layout {
+    // By hand: a function that may drop one calls this, where it would have a copy of a derived one.
+    fn drop(self) {
+        let Layout {
+            static_bytes: _,
+            floor: _,
+            stack: _,
+            bound: _,
+            idle: _,
+            areas: _,
+            objects: _,
+            live: _,
+            pieces: _,
+        } = self;
+    }
 }
 
 /// How much stack is enough.

@@ -1,5 +1,6 @@
 pub mod Lists
 pub mod Places
+pub mod Started
 pub mod Called
 pub mod AllFlat
 pub mod Expanded

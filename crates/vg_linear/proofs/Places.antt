@@ -8,8 +8,7 @@ use Rattle.vg_placement.specs.declared.column.Held.{Held}
 use Rattle.vg_placement.specs.declared.column.Held.TheVariants.{Initial, Field as TheField, Elements as TheItems, Table as TheTable}
 use Rattle.vg_placement.specs.declared.column.Column.{Column}
 use Rattle.vg_packed.specs.Packed.{if_ram, ram_columns}
-use Rattle.vg_table_bytes.specs.Rows.{if_table, tables_in}
-use Rattle.vg_started_bytes.specs.Started.{place_of, ram_places, address_of, table_addresses}
+use Rattle.vg_started_bytes.specs.Started.{address_of, if_table, place_of, ram_places, table_addresses, tables_in}
 use Rattle.vg_linear.specs.Laying.{lone_array, lone_arrays}
 use Rattle.vg_linear.specs.Places.{place_if, address_if}
 use Rattle.vg_linear.proofs.Lists.{from_map}

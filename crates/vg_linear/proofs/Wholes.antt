@@ -12,6 +12,7 @@ use Rattle.vg_flatten.specs.Flattened.{start_of}
 use Rattle.vg_placement.specs.declared.column.Column.{Column}
 use Rattle.vg_packed.specs.declared.program.FirmProgram.{FirmProgram}
 use Rattle.vg_trimming.specs.Trimmed.{AreAllTrimmed}
+use Rattle.vg_apt.specs.Apt.{AllKeepApt}
 use Rattle.vg_trim.specs.Looked.{AreNoLonger}
 use Rattle.vg_linear.specs.Laying.{layout_of}
 use Rattle.vg_linear.specs.Flats.{AreAllFlat, AreTaken, AreTyped, IsRefusedFor}
@@ -68,15 +69,16 @@ module _ (lay : Layout) (f : FirmProgram) where
       expanded_left Memory h t = tt
       expanded_left (Faulty why) h t = (h.0, inr (record { flats = flats; are_flat = are_flat; long = long h.1 }))
 
-      pub all_made : (expanded all : List Procedure) → first ≡ first_routine f → AreAllExpanded first ms expanded → WithRoutines first expanded all
-          → AreAllMade lay f all
-      all_made expanded all is are_expanded routines = record {
+      pub all_made : AllKeepApt bs trimmed → (expanded all : List Procedure) → first ≡ first_routine f → AreAllExpanded first ms expanded
+          → WithRoutines first expanded all → AreAllMade lay f all
+      all_made keep expanded all is are_expanded routines = record {
         flats = flats;
         are_flat = are_flat;
         begun = begun;
         with_start = with_start;
         trimmed = trimmed;
         are_trimmed = subst (λ z. AreAllTrimmed z trimmed) same are_trimmed;
+        keep_apt = subst (λ z. AllKeepApt z trimmed) same keep;
         expanded = expanded;
         are_expanded = subst (λ z. AreAllExpanded z trimmed expanded) is (subst (λ z. AreAllExpanded first z expanded) e are_expanded);
         routines = subst (λ z. WithRoutines z expanded all) is routines;

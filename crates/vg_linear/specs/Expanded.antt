@@ -6,6 +6,7 @@ use Rattle.vg_base.specs.declared.refusal.Refusal.TheVariants.{Fault as Faulty, 
 use Rattle.vg_lin.specs.Program.{Procedure}
 use Rattle.vg_lin.specs.Sound.{IsSound}
 use Rattle.vg_arith.specs.Simple.{are_simple}
+use Rattle.vg_expand.specs.Code.{expanded}
 use Rattle.vg_expand.specs.declared.too_long.TooLong.{TooLong}
 use Rattle.vg_expand.specs.Expansion.{Expands}
 
@@ -13,6 +14,7 @@ use Rattle.vg_expand.specs.Expansion.{Expands}
 pub record IsExpandedTo (first : ℕ) (old new : Procedure) : Type 0 where
   pub sound : IsSound old
   pub expands : Expands first old new
+  pub exactly : new ≡ expanded first old
   pub simple : are_simple new.code ≡ true
   pub sound_too : IsSound new
 

@@ -4,7 +4,7 @@ use Rattle.vg_firm.specs.declared.step.ArrayPlace.{ArrayPlace}
 use Rattle.vg_flatten_shapes.specs.declared.layout.Layout.{Layout}
 use Rattle.vg_placement.specs.declared.column.Column.{Column}
 use Rattle.vg_packed.specs.declared.program.FirmProgram.{FirmProgram}
-use Rattle.vg_started_bytes.specs.Started.{ram_places, table_addresses}
+pub use Rattle.vg_started_bytes.specs.Started.{bytes_in, ram_places, table_addresses}
 use Rattle.vg_linear.specs.Passing.{passings_for}
 
 -- The array of a table that has no other.

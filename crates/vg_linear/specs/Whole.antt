@@ -12,6 +12,7 @@ use Rattle.vg_linear.specs.declared.whole.Linear.{Linear}
 use Rattle.vg_linear.specs.Laying.{layout_of}
 use Rattle.vg_linear.specs.Widths.{AllHaveWidths}
 use Rattle.vg_linear.specs.Flats.{AreAllFlat}
+use Rattle.vg_apt.specs.Apt.{AllKeepApt}
 use Rattle.vg_trimming.specs.Trimmed.{AreAllTrimmed}
 use Rattle.vg_linear.specs.Expanded.{AreAllExpanded}
 use Rattle.vg_linear.specs.Routines.{WithRoutines}
@@ -42,6 +43,7 @@ pub record AreAllMade (lay : Layout) (f : FirmProgram) (all : List Procedure) : 
   -- all trimmed
   pub trimmed : List Procedure
   pub are_trimmed : AreAllTrimmed begun trimmed
+  pub keep_apt : AllKeepApt begun trimmed
   -- all expanded, with the routines that they call behind these
   pub expanded : List Procedure
   pub are_expanded : AreAllExpanded (first_routine f) trimmed expanded

@@ -1,5 +1,5 @@
 // Whole programs.
-ghost use Rattle.std.specs.Prelude.{◌<◌, ◌≤◌, IfOk, length};
+ghost use Rattle.std.specs.Prelude.{◌≡◌, ◌<◌, ◌≤◌, IfOk, length};
 ghost use Rattle.vg_linear.specs.Flats.{AreAllFlat};
 ghost use Rattle.vg_linear.specs.Laying.{layout_of};
 ghost use Rattle.vg_linear.specs.Refusals.{AreRefused, AreTakenIn, IsExpandedOrTooLong, IsRefused, IsTakenFor, IsTypedIn};
@@ -21,7 +21,6 @@ use vg_placement::Column;
 use vg_trim::trim_all;
 
 /// A linear program.
-#[derive(Drop)]
 pub struct Linear {
     /// Where columns and tables stand, and how procedures are called.
     pub layout: Layout,
@@ -30,6 +29,31 @@ pub struct Linear {
     pub procedures: Row<LinProc>,
     /// The place of the start: behind those of the packed program.
     pub start: u16,
+}
+
+impl Drop for Linear {
+    // By hand: a function that may drop one calls this, where it would have a copy of a derived one.
+    fn drop(self) {
+        let Linear {
+            layout: _,
+            procedures: _,
+            start: _,
+        } = self;
+    }
+}
+
+impl Linear {
+    /// The procedures alone.
+    pub fn into_procedures(self) -> Row<LinProc>
+        ensures { result ≡ self.procedures }
+    {
+        let Linear {
+            layout: _,
+            procedures,
+            start: _,
+        } = self;
+        procedures
+    }
 }
 
 /// The linear program of a packed one with these columns. All its procedures are expanded: none of them has a product, a division, a remainder or a shift

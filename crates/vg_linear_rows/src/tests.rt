@@ -170,7 +170,8 @@ fn is_main(code: &[Instr]) -> bool {
     }
 }
 
-// Division is called, and its result is cut to a byte in the local that it came to. What no run comes to behind the return is left out.
+// Division is called, and its result is cut to a byte in the local of the parameter, which nobody needs by then. What no run comes to behind the return is left
+// out.
 fn is_tenth(code: &[Instr]) -> bool {
     match code {
         [
@@ -182,7 +183,7 @@ fn is_tenth(code: &[Instr]) -> bool {
                 && is_division(*call)
                 && is_cut(*cut)
                 && *width == 1
-                && is_local(*value, 1)
+                && is_local(*value, 0)
         }
         _ => false,
     }
@@ -241,7 +242,7 @@ fn is_division(call: Call) -> bool {
 fn is_cut(c: Computation) -> bool {
     match c.operator {
         LinOperator::Plus => c.width == 1
-            && c.to == 1
+            && c.to == 0
             && is_local(c.left, 1)
             && is_known(c.right, 0),
         _ => false,

@@ -21,6 +21,7 @@ use Rattle.vg_put_operations.specs.Coded.{code_from}
 use Rattle.vg_select.specs.Selected.{with_codes}
 use Rattle.vg_put_programs.specs.declared.placed.Placed.{Placed}
 use Rattle.vg_put_programs.specs.Programs.{Emission, emission, turn_of, codes_upto, pieces_upto, placed_upto, AreWithin}
+use Rattle.vg_followed.specs.Stands.{ReceivesNothing}
 use Rattle.vg_laid.specs.Linked.{HasPiece, ProcedureLinked}
 use Rattle.vg_laid.specs.Images.{HandlerLinked, ProgramLinked}
 use Rattle.vg_tables.specs.declared.datum.Datum.{Datum}
@@ -221,7 +222,7 @@ module _ (u : Unlinked) (can : CanBeLinked u) (room : words_laid u < 65536) wher
         is_vector = c.0;
         procedure = c.1.0;
         there = c.1.1;
-        no_params = c.1.2;
+        receives_nothing = subst ReceivesNothing (sym (procedures m c.1.0 c.1.1).layout) c.1.2;
         at = stub_at stubs (e.idle + 4) m;
         slot = slot_is u.handlers stubs (e.idle + 4) vector (let v = c.0.1 in omega (arith, v)) ∙ ap (slot_of stubs (e.idle + 4)) h;
         stands = has_stub m there;

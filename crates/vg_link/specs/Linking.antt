@@ -9,6 +9,8 @@ use Rattle.vg_meaning.specs.Outside.{IsVector}
 use Rattle.vg_codes.specs.Codes.{Codes, AreCodes}
 use Rattle.vg_lin.specs.Program.{Procedure, Program}
 use Rattle.vg_followed.specs.Reset.{reset_code}
+use Rattle.vg_followed.specs.Stands.{ReceivesNothing}
+use Rattle.vg_templates.specs.Framed.{framed}
 use Rattle.vg_templates.specs.Whole.{Links}
 use Rattle.vg_image.specs.Image.{Parts, first_table, code_start, flash_of, words_of}
 use Rattle.vg_laid.specs.Linked.{HasPiece}
@@ -82,12 +84,16 @@ program_of u codes =
 abbrev pub IsAlone : List Procedure → (m : ℕ) → Type 0
 IsAlone ms m = (procedure : Procedure) × (slice_get ms m ≡ Some procedure) × (procedure.params ≡ 0)
 
--- All procedures are sound and there is code for each of their instructions; the start procedure and the handlers have no parameters, and the handlers are those
--- of interrupts; and the tables have at most 60,000 bytes, the first of which are those of the columns in RAM, at most 4,096.
+-- A procedure that an interrupt can call: it receives nothing.
+abbrev pub CanHandle : List Procedure → (m : ℕ) → Type 0
+CanHandle ms m = (procedure : Procedure) × (slice_get ms m ≡ Some procedure) × ReceivesNothing (framed procedure)
+
+-- All procedures are sound and there is code for each of their instructions; the start procedure has no parameters; the handlers are those of interrupts, and
+-- receive nothing; and the tables have at most 60,000 bytes, the first of which are those of the columns in RAM, at most 4,096.
 pub record CanBeLinked (u : Unlinked) : Type 0 where
   pub sound : AreSound u.procedures u.dispatches
   pub start : IsAlone u.procedures u.start
-  pub handlers : (vector m : ℕ) → handler_in u.handlers vector ≡ Some m → IsVector vector × IsAlone u.procedures m
+  pub handlers : (vector m : ℕ) → handler_in u.handlers vector ≡ Some m → IsVector vector × CanHandle u.procedures m
   pub few_tables : length u.tables ≤ 60000
   pub few_static : u.static_bytes ≤ 4096
   pub within : u.static_bytes ≤ length u.tables

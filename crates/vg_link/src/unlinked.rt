@@ -14,7 +14,6 @@ pub struct Handler {
 }
 
 /// A program of linear code, before it is known where its code stands.
-#[derive(Drop)]
 pub struct Unlinked {
     /// All procedures. A procedure's number is its index.
     pub procedures: Row<LinProc>,
@@ -28,4 +27,18 @@ pub struct Unlinked {
     pub static_bytes: u16,
     /// The handlers. Where two have the same vector, the first one counts.
     pub handlers: Row<Handler>,
+}
+
+impl Drop for Unlinked {
+    // By hand: a function that may drop one calls this, where it would have a copy of a derived one.
+    fn drop(self) {
+        let Unlinked {
+            procedures: _,
+            start: _,
+            dispatches: _,
+            tables: _,
+            static_bytes: _,
+            handlers: _,
+        } = self;
+    }
 }

@@ -2,3 +2,4 @@ pub mod SessionsAgree
 pub mod Outcomes
 pub mod Keeping
 pub mod Never
+pub mod Peaks

@@ -1,4 +1,6 @@
 // Packed programs.
+ghost use Rattle.std.specs.Prelude.{◌≡◌};
+
 use vg_base::Row;
 use vg_codes::Case;
 use vg_firm::{ArrayPlace, Procedure};
@@ -13,7 +15,6 @@ pub struct Entrance {
 }
 
 /// A packed program. All of its columns stand in RAM.
-#[derive(Drop)]
 pub struct FirmProgram {
     /// With which values each column begins, in the order of the columns.
     pub columns: Row<Row<Entry>>,
@@ -25,4 +26,35 @@ pub struct FirmProgram {
     pub dispatches: Row<Row<Case>>,
     pub main: u16,
     pub handlers: Row<Entrance>,
+}
+
+impl Drop for FirmProgram {
+    // By hand: a function that may drop one calls this, where it would have a copy of a derived one.
+    fn drop(self) {
+        let FirmProgram {
+            columns: _,
+            tables: _,
+            procedures: _,
+            dispatches: _,
+            main: _,
+            handlers: _,
+        } = self;
+    }
+}
+
+impl FirmProgram {
+    /// The dispatches alone.
+    pub fn into_dispatches(self) -> Row<Row<Case>>
+        ensures { result ≡ self.dispatches }
+    {
+        let FirmProgram {
+            columns: _,
+            tables: _,
+            procedures: _,
+            dispatches,
+            main: _,
+            handlers: _,
+        } = self;
+        dispatches
+    }
 }

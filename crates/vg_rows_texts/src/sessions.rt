@@ -77,7 +77,7 @@ fn session_of(
             budget = number;
         }
     }
-    let Start { program, heap, .. } = start;
+    let (program, heap) = start.into_program_and_heap();
     let ended = Session::new(alloc, &program, heap).run(script, budget, &mut sink);
     let lines = if asked.what == "count" {
         counted(alloc, sink.bytes())?

@@ -12,8 +12,8 @@ use Rattle.vg_session.specs.declared.session.SessionEnd.TheVariants as session_e
 use Rattle.vg_run.specs.declared.playing.RunEnd.{RunEnd}
 use Rattle.vg_run.specs.declared.playing.RunEnd.TheVariants as run
 use Rattle.vg_run.specs.declared.playing.Played.{Played}
-use Rattle.vg_run.specs.declared.playing.Played.TheVariants.{Ended, WriteFault, Refused, ScriptRefused, NoMemory}
-use Rattle.vg_run.specs.Shown.{end_line, end_text, ending_in, lines_of}
+use Rattle.vg_run.specs.declared.playing.Played.TheVariants.{Ended, WriteFault, NoMemory}
+use Rattle.vg_run.specs.Shown.{end_line, end_text, ending_in}
 use Rattle.vg_run.specs.Mirrors.{PlaysRun, run_end}
 
 same_end : (a b : RunEnd) (r : Result RunEnd Played) → r ≡ Ok a → r ≡ Ok b → a ≡ b

@@ -14,7 +14,7 @@ use std::alloc::Global;
 use vg_base::Refusal;
 use vg_core::Program;
 use vg_faults::{Fault, INIT_STEPS};
-use vg_front::{Start, started};
+use vg_front::started;
 use vg_io::Sink;
 use vg_script::{EndLine, Script, ScriptFault, put_ending, read_script};
 use vg_session::{Session, SessionEnd};
@@ -65,7 +65,7 @@ pub fn play<O: Sink>(alloc: Global, text: &[u8], script: &[u8], steps: u32, out:
         Err(Refusal::Fault(why)) => Played::Refused(why),
         Err(Refusal::NoMemory) => Played::NoMemory,
         Ok(start) => {
-            let Start { program, heap, .. } = start;
+            let (program, heap) = start.into_program_and_heap();
             play_script(alloc, &program, heap, script, steps, out)
         }
     }

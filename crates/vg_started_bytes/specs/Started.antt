@@ -8,7 +8,7 @@ use Rattle.vg_placement.specs.declared.column.Column.{Column}
 use Rattle.vg_tables.specs.declared.datum.Datum.{Datum}
 use Rattle.vg_tables.specs.Bytes.{byte_of}
 use Rattle.vg_packed.specs.Packed.{ram_columns}
-use Rattle.vg_table_bytes.specs.Rows.{tables_in}
+pub use Rattle.vg_table_bytes.specs.Rows.{if_table, tables_in}
 
 -- ---- where they stand
 

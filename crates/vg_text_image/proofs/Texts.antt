@@ -1,13 +1,12 @@
 -- The image of a text that fits does what the text does.
-use Rattle.std.specs.Prelude.{ℕ, zero, suc, ◌+◌, ◌-◌, ◌<◌, ◌≤◌, Bool, true, false, ◌==◌, ◌||◌, List, [], ◌∷◌, length, Option, slice_get, unwrap_or, Result, Ok, Err}
+use Rattle.std.specs.Prelude.{ℕ, zero, suc, ◌+◌, ◌-◌, ◌<◌, ◌≤◌, Bool, true, false, ◌==◌, ◌||◌, List, [], ◌∷◌, length, slice_get, unwrap_or, Result, Err, IfErr}
 use Rattle.std.specs.List.{AllByRecursion}
-use Rattle.std.proofs.Common.{◌≡◌, ◌⊎◌, inl, inr, refl, sym, ap, ◌∙◌, subst, arith}
+use Rattle.std.proofs.Common.{◌≡◌, ◌⊎◌, inl, inr, refl, sym, ap, subst, arith}
 use Rattle.vg_base.specs.Limits.{text_limit}
 use Rattle.vg_base.specs.declared.refusal.Refusal.{Refusal}
 use Rattle.vg_base.specs.declared.refusal.Refusal.TheVariants as refusal
 use Rattle.vg_meaning.specs.declared.event.Event.{Event}
 use Rattle.vg_syntax.specs.Tree.{Node}
-use Rattle.vg_source.specs.Values.{Heap as SourceHeap}
 use Rattle.vg_source.specs.Peak.{costs, sessions}
 use Rattle.vg_source.specs.Program.{source_of}
 use Rattle.vg_static_source.specs.Sums.{IsStatic}
@@ -15,9 +14,7 @@ use Rattle.vg_static_named.proofs.Sums.{static_named}
 use Rattle.vg_calls_named.proofs.Whole as calls_named
 use Rattle.vg_compile.specs.Bounds.{BoundsCalls}
 use Rattle.avr_isa.specs.Agrees.{Agrees, NeverReaches}
-use Rattle.avr_bytes.specs.Bytes.{IsFlash}
 use Rattle.avr_view.specs.Run.{Run}
-use Rattle.vg_faults.specs.Fitting.{IsFitting}
 use Rattle.vg_tree_walks.specs.Whole.{tree_at}
 use Rattle.vg_core.specs.HeldProgram.{program_at}
 use Rattle.vg_core.specs.Naming.{Naming, naming_of}
@@ -26,14 +23,12 @@ use Rattle.vg_renamed.specs.IsNamed.{IsNamed}
 use Rattle.vg_renamed.proofs.Named.{is_named}
 use Rattle.vg_compile.specs.Given.{IsReady}
 use Rattle.vg_written.specs.Written.{parts_of}
-use Rattle.vg_fits.specs.Answer.{named_start_heap}
-use Rattle.vg_fits.specs.Answer.{Start}
-use Rattle.vg_fits.specs.declared.fitting.Fitted.{Fitted}
-use Rattle.vg_fits.specs.Answer.{IsFittedOf}
-use Rattle.vg_fits_given.proofs.Given.{given, ready}
+use Rattle.vg_fits_given.specs.Fitted.{Fitted, IsFittedOf, Start, named_start_heap}
+use Rattle.vg_fits_given.proofs.Given.{chip, given, ready}
 use Rattle.vg_costs.proofs.Bounded.{small}
 use Rattle.vg_costs.proofs.Limited.{not_too_many}
-use Rattle.vg_compile.specs.Compile.{Linked}
+use Rattle.vg_compile.specs.Compile.{CallsNeedAsSaid, Linked}
+use Rattle.vg_compile.specs.declared.no_image.NoImage.{NoImage}
 use Rattle.vg_compile.proofs.Memory.{agrees}
 use Rattle.vg_compile.specs.Memory.{DoesAsProgram}
 use Rattle.vg_compile.specs.Memory.{with_whole}
@@ -49,7 +44,7 @@ use Rattle.vg_layout.specs.Few.{IsFew}
 use Rattle.vg_compile.specs.Runs.{DoesInImage}
 use Rattle.vg_layout.specs.declared.stack_bound.StackBound.{StackBound}
 use Rattle.vg_layout.specs.declared.stack_bound.StackBound.TheVariants.{Bytes, Cycle}
-use Rattle.vg_text_image.specs.Made.{BoundsCallsOf, CanCompile, DoesText, IsCompiledOf, IsRefusedFor}
+use Rattle.vg_text_image.specs.Made.{BoundsCallsOf, CanCompile, DoesText, IsCalled, IsCompiledOf, IsRefusedFor, NeedsAsSaid, NeedsOf}
 
 -- ---- bytes of flash
 
@@ -121,6 +116,8 @@ module _ (bytes : List ℕ) (clock : ℕ) (f : Fitted) (is : IsFittedOf bytes cl
   pub can_compile : CanCompile f
   can_compile = record {
     given = given bytes clock f is short;
+    ready = ready bytes clock f is short;
+    chip = chip bytes clock f is short;
     costs = small bytes s.names s.tree short is.alive.start.legal.reads (not_too_many text is.alive.start.legal.legal);
   }
 
@@ -151,6 +148,10 @@ module _ (bytes : List ℕ) (clock : ℕ) (f : Fitted) (is : IsFittedOf bytes cl
     calls_named.cycle_there s.names text p is.alive.start.program.named is.alive.start.program.typed is.alive.start.program.told
         (parts_of is.alive.start.program.written) s.heap is.alive.start.typed.0 is.alive.start.typed.1 methods cycle,
   )
+
+  -- what calls need that a stack has no room for is said of the calls of the text
+  pub deep_calls : (need : ℕ) → NeedsOf f need → BoundsCallsOf text (named_start_heap s) (Bytes need)
+  deep_calls need needs = calls_of_text (Bytes need) (needs s.names (ready bytes clock f is short))
 
   module _ (i : TextImage) (m : IsCompiledOf f i) (stack : ℕ) (fits : n + stack ≤ 4096) where
     abbrev linked : Linked
@@ -262,3 +263,18 @@ full_of stack r h words e = subst (λ z. IsRefusedFor stack z) e h
 pub deep_of : (stack : ℕ) (r : Result TextImage (Refusal Unmade)) → IsRefusedFor stack r → (need : ℕ) → r ≡ Err (refusal.Fault (StackFull need))
     → stack < need
 deep_of stack r h need e = subst (λ z. IsRefusedFor stack z) e h
+
+pub needs_of : (f : Fitted) (r : Result TextImage (Refusal Unmade)) → IfErr r (NeedsAsSaid f) → (need : ℕ) → r ≡ Err (refusal.Fault (StackFull need))
+    → NeedsOf f need
+needs_of f r h need e = subst (λ z. IfErr z (NeedsAsSaid f)) e h
+
+-- what `compile` says of a refusal is said of what it is called here
+pub called_of : (f : Fitted) (cs : List ℕ) → ((texts : List (List ℕ)) → cs ≡ costs (tree_at texts f.alive.start.tree)) → (r : Refusal NoImage)
+    (why : NoImage) (u : Unmade) → r ≡ refusal.Fault why → IsCalled why u → (IsReady (program_at f.alive.start.program) f.alive.start.heap
+    → CallsNeedAsSaid cs (program_at f.alive.start.program) f.alive.start.heap r) → NeedsAsSaid f (refusal.Fault u)
+called_of f cs are r why (StackFull need) e called h = λ texts steady.
+    subst (λ z. BoundsCalls z (program_at f.alive.start.program) f.alive.start.heap (Bytes need)) (are texts)
+    (subst (λ z. CallsNeedAsSaid cs (program_at f.alive.start.program) f.alive.start.heap (refusal.Fault z)) called
+    (subst (λ z. CallsNeedAsSaid cs (program_at f.alive.start.program) f.alive.start.heap z) e (h steady)))
+called_of f cs are r why (CodeFull words) e called h = tt
+called_of f cs are r why NotBuilt e called h = tt

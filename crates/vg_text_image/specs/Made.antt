@@ -16,8 +16,11 @@ use Rattle.vg_tree_walks.specs.Whole.{tree_at}
 use Rattle.vg_core.specs.HeldProgram.{program_at}
 use Rattle.vg_compile.specs.Given.{IsGiven}
 use Rattle.vg_compile.specs.Given.{IsReady}
-use Rattle.vg_fits.specs.declared.fitting.Fitted.{Fitted}
+use Rattle.vg_compile.specs.Given.{NamesChip}
+use Rattle.vg_fits_given.specs.Fitted.{Fitted}
 use Rattle.vg_compile.specs.Compile.{Linked}
+use Rattle.vg_compile.specs.declared.no_image.NoImage.{NoImage}
+use Rattle.vg_compile.specs.declared.no_image.NoImage.TheVariants.{Deep}
 use Rattle.vg_costs.specs.Small.{AreSmall}
 use Rattle.vg_compile.specs.Bounds.{HoldsBound}
 use Rattle.vg_compile.specs.Runs.{DoesInImage}
@@ -58,6 +61,8 @@ pub record DoesText (bytes : List ℕ) (clock : ℕ) (i : TextImage) : Type 0 wh
 -- What fits can be compiled.
 pub record CanCompile (f : Fitted) : Type 0 where
   pub given : IsGiven (program_at f.alive.start.program) f.alive.start.heap f.alive.live f.placed.numbers f.placed.columns
+  pub ready : IsReady (program_at f.alive.start.program) f.alive.start.heap
+  pub chip : NamesChip (program_at f.alive.start.program)
   pub costs : AreSmall (costs (tree_at [] f.alive.start.tree))
 
 -- The image of what fits: the program, which is ready to be packed, does in its flash what it does from its heap, by the costs of its methods.
@@ -79,6 +84,21 @@ abbrev pub IsCauseFor : (stack : ℕ) → Unmade → Type 0
 IsCauseFor stack (CodeFull words) = 65536 ≤ words
 IsCauseFor stack (StackFull need) = stack < need
 IsCauseFor stack NotBuilt = Unit {0}
+
+-- No cycle of calls is reached in the program of what fits, and the bytes are at most four more than the methods of some way of calls cost.
+abbrev pub NeedsOf : Fitted → (need : ℕ) → Type 0
+NeedsOf f need = (texts : List (List ℕ)) → IsReady (program_at f.alive.start.program) f.alive.start.heap
+    → BoundsCalls (costs (tree_at texts f.alive.start.tree)) (program_at f.alive.start.program) f.alive.start.heap (Bytes need)
+
+-- Where the cause is the stack, calls need as much as is said.
+abbrev pub NeedsAsSaid : Fitted → Refusal Unmade → Type 0
+NeedsAsSaid f (refusal.Fault (StackFull need)) = NeedsOf f need
+NeedsAsSaid f why = Unit {0}
+
+-- Where a cause is called that of the stack, it is that calls need as many bytes.
+abbrev pub IsCalled : NoImage → Unmade → Type 0
+IsCalled why (StackFull need) = why ≡ Deep need
+IsCalled why u = Unit {0}
 
 abbrev pub IsRefusedFor : (stack : ℕ) → Result TextImage (Refusal Unmade) → Type 0
 IsRefusedFor stack (Ok i) = Unit {0}

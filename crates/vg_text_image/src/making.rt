@@ -1,10 +1,10 @@
 // From a text that fits to the flash of its image.
-ghost use Rattle.std.specs.Prelude.{◌≡◌, ◌<◌, ◌≤◌, ℕ, List, length, Err, IfOk};
+ghost use Rattle.std.specs.Prelude.{◌≡◌, ◌<◌, ◌≤◌, ℕ, List, length, Err, IfErr, IfOk};
 ghost use Rattle.std.specs.List.{AllByRecursion};
 ghost use Rattle.vg_base.specs.Limits.{flash_bytes};
 ghost use Rattle.vg_layout.specs.Few.{IsFew};
 ghost use Rattle.vg_compile.specs.Compile.{IsCauseFor as IsCauseIn};
-ghost use Rattle.vg_text_image.specs.Made.{CanCompile, IsCauseFor, IsCompiledOf, IsRefusedFor};
+ghost use Rattle.vg_text_image.specs.Made.{CanCompile, IsCalled, IsCauseFor, IsCompiledOf, IsRefusedFor, NeedsAsSaid, NeedsOf};
 
 use crate::unmade::Unmade;
 use avr_isa::Image;
@@ -12,7 +12,7 @@ use std::alloc::Global;
 use vg_base::{NoMemory, Refusal, Row};
 use vg_compile::{Compiled, Linked, NoImage, compile};
 use vg_costs::method_costs;
-use vg_fits::Fitted;
+use vg_fits_given::Fitted;
 use vg_layout::{CodePiece, StackBound};
 
 /// The flash of the image of a text, and what its layout tells.
@@ -32,13 +32,15 @@ pub struct TextImage {
 /// The image of a text that starts, whose live methods make nothing and which fits, with a stack of so many bytes.
 ///
 /// The machine does in it what the text does from its initialised components, for all device reads and interrupts and with every stack for which there is room
-/// above the static area; only where the calls that are active cost more than the stack may it reach below the floor first. It refuses what `compile` refuses.
+/// above the static area; only where the calls that are active cost more than the stack may it reach below the floor first. It refuses what `compile` refuses;
+/// where that is for the stack, calls do not go round, and what they are said to need is at most four more than what the methods of some way of calls cost.
 pub fn image_of(alloc: Global, fitted: &Fitted, stack: u16) -> Result<TextImage, Refusal<Unmade>>
     requires { CanCompile fitted.now }
     ensures image { IfOk result (IsCompiledOf fitted.now) }
     ensures few { IfOk result (λ image. IsFew stack image.bound) }
     ensures full { (words : ℕ) → result ≡ Err (Refusal.Fault (Unmade.CodeFull words)) → 65536 ≤ words }
     ensures deep { (need : ℕ) → result ≡ Err (Refusal.Fault (Unmade.StackFull need)) → stack < need }
+    ensures calls { (need : ℕ) → result ≡ Err (Refusal.Fault (Unmade.StackFull need)) → NeedsOf fitted.now need }
 {
     compiled(alloc, fitted, stack)
 }
@@ -49,6 +51,7 @@ fn compiled(alloc: Global, fitted: &Fitted, stack: u16) -> Result<TextImage, Ref
     ensures image { IfOk result (IsCompiledOf fitted.now) }
     ensures few { IfOk result (λ image. IsFew stack image.bound) }
     ensures refused { IsRefusedFor stack result }
+    ensures calls { IfErr result (NeedsAsSaid fitted.now) }
 {
     let start = &fitted.alive.start;
     let costs = method_costs(alloc, &start.tree)?;
@@ -71,12 +74,13 @@ fn compiled(alloc: Global, fitted: &Fitted, stack: u16) -> Result<TextImage, Ref
 // What a cause is called here.
 fn unmade(why: NoImage, stack: u16) -> Unmade
     requires { IsCauseIn stack why }
-    ensures { IsCauseFor stack result }
+    ensures cause { IsCauseFor stack result }
+    ensures called { IsCalled why result }
 {
     match why {
         NoImage::Full(full) => Unmade::CodeFull { words: full.words },
         NoImage::Deep { need } => Unmade::StackFull { need },
-        NoImage::NotLinear(_) | NoImage::Costly | NoImage::Unfit => Unmade::NotBuilt,
+        NoImage::NotLinear(_) | NoImage::Received | NoImage::Costly => Unmade::NotBuilt,
     }
 }
 

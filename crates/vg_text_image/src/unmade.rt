@@ -5,8 +5,8 @@
 pub enum Unmade {
     /// It would take so many words of flash, which are more than 65,535: the last word stays free.
     CodeFull { words: u32 },
-    /// Its calls need so many bytes of stack, and it has fewer.
+    /// The dearest way of its calls needs so many bytes of stack, and it has fewer.
     StackFull { need: u32 },
-    /// It has no linear code, a procedure takes more of the stack than its method costs, or it cannot be linked.
+    /// It has no linear code, a procedure takes more of the stack than its method costs, or that of a handler receives something.
     NotBuilt,
 }

@@ -1,10 +1,12 @@
 // Trimmed procedures.
-ghost use Rattle.std.specs.Prelude.{◌≡◌, ◌≤◌, length, IfOk};
+ghost use Rattle.std.specs.Prelude.{◌≡◌, ◌≤◌, length, IfOk, IsTrue};
 ghost use Rattle.vg_trimming.specs.Trimmed.{IsTrimmedTo, AreAllTrimmed};
+ghost use Rattle.vg_apt.specs.Apt.{AllKeepApt, AreApt, KeepsApt};
 ghost use Rattle.vg_trim.specs.Looked.{IsLookedAt, AreNoLonger};
 
 use crate::looking::trims;
 use std::alloc::Global;
+use vg_apt::is_apt_code;
 use vg_base::{NoMemory, Row};
 use vg_lin::{Instr, LinProc};
 use vg_trim_plan::{Effort, Plan, plan};
@@ -13,31 +15,41 @@ use vg_trim_plan::{Effort, Plan, plan};
 pub fn trim(alloc: Global, old: &LinProc) -> Result<LinProc, NoMemory>
     ensures trimmed { IfOk result (λ new. IsTrimmedTo old.now new) }
     ensures short { IfOk result (λ new. length new.code ≤ length old.now.code) }
+    ensures apt { IfOk result (KeepsApt old.now) }
 {
     let ranging = plan(alloc, old, Effort::Ranging)?;
-    if trims(old, &ranging) {
+    if stands(old, &ranging) {
         return Ok(trimmed(old, ranging));
     }
     let leading = plan(alloc, old, Effort::Leading)?;
-    if trims(old, &leading) {
+    if stands(old, &leading) {
         return Ok(trimmed(old, leading));
     }
     let keeping = plan(alloc, old, Effort::Keeping)?;
-    if trims(old, &keeping) {
+    if stands(old, &keeping) {
         return Ok(trimmed(old, keeping));
     }
     let careful = plan(alloc, old, Effort::Careful)?;
-    if trims(old, &careful) {
+    if stands(old, &careful) {
         Ok(trimmed(old, careful))
     } else {
         copy(alloc, old)
     }
 }
 
+// Whether a guess stands for a procedure, and asks for no more than flattened code does.
+fn stands(old: &LinProc, guess: &Plan) -> bool
+    ensures looked { IsTrue result → IsLookedAt old.now guess.now.widths guess.now.code guess.now.facts guess.now.places }
+    ensures apt { IsTrue result → AreApt guess.now.code }
+{
+    trims(old, guess) && is_apt_code(guess.code.as_slice())
+}
+
 /// The procedures with less to do, one for one.
 pub fn trim_all(alloc: Global, procedures: &[LinProc]) -> Result<Row<LinProc>, NoMemory>
     ensures trimmed { IfOk result (λ new. AreAllTrimmed procedures.now new) }
     ensures short { IfOk result (λ new. AreNoLonger procedures.now new) }
+    ensures apt { IfOk result (λ new. AllKeepApt procedures.now new) }
 {
     let mut row = Row::new(alloc);
     for procedure in procedures {
@@ -51,9 +63,11 @@ pub fn trim_all(alloc: Global, procedures: &[LinProc]) -> Result<Row<LinProc>, N
 
 // The procedure of a guess that stands.
 fn trimmed(old: &LinProc, guess: Plan) -> LinProc
-    requires { IsLookedAt old.now guess.widths guess.code guess.facts guess.places }
+    requires looked { IsLookedAt old.now guess.widths guess.code guess.facts guess.places }
+    requires apt { AreApt guess.code }
     ensures trimmed { IsTrimmedTo old.now result }
     ensures short { length result.code ≤ length old.now.code }
+    ensures apt { KeepsApt old.now result }
 {
     old.keeps();
     LinProc::new(
@@ -69,6 +83,7 @@ fn trimmed(old: &LinProc, guess: Plan) -> LinProc
 fn copy(alloc: Global, old: &LinProc) -> Result<LinProc, NoMemory>
     ensures trimmed { IfOk result (λ new. IsTrimmedTo old.now new) }
     ensures short { IfOk result (λ new. length new.code ≤ length old.now.code) }
+    ensures apt { IfOk result (KeepsApt old.now) }
 {
     old.keeps();
     let widths = Row::from_slice(alloc, old.widths())?;

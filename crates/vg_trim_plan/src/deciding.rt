@@ -2,7 +2,7 @@
 use crate::filling::is_filled_test;
 use crate::flow::{Next, counts, reads_of};
 use crate::grid::Grid;
-use crate::joining::{is_at, next_in};
+use crate::joining::{Ways, is_at, next_in};
 use crate::leading::Led;
 use crate::living::Life;
 use crate::ranges::{Ranges, decided};
@@ -84,6 +84,20 @@ pub fn take_back(code: &[Instr], life: &Life, ways: &mut Vec<Option<usize>>) -> 
         }
     }
     is_changed
+}
+
+/// Whether each local is needed that is read by a branch which is left out.
+pub fn are_needed(code: &[Instr], ways: &Ways, life: &Life) -> bool {
+    let mut place = 0usize;
+    for instr in code {
+        let reads = reads_of(*instr);
+        let is_needed = is_needed(life, place, reads.first) && is_needed(life, place, reads.second);
+        if is_at(ways.needless.as_slice(), place) && !is_needed {
+            return false;
+        }
+        place = place.saturating_add(1);
+    }
+    true
 }
 
 fn is_needed(life: &Life, place: usize, value: Option<Operand>) -> bool {

@@ -16,9 +16,14 @@ pub mod mapping;
 pub mod ordering;
 pub mod placing;
 pub mod planning;
+pub mod pricing;
 pub mod ranges;
 pub mod returning;
+pub mod seating;
 pub mod sizes;
+pub mod uniting;
+pub mod ways;
+pub mod words;
 pub mod working;
 
 pub use guess::{Given, Plan};

@@ -1,6 +1,6 @@
 // The newer code, place by place.
 use crate::filling::is_stop;
-use crate::flow::{Next, at, is_pure, is_read, reads_of, target_of};
+use crate::flow::{Next, at, is_pure, target_of};
 use crate::grid::Grid;
 use crate::homes::{Homes, NoRoom, is_same};
 use crate::joining::{Ways, is_at};
@@ -8,6 +8,7 @@ use crate::living::{Life, is_behind, is_crossing_behind};
 use crate::mapping::{mapped, mapped_call, mapped_test};
 use crate::ranges::{Ranges, Spot, result_most};
 use crate::sizes::{Size, bytes_of, narrowed, result_bytes, width_of};
+use crate::uniting::first_of;
 use crate::working::{Seen, Works};
 use vg_base::Refusal;
 use vg_lin::{Call, Instr, Operand, Operator, Plain, Target, Test};
@@ -21,8 +22,14 @@ pub struct Older<'a> {
     pub life: &'a Life,
     /// For each local how many bytes hold all its values that are needed where ways meet.
     pub bytes: &'a [u8],
-    /// Whether a value may stand in a local with more bytes than it needs, so that there are fewer locals.
+    /// Whether a local that is kept has all bytes of the older one, and values may stand in any local that has enough, so that there are fewer locals.
     pub is_tight: bool,
+    /// Whether a value may stand in a local with more bytes than it needs before there is a new one for it.
+    pub is_snug: bool,
+    /// For each local the one for which its local of the newer code is kept.
+    pub firsts: &'a [u8],
+    /// How many parameters lie in the frame, where no other value should stand.
+    pub pushed: usize,
     /// The computations whose results are kept.
     pub works: &'a Works,
     /// Whether no value ever waits.
@@ -68,8 +75,18 @@ impl Older<'_> {
         )
     }
 
-    /// The width of the local that is kept for one of the older code.
-    pub fn own_width(&self, local: u8) -> u8 {
+    // The local of the newer code that is kept for one of the older code.
+    fn own(&self, homes: &mut Homes, local: u8) -> Result<u8, Refusal<NoRoom>> {
+        homes.own(self.first(local), self.own_width(local))
+    }
+
+    // The first of the locals that share one with this one.
+    fn first(&self, local: u8) -> u8 {
+        (first_of(self.firsts, usize::from(local)) % 256) as u8
+    }
+
+    // The width of the local that is kept for one of the older code.
+    fn own_width(&self, local: u8) -> u8 {
         let width = width_of(self.widths, local);
         if self.is_tight {
             width
@@ -244,7 +261,7 @@ fn made_copy(
     let home = homes.home(value);
     let next = older.next(place);
     if older.is_crossing(next, local) {
-        let own = homes.own(local, older.own_width(local))?;
+        let own = older.own(homes, local)?;
         homes.give(local, own);
         if is_same(home, Operand::Local(own)) {
             return Ok(None);
@@ -253,10 +270,6 @@ fn made_copy(
     }
     let bytes = bytes_of(homes.widths.as_slice(), home);
     let width = width_of(older.widths, local);
-    if bytes <= width && is_free(homes, home) {
-        homes.set(local, Some(home));
-        return Ok(None);
-    }
     let wish = Wish {
         local,
         width,
@@ -268,17 +281,35 @@ fn made_copy(
         next,
         apart: None,
     };
+    if bytes <= width && is_free(older, homes, wish, home) {
+        homes.set(local, Some(home));
+        return Ok(None);
+    }
     let to = pooled(older, homes, wish)?;
     homes.give(local, to);
     Ok(Some(Instr::Plain(Plain::Copy(to, home))))
 }
 
-// Whether a value may stand there for a second local.
-fn is_free(homes: &Homes, home: Operand) -> bool {
+// Whether a value may stand there for a second local, as long as that needs it.
+fn is_free(older: &Older<'_>, homes: &Homes, wish: Wish, home: Operand) -> bool {
     match home {
         Operand::Known(_) => true,
-        Operand::Local(local) => !homes.is_kept(local),
+        Operand::Local(number) => {
+            !homes.is_kept(number) || is_owned_clear(older, homes, wish, number)
+        }
     }
+}
+
+// Whether a local is kept for some of the older code, and gets no other value as long as the one is needed that has that wish.
+fn is_owned_clear(older: &Older<'_>, homes: &Homes, wish: Wish, number: u8) -> bool {
+    for index in 0..homes.owns.len() {
+        if let Some(Some(own)) = homes.owns.get(index) {
+            if *own == number {
+                return are_clear(older, (index % 256) as u8, wish);
+            }
+        }
+    }
+    false
 }
 
 fn made_call(
@@ -320,13 +351,12 @@ fn place_for(
     next: Next,
 ) -> Result<u8, Refusal<NoRoom>> {
     if older.is_crossing(next, local) {
-        return homes.own(local, older.own_width(local));
+        return older.own(homes, local);
     }
     let width = width_of(older.widths, local);
     let size = mapped_size(older, homes, instr, place);
     if let Some(aim) = aim_of(older, homes, local, place) {
-        let aimed = older.own_width(aim);
-        let own = homes.own(aim, aimed)?;
+        let own = older.own(homes, aim)?;
         let has = homes.width(own);
         if size.is_held(width, has) {
             return Ok(own);
@@ -391,73 +421,99 @@ fn pooled(older: &Older<'_>, homes: &mut Homes, wish: Wish) -> Result<u8, Refusa
     } else {
         narrowed(wish.width, wish.size.least())
     };
-    for index in 0..homes.widths.len() {
-        let number = (index % 256) as u8;
-        if is_wide(older, homes, wish, number, wanted) && is_idle(older, homes, wish, number) {
-            return Ok(number);
-        }
+    if let Some(number) = found(older, homes, wish, wanted, older.is_tight) {
+        return Ok(number);
     }
-    for index in 0..homes.owns.len() {
-        let owner = (index % 256) as u8;
-        if let Some(number) = lent(older, homes, wish, owner, wanted) {
+    if older.is_snug {
+        if let Some(number) = found(older, homes, wish, wanted, true) {
             return Ok(number);
         }
     }
     homes.add(wanted, false)
 }
 
-// Whether a local has the width that is wanted, or, where there should be few, holds the value as the older code does.
-fn is_wide(older: &Older<'_>, homes: &Homes, wish: Wish, number: u8, wanted: u8) -> bool {
-    let has = homes.width(number);
-    has == wanted || (older.is_tight && wish.size.is_held(wish.width, has))
-}
-
-// The local that is kept for one of the older code, as long as that needs none.
-fn lent(older: &Older<'_>, homes: &Homes, wish: Wish, owner: u8, wanted: u8) -> Option<u8> {
-    let own = match homes.owns.get(usize::from(owner)) {
-        Some(Some(own)) => *own,
-        _ => return None,
-    };
-    if is_wide(older, homes, wish, own, wanted)
-        && owner != wish.local
-        && !older.is_needed(wish.next, owner)
-        && !is_used(older, homes, own, wish.local, wish.next)
-        && !is_operand(homes, wish.apart, own)
-        && is_clear(older, owner, wish.local, wish.place)
-    {
-        Some(own)
-    } else {
-        None
-    }
-}
-
-// Whether the one local gets no value as long as the other one is needed.
-fn is_clear(older: &Older<'_>, owner: u8, local: u8, place: usize) -> bool {
-    let mut now = place.saturating_add(1);
-    for _step in 0..64u8 {
-        if !older.life.live.has(now, usize::from(local)) {
-            return true;
-        }
-        match past(older, owner, now) {
-            Some(to) => now = to,
-            None => return false,
+// A local that there is for a value, one with other bytes than are wanted among them or not.
+fn found(older: &Older<'_>, homes: &Homes, wish: Wish, wanted: u8, is_any: bool) -> Option<u8> {
+    for index in 0..homes.widths.len() {
+        let number = (index % 256) as u8;
+        if is_wide(homes, wish, number, wanted, is_any) && is_idle(older, homes, wish, number) {
+            return Some(number);
         }
     }
-    false
-}
-
-// The place behind an instruction that gives that local no value and leads to no other place.
-fn past(older: &Older<'_>, owner: u8, place: usize) -> Option<usize> {
-    let instr = at(older.code, place)?;
-    match target_of(instr) {
-        Some(target) => {
-            if target == owner {
-                None
-            } else {
-                onward(older, instr, place)
+    for index in older.pushed..homes.owns.len() {
+        if let Some(Some(own)) = homes.owns.get(index) {
+            let owner = (index % 256) as u8;
+            if is_wide(homes, wish, *own, wanted, is_any)
+                && is_lendable(older, homes, wish, owner, *own)
+            {
+                return Some(*own);
             }
         }
-        None => onward(older, instr, place),
+    }
+    None
+}
+
+// Whether a local has the width that is wanted, or, where any will do, holds the value as the older code does.
+fn is_wide(homes: &Homes, wish: Wish, number: u8, wanted: u8, is_any: bool) -> bool {
+    let has = homes.width(number);
+    has == wanted || (is_any && wish.size.is_held(wish.width, has))
+}
+
+// Whether a local may have a value that is kept for some of the older code, as long as these need none.
+fn is_lendable(older: &Older<'_>, homes: &Homes, wish: Wish, owner: u8, own: u8) -> bool {
+    !is_used(older, homes, own, wish.local, wish.next)
+        && !is_operand(homes, wish.apart, own)
+        && are_clear(older, owner, wish)
+}
+
+// Whether none of the locals that share one gets a value that is kept there, as long as the one is needed that has that wish.
+fn are_clear(older: &Older<'_>, owner: u8, wish: Wish) -> bool {
+    for index in 0..older.firsts.len() {
+        let local = (index % 256) as u8;
+        if older.first(local) == owner && !is_clear(older, local, wish.local, wish.place) {
+            return false;
+        }
+    }
+    true
+}
+
+// Whether the one local gets no value as long as the other one is needed, which is not needed where ways meet.
+fn is_clear(older: &Older<'_>, owner: u8, local: u8, place: usize) -> bool {
+    match older.next(place) {
+        Next::One(to) => is_clear_from(older, owner, local, to, 64),
+        _ => false,
+    }
+}
+
+// The same from a place on, for so many steps.
+fn is_clear_from(older: &Older<'_>, owner: u8, local: u8, place: usize, steps: u8) -> bool {
+    if !older.life.live.has(place, usize::from(local)) {
+        return true;
+    }
+    let next = older.next(place);
+    if steps == 0 {
+        return false;
+    }
+    if sets(older, place, owner) && older.is_needed(next, local) {
+        return false;
+    }
+    match next {
+        Next::Nowhere => true,
+        Next::One(to) => is_clear_from(older, owner, local, to, steps - 1),
+        Next::Two(to, behind) => {
+            is_clear_from(older, owner, local, to, steps - 1)
+                && is_clear_from(older, owner, local, behind, steps - 1)
+        }
+    }
+}
+
+// Whether the instruction at a place gives a local a value that is needed where ways meet, and so goes where it is kept.
+fn sets(older: &Older<'_>, place: usize, local: u8) -> bool {
+    match at(older.code, place) {
+        Some(instr) => {
+            target_of(instr) == Some(local) && older.is_crossing(older.next(place), local)
+        }
+        None => false,
     }
 }
 
@@ -497,7 +553,7 @@ fn is_operand(homes: &Homes, apart: Option<Instr>, number: u8) -> bool {
 fn aim_of(older: &Older<'_>, homes: &Homes, local: u8, place: usize) -> Option<u8> {
     let copied = copy_of(older, local, place)?;
     let (aim, last) = copied;
-    if is_touched(older, aim, local, place, last) || is_lent(older, homes, aim, place) {
+    if is_touched(older, aim, local, place, last) || is_lent(older, homes, aim, local, place) {
         return None;
     }
     Some(aim)
@@ -562,16 +618,12 @@ fn leads_to(next: Next, to: usize, behind: usize) -> bool {
     }
 }
 
-// Whether the one local is read or set between two places, or the other one set.
+// Whether between two places the one local is set, or a value goes where the other one is kept.
 fn is_touched(older: &Older<'_>, aim: u8, local: u8, first: usize, last: usize) -> bool {
     let from = first.saturating_add(1);
     for place in from..last {
         if let Some(instr) = at(older.code, place) {
-            let is_set = match target_of(instr) {
-                Some(target) => target == aim || target == local,
-                None => false,
-            };
-            if is_set || is_read(reads_of(instr), aim) {
+            if target_of(instr) == Some(local) || touches(older, place, aim) {
                 return true;
             }
         }
@@ -579,12 +631,45 @@ fn is_touched(older: &Older<'_>, aim: u8, local: u8, first: usize, last: usize) 
     false
 }
 
-// Whether a needed value of another local stands where that one is kept.
-fn is_lent(older: &Older<'_>, homes: &Homes, aim: u8, place: usize) -> bool {
-    match homes.owns.get(usize::from(aim)) {
-        Some(Some(own)) => is_used(older, homes, *own, aim, Next::One(place.saturating_add(1))),
+// Whether the instruction at a place gives a value to where a local is kept.
+fn touches(older: &Older<'_>, place: usize, aim: u8) -> bool {
+    for index in 0..older.firsts.len() {
+        let local = (index % 256) as u8;
+        if older.first(local) == older.first(aim) && sets(older, place, local) {
+            return true;
+        }
+    }
+    false
+}
+
+// Whether a needed value of another local than this one stands where that one is kept.
+fn is_lent(older: &Older<'_>, homes: &Homes, aim: u8, local: u8, place: usize) -> bool {
+    match homes.owns.get(usize::from(older.first(aim))) {
+        Some(Some(own)) => {
+            is_used(
+                older,
+                homes,
+                *own,
+                local,
+                Next::One(place.saturating_add(1)),
+            )
+        }
         _ => false,
     }
+}
+
+/// Each needed local of a place stands where it is kept.
+pub fn settle(older: &Older<'_>, homes: &mut Homes, place: usize) -> Result<(), Refusal<NoRoom>> {
+    for local in 0..older.widths.len() {
+        let number = (local % 256) as u8;
+        let home = if is_live(older.life, place, local) {
+            Some(Operand::Local(older.own(homes, number)?))
+        } else {
+            None
+        };
+        homes.set(number, home);
+    }
+    Ok(())
 }
 
 /// The live locals of a place, for its facts.

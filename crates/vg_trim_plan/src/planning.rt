@@ -1,25 +1,31 @@
 // A guess at a trimmed procedure.
-use crate::deciding::{Values, sure_ways, take_back};
+use crate::deciding::{Values, are_needed, sure_ways, take_back};
 use crate::filling::{filled, is_stop};
 use crate::flow::{Next, at, is_known};
 use crate::grid::Grid;
 use crate::guess::{Given, Plan};
 use crate::homes::{Homes, NoRoom};
-use crate::joining::{Ways, is_at, joins, nexts_of, note, reach};
+use crate::joining::{Ways, is_at, nexts_of};
 use crate::leading::{Led, lead, may_lead, unled};
 use crate::living::{Life, find_life, find_live};
-use crate::making::{Older, is_filled, is_live, made, note_bytes};
+use crate::making::{Older, is_filled, is_live, made, note_bytes, settle};
 use crate::mapping::{filler, stand_in};
-use crate::ordering::ordered;
+use crate::ordering::{Priced, ordered};
 use crate::placing::{Placed, close_up, in_place};
 use crate::ranges::{Ranges, find_ranges};
 use crate::returning::{Shape, shared};
-use crate::sizes::{full, width_of};
-use crate::working::{Seen, Works, find_works};
+use crate::seating::by_registers;
+use crate::sizes::{full, sum_of, width_of};
+use crate::uniting::{Unions, united};
+use crate::ways::ways_of;
+use crate::working::{Seen, Works, spared_ways, useful_works, works_of};
 use std::alloc::Global;
 use vg_base::{NoMemory, Refusal, Row};
-use vg_lin::{Instr, LinProc, Operand, Operator, Plain};
+use vg_lin::{Computation, Instr, LinProc, Operand, Operator, Plain};
 use vg_trimming::{Bound, Facts, Twin, Worked};
+
+// Where the code has fewer pairs of a place and a local, guesses are made in many ways.
+const MOST_CELLS: usize = 20_000;
 
 /// How much a guess tries.
 #[derive(Clone, Copy, PartialEq, Eq)]
@@ -33,11 +39,12 @@ pub enum Effort {
     Careful,
 }
 
-// What a guess tries besides keeping results of computations.
+// What a guess tries: to look at values, to lead branches on, and to keep results of computations.
 #[derive(Clone, Copy)]
 struct Tries {
     ranges: bool,
     leads: bool,
+    keeps: bool,
 }
 
 /// A guess at the trimmed procedure. Where there is none nothing is known at any place.
@@ -55,50 +62,50 @@ pub fn plan_of(alloc: Global, given: Given<'_>, effort: Effort) -> Result<Plan, 
     let tries = Tries {
         ranges: effort == Effort::Ranging,
         leads: effort == Effort::Ranging || effort == Effort::Leading,
+        keeps: effort != Effort::Careful,
     };
     if are_known(given.code) && given.code.len() < 65_536 {
-        if effort != Effort::Careful {
-            if let Some(plan) = plan_within(alloc, given, tries, Manner::Bold)? {
-                return Ok(plan);
-            }
-        }
-        if let Some(plan) = plan_within(alloc, given, tries, Manner::Plain)? {
-            return Ok(plan);
-        }
-        if let Some(plan) = plan_within(alloc, given, tries, Manner::Tight)? {
-            return Ok(plan);
+        if let Some(priced) = planned(alloc, given, tries)? {
+            return Ok(priced.plan);
         }
     }
     as_it_is(alloc)
 }
 
-// How a guess is made.
+// Where values may stand.
 #[derive(Clone, Copy, PartialEq, Eq)]
-enum Manner {
-    // results of computations are kept
-    Bold,
-    Plain,
-    // with few locals
+enum Pools {
+    // in locals with as many bytes as they have
+    Narrow,
+    // in a local with more bytes before there is a new one
+    Snug,
+    // in few locals
     Tight,
 }
 
-// A guess whose locals take few bytes, if there is one.
-fn plan_within(
-    alloc: Global,
-    given: Given<'_>,
-    tries: Tries,
-    manner: Manner,
-) -> Result<Option<Plan>, NoMemory> {
-    match planned(alloc, given, tries, manner) {
-        Ok(plan) => {
-            if sum_of(plan.widths.as_slice()) <= most_of(given) {
-                Ok(Some(plan))
+// How a guess is made.
+#[derive(Clone, Copy)]
+struct Manner {
+    // results of so many computations are kept
+    works: usize,
+    pools: Pools,
+    unions: Unions,
+}
+
+// Of two guesses the one with fewer words, if its locals take few bytes.
+fn better(most: usize, first: Option<Priced>, second: Priced) -> Option<Priced> {
+    if sum_of(second.plan.widths.as_slice()) > most {
+        return first;
+    }
+    match first {
+        None => Some(second),
+        Some(best) => {
+            if second.words < best.words {
+                Some(second)
             } else {
-                Ok(None)
+                Some(best)
             }
         }
-        Err(Refusal::NoMemory) => Err(NoMemory),
-        Err(Refusal::Fault(_)) => Ok(None),
     }
 }
 
@@ -154,14 +161,6 @@ fn is_known_value(value: Operand) -> bool {
     }
 }
 
-fn sum_of(widths: &[u8]) -> usize {
-    let mut sum = 0usize;
-    for width in widths {
-        sum = sum.saturating_add(usize::from(*width));
-    }
-    sum
-}
-
 fn as_it_is(alloc: Global) -> Result<Plan, NoMemory> {
     Ok(Plan {
         widths: Row::new(alloc),
@@ -171,12 +170,8 @@ fn as_it_is(alloc: Global) -> Result<Plan, NoMemory> {
     })
 }
 
-fn planned(
-    alloc: Global,
-    given: Given<'_>,
-    tries: Tries,
-    manner: Manner,
-) -> Result<Plan, Refusal<NoRoom>> {
+// The cheapest guess whose locals take few bytes, if there is one.
+fn planned(alloc: Global, given: Given<'_>, tries: Tries) -> Result<Option<Priced>, NoMemory> {
     let locals = given.widths.len();
     let is_free = pushes_nothing(given.code);
     let led = led_ways(alloc, given.code, locals, tries.leads && is_free)?;
@@ -200,34 +195,139 @@ fn planned(
         ways: &ways,
         life: &life,
     };
-    let params = usize::from(given.params);
-    let plan = guessed(alloc, &values, &seen, manner, params)?;
-    Ok(ordered(alloc, plan, params)?)
+    cheapest(alloc, given, &values, &seen, tries.keeps)
 }
 
-// A guess by what is known of the values, the ways and the life of locals.
-fn guessed(
+// The cheapest guess by what is known of the values, the ways and the life of locals.
+fn cheapest(
     alloc: Global,
+    given: Given<'_>,
     values: &Values<'_>,
     seen: &Seen<'_>,
+    keeps: bool,
+) -> Result<Option<Priced>, NoMemory> {
+    let kinds = if keeps {
+        useful_works(alloc, seen)?
+    } else {
+        Vec::new(alloc)
+    };
+    let most = most_of(given);
+    let mut best = None;
+    for manner in manners(alloc, given, kinds.len())?.as_slice() {
+        let guess = guessed(alloc, given, values, seen, kinds.as_slice(), *manner);
+        match guess {
+            Ok(plan) => {
+                let priced = ordered(alloc, plan, usize::from(given.params), most)?;
+                best = better(most, best, priced);
+            }
+            Err(Refusal::NoMemory) => return Err(NoMemory),
+            Err(Refusal::Fault(_)) => {}
+        }
+    }
+    Ok(best)
+}
+
+// How guesses are made where there are so many computations whose results may be kept: in fewer ways where each takes long.
+fn manners(alloc: Global, given: Given<'_>, kinds: usize) -> Result<Vec<Manner>, NoMemory> {
+    let mut manners = Vec::new(alloc);
+    if given.code.len().saturating_mul(given.widths.len()) < MOST_CELLS {
+        for works in 0..kinds {
+            if works < 4 {
+                put_manners(&mut manners, works)?;
+            }
+        }
+        put_manners(&mut manners, kinds)?;
+    } else {
+        put_pools(&mut manners, kinds, Unions::Copies)?;
+        put_pools(&mut manners, 0, Unions::Apart)?;
+    }
+    manners.push(Manner {
+        works: 0,
+        pools: Pools::Tight,
+        unions: Unions::Apart,
+    })?;
+    Ok(manners)
+}
+
+fn put_manners(manners: &mut Vec<Manner>, works: usize) -> Result<(), NoMemory> {
+    put_pools(manners, works, Unions::Copies)?;
+    put_pools(manners, works, Unions::All)?;
+    put_pools(manners, works, Unions::Apart)
+}
+
+fn put_pools(manners: &mut Vec<Manner>, works: usize, unions: Unions) -> Result<(), NoMemory> {
+    manners.push(Manner {
+        works,
+        pools: Pools::Narrow,
+        unions,
+    })?;
+    manners.push(Manner {
+        works,
+        pools: Pools::Snug,
+        unions,
+    })?;
+    Ok(())
+}
+
+// A guess that is made so.
+fn guessed(
+    alloc: Global,
+    given: Given<'_>,
+    values: &Values<'_>,
+    seen: &Seen<'_>,
+    kinds: &[Computation],
     manner: Manner,
-    params: usize,
+) -> Result<Plan, Refusal<NoRoom>> {
+    let works = works_of(alloc, seen, kinds, manner.works)?;
+    let ways = spared_ways(alloc, seen, &works)?;
+    let life = find_life(alloc, seen.code, &ways, seen.widths.len())?;
+    let spared = Seen {
+        code: seen.code,
+        widths: seen.widths,
+        ways: &ways,
+        life: &life,
+    };
+    if are_needed(seen.code, seen.ways, &life) {
+        kept_so(alloc, given, values, &spared, &works, manner)
+    } else {
+        kept_so(alloc, given, values, seen, &works, manner)
+    }
+}
+
+// How many parameters lie in the frame, where there is room for other locals.
+fn pushed_params(given: Given<'_>, manner: Manner) -> usize {
+    let params = usize::from(given.params);
+    if manner.pools == Pools::Tight || by_registers(given.widths, params) {
+        0
+    } else {
+        params
+    }
+}
+
+// The same where these results are kept, by the ways on which those that are there are not computed.
+fn kept_so(
+    alloc: Global,
+    given: Given<'_>,
+    values: &Values<'_>,
+    seen: &Seen<'_>,
+    works: &Works,
+    manner: Manner,
 ) -> Result<Plan, Refusal<NoRoom>> {
     let mut bytes = Vec::from_elem(alloc, 0u8, seen.widths.len())?;
     note_bytes(seen, values.ranges, bytes.as_mut_slice());
-    let works = if manner == Manner::Bold {
-        find_works(alloc, seen)?
-    } else {
-        Works::none(alloc)?
-    };
+    let params = usize::from(given.params);
+    let firsts = united(alloc, seen, bytes.as_slice(), params, manner.unions)?;
     let older = Older {
         code: seen.code,
         widths: seen.widths,
         ways: seen.ways,
         life: seen.life,
         bytes: bytes.as_slice(),
-        is_tight: manner == Manner::Tight,
-        works: &works,
+        is_tight: manner.pools == Pools::Tight,
+        is_snug: manner.pools == Pools::Snug,
+        firsts: firsts.as_slice(),
+        pushed: pushed_params(given, manner),
+        works,
         is_free: values.is_free,
         ranges: values.ranges,
     };
@@ -269,34 +369,6 @@ fn lived(alloc: Global, values: &Values<'_>, led: &Led) -> Result<(Ways, Life), 
     let ways = ways_of(alloc, led, &[])?;
     let life = find_life(alloc, values.code, &ways, locals)?;
     Ok((ways, life))
-}
-
-fn copy_of(alloc: Global, noted: &[bool]) -> Result<Vec<bool>, NoMemory> {
-    Ok(Vec::from_slice(alloc, noted)?)
-}
-
-// The ways that are led so, where branches lead to the places to which they lead for sure.
-fn ways_of(alloc: Global, led: &Led, sure: &[Option<usize>]) -> Result<Ways, NoMemory> {
-    let mut nexts = Vec::from_slice(alloc, led.nexts.as_slice())?;
-    let mut needless = Vec::from_elem(alloc, false, nexts.len())?;
-    for place in 0..nexts.len() {
-        if let Some(Some(to)) = sure.get(place) {
-            if place < nexts.len() {
-                nexts[place] = Next::One(*to);
-            }
-            note(&mut needless, place);
-        }
-    }
-    let reached = reach(alloc, nexts.as_slice())?;
-    let joins = joins(alloc, nexts.as_slice(), reached.as_slice())?;
-    Ok(Ways {
-        nexts,
-        needless,
-        walked: copy_of(alloc, led.walked.as_slice())?,
-        turned: copy_of(alloc, led.turned.as_slice())?,
-        reached,
-        joins,
-    })
 }
 
 // The newer code, and what is known.
@@ -371,21 +443,6 @@ fn all_made(alloc: Global, made: Vec<Option<Instr>>) -> Result<Row<Instr>, NoMem
         }
     }
     Ok(code)
-}
-
-// Each needed local of a place stands where it is kept.
-fn settle(older: &Older<'_>, homes: &mut Homes, place: usize) -> Result<(), Refusal<NoRoom>> {
-    for local in 0..older.widths.len() {
-        let number = (local % 256) as u8;
-        let home = if is_live(older.life, place, local) {
-            let own = homes.own(number, older.own_width(number))?;
-            Some(Operand::Local(own))
-        } else {
-            None
-        };
-        homes.set(number, home);
-    }
-    Ok(())
 }
 
 // Lays the instruction of a place, and says whether a run goes on to the place behind it.

@@ -114,3 +114,12 @@ pub fn smaller(first: u8, second: u8) -> u8 {
 pub fn larger(first: u8, second: u8) -> u8 {
     if first < second { second } else { first }
 }
+
+/// How many bytes locals with these widths have.
+pub fn sum_of(widths: &[u8]) -> usize {
+    let mut sum = 0usize;
+    for width in widths {
+        sum = sum.saturating_add(usize::from(*width));
+    }
+    sum
+}

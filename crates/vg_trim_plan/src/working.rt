@@ -1,8 +1,8 @@
 // Computations that are done more than once, and where their results are there already.
-use crate::flow::{Next, target_of};
+use crate::flow::{Next, at, target_of};
 use crate::grid::Grid;
 use crate::homes::is_same;
-use crate::joining::{Ways, is_at};
+use crate::joining::{Ways, is_at, note};
 use crate::living::{Life, is_behind, is_crossing_behind};
 use crate::sizes::width_of;
 use std::alloc::Global;
@@ -16,16 +16,6 @@ pub struct Works {
     pub kinds: Vec<Computation>,
     /// For each place the computations whose results are there whenever a run comes to it.
     pub there: Grid,
-}
-
-impl Works {
-    /// None.
-    pub fn none(alloc: Global) -> Result<Self, NoMemory> {
-        Ok(Works {
-            kinds: Vec::new(alloc),
-            there: Grid::new(alloc, 0, 0, false)?,
-        })
-    }
 }
 
 fn kind_in(kinds: &[Computation], c: Computation) -> Option<usize> {
@@ -115,25 +105,86 @@ fn is_operand(c: Computation, local: u8) -> bool {
     is_same(c.left, Operand::Local(local)) || is_same(c.right, Operand::Local(local))
 }
 
-/// The computations of a procedure whose results are there again where they are computed another time; at most eight.
-pub fn find_works(alloc: Global, seen: &Seen<'_>) -> Result<Works, NoMemory> {
+// A computation, and how often it is done where its result is there.
+#[derive(Clone, Copy)]
+struct Useful {
+    kind: Computation,
+    uses: usize,
+}
+
+/// The computations of a procedure whose results are there again where they are computed another time, at most eight; in front those with the most such places.
+pub fn useful_works(alloc: Global, seen: &Seen<'_>) -> Result<Vec<Computation>, NoMemory> {
     let mut works = Works {
         kinds: Vec::new(alloc),
         there: Grid::new(alloc, 0, 0, false)?,
     };
     collect(alloc, seen, &mut works)?;
     works.there = where_there(alloc, seen, &works)?;
-    let mut useful = Works {
+    let mut useful = Vec::new(alloc);
+    for number in 0..works.kinds.len() {
+        let uses = uses_of(seen, &works, number);
+        if uses > 0 {
+            useful.push(Useful {
+                kind: works.kinds[number],
+                uses,
+            })?;
+        }
+    }
+    useful.sort_by_key(|one| usize::MAX - one.uses)?;
+    let mut kinds = Vec::new(alloc);
+    for one in useful.as_slice() {
+        kinds.push(one.kind)?;
+    }
+    Ok(kinds)
+}
+
+/// The first ones of some computations, so many, whose results are kept.
+pub fn works_of(
+    alloc: Global,
+    seen: &Seen<'_>,
+    kinds: &[Computation],
+    count: usize,
+) -> Result<Works, NoMemory> {
+    let mut works = Works {
         kinds: Vec::new(alloc),
         there: Grid::new(alloc, 0, 0, false)?,
     };
-    for number in 0..works.kinds.len() {
-        if is_useful(seen, &works, number) {
-            useful.kinds.push(works.kinds[number])?;
+    for kind in kinds {
+        if works.kinds.len() < count {
+            works.kinds.push(*kind)?;
         }
     }
-    useful.there = where_there(alloc, seen, &useful)?;
-    Ok(useful)
+    works.there = where_there(alloc, seen, &works)?;
+    Ok(works)
+}
+
+/// The ways where computations whose results are there are left out, so that they read nothing.
+pub fn spared_ways(alloc: Global, seen: &Seen<'_>, works: &Works) -> Result<Ways, NoMemory> {
+    let mut needless = Vec::from_slice(alloc, seen.ways.needless.as_slice())?;
+    for place in 0..seen.code.len() {
+        if is_there(seen, works, place) {
+            note(&mut needless, place);
+        }
+    }
+    Ok(Ways {
+        nexts: Vec::from_slice(alloc, seen.ways.nexts.as_slice())?,
+        needless,
+        walked: Vec::from_slice(alloc, seen.ways.walked.as_slice())?,
+        turned: Vec::from_slice(alloc, seen.ways.turned.as_slice())?,
+        reached: Vec::from_slice(alloc, seen.ways.reached.as_slice())?,
+        joins: Vec::from_slice(alloc, seen.ways.joins.as_slice())?,
+    })
+}
+
+// Whether the result of the computation at a place is there.
+fn is_there(seen: &Seen<'_>, works: &Works, place: usize) -> bool {
+    match at(seen.code, place) {
+        Some(instr) => match seen.work_in(works, instr, place) {
+            Some(number) => works.there.has(place, number),
+            None => false,
+        },
+        None => false,
+    }
 }
 
 // Collects computations that are done another time while they are among the last 64 different ones.
@@ -181,8 +232,9 @@ impl Recent {
     }
 }
 
-// Whether there is a place where a computation is done whose result is there.
-fn is_useful(seen: &Seen<'_>, works: &Works, number: usize) -> bool {
+// At how many places a computation is done whose result is there.
+fn uses_of(seen: &Seen<'_>, works: &Works, number: usize) -> usize {
+    let mut uses = 0usize;
     let mut place = 0usize;
     for instr in seen.code {
         let is_done = match seen.work_in(works, *instr, place) {
@@ -190,11 +242,11 @@ fn is_useful(seen: &Seen<'_>, works: &Works, number: usize) -> bool {
             None => false,
         };
         if is_done && works.there.has(place, number) {
-            return true;
+            uses = uses.saturating_add(1);
         }
         place = place.saturating_add(1);
     }
-    false
+    uses
 }
 
 // For each place the computations whose results are there whenever a run comes to it.

@@ -4,6 +4,8 @@
 #[cfg(test)]
 mod bounds;
 #[cfg(test)]
+mod homes;
+#[cfg(test)]
 mod programs;
 #[cfg(test)]
 mod tests;

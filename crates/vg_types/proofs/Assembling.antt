@@ -27,13 +27,9 @@ use Rattle.vg_types_tables.specs.declared.declared.Declared.{Declared}
 use Rattle.vg_types_tables.specs.Views.{declarations_at, naming, owner_view}
 use Rattle.vg_types_tables.specs.Declares.{Declares}
 use Rattle.vg_types_tables.proofs.OneClass.{one_type}
-use Rattle.vg_types_bodies.specs.Bodies.{IsBodyOf, signature_at}
-use Rattle.vg_types_bodies.specs.Initial.{above_name}
-use Rattle.vg_types_bodies.specs.Routines.{making_signature}
-use Rattle.vg_types_bodies.proofs.Makings.{row_length}
-use Rattle.vg_types_bodies.proofs.Routines.{method_is}
-use Rattle.vg_types_bodies.proofs.Signatures.{same_row}
+use Rattle.vg_types_routines.specs.Bodies.{IsBodyOf, signature_at, above_name, making_signature}
 use Rattle.vg_types_routines.specs.Bodies.{IsMethodBody, MethodBodies, IsMakingBody, IsStartBody, AllBodies}
+use Rattle.vg_types_routines.proofs.Constructing.{row_length, method_is, same_row}
 use Rattle.vg_rules.specs.Signatures.{signatures_breach}
 use Rattle.vg_renamed.specs.NamesTell.{NamesTell}
 use Rattle.vg_types_declared.specs.Apart.{have_members}

@@ -9,7 +9,7 @@ use Rattle.vg_core.specs.declared.program.Program.{Program as HeldProgram}
 use Rattle.vg_core.specs.HeldProgram.{program_at}
 use Rattle.vg_types.specs.declared.checked.TypeFault.{TypeFault}
 use Rattle.vg_types.specs.declared.checked.TypeFault.TheVariants.{TooMany, Broken}
-use Rattle.vg_types_named.specs.Programs.{IsProgramOf}
+pub use Rattle.vg_types_named.specs.Programs.{IsProgramOf}
 
 -- The refusal that a fault stands for.
 abbrev pub refused_view : TypeFault → Refused

@@ -84,7 +84,7 @@ fn members_program(alloc: Global, names: &Names, root: &Node) -> Result<Program,
 fn program_of(declared: Declared, entered: ProgramEntries, bodies: Bodies) -> Program
     ensures { IsMovedFrom declared entered bodies result }
 {
-    let Declared { tables, .. } = declared;
+    let tables = declared.into_tables();
     let ProgramEntries { main, handlers } = entered;
     let Bodies {
         methods,

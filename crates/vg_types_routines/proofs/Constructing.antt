@@ -10,8 +10,10 @@ use Rattle.vg_types_tables.specs.declared.declared.Declared.{Declared}
 use Rattle.vg_types_bodies.specs.declared.making.Constructed.{Constructed}
 use Rattle.vg_types_bodies.specs.Makings.{ConstructedRuns}
 use Rattle.vg_types_bodies.specs.Routines.{IsBelow, IsMade, IsStarted}
-use Rattle.vg_types_bodies.proofs.Makings.{row_length}
+pub use Rattle.vg_types_bodies.proofs.Makings.{row_length}
+pub use Rattle.vg_types_bodies.proofs.Routines.{method_is}
 use Rattle.vg_types_bodies.proofs.Routines.{making_is, start_is, making_typed, start_typed}
+pub use Rattle.vg_types_bodies.proofs.Signatures.{same_row}
 use Rattle.vg_types_routines.specs.declared.walked.Walked.{Walked}
 use Rattle.vg_types_routines.specs.declared.homes.Home.{Home}
 use Rattle.vg_types_routines.specs.Walked.{IsMadeOf, IsWalked}

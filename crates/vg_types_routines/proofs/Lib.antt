@@ -2,5 +2,5 @@ mod Asking
 mod Finding
 mod Making
 mod Walking
-mod Constructing
+pub mod Constructing
 mod Gathering

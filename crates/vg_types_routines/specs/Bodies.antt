@@ -18,9 +18,9 @@ use Rattle.vg_core.specs.Typing.{TypedBody}
 use Rattle.vg_types_tables.specs.declared.declared.Declared.{Declared}
 use Rattle.vg_types_tables.specs.Views.{declarations_at, naming, owner_view, type_view, row_view}
 use Rattle.vg_types_tables.specs.Declares.{IsClass, IsComponent, IsKnown}
-use Rattle.vg_types_bodies.specs.Bodies.{IsBodyOf}
-use Rattle.vg_types_bodies.specs.Initial.{above_name}
-use Rattle.vg_types_bodies.specs.Routines.{making_signature}
+pub use Rattle.vg_types_bodies.specs.Bodies.{IsBodyOf, signature_at}
+pub use Rattle.vg_types_bodies.specs.Initial.{above_name}
+pub use Rattle.vg_types_bodies.specs.Routines.{making_signature}
 
 module _ (texts : List (List ℕ)) (root : held_node.Node) (d : Declared) where
   -- The body of a method with these parameters and this result: it is that of the routine of its block, and it is typed.

@@ -1,4 +1,6 @@
 // What the pass over declarations leaves.
+ghost use Rattle.std.specs.Prelude.{◌≡◌};
+
 use indexmap::IndexSet;
 use vg_base::Row;
 use vg_core::{CoreType, Tables};
@@ -12,7 +14,6 @@ pub enum MemberNumber {
 }
 
 /// The tables of the program that a text stands for, and the names of what is in them.
-#[derive(Drop)]
 pub struct Declared {
     pub tables: Tables,
     pub classes: ByText<u16>,
@@ -28,4 +29,41 @@ pub struct Declared {
     pub literal_nodes: IndexSet<u32>,
     /// The types of the tables, by their numbers.
     pub type_numbers: IndexSet<CoreType>,
+}
+
+impl Drop for Declared {
+    // By hand: a function that may drop one calls this, where it would have a copy of a derived one.
+    fn drop(self) {
+        let Declared {
+            tables: _,
+            classes: _,
+            components: _,
+            devices: _,
+            class_members: _,
+            component_members: _,
+            registers: _,
+            literal_nodes: _,
+            type_numbers: _,
+        } = self;
+    }
+}
+
+impl Declared {
+    /// The tables alone.
+    pub fn into_tables(self) -> Tables
+        ensures { result ≡ self.tables }
+    {
+        let Declared {
+            tables,
+            classes: _,
+            components: _,
+            devices: _,
+            class_members: _,
+            component_members: _,
+            registers: _,
+            literal_nodes: _,
+            type_numbers: _,
+        } = self;
+        tables
+    }
 }

@@ -1,4 +1,4 @@
-use Rattle.vg_faults.specs.declared.fault.Fault.TheVariants.{NoTree, TooDeep, TooMany, Broken, Allocates, StaticFull, TableFull, StackFull, CodeFull}
+use Rattle.vg_faults.specs.declared.fault.Fault.TheVariants.{NoTree, TooDeep, TooMany, Broken, Allocates, StaticFull, TableFull, CodeFull}
 use Rattle.vg_build.proofs.Faults.{answered_of, complete_of, exactly, first_of, init_of, not_built_of, stack_full_of, stack_short_of}
 use Rattle.vg_build.proofs.building.build.Goals as goal
 

@@ -1,32 +1,38 @@
 use Rattle.vg_core.specs.HeldProgram.{program_at}
 use Rattle.vg_compile.proofs.Does.{bound_holds, calls_bounded, does, refused_calls}
-use Rattle.vg_call_need.proofs.Few.{few_procedures}
+use Rattle.vg_packed_small.proofs.Procedures.{main_there}
+use Rattle.vg_compile.proofs.Linking.{always_links, few}
 use Rattle.vg_compile.proofs.compiling.compile.Goals as goal
+
+pub image_of-requires : goal.image_of-requires
+image_of-requires c = record {
+  few = few (program_at c.args.program.now) c.args.heap.now c.args.live.now c.args.numbers.now c.args.columns.now c.in_ok-firm.firm
+      c.requires.given c.in_ok-firm.ensures.from;
+  main = main_there (program_at c.args.program.now) c.args.heap.now c.args.live.now c.args.numbers.now c.args.columns.now c.in_ok-firm.firm
+      c.in_ok-firm.ensures.from c.requires.given c.requires.ready;
+  links = always_links (program_at c.args.program.now) c.args.heap.now c.args.live.now c.args.numbers.now c.args.columns.now c.in_ok-firm.firm
+      c.in_ok-firm.ensures.from c.in_ok-firm.ensures.rows c.requires.given c.requires.ready c.requires.chip;
+}
 
 pub returns-in-Ok-clause-does : goal.returns-in-Ok-clause-does
 returns-in-Ok-clause-does c = λ ready.
     does (program_at c.args.program.now) c.args.heap.now c.args.live.now c.args.numbers.now c.args.columns.now c.in_ok-firm.firm c.args.costs.now
     c.in-Ok.compiled
-    c.requires c.in_ok-firm.ensures.from c.in_ok-firm.ensures.rows c.in-Ok.ensures.image ready
+    c.requires.given c.in_ok-firm.ensures.from c.in_ok-firm.ensures.rows c.in-Ok.ensures.image ready
 
 pub returns-in-Ok-clause-bound : goal.returns-in-Ok-clause-bound
 returns-in-Ok-clause-bound c = λ ready.
     bound_holds (program_at c.args.program.now) c.args.heap.now c.args.live.now c.args.numbers.now c.args.columns.now c.in_ok-firm.firm c.args.costs.now
     c.in-Ok.compiled
-    c.requires c.in_ok-firm.ensures.from c.in_ok-firm.ensures.rows c.in-Ok.ensures.image ready
+    c.requires.given c.in_ok-firm.ensures.from c.in_ok-firm.ensures.rows c.in-Ok.ensures.image ready
 
 pub returns-in-Ok-clause-calls : goal.returns-in-Ok-clause-calls
 returns-in-Ok-clause-calls c = λ ready.
     calls_bounded (program_at c.args.program.now) c.args.heap.now c.args.live.now c.args.numbers.now c.args.columns.now c.in_ok-firm.firm c.args.costs.now
     c.in-Ok.compiled
-    c.requires c.in_ok-firm.ensures.from c.in_ok-firm.ensures.rows c.in-Ok.ensures.image ready
-
-pub image_of-requires : goal.image_of-requires
-image_of-requires c =
-    few_procedures (program_at c.args.program.now) c.args.heap.now c.args.live.now c.args.numbers.now c.args.columns.now c.in_ok-firm.firm c.requires
-    c.in_ok-firm.ensures.from
+    c.requires.given c.in_ok-firm.ensures.from c.in_ok-firm.ensures.rows c.in-Ok.ensures.image ready
 
 pub returns-in-Err-clause-deep : goal.returns-in-Err-clause-deep
 returns-in-Err-clause-deep c = λ ready.
     refused_calls (program_at c.args.program.now) c.args.heap.now c.args.live.now c.args.numbers.now c.args.columns.now c.in_ok-firm.firm c.args.costs.now
-    c.requires c.in_ok-firm.ensures.from c.in-Err.why c.in-Err.ensures.deep ready
+    c.requires.given c.in_ok-firm.ensures.from c.in-Err.why c.in-Err.ensures.deep ready

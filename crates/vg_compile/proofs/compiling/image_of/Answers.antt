@@ -1,5 +1,9 @@
 use Rattle.vg_compile.proofs.compiling.image_of.Goals as goal
 
+pub linked_of-requires : goal.linked_of-requires
+linked_of-requires c = λ nothing.
+    c.requires.links c.in-Ok.linear c.in_ok-unlinked.unlinked nothing c.in-Ok.ensures.linear c.in_ok-unlinked.ensures
+
 pub returns-in-Ok-linked_of-clause-image : goal.returns-in-Ok-linked_of-clause-image
 returns-in-Ok-linked_of-clause-image c = record {
   linear = c.in-Ok.linear;

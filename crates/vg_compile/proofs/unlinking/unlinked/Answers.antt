@@ -3,5 +3,6 @@ use Rattle.vg_compile.proofs.unlinking.unlinked.Goals as goal
 
 pub returns : goal.returns
 returns c =
-    is_unlinked c.args.columns.now c.args.firm c.args.linear c.as_slice.result.now c.as_slice-2.result.now c.in_ok-tables.tables c.in_ok-handlers.handlers
-    c.as_slice.ensures c.as_slice-2.ensures c.in_ok-tables.ensures c.in_ok-handlers.ensures
+    is_unlinked c.args.columns.now c.args.firm c.args.linear c.as_slice.result.now c.as_slice-2.result.now c.into_procedures.result c.into_dispatches.result
+    c.in_ok-tables.tables c.in_ok-handlers.handlers c.as_slice.ensures c.as_slice-2.ensures c.into_procedures.ensures c.into_dispatches.ensures
+    c.in_ok-tables.ensures c.in_ok-handlers.ensures

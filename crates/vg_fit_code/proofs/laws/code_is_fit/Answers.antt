@@ -1,10 +1,17 @@
 use Rattle.std.proofs.Common.{inl, refl}
 use Rattle.vg_fit_code.proofs.Making.{flattened_made, eased, each_of, all_fit}
 use Rattle.vg_fit_code.proofs.Expanding.{expanded_fit, routine_fit}
+use Rattle.vg_fit_code.proofs.Apt.{apt_made, flattened_apt}
 use Rattle.vg_fit_code.proofs.laws.code_is_fit.Goals as goal
 
 pub returns-clause-flattened : goal.returns-clause-flattened
 returns-clause-flattened c = flattened_made
+
+pub returns-clause-apt : goal.returns-clause-apt
+returns-clause-apt c = flattened_apt
+
+pub returns-clause-made : goal.returns-clause-made
+returns-clause-made c = apt_made
 
 pub returns-clause-eased : goal.returns-clause-eased
 returns-clause-eased c = eased

@@ -16,4 +16,10 @@ loop-procedure-preserved c =
     subst (AreAllExpanded c.args.first (take (c.loop-procedure.procedure-index + 1) c.args.procedures.now)) (sym c.in_ok-push-in-Ok.ensures.ok)
     (all_zip_more (IsExpandedTo c.args.first) c.args.procedures.now c.loop-procedure.row c.loop-procedure.procedure-index c.procedure-item.result c.in-Ok.new
     c.loop-procedure-test.true c.procedure-item.is c.loop-procedure.invariant
-    (record { sound = c.keeps.ensures; expands = c.in-Ok.ensures.meaning; simple = c.in-Ok.ensures.nothing_left; sound_too = c.keeps-in-Ok.ensures }))
+    (record {
+      sound = c.keeps.ensures;
+      expands = c.in-Ok.ensures.meaning;
+      exactly = c.in-Ok.ensures.exactly;
+      simple = c.in-Ok.ensures.nothing_left;
+      sound_too = c.keeps-in-Ok.ensures;
+    }))

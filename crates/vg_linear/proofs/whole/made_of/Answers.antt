@@ -17,7 +17,7 @@ pub returns : goal.returns
 returns c = record {
   made = all_made c.args.layout.now c.args.firm.now c.args.flats c.requires.flat c.in_ok-begun.begun c.in_ok-begun.ensures
       c.as_slice.result.now c.as_slice.ensures c.in_ok-trimmed.trimmed c.in_ok-trimmed.ensures.trimmed c.in_ok-trimmed.ensures.short
-      c.as_slice-2.result.now c.as_slice-2.ensures _ c.in-Ok.expanded c.in_ok-all.all (omega arith) c.in-Ok.ensures c.in_ok-all.ensures;
+      c.as_slice-2.result.now c.as_slice-2.ensures _ c.in_ok-trimmed.ensures.apt c.in-Ok.expanded c.in_ok-all.all (omega arith) c.in-Ok.ensures c.in_ok-all.ensures;
   refusal = tt;
   typed = λ t. tt;
 }

@@ -1,5 +1,5 @@
 use Rattle.std.proofs.Common.{◌∙◌}
-use Rattle.vg_text_image.proofs.Texts.{bound_of, calls_of, compiled_of, few_of}
+use Rattle.vg_text_image.proofs.Texts.{bound_of, called_of, calls_of, compiled_of, few_of}
 use Rattle.vg_text_image.proofs.making.compiled.Goals as goal
 
 pub returns-in-Ok-clause-image : goal.returns-in-Ok-clause-image
@@ -11,3 +11,8 @@ returns-in-Ok-clause-image c =
 
 pub returns-in-Ok-clause-few : goal.returns-in-Ok-clause-few
 returns-in-Ok-clause-few c = few_of c.args.stack c.in-Ok.made.bound _ c.laid.ensures.bound c.in-Ok.ensures.few
+
+pub returns-in-Err-Fault-clause-calls : goal.returns-in-Err-Fault-clause-calls
+returns-in-Err-Fault-clause-calls c =
+    called_of c.args.fitted.now c.as_slice.result.now (λ texts. c.as_slice.ensures ∙ c.in_ok-costs.ensures.costs texts) c.in-Err-Fault.field-0
+    c.in-Err-Fault.why c.unmade.result c.in-Err-Fault.field-0-is c.unmade.ensures.called c.in-Err-Fault.ensures.deep

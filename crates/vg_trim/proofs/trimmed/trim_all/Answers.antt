@@ -1,6 +1,7 @@
 use Rattle.std.proofs.Common.{subst, sym, ◌+◌, ◌≤◌, take, length}
 use Rattle.std.proofs.lemmas.List.Elements.{all_zip_more}
 use Rattle.vg_trimming.specs.Trimmed.{AreAllTrimmed, IsTrimmedTo}
+use Rattle.vg_apt.specs.Apt.{AllKeepApt, KeepsApt}
 use Rattle.vg_trim.specs.Looked.{AreNoLonger}
 use Rattle.vg_trim.proofs.trimmed.trim_all.Goals as goal
 
@@ -12,4 +13,7 @@ loop-procedure-preserved c = (
   subst (AreNoLonger (take (c.loop-procedure.procedure-index + 1) c.args.procedures.now)) (sym c.in_ok-push-in-Ok.ensures.ok)
       (all_zip_more (λ old new. length new.code ≤ length old.code) c.args.procedures.now c.loop-procedure.row c.loop-procedure.procedure-index
       c.procedure-item.result c.in-Ok.new c.loop-procedure-test.true c.procedure-item.is c.loop-procedure.invariant.1 c.in-Ok.ensures.short),
+  subst (AllKeepApt (take (c.loop-procedure.procedure-index + 1) c.args.procedures.now)) (sym c.in_ok-push-in-Ok.ensures.ok)
+      (all_zip_more KeepsApt c.args.procedures.now c.loop-procedure.row c.loop-procedure.procedure-index
+      c.procedure-item.result c.in-Ok.new c.loop-procedure-test.true c.procedure-item.is c.loop-procedure.invariant.2 c.in-Ok.ensures.apt),
 )

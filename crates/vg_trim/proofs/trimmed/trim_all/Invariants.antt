@@ -1,8 +1,10 @@
 use Rattle.std.proofs.Common.{take}
 use Rattle.vg_trimming.specs.Trimmed.{AreAllTrimmed}
+use Rattle.vg_apt.specs.Apt.{AllKeepApt}
 use Rattle.vg_trim.specs.Looked.{AreNoLonger}
 use Rattle.vg_trim.proofs.trimmed.trim_all.Given as goal
 
 abbrev pub invariant-loop-procedure : goal.invariant-loop-procedure
 invariant-loop-procedure l =
     AreAllTrimmed (take l.procedure-index l.procedures) l.row × AreNoLonger (take l.procedure-index l.procedures) l.row
+    × AllKeepApt (take l.procedure-index l.procedures) l.row
