@@ -31,12 +31,13 @@ use Rattle.vg_text_image.proofs.Texts.{deep_calls}
 use Rattle.vg_build.specs.Image.{IsBuiltOf, SaysOfCalls}
 use Rattle.vg_build.specs.declared.building.Built.{Built}
 use Rattle.vg_build.specs.Answer.{Answer, Answers, HasFault, IsCause, IsNoFirst, IsNotBuilt, IsOverStack, IsSettled, fault_in, first_place}
-use Rattle.vg_build.specs.Mirrors.{CompiledBy, FlashBy, Lays, WrittenBy}
-use Rattle.vg_build.specs.Stated.{stated}
-use Rattle.vg_build.specs.declared.flash.Flash.{Flash}
-use Rattle.vg_build.specs.declared.room.Room.{Room}
+use Rattle.vg_flash.specs.Flashes.{Lays, WrittenBy}
+use Rattle.vg_build.specs.Mirrors.{CompiledBy, FlashBy}
+use Rattle.vg_flash.specs.Stated.{stated}
+use Rattle.vg_flash.specs.declared.flash.Flash.{Flash}
+use Rattle.vg_flash.specs.declared.room.Room.{Room}
 use Rattle.vg_build.proofs.Rooms.{heap_of, over_of, room_of, text_of}
-use Rattle.vg_build.proofs.Constants.{calls_of, fitting_of, static_of}
+use Rattle.vg_first_needs.proofs.Constants.{calls_of, fitting_of, static_of}
 
 same_fault : (a b : Fault) → Some a ≡ Some b → a ≡ b
 same_fault a b e = cc

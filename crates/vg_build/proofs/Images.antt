@@ -27,8 +27,8 @@ use Rattle.vg_text_image.specs.declared.making.TextImage.{TextImage}
 use Rattle.vg_text_image.specs.Made.{BoundsCallsOf, DoesText}
 use Rattle.vg_text_image.proofs.Texts.{does_text}
 use Rattle.vg_build.specs.declared.building.Built.{Built}
-use Rattle.vg_build.specs.declared.flash.Flash.{Flash}
-use Rattle.vg_build.specs.declared.room.Room.{Room}
+use Rattle.vg_flash.specs.declared.flash.Flash.{Flash}
+use Rattle.vg_flash.specs.declared.room.Room.{Room}
 use Rattle.vg_layout.specs.Few.{IsFew}
 use Rattle.vg_layout.specs.declared.stack_bound.StackBound.{StackBound}
 use Rattle.vg_layout.specs.declared.stack_bound.StackBound.TheVariants as held
@@ -37,11 +37,12 @@ use Rattle.vg_layout.specs.declared.layout.Bound.TheVariants as said
 use Rattle.vg_layout.specs.declared.layout.Layout.{Layout}
 use Rattle.vg_build.specs.Answer.{IsNoFirst}
 use Rattle.vg_build.specs.Image.{IsBuiltOf, IsImageOf, SaysOfCalls}
-use Rattle.vg_build.specs.Stated.{stated}
-use Rattle.vg_build.specs.Mirrors.{FlashBy, IsFlashOf, IsLayoutOf, IsMadeOf, IsPacked, Lays, SaysBound, room_above}
-use Rattle.vg_build.proofs.Constants.{calls_of, heap_is}
+use Rattle.vg_flash.specs.Stated.{stated}
+use Rattle.vg_flash.specs.Flashes.{IsLayoutOf, IsMadeOf, Lays, SaysBound, room_above}
+use Rattle.vg_build.specs.Mirrors.{FlashBy, IsFlashOf, IsPacked}
+use Rattle.vg_first_needs.proofs.Constants.{calls_of, heap_is}
 use Rattle.vg_build.proofs.Rooms.{heap_of, needs_static, text_of}
-use Rattle.vg_build.proofs.Stacks.{on_smaller}
+use Rattle.vg_first_needs.proofs.Stacks.{on_smaller}
 
 -- ---- the flash of a program of constants
 

@@ -10,7 +10,7 @@ use Rattle.vg_first_text.specs.FirstText.{IsFirst}
 use Rattle.vg_layout.specs.declared.layout.Bound.TheVariants.{Bytes}
 use Rattle.vg_build.specs.Answer.{IsOverStack}
 use Rattle.vg_build.specs.Image.{SaysOfCalls}
-use Rattle.vg_build.specs.Stated.{stated}
+use Rattle.vg_flash.specs.Stated.{stated}
 use Rattle.vg_fits.specs.Answer.{named_start_heap}
 use Rattle.vg_fits.specs.declared.fitting.Fitted.{Fitted}
 use Rattle.vg_fits.specs.Answer.{IsFittedOf}

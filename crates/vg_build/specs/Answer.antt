@@ -12,7 +12,7 @@ use Rattle.vg_faults.specs.Room.{HasRoomFault, HasRoomIn, HasStack, StackFullIn}
 use Rattle.vg_syntax.specs.Tree.{Node}
 use Rattle.vg_source.specs.Values.{Heap}
 use Rattle.vg_static_source.specs.Sums.{IsStatic}
-use Rattle.vg_build.specs.Stated.{stated}
+use Rattle.vg_flash.specs.Stated.{stated}
 use Rattle.vg_build.specs.declared.building.Built.{Built}
 use Rattle.vg_layout.specs.declared.layout.Bound.TheVariants.{Bytes}
 use Rattle.vg_build.specs.Image.{IsBuiltOf, SaysOfCalls}

@@ -19,7 +19,7 @@ use Rattle.vg_layout.specs.Text.{layout_text}
 use Rattle.vg_layout.specs.declared.layout.Bound.{Bound}
 use Rattle.vg_layout.specs.declared.layout.Bound.TheVariants.{Bytes, Cycle}
 use Rattle.vg_layout.specs.declared.layout.Layout.{Layout}
-use Rattle.vg_build.specs.Stated.{stated}
+use Rattle.vg_flash.specs.Stated.{stated}
 
 -- What a layout says of the calls of a text: no cycle of them is reached, and the bytes are at most four more than the methods of some way of calls cost, so at
 -- most four more than the largest such cost; or these are the names of a cycle of methods that is reached.

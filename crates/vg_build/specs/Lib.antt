@@ -1,4 +1,3 @@
-pub mod Stated
 pub mod Image
 pub mod Answer
 pub mod Mirrors

@@ -17,14 +17,13 @@ ghost use Rattle.vg_build.specs.Image.{IsBuiltOf};
 ghost use Rattle.vg_rules.specs.declared.what.What.{What};
 ghost use Rattle.vg_build.specs.Mirrors.{IsPacked};
 
-use crate::flash::{Flash, flash_of};
-use crate::laying::{known_of, layout_of};
-use crate::room::{NoRoom, Room, room_above};
+use crate::flash::flash_of;
 use avr_isa::Image;
 use std::alloc::Global;
 use vg_base::{NoMemory, Refusal, Row};
 use vg_faults::Fault;
 use vg_fits::{Fitted, fit};
+use vg_flash::{Flash, NoRoom, Room, known_of, layout_of, room_above};
 use vg_hex::write;
 use vg_inventory::{count_methods, count_objects};
 use vg_layout::{Layout, layout_text};

@@ -3,7 +3,5 @@
 
 mod building;
 mod flash;
-mod laying;
-mod room;
 
 pub use building::{Built, build};

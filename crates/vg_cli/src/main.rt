@@ -5,8 +5,9 @@ use std::env;
 use std::env::Env;
 use std::io::ErrorKind;
 use std::process::ExitCode;
-use vg_drive::{Status, run};
+use vg_drive::run;
 use vg_files::{FileShelf, StreamSink};
+use vg_status::Status;
 
 // The words behind the program's name, or the answer where they can't be had.
 fn words_behind_name<R: Env + AllocGlobal>(rt: &R) -> Result<Vec<String>, Status> {

@@ -27,15 +27,18 @@ use Rattle.vg_faults.specs.Fitting.{StaticFullIn, TableFullIn}
 use Rattle.vg_faults.specs.Room.{HasRoomFault, StackFullIn}
 use Rattle.vg_layout.specs.declared.layout.Layout.{Layout}
 use Rattle.vg_build.proofs.Faults.{IsExact, answered_of, complete_of, exactly, first_of, stack_full_of, stack_short_of}
-use Rattle.vg_drive.specs.declared.status.Status.{Status}
-use Rattle.vg_drive.specs.declared.status.Status.TheVariants.{Done, Refused, ReadFault, WriteFault, NoMemory}
+use Rattle.vg_status.specs.declared.status.Status.{Status}
+use Rattle.vg_status.specs.declared.status.Status.TheVariants.{Done, Refused, ReadFault, WriteFault, NoMemory}
 use Rattle.vg_drive.specs.Answers.{AppendsBegun, ForImage}
-use Rattle.vg_drive.specs.Commands.{IsAnswerOfBuild}
-use Rattle.vg_drive.specs.Mirrors.{BuildBy, Change, Fails, GainsAll, GainsFront, IsSame, PutBy, PutFails}
-use Rattle.vg_drive.specs.Statuses.{IsBeforePuts, IsDoneOrNoMemory, IsSettled, IsShown, status_without_file}
-use Rattle.vg_drive.proofs.Files.{of_file, unless_missing, with_file}
-use Rattle.vg_drive.proofs.Statuses.{missing_no_refusal, missing_no_write, missing_not_shown, missing_of_build, missing_unsettled}
-use Rattle.vg_drive.proofs.Statuses.{refusal_no_write, refusal_not_shown}
+use Rattle.vg_commands.specs.Commands.{IsAnswerOfBuild}
+use Rattle.vg_commands.specs.Leaves.{Change, Fails, GainsAll, GainsFront, IsSame}
+use Rattle.vg_drive.specs.Mirrors.{BuildBy, PutBy, PutFails}
+use Rattle.vg_commands.specs.Endings.{status_without_file}
+use Rattle.vg_status.specs.Statuses.{IsBeforePuts, IsDoneOrNoMemory, IsSettled, IsShown}
+use Rattle.vg_commands.proofs.Files.{of_file, unless_missing, with_file}
+use Rattle.vg_commands.proofs.Whys.{missing_completes, not_both}
+use Rattle.vg_commands.proofs.Statuses.{missing_no_refusal, missing_no_write, missing_not_shown, missing_of_build, missing_unsettled}
+use Rattle.vg_commands.proofs.Statuses.{refusal_no_write, refusal_not_shown}
 
 -- THE ANSWER TO THE BYTES, BY THE STATUS
 
@@ -222,15 +225,6 @@ first_by s told file asked clock out note (inr h) place e =
     first_of h.bytes asked clock h.answer h.says place ((refused_iff h.answer s out note h.puts (NotBuilt place)).0 e)
 
 -- COMPLETENESS
-
-pub missing_completes : (reason : NoFile) (s : Status) (long shelf rest : Type 0) → s ≡ status_without_file reason → (reason ≡ missing.Long → long)
-    → (s ≡ ReadFault → shelf) → (IsDoneOrNoMemory s ⊎ (shelf ⊎ rest)) ⊎ long
-missing_completes missing.Failed s long shelf rest tells too_long read = inl (inr (inl (read tells)))
-missing_completes missing.Wanting s long shelf rest tells too_long read = inl (inl (subst IsDoneOrNoMemory (sym tells) tt))
-missing_completes missing.Long s long shelf rest tells too_long read = inr (too_long refl)
-
-pub not_both : (n : ℕ) → text_limit < n → n ≤ text_limit → ⊥
-not_both n long short = omega (arith, long, short)
 
 -- what holds of every file that is not too long
 unless_long : (told : Option (List File)) (file : List ℕ) (X Large : Type 0) → X ⊎ ForFile told file (λ bytes. text_limit < length bytes)

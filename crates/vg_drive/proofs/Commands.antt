@@ -10,17 +10,18 @@ use Rattle.vg_hex.specs.HexText.{hex_text}
 use Rattle.vg_faults.specs.Starting.{init_steps}
 use Rattle.vg_faults.specs.declared.fault.Fault.TheVariants.{NotBuilt}
 use Rattle.vg_layout.specs.declared.layout.Layout.{Layout}
-use Rattle.vg_drive.specs.declared.status.Status.{Status}
-use Rattle.vg_drive.specs.declared.status.Status.TheVariants.{Refused, Usage, WriteFault}
+use Rattle.vg_status.specs.declared.status.Status.{Status}
+use Rattle.vg_status.specs.declared.status.Status.TheVariants.{Refused, Usage, WriteFault}
 use Rattle.vg_drive.specs.Answers.{ForImage, ForSecond}
-use Rattle.vg_drive.specs.Commands.{IsAnswerOf, IsAnswerOfBuild, IsAnswerOfRun, IsAnswerOfSim, IsAnswerOfTry, IsAnswerOfWhy, OnBuild, OnLive, OnRun, OnSim, OnSource, OnTry, OnWhy, PutsNothing}
-use Rattle.vg_drive.specs.Mirrors.{AnswerBy, BuildBy, Change, Fails, IsSame, PlayBy, SimBy, TryBy, WhyBy}
-use Rattle.vg_drive.specs.Statuses.{IsBeforePuts}
+use Rattle.vg_commands.specs.Commands.{IsAnswerOf, IsAnswerOfBuild, IsAnswerOfRun, IsAnswerOfSim, IsAnswerOfTry, IsAnswerOfWhy, OnBuild, OnLive, OnRun, OnSim, OnSource, OnTry, OnWhy, PutsNothing}
+use Rattle.vg_commands.specs.Leaves.{Change, Fails, IsSame, PlayBy, SimBy, WhyBy}
+use Rattle.vg_drive.specs.Mirrors.{AnswerBy, BuildBy, TryBy}
+use Rattle.vg_status.specs.Statuses.{IsBeforePuts}
 use Rattle.vg_drive.proofs.Builds as builds
-use Rattle.vg_drive.proofs.Plays as plays
-use Rattle.vg_drive.proofs.Sims as sims
+use Rattle.vg_commands.proofs.Plays as plays
+use Rattle.vg_commands.proofs.Sims as sims
 use Rattle.vg_drive.proofs.Tries as tries
-use Rattle.vg_drive.proofs.Whys as whys
+use Rattle.vg_commands.proofs.Whys as whys
 
 pub on_build : (c : Option Command) (s : Status) (told : Option (List File)) (out note : Change) (P : List ℕ → Option ℕ → ℕ → Type 0)
     → AnswerBy c s told out note

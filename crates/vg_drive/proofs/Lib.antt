@@ -1,11 +1,5 @@
-pub mod Files
-pub mod Statuses
-pub mod Fetches
 pub mod Builds
-pub mod Sims
-pub mod Whys
 pub mod Tries
 pub mod Commands
 pub mod Notes
-pub mod Plays
 pub mod Sources

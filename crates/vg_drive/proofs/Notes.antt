@@ -6,14 +6,16 @@ use Rattle.vg_io.specs.declared.file.File.{File}
 use Rattle.vg_words.specs.Commands.{Command, Build, Run, Sim, Why, Try}
 use Rattle.vg_hex.specs.HexText.{hex_text}
 use Rattle.vg_layout.specs.Text.{layout_text}
-use Rattle.vg_drive.specs.declared.status.Status.{Status}
-use Rattle.vg_drive.specs.declared.status.Status.TheVariants.{Done, Refused, Usage, ReadFault, WriteFault, NoMemory, TooLong}
-use Rattle.vg_drive.specs.declared.status.Status.TheVariants.{Stopped, Wants, Budget, Depth, HexRefused, ScriptRefused, BadInstruction}
-use Rattle.vg_drive.specs.Lines.{fault_line}
+use Rattle.vg_status.specs.declared.status.Status.{Status}
+use Rattle.vg_status.specs.declared.status.Status.TheVariants.{Done, Refused, Usage, ReadFault, WriteFault, NoMemory, TooLong}
+use Rattle.vg_status.specs.declared.status.Status.TheVariants.{Stopped, Wants, Budget, Depth, HexRefused, ScriptRefused, BadInstruction}
+use Rattle.vg_status.specs.Lines.{fault_line}
 use Rattle.vg_drive.specs.Answers.{AppendsBegun, AppendsFronts, AppendsFrontAndAll, ForImage, ForSecond}
-use Rattle.vg_drive.specs.Commands.{OnBuild, OnTry}
-use Rattle.vg_drive.specs.Mirrors.{AnswerBy, Change, GainsAll, GainsFront}
-use Rattle.vg_drive.specs.Statuses.{IsBeforePuts, IsShown, status_of_ending}
+use Rattle.vg_commands.specs.Commands.{OnBuild, OnTry}
+use Rattle.vg_commands.specs.Leaves.{Change, GainsAll, GainsFront}
+use Rattle.vg_drive.specs.Mirrors.{AnswerBy}
+use Rattle.vg_commands.specs.Endings.{status_of_ending}
+use Rattle.vg_status.specs.Statuses.{IsBeforePuts, IsShown}
 use Rattle.vg_drive.specs.Trials.{ForTry, trial_of, try_lines}
 use Rattle.vg_drive.proofs.Builds.{all_is_front, headline_by, no_front, second_by, second_front_by}
 use Rattle.vg_drive.proofs.Commands.{note_before_of, of_image, on_build, on_try, with_second}

@@ -12,17 +12,18 @@ use Rattle.vg_faults.specs.Starting.{FailsIn, init_steps}
 use Rattle.vg_faults.specs.Living.{AllocatesIn}
 use Rattle.vg_build.specs.Answer as of_build
 use Rattle.vg_build.proofs.Faults.{IsExact}
-use Rattle.vg_why.specs.Answer as of_why
-use Rattle.vg_drive.specs.declared.status.Status.{Status}
-use Rattle.vg_drive.specs.declared.status.Status.TheVariants.{Refused}
-use Rattle.vg_drive.specs.Commands.{OnLive, OnSource}
-use Rattle.vg_drive.specs.Mirrors.{AnswerBy, Change}
-use Rattle.vg_drive.specs.Statuses.{IsSettled}
+use Rattle.vg_commands.specs.Asked as of_why
+use Rattle.vg_status.specs.declared.status.Status.{Status}
+use Rattle.vg_status.specs.declared.status.Status.TheVariants.{Refused}
+use Rattle.vg_commands.specs.Commands.{OnLive, OnSource}
+use Rattle.vg_commands.specs.Leaves.{Change}
+use Rattle.vg_drive.specs.Mirrors.{AnswerBy}
+use Rattle.vg_status.specs.Statuses.{IsSettled}
 use Rattle.vg_drive.proofs.Builds as builds
-use Rattle.vg_drive.proofs.Plays as plays
-use Rattle.vg_drive.proofs.Whys as whys
+use Rattle.vg_commands.proofs.Plays as plays
+use Rattle.vg_commands.proofs.Whys as whys
 use Rattle.vg_drive.proofs.Commands.{on_live, on_source, with_source}
-use Rattle.vg_drive.proofs.Files.{with_file}
+use Rattle.vg_commands.proofs.Files.{with_file}
 
 -- a fault that every command answers
 abbrev pub IsOfText : Fault → Type 0

@@ -21,17 +21,19 @@ use Rattle.vg_build.specs.Image.{IsBuiltOf}
 use Rattle.vg_build.specs.declared.building.Built.{Built}
 use Rattle.vg_build.proofs.Faults.{answered_of, first_of}
 use Rattle.vg_sim.specs.Shown.{lines_of}
-use Rattle.vg_drive.specs.declared.status.Status.{Status}
-use Rattle.vg_drive.specs.declared.status.Status.TheVariants.{Refused, ReadFault, WriteFault, NoMemory}
+use Rattle.vg_status.specs.declared.status.Status.{Status}
+use Rattle.vg_status.specs.declared.status.Status.TheVariants.{Refused, ReadFault, WriteFault, NoMemory}
 use Rattle.vg_drive.specs.declared.trial.Trial.{Trial}
-use Rattle.vg_drive.specs.Commands.{IsAnswerOfTry}
-use Rattle.vg_drive.specs.Mirrors.{Change, Fails, FetchedBy, GainsAll, GainsFront, IsBehindFiles, IsReady, IsSame, TrialFails, TriesBy, TryBy, TryFails, TryShows}
+use Rattle.vg_commands.specs.Commands.{IsAnswerOfTry}
+use Rattle.vg_commands.specs.Leaves.{Change, Fails, FetchedBy, GainsAll, GainsFront, IsBehindFiles, IsSame}
+use Rattle.vg_drive.specs.Mirrors.{IsReady, TrialFails, TriesBy, TryBy, TryFails, TryShows}
 use Rattle.vg_drive.specs.Mirrors.{lines_in, run_in}
-use Rattle.vg_drive.specs.Statuses.{IsBeforePuts, IsSettled, IsShown, status_of_ending}
+use Rattle.vg_commands.specs.Endings.{status_of_ending}
+use Rattle.vg_status.specs.Statuses.{IsBeforePuts, IsSettled, IsShown}
 use Rattle.vg_drive.specs.Trials.{ForTry, trial_of, try_lines, try_steps}
 use Rattle.vg_drive.proofs.Builds.{all_is_front, fault_answer, no_front, refuses}
-use Rattle.vg_drive.proofs.Fetches.{nothing_fetched}
-use Rattle.vg_drive.proofs.Statuses.{ending_behind_files, ending_not_before, ending_not_other, ending_of_try, refusal_behind_files, refusal_no_write, refusal_not_shown}
+use Rattle.vg_commands.proofs.Fetches.{nothing_fetched}
+use Rattle.vg_commands.proofs.Statuses.{ending_behind_files, ending_not_before, ending_not_other, ending_of_try, refusal_behind_files, refusal_no_write, refusal_not_shown}
 
 -- WHAT BUILD ANSWERS
 

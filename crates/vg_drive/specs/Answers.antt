@@ -4,7 +4,6 @@ use Rattle.vg_io.specs.Files.{bytes_under}
 use Rattle.vg_io.specs.Piece.{AppendsAll}
 use Rattle.vg_io.specs.declared.file.File.{File}
 use Rattle.vg_words.specs.Commands.{Command, Build, Try}
-use Rattle.vg_why.specs.Asked.{WhyIn}
 use Rattle.vg_hex.specs.HexText.{hex_text}
 use Rattle.vg_build.specs.Image.{IsImageOf}
 use Rattle.vg_layout.specs.Text.{layout_text}
@@ -23,20 +22,6 @@ abbrev pub ForSecond : Option Command → (told : Option (List File)) → (P : L
 ForSecond (Some (Build file asked clock)) told P = ForImage told file asked clock (λ image layout. P (layout_text layout))
 ForSecond (Some (Try objects)) told P = ForTry objects (λ built. P (hex_text built.image))
 ForSecond _ told P = P []
-
--- P holds of a text, which is that of the file where the shelf tells
-abbrev pub ForText : Option (List File) → (file : List ℕ) → (P : List ℕ → Type 0) → Type 0
-ForText None file P = (bytes : List ℕ) × P bytes
-ForText (Some files) file P = P (bytes_under files file)
-
--- P holds of some lines that say why a member is live in a text
-abbrev pub ForLines : (bytes member : List ℕ) → (P : List ℕ → Type 0) → Type 0
-ForLines bytes member P = (lines : List ℕ) × WhyIn bytes member lines × P lines
-
--- P holds of two texts, which are those of the files where the shelf tells
-abbrev pub ForTexts : Option (List File) → (first second : List ℕ) → (P : List ℕ → List ℕ → Type 0) → Type 0
-ForTexts None first second P = (a b : List ℕ) × P a b
-ForTexts (Some files) first second P = P (bytes_under files first) (bytes_under files second)
 
 -- where the sink tells: a text that begins so stands behind what it held
 abbrev pub AppendsBegun : (old new : Option (List ℕ)) → (beginning : List ℕ) → Type 0

@@ -2,16 +2,17 @@
 ghost use Rattle.std.specs.Prelude.{◌≡◌, ◌⊎◌, ◌≤◌, ℕ, Some, IfSome, OnOk, OnErr};
 ghost use Rattle.vg_io.specs.Count.{Rose};
 ghost use Rattle.vg_words.specs.Commands.{Build};
-ghost use Rattle.vg_drive.specs.Commands.{requests_of};
-ghost use Rattle.vg_drive.specs.Mirrors.{BuildBy, FetchedBy, GainsAll, PutFails, change};
+ghost use Rattle.vg_commands.specs.Commands.{requests_of};
+ghost use Rattle.vg_commands.specs.Leaves.{FetchedBy, GainsAll, change};
+ghost use Rattle.vg_drive.specs.Mirrors.{BuildBy, PutFails};
 
-use crate::answers::{status_of_refusal, status_without_file};
-use crate::status::Status;
 use std::alloc::Global;
 use vg_base::TEXT_LIMIT;
 use vg_build::{Built, build};
+use vg_commands::{status_of_refusal, status_without_file};
 use vg_fetch::fetch_file;
 use vg_io::{Failed, Shelf, Sink};
+use vg_status::Status;
 
 // The HEX text goes to `out`, and then the layout to `note`.
 fn put_both<O: Sink, N: Sink>(built: &Built, out: &mut O, note: &mut N) -> Result<(), Failed>

@@ -33,25 +33,25 @@ ghost use Rattle.vg_hex.specs.declared.fault.HexFault.{HexFault};
 ghost use Rattle.vg_script.specs.Script.{IsScript, Lists, first_bad};
 ghost use Rattle.avr_sim.specs.Run.{simulated, trace_lines};
 ghost use Rattle.vg_sim.specs.Shown.{ForRun, lines_of};
-ghost use Rattle.vg_run.specs.Shown as of_run;
-ghost use Rattle.vg_run.specs.Shown.{ForSession};
-ghost use Rattle.vg_why.specs.Asked.{IsDeclaredIn, NoMemberIn};
-ghost use Rattle.vg_drive.specs.Answers.{AppendsBegun, AppendsFrontAndAll, AppendsFronts, ForImage, ForLines, ForSecond, ForText, ForTexts};
-ghost use Rattle.vg_drive.specs.Commands.{IsAnswerOf, OnBuild, OnLive, OnRun, OnSim, OnSource, OnTry, OnWhy, PutsNothing, requests_of};
-ghost use Rattle.vg_drive.specs.Lines.{fault_line};
-ghost use Rattle.vg_drive.specs.Mirrors.{AnswerBy, FetchedBy, change};
-ghost use Rattle.vg_drive.specs.Statuses.{IsBeforePuts, IsDoneOrNoMemory, IsSettled, IsShown, status_of_end, status_of_ending};
+ghost use Rattle.vg_commands.specs.Shown as of_run;
+ghost use Rattle.vg_commands.specs.Shown.{ForSession};
+ghost use Rattle.vg_commands.specs.Asked.{IsDeclaredIn, NoMemberIn};
+ghost use Rattle.vg_commands.specs.Texts.{ForLines, ForText, ForTexts};
+ghost use Rattle.vg_drive.specs.Answers.{AppendsBegun, AppendsFrontAndAll, AppendsFronts, ForImage, ForSecond};
+ghost use Rattle.vg_commands.specs.Commands.{IsAnswerOf, OnBuild, OnLive, OnRun, OnSim, OnSource, OnTry, OnWhy, PutsNothing, requests_of};
+ghost use Rattle.vg_status.specs.Lines.{fault_line};
+ghost use Rattle.vg_commands.specs.Leaves.{FetchedBy, change};
+ghost use Rattle.vg_drive.specs.Mirrors.{AnswerBy};
+ghost use Rattle.vg_commands.specs.Endings.{status_of_end, status_of_ending};
+ghost use Rattle.vg_status.specs.Statuses.{IsBeforePuts, IsDoneOrNoMemory, IsSettled, IsShown};
 ghost use Rattle.vg_drive.specs.Trials.{ForTry, trial_of, try_lines};
 
 use crate::build::run_build;
-use crate::lines::fault_line;
-use crate::session::run_session;
-use crate::sim::run_sim;
-use crate::status::Status;
 use crate::trial::run_try;
-use crate::why::run_why;
 use std::alloc::Global;
+use vg_commands::{run_session, run_sim, run_why};
 use vg_io::{Shelf, Sink};
+use vg_status::{Status, fault_line};
 use vg_words::{Command, command_of};
 
 /// Does what the words behind the program's name say, and answers how it went.

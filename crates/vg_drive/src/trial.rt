@@ -8,21 +8,22 @@ ghost use Rattle.vg_faults.specs.Starting.{init_steps};
 ghost use Rattle.vg_gen.specs.Generated.{generated};
 ghost use Rattle.vg_build.specs.Answer.{Answers};
 ghost use Rattle.vg_sim.specs.Shown.{lines_of};
-ghost use Rattle.vg_drive.specs.Mirrors.{FetchedBy, GainsAll, IsReady, TrialFails, TryBy, change, lines_in, run_in};
+ghost use Rattle.vg_commands.specs.Leaves.{FetchedBy, GainsAll, change};
+ghost use Rattle.vg_drive.specs.Mirrors.{IsReady, TrialFails, TryBy, lines_in, run_in};
 ghost use Rattle.vg_drive.specs.Trials.{try_steps};
 
-use crate::answers::{status_of_ending, status_of_refusal};
-use crate::status::Status;
 use avr_isa::MachineEnd;
 use avr_sim::Machine;
 use std::alloc::Global;
 use vg_base::{NoMemory, Refusal, Row};
 use vg_build::{Built, build};
+use vg_commands::{status_of_ending, status_of_refusal};
 use vg_faults::{Fault, INIT_STEPS};
 use vg_gen::{generate, summary_text};
 use vg_io::{Failed, Sink};
 use vg_script::Script;
 use vg_sim::put_run;
+use vg_status::Status;
 
 // What is ready to be put, and what is ready to run.
 #[derive(Drop)]

@@ -9,7 +9,7 @@ use Rattle.vg_source.specs.Steps.{Step, Target, Routine, Source}
 use Rattle.vg_source.specs.State.{State, find_called, handler_of, entered, left}
 use Rattle.vg_source.specs.Meaning.{Caller, put, take_from, with_found, step, truth, meaning}
 use Rattle.vg_source.specs.Session.{activity, back_in, run_routine, called, call_alone, handled, handle, with_heap, running_world, running}
-use Rattle.vg_source.proofs.Steps.{IsOwn, by_stop, by_wrong, on_step}
+use Rattle.vg_source_laws.proofs.Steps.{IsOwn, by_stop, by_wrong, on_step}
 use Rattle.vg_endings.specs.InRun.{InRun, IsEnd, StaysInRun, StaysPiece, EndsRun}
 use Rattle.vg_endings.proofs.Staying.{stays_then, stays_opened, stays_returned, stays_read, stays_write, behind, ends_idles, stays_performed}
 

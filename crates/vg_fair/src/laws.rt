@@ -11,7 +11,7 @@ ghost use Rattle.vg_meaning.specs.Shapes.{Shapes, Fits};
 ghost use Rattle.vg_meaning.specs.Same.{SameTest, Left};
 ghost use Rattle.vg_fair.specs.Fair.{Alike, AlikePiece};
 
-use vg_meaning::equivalence::{Related, Shaped};
+use vg_meaning_laws::equivalence::{Related, Shaped};
 
 /// Pieces that do the same in fair worlds do so one behind the other, and in calls; a stop does so from any node. The body is empty: its
 /// contract is a law of the definitions, as those below.

@@ -5,7 +5,7 @@ use Rattle.vg_meaning.specs.History.{History}
 use Rattle.vg_meaning.specs.Answer.{End, Wrong, Piece, go_on, over, stops}
 use Rattle.vg_meaning.specs.Devices.{write_device}
 use Rattle.vg_meaning.specs.Safe.{Safe, gives, overs, SafePiece, NoWay, SafeTest}
-use Rattle.vg_meaning.proofs.Safe.{safe_then, safe_read, safe_write, safe_interrupt, safe_stops}
+use Rattle.vg_meaning_laws.proofs.Safe.{safe_then, safe_read, safe_write, safe_interrupt, safe_stops}
 use Rattle.vg_codes.specs.Codes.{Codes, code_in, receiver_in}
 use Rattle.vg_codes.specs.Dispatch.{is_within, dispatched}
 use Rattle.vg_firm.specs.declared.step.Home.{Home}

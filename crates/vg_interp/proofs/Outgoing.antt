@@ -7,10 +7,10 @@ use Rattle.vg_meaning.specs.Answer.{Answer, Gives, Piece, and_then, go_on}
 use Rattle.vg_meaning.specs.Calls.{closed, opened, returned}
 use Rattle.vg_meaning.specs.Clock.{ticked}
 use Rattle.vg_meaning.specs.Code.{Code, If, Then}
-use Rattle.vg_meaning.specs.Grows.{trace_of, Grows}
+use Rattle.vg_meaning_laws.specs.Grows.{trace_of, Grows}
 use Rattle.vg_meaning.specs.Loops.{Tested, choose, turned, turns, where_holds}
-use Rattle.vg_meaning.proofs.Grows.{extends_itself, grows_choose, grows_next, grows_on, grows_opened, grows_returned, grows_then, grows_turn, grows_turned}
-use Rattle.vg_meaning.proofs.Grows.{grows_turns}
+use Rattle.vg_meaning_laws.proofs.Grows.{extends_itself, grows_choose, grows_next, grows_on, grows_opened, grows_returned, grows_then, grows_turn, grows_turned}
+use Rattle.vg_meaning_laws.proofs.Grows.{grows_turns}
 use Rattle.vg_core.specs.declared.code.Code.{Code as HeldCode}
 use Rattle.vg_core.specs.declared.program.Target.{Target}
 use Rattle.vg_core.specs.declared.program.Target.TheVariants.{Construct}

@@ -4,7 +4,7 @@ use Rattle.vg_meaning.specs.History.{depth_alone}
 use Rattle.vg_meaning.specs.Answer.{Answer, Gives, Piece, and_then}
 use Rattle.vg_meaning.specs.Calls.{opened, returned}
 use Rattle.vg_meaning.specs.Code.{Code, performed}
-use Rattle.vg_meaning.specs.Grows.{trace_of}
+use Rattle.vg_meaning_laws.specs.Grows.{trace_of}
 use Rattle.vg_core.specs.declared.step.Step.{Step}
 use Rattle.vg_core.specs.declared.program.Target.{Target}
 use Rattle.vg_core.specs.declared.value.CoreValue.{CoreValue}

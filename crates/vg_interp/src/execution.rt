@@ -2,7 +2,7 @@
 ghost use Rattle.vg_meaning.specs.Code as structure;
 ghost use Rattle.std.specs.Prelude.{◌≡◌, ◌*◌, ◌+◌, ◌-◌, ◌<◌, ◌≤◌, ℕ, length};
 ghost use Rattle.vg_meaning.specs.Answer.{Piece, and_then};
-ghost use Rattle.vg_meaning.specs.Grows.{Grows};
+ghost use Rattle.vg_meaning_laws.specs.Grows.{Grows};
 ghost use Rattle.vg_meaning.specs.Code.{If, Loop, Nothing, Then};
 ghost use Rattle.vg_meaning.specs.Calls.{returned};
 ghost use Rattle.vg_meaning.specs.Clock.{ticked};

@@ -5,7 +5,7 @@ use Rattle.vg_meaning.specs.History.{depth_alone}
 use Rattle.vg_meaning.specs.Outside.{with_event}
 use Rattle.vg_meaning.specs.World.{World}
 use Rattle.vg_meaning.specs.Answer.{Answer, Gives, Piece, and_then, go_on}
-use Rattle.vg_meaning.specs.Grows.{trace_of, Grows}
+use Rattle.vg_meaning_laws.specs.Grows.{trace_of, Grows}
 use Rattle.vg_meaning.specs.Interrupts.{idles, interrupt_from, take_interrupt}
 use Rattle.vg_core.specs.declared.program.Target.{Target}
 use Rattle.vg_core.specs.declared.value.CoreValue.TheVariants.{Null}

@@ -10,10 +10,6 @@ pub mod Code
 pub mod Shapes
 pub mod Same
 pub mod Safe
-pub mod Told
-pub mod Grows
-pub mod Longer
-pub mod Spent
 pub mod Device
 pub mod Ending
 pub mod Seen

@@ -9,7 +9,7 @@ use Rattle.vg_meaning.specs.World.{World}
 use Rattle.vg_meaning.specs.Answer.{End, Stops, Wants, Touches, Done, OutOfClock, OutOfDepth, OutOfRoom, Wrong, Breaks, Continues, Returns, Over}
 use Rattle.vg_meaning.specs.Answer.{Signal, Answer, Gives, Ends}
 use Rattle.vg_meaning.specs.Safe.{Alike}
-use Rattle.vg_meaning.specs.Spent.{Spent, ends}
+use Rattle.vg_meaning_laws.specs.Spent.{Spent, ends}
 use Rattle.avr_isa.specs.Agrees.{Agrees, FollowsSeen}
 use Rattle.avr_isa.specs.declared.ending.MachineEnd.TheVariants as machine_end
 use Rattle.avr_isa.specs.Cpu.{PowerOn, IsPowerOn}
@@ -22,7 +22,7 @@ use Rattle.vg_source.specs.Peak.{costs, most, seen, sessions}
 use Rattle.vg_source.specs.Program.{source_of}
 use Rattle.vg_source.specs.Session as source
 use Rattle.vg_source.specs.State as source_state
-use Rattle.vg_source.proofs.SpentClock.{spent_running}
+use Rattle.vg_source_laws.proofs.SpentClock.{spent_running}
 use Rattle.vg_core.specs.declared.heap.Heap.{Heap}
 use Rattle.vg_core.specs.Naming.{Naming, named_heap}
 use Rattle.vg_core.specs.Program.{Program}

@@ -4,8 +4,8 @@ use Rattle.std.proofs.lemmas.List.{take_all}
 use Rattle.vg_io.specs.Count.{Rose}
 use Rattle.vg_io.specs.Piece.{AppendsAll, AppendsFront}
 use Rattle.vg_meaning.specs.declared.event.Event.{Event}
-use Rattle.vg_meaning.specs.Grows.{Extends}
-use Rattle.vg_meaning.proofs.Grows.{extends_trans}
+use Rattle.vg_meaning_laws.specs.Grows.{Extends}
+use Rattle.vg_meaning_laws.proofs.Grows.{extends_trans}
 use Rattle.vg_outlet.specs.Lines.{lines}
 use Rattle.vg_outlet.specs.Puts.{Moment, put_since, IsPut, PutsOf}
 use Rattle.vg_outlet.proofs.Told.{all_of_none}

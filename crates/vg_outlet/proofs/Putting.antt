@@ -6,7 +6,7 @@ use Rattle.std.proofs.lemmas.List.{take-append-le}
 use Rattle.std.proofs.lemmas.Grind.{flat_map-append}
 use Rattle.vg_io.specs.Piece.{AppendsAll, AppendsFront}
 use Rattle.vg_meaning.specs.declared.event.Event.{Event}
-use Rattle.vg_meaning.specs.Grows.{Extends}
+use Rattle.vg_meaning_laws.specs.Grows.{Extends}
 use Rattle.vg_script.specs.Traces.{event_line}
 use Rattle.vg_outlet.specs.Lines.{lines}
 use Rattle.vg_outlet.proofs.Told.{all_then_all, all_is_front, all_then_front}

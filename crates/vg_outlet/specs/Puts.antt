@@ -3,7 +3,7 @@ use Rattle.std.specs.Prelude.{ℕ, ◌≤◌, Bool, true, false, List, take, Opt
 use Rattle.vg_io.specs.Count.{Rose}
 use Rattle.vg_io.specs.Piece.{AppendsAll, AppendsFront}
 use Rattle.vg_meaning.specs.declared.event.Event.{Event}
-use Rattle.vg_meaning.specs.Grows.{Extends}
+use Rattle.vg_meaning_laws.specs.Grows.{Extends}
 use Rattle.vg_outlet.specs.declared.outlet.Outlet.{Outlet}
 use Rattle.vg_outlet.specs.Lines.{lines}
 

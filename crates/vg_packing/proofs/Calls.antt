@@ -14,7 +14,7 @@ use Rattle.vg_meaning.specs.Code.{Code, Then, Do, performed, replaced}
 use Rattle.vg_meaning.specs.Same.{Nowhere, SameTest, Left}
 use Rattle.vg_meaning.specs.Safe.{Safe, NoWay, IsRight}
 use Rattle.vg_meaning.specs.Safe as safety
-use Rattle.vg_meaning.proofs.Safe.{safe_then}
+use Rattle.vg_meaning_laws.proofs.Safe.{safe_then}
 use Rattle.vg_fair.specs.Fair.{IsFair, Alike, gives, leaves, overs, wrong, AlikePiece}
 use Rattle.vg_fair.proofs.Fair.{alike_then, alike_opened, alike_returned, alike_idles}
 use Rattle.vg_source.specs.Session.{running_world}

@@ -11,9 +11,9 @@ use Rattle.vg_meaning.specs.Calls.{closed, closing, unless_deep, note_call, open
 use Rattle.vg_meaning.specs.Loops.{Test, Tested, Untested, choose, where_holds, turned, turns}
 use Rattle.vg_meaning.specs.Devices.{read_from, read_device, write_in, write_device}
 use Rattle.vg_meaning.specs.Code.{Code, Nothing, Then, Do, If, Loop, Break, Continue, Return, performed}
-use Rattle.vg_meaning.specs.Told.{told, Tells}
-use Rattle.vg_meaning.specs.Grows.{Extends}
-use Rattle.vg_meaning.proofs.Grows.{extends_by, extends_itself, extends_trans}
+use Rattle.vg_meaning_laws.specs.Told.{told, Tells}
+use Rattle.vg_meaning_laws.specs.Grows.{Extends}
+use Rattle.vg_meaning_laws.proofs.Grows.{extends_by, extends_itself, extends_trans}
 use Rattle.vg_recorded.specs.Setting.{Setting, IsIn, IsLimited, IsEnd}
 use Rattle.vg_recorded.specs.Follows.{Follows, gives, ends, FollowsPiece}
 

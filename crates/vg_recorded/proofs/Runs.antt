@@ -10,10 +10,10 @@ use Rattle.vg_meaning.specs.Answer.{Stops, Wants, Touches, Done, OutOfClock, Out
 use Rattle.vg_meaning.specs.Answer.{Answer, Ends, Piece, and_then, go_on}
 use Rattle.vg_meaning.specs.Code.{Code, performed}
 use Rattle.vg_meaning.specs.Interrupts.{interrupt_from, idles}
-use Rattle.vg_meaning.specs.Grows.{trace_of, Extends, Grows}
-use Rattle.vg_meaning.proofs.Grows.{extends_itself, grows_idles, grows_performed}
-use Rattle.vg_meaning.specs.Told as of
-use Rattle.vg_meaning.specs.Told.{told, Told, ToldPiece, Tells}
+use Rattle.vg_meaning_laws.specs.Grows.{trace_of, Extends, Grows}
+use Rattle.vg_meaning_laws.proofs.Grows.{extends_itself, grows_idles, grows_performed}
+use Rattle.vg_meaning_laws.specs.Told as of
+use Rattle.vg_meaning_laws.specs.Told.{told, Told, ToldPiece, Tells}
 use Rattle.vg_source.specs.Session.{starting_world, running_world}
 use Rattle.vg_core.specs.declared.types.CoreType.{CoreType}
 use Rattle.vg_core.specs.declared.value.CoreValue.{CoreValue}

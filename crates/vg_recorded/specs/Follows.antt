@@ -1,7 +1,7 @@
 -- A run with less history follows one with more, and both stay in their setting.
 use Rattle.vg_meaning.specs.World.{World}
 use Rattle.vg_meaning.specs.Answer.{Signal, Answer, Gives, Ends, Piece}
-use Rattle.vg_meaning.specs.Told.{told}
+use Rattle.vg_meaning_laws.specs.Told.{told}
 use Rattle.vg_recorded.specs.Setting.{Setting, IsIn, IsSignal}
 
 -- The second answer is the first with its history told by f; it goes on in the setting, or ends as a call does there.

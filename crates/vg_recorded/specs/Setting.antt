@@ -1,7 +1,7 @@
 -- What an initialisation or a run does not change of its world, and the ends that it has there.
 use Rattle.std.specs.Prelude.{◌≡◌, ℕ, List, [], Option, Some, None}
 use Rattle.vg_meaning.specs.declared.event.Event.{Event}
-use Rattle.vg_meaning.specs.Grows.{Extends}
+use Rattle.vg_meaning_laws.specs.Grows.{Extends}
 use Rattle.vg_meaning.specs.World.{World, Phase, Starting, Running}
 use Rattle.vg_meaning.specs.Answer.{End, Stops, Wants, Touches, Done, OutOfClock, OutOfDepth, OutOfRoom, Wrong, Signal, Over, Answer, Gives, Ends}
 

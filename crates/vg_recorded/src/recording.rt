@@ -2,9 +2,9 @@
 ghost use Rattle.std.specs.Prelude.{ℕ, List, Option};
 ghost use Rattle.vg_meaning.specs.History.{Recorder};
 ghost use Rattle.vg_meaning.specs.Code.{Code, performed};
-ghost use Rattle.vg_meaning.specs.Grows.{Grows};
+ghost use Rattle.vg_meaning_laws.specs.Grows.{Grows};
 ghost use Rattle.vg_meaning.specs.Interrupts.{idles};
-ghost use Rattle.vg_meaning.specs.Told.{Told, Tells};
+ghost use Rattle.vg_meaning_laws.specs.Told.{Told, Tells};
 ghost use Rattle.vg_core.specs.declared.heap.Heap.{Heap};
 ghost use Rattle.vg_core.specs.declared.program.Target.{Target};
 ghost use Rattle.vg_core.specs.declared.step.Step.{Step};

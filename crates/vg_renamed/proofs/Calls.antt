@@ -11,8 +11,8 @@ use Rattle.vg_meaning.specs.Code.{Code, performed, replaced}
 use Rattle.vg_meaning.specs.Safe.{Safe, leaves, overs, NoWay, IsRight, Alike}
 use Rattle.vg_meaning.specs.Same as same
 use Rattle.vg_meaning.specs.Same.{SamePiece, Always, SameTest}
-use Rattle.vg_meaning.proofs.Same.{same_then, same_unless, same_opened, same_returned, same_replaced, same_idles}
-use Rattle.vg_meaning.proofs.Safe.{same_shown}
+use Rattle.vg_meaning_laws.proofs.Same.{same_then, same_unless, same_opened, same_returned, same_replaced, same_idles}
+use Rattle.vg_meaning_laws.proofs.Safe.{same_shown}
 use Rattle.vg_source.specs.Types as source_type
 use Rattle.vg_source.specs.Values as source_value
 use Rattle.vg_source.specs.Steps as source_step

@@ -9,7 +9,7 @@ use Rattle.vg_meaning.specs.World.{World, Phase, Starting, Running}
 use Rattle.vg_meaning.specs.Answer.{OutOfRoom, Answer, Gives, Piece, go_on, passes, unless}
 use Rattle.vg_meaning.specs.Devices.{write_device}
 use Rattle.vg_meaning.specs.Same.{gives, overs, wrong}
-use Rattle.vg_meaning.proofs.Same.{same_then, same_unless, same_read, same_write}
+use Rattle.vg_meaning_laws.proofs.Same.{same_then, same_unless, same_read, same_write}
 use Rattle.vg_source.specs.Names.{Name}
 use Rattle.vg_source.specs.Operators.{ToInt, ToChar, ToBits}
 use Rattle.vg_source.specs.Values as source_value

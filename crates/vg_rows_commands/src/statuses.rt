@@ -3,10 +3,10 @@ use crate::answers::push_part;
 use itoa::Buffer;
 use std::alloc::Global;
 use vg_base::{NoMemory, Place, Row};
-use vg_drive::{Status, fault_line};
 use vg_faults::Fault;
 use vg_hex::HexFault;
 use vg_rules::what::What;
+use vg_status::{Status, fault_line};
 use vg_types_counts::{CLASS_LIMIT, HEIGHT_LIMIT, LOCAL_LIMIT, METHOD_LIMIT};
 
 /// `status NAME NUMBER NUMBER`: the number of a status, and its fault line. A name that needs fewer numbers ignores the others.

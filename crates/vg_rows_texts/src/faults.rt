@@ -1,9 +1,9 @@
 // What is said of a text that is refused.
 use std::alloc::Global;
 use vg_base::NoMemory;
-use vg_drive::{Status, fault_line};
 use vg_faults::Fault;
 use vg_rows_lines::{said, shown_text};
+use vg_status::{Status, fault_line};
 
 /// The line of a fault, as the program puts it, without its end.
 pub fn fault_text(alloc: Global, fault: Fault) -> Result<String, NoMemory> {

@@ -10,13 +10,13 @@ use Rattle.vg_meaning.specs.Answer.{Answer, Gives, Ends, kept, and_then}
 use Rattle.vg_meaning.specs.Interrupts.{idles}
 use Rattle.vg_meaning.specs.Ending.{Ending}
 use Rattle.vg_meaning.specs.Ending as ending
-use Rattle.vg_meaning.specs.Grows.{trace_of, Extends}
+use Rattle.vg_meaning_laws.specs.Grows.{trace_of, Extends}
 use Rattle.vg_meaning.specs.History.{History, full, depth_alone, depth_of, no_history}
 use Rattle.vg_meaning.specs.Safe.{Safe, gives, leaves, overs, NoWay, IsRight}
-use Rattle.vg_meaning.specs.Told as of
-use Rattle.vg_meaning.specs.Told.{told, Told}
+use Rattle.vg_meaning_laws.specs.Told as of
+use Rattle.vg_meaning_laws.specs.Told.{told, Told}
 use Rattle.vg_meaning.specs.World.{World, Starting}
-use Rattle.vg_meaning.proofs.Told.{depth_follows}
+use Rattle.vg_meaning_laws.proofs.Told.{depth_follows}
 use Rattle.vg_source.specs.Session.{ending_of, running_world}
 use Rattle.vg_core.specs.declared.heap.Heap.{Heap}
 use Rattle.vg_core.specs.declared.program.Program.{Program as HeldProgram}
@@ -44,7 +44,7 @@ use Rattle.vg_session.specs.Ends.{session_on, EndsAs}
 use Rattle.vg_session.specs.Playing.{CanFail, FailsBy, CanEnd, HasMemory, Lacks, IsEndOf, EndsBy, from_main, Leaves}
 use Rattle.vg_outlet.specs.Puts.{Moment, IsPut, PutsOf}
 use Rattle.vg_outlet.proofs.Puts.{put_first, put_front, put_failed, put_later, put_whole}
-use Rattle.vg_meaning.proofs.Grows.{extends_itself}
+use Rattle.vg_meaning_laws.proofs.Grows.{extends_itself}
 use Rattle.vg_script.specs.Script.{Lists}
 
 -- ---- what never comes

@@ -7,7 +7,7 @@ use Rattle.vg_meaning.specs.Answer.{Gives, Piece}
 use Rattle.vg_meaning.specs.Calls.{opened}
 use Rattle.vg_meaning.specs.Code.{performed}
 use Rattle.vg_meaning.specs.Safe.{Safe, gives, overs, SafePiece, SafeTest, NoWay, Leaving, Ticks, IsRight}
-use Rattle.vg_meaning.proofs.Safe.{safe_then, safe_opened, safe_returned, safe_performed}
+use Rattle.vg_meaning_laws.proofs.Safe.{safe_then, safe_opened, safe_returned, safe_performed}
 use Rattle.vg_core.specs.declared.types.CoreType.{CoreType}
 use Rattle.vg_core.specs.declared.types.CoreType.TheVariants.{BoolType}
 use Rattle.vg_core.specs.declared.value.CoreValue.{CoreValue}

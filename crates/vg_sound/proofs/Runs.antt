@@ -7,7 +7,7 @@ use Rattle.std.proofs.lemmas.Option.{slice_get-map}
 use Rattle.vg_meaning.specs.History.{Recorder}
 use Rattle.vg_meaning.specs.Answer.{OutOfRoom, Answer, go_on, passes}
 use Rattle.vg_meaning.specs.Safe.{Safe, gives, SafePiece, NoWay, IsRight}
-use Rattle.vg_meaning.proofs.Safe.{safe_then, safe_weaker, safe_unless, safe_idles}
+use Rattle.vg_meaning_laws.proofs.Safe.{safe_then, safe_weaker, safe_unless, safe_idles}
 use Rattle.vg_source.specs.Session.{starting_world, running_world}
 use Rattle.vg_core.specs.declared.types.CoreType.TheVariants.{CharType}
 use Rattle.vg_core.specs.declared.value.CoreValue.TheVariants.{Char, Null}

@@ -7,7 +7,7 @@ use Rattle.vg_meaning.specs.World.{World, Phase, Starting, Running}
 use Rattle.vg_meaning.specs.Answer.{OutOfRoom, Gives, Piece, go_on, passes}
 use Rattle.vg_meaning.specs.Devices.{write_device}
 use Rattle.vg_meaning.specs.Safe.{Safe, gives, overs, NoWay, IsRight}
-use Rattle.vg_meaning.proofs.Safe.{safe_then, safe_weaker, safe_unless, safe_read, safe_write}
+use Rattle.vg_meaning_laws.proofs.Safe.{safe_then, safe_weaker, safe_unless, safe_read, safe_write}
 use Rattle.vg_core.specs.declared.types.CoreType.{CoreType}
 use Rattle.vg_core.specs.declared.types.CoreType.TheVariants.{IntType, BoolType, RawType, ClassType, ArrayType, FunctionType, NoType, MoreTypes}
 use Rattle.vg_core.specs.declared.value.CoreValue.{CoreValue}

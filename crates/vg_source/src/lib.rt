@@ -1,7 +1,3 @@
 //! What a program of the source language means: its values and operators, the steps that its tree stands for, its
-//! initialisation and its sessions, as definitions with their laws.
+//! initialisation and its sessions, as definitions.
 #![tactic(auto)]
-
-pub mod casts;
-pub mod clock;
-pub mod recorders;

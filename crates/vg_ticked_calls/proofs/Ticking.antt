@@ -7,8 +7,8 @@ use Rattle.vg_meaning.specs.Answer.{End, OutOfClock, Signal, Ends, Piece, over}
 use Rattle.vg_meaning.specs.Shapes.{shapeless}
 use Rattle.vg_meaning.specs.Interrupts.{idles}
 use Rattle.vg_meaning.specs.Safe.{Safe, leaves, overs, NoWay, Ticks}
-use Rattle.vg_meaning.proofs.Same.{fits_shapeless}
-use Rattle.vg_meaning.proofs.Safe.{safe_then, safe_idles, safe_opened, safe_returned, safe_performed}
+use Rattle.vg_meaning_laws.proofs.Same.{fits_shapeless}
+use Rattle.vg_meaning_laws.proofs.Safe.{safe_then, safe_idles, safe_opened, safe_returned, safe_performed}
 use Rattle.vg_codes.specs.Codes.{Codes}
 use Rattle.vg_firm.specs.declared.step.Step.{Step}
 use Rattle.vg_firm.specs.Program.{Procedure, Program}

@@ -10,8 +10,8 @@ use Rattle.vg_meaning.specs.Calls.{opened, returned}
 use Rattle.vg_meaning.specs.Code.{performed}
 use Rattle.vg_meaning.specs.Shapes.{shapeless}
 use Rattle.vg_meaning.specs.Safe.{Safe, gives, overs, SafePiece, NoWay, SafeTest, Ticks}
-use Rattle.vg_meaning.proofs.Same.{fits_shapeless}
-use Rattle.vg_meaning.proofs.Safe.{safe_then, safe_weaker, safe_read, safe_write, safe_idles, safe_opened, safe_returned, safe_performed}
+use Rattle.vg_meaning_laws.proofs.Same.{fits_shapeless}
+use Rattle.vg_meaning_laws.proofs.Safe.{safe_then, safe_weaker, safe_read, safe_write, safe_idles, safe_opened, safe_returned, safe_performed}
 use Rattle.vg_toy.specs.Language.{Method, put, truth, step, with_method, called}
 use Rattle.vg_toy.specs.Session.{handle, world, session}
 use Rattle.vg_toy.specs.Openings.{AreOfMethods, OpensMethods}

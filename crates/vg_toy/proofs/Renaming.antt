@@ -10,7 +10,7 @@ use Rattle.vg_meaning.specs.Answer.{Piece, go_on}
 use Rattle.vg_meaning.specs.Loops.{Tested}
 use Rattle.vg_meaning.specs.Code.{performed}
 use Rattle.vg_meaning.specs.Same.{Same, gives, overs, SamePiece, Always, SameTest}
-use Rattle.vg_meaning.proofs.Same.{same_then, same_read, same_write, same_opened, same_returned, same_idles, same_replaced}
+use Rattle.vg_meaning_laws.proofs.Same.{same_then, same_read, same_write, same_opened, same_returned, same_idles, same_replaced}
 use Rattle.vg_toy.specs.Language.{Method, put, truth, step, with_method, called, place_of, itself}
 use Rattle.vg_toy.specs.Session.{handle, world}
 use Rattle.vg_toy.specs.declared.program.Program.{Program}

@@ -7,7 +7,7 @@ use Rattle.vg_meaning.specs.Answer.{OutOfClock, Signal, Ends, Piece, over}
 use Rattle.vg_meaning.specs.Calls.{note_call}
 use Rattle.vg_meaning.specs.Interrupts.{idles}
 use Rattle.vg_meaning.specs.Safe.{Safe, leaves, overs, NoWay, Ticks}
-use Rattle.vg_meaning.proofs.Safe.{safe_then, safe_idles, safe_opened, safe_returned, safe_performed}
+use Rattle.vg_meaning_laws.proofs.Safe.{safe_then, safe_idles, safe_opened, safe_returned, safe_performed}
 use Rattle.vg_codes.specs.Codes.{Codes}
 use Rattle.vg_firm.specs.Program.{Procedure, Program}
 use Rattle.vg_firm.specs.Meaning.{State, Caller, put, checked, step, truth}

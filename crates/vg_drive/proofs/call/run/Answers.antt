@@ -3,12 +3,12 @@
 -- text is lifted from both by on_source (Sources).
 use Rattle.vg_faults.specs.declared.fault.Fault.TheVariants.{NoTree, TooDeep, TooMany, Broken}
 use Rattle.vg_drive.proofs.Builds as builds
-use Rattle.vg_drive.proofs.Plays as plays
-use Rattle.vg_drive.proofs.Sims as sims
+use Rattle.vg_commands.proofs.Plays as plays
+use Rattle.vg_commands.proofs.Sims as sims
 use Rattle.vg_drive.proofs.Tries as tries
-use Rattle.vg_drive.proofs.Whys as whys
+use Rattle.vg_commands.proofs.Whys as whys
 use Rattle.vg_drive.proofs.Commands.{answers_of, either_later, first_of, on_build, on_run, on_sim, on_try, on_why, out_before_of, rose_later, usage_of, write_fault_of}
-use Rattle.vg_drive.proofs.Fetches.{asks_all_by, asks_front_by, failed_by, too_long_by}
+use Rattle.vg_commands.proofs.Fetches.{asks_all_by, asks_front_by, failed_by, too_long_by}
 use Rattle.vg_drive.proofs.Notes.{fronts_of, headline_of, line_front_of, line_last_of, line_of, second_of, tried_of}
 use Rattle.vg_drive.proofs.Sources.{allocates_of, exactly_of, init_is, source_is}
 use Rattle.vg_drive.proofs.call.run.Goals as goal

@@ -3,7 +3,7 @@ use Rattle.std.specs.Prelude.{Err}
 use Rattle.std.proofs.Math.ListN.{drop_of_length-le}
 use Rattle.vg_meaning.specs.Answer.{Piece, OutOfClock, over, and_then}
 use Rattle.vg_meaning.specs.Code.{If, Nothing}
-use Rattle.vg_meaning.proofs.Grows.{grows_over}
+use Rattle.vg_meaning_laws.proofs.Grows.{grows_over}
 use Rattle.vg_meaning.specs.Calls.{closed}
 use Rattle.vg_meaning.specs.History.{depth_alone}
 use Rattle.vg_meaning.specs.Loops.{Tested, turned, turns, where_holds}

@@ -1,5 +1,0 @@
-use Rattle.vg_meaning.proofs.Same.{same_choose}
-use Rattle.vg_meaning.proofs.equivalence.choice.Goals as goal
-
-pub returns : goal.returns
-returns g c = λ x y f f' h h' e k k' s t w. same_choose x y f f' h h' e k k' s t w

@@ -1,5 +1,0 @@
-use Rattle.vg_meaning.proofs.Same.{same_across}
-use Rattle.vg_meaning.proofs.equivalence.composition.Goals as goal
-
-pub returns : goal.returns
-returns g c = λ a b d p q. same_across p q

@@ -1,5 +1,0 @@
-use Rattle.vg_meaning.proofs.Same.{same_then}
-use Rattle.vg_meaning.proofs.equivalence.sequencing.Goals as goal
-
-pub returns : goal.returns
-returns g c = λ a b f h p k. same_then f h p k

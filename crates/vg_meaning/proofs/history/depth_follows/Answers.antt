@@ -1,5 +1,0 @@
-use Rattle.vg_meaning.proofs.Told.{depth_follows as followed}
-use Rattle.vg_meaning.proofs.history.depth_follows.Goals as goal
-
-pub returns : goal.returns
-returns c = followed

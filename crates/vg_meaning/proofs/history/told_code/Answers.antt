@@ -1,5 +1,0 @@
-use Rattle.vg_meaning.proofs.Told.{told_performed}
-use Rattle.vg_meaning.proofs.history.told_code.Goals as goal
-
-pub returns : goal.returns
-returns g c = λ f r q t test step step' h code. told_performed f r q t test step step' h code

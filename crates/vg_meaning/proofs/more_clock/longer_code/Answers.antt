@@ -1,5 +1,0 @@
-use Rattle.vg_meaning.proofs.Longer.{longer_performed}
-use Rattle.vg_meaning.proofs.more_clock.longer_code.Goals as goal
-
-pub returns : goal.returns
-returns g c = λ d r test step step' h e code. longer_performed d r test step step' h e code

@@ -1,5 +1,0 @@
-use Rattle.vg_meaning.proofs.Safe.{same_shown}
-use Rattle.vg_meaning.proofs.safety.right_runs_agree.Goals as goal
-
-pub returns : goal.returns
-returns g c = λ a b h k. same_shown _ _ _ a b h k

@@ -1,5 +1,0 @@
-use Rattle.vg_meaning.proofs.Safe.{safe_performed}
-use Rattle.vg_meaning.proofs.safety.safe_code.Goals as goal
-
-pub returns : goal.returns
-returns g c = λ r step test ticks steps tests results looped code x y. safe_performed r step test _ _ _ _ ticks steps tests results looped code x y

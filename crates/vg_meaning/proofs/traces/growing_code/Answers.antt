@@ -1,5 +1,0 @@
-use Rattle.vg_meaning.proofs.Grows.{grows_performed}
-use Rattle.vg_meaning.proofs.traces.growing_code.Goals as goal
-
-pub returns : goal.returns
-returns g c = λ r test step h code. grows_performed r test step h code

@@ -1,0 +1,4 @@
+pub mod Told
+pub mod Grows
+pub mod Longer
+pub mod Spent
