@@ -68,10 +68,10 @@ never_on writes image made stack large fits = made.never (0x1100 - stack) stack 
 
 -- ---- the flash of a text
 
--- on each stack that has room above the static area the machine does what the text does, a program of constants keeps to it, and any other keeps memory; and
+-- on each stack that has room above the static area, and for the bound where there is one, the machine does what the text does, a program of constants keeps to it, and any other keeps memory; and
 -- where the stack is bounded it is never left
 record DoesOnStacks (bytes : List ℕ) (tree : Node) (heap : Heap) (static_bytes : ℕ) (flash : Flash) : Type 0 where
-  agrees : (stack : ℕ) → static_bytes + stack ≤ 4096 → Agrees (sessions tree heap) flash.image (0x1100 - stack) stack
+  agrees : (stack : ℕ) → static_bytes + stack ≤ 4096 → IsFew stack flash.bound → Agrees (sessions tree heap) flash.image (0x1100 - stack) stack
   never : (writes : List DeviceWrite) → IsFirst bytes writes → (stack : ℕ) → 2 ≤ stack → stack ≤ 4096 → NeverReaches flash.image (0x1100 - stack)
   idle : ℕ
   idle_is : idle < 65536 → flash.idle ≡ idle
@@ -90,7 +90,7 @@ module _ (bytes : List ℕ) (clock : ℕ) (tree : Node) (heap : Heap) (is : IsFi
       → DoesOnStacks bytes tree heap n flash
   does_writes flash writes first made four =
       record {
-        agrees = λ stack fits.
+        agrees = λ stack fits few.
             subst (λ h. Agrees (sessions tree h) flash.image (0x1100 - stack) stack)
             (heap_is bytes clock writes tree heap is.firm.legal first is.firm.starts)
             (subst (λ s. Agrees s flash.image (0x1100 - stack) stack) (sym (text_sessions bytes writes tree first is.firm.legal.reads))
@@ -111,11 +111,11 @@ module _ (bytes : List ℕ) (clock : ℕ) (tree : Node) (heap : Heap) (is : IsFi
       let (one_tree, one_heap) = one_start bytes clock does.tree tree does.heap heap firm.legal is.firm.legal firm.starts is.firm.starts in
       let one_static = same_static bytes clock does.tree tree does.heap heap firm is.firm i.static_bytes n does.static_is static_is in
       record {
-        agrees = λ stack fits.
+        agrees = λ stack fits few.
             subst (λ x. Agrees (sessions tree heap) x (0x1100 - stack) stack) (sym of.image)
             (subst (λ h. Agrees (sessions tree h) i.flash (0x1100 - stack) stack) one_heap
             (subst (λ t. Agrees (sessions t does.heap) i.flash (0x1100 - stack) stack) one_tree
-            (does.agrees stack (subst (λ m. m + stack ≤ 4096) (sym one_static) fits))));
+            (does.agrees stack (subst (λ m. m + stack ≤ 4096) (sym one_static) fits) (subst (λ b. IsFew stack b) of.bound few))));
         never = λ writes first. absurd (none writes first);
         idle = i.idle + 1;
         idle_is = of.idle;
@@ -182,7 +182,7 @@ module _ (bytes : List ℕ) (asked : Option ℕ) (clock : ℕ) (tree : Node) (he
         floor_is = subst (λ z. z + layout.stack ≡ 0x1100) (sym of.floor_is)
             (subst (λ z. 0x1100 - stack + z ≡ 0x1100) (sym of.stack_is) (floor_is stack (within n stack fits)));
         agrees = subst (λ z. Agrees (sessions tree heap) flash.image z layout.stack) (sym of.floor_is)
-            (subst (λ z. Agrees (sessions tree heap) flash.image (0x1100 - stack) z) (sym of.stack_is) (does.agrees stack fits));
+            (subst (λ z. Agrees (sessions tree heap) flash.image (0x1100 - stack) z) (sym of.stack_is) (does.agrees stack fits few));
         never = λ writes first large.
             subst (λ z. NeverReaches flash.image z) (sym of.floor_is)
             (does.never writes first stack (subst (λ z. 2 ≤ z) of.stack_is large) (within n stack fits));

@@ -3,3 +3,4 @@ pub mod Beginnings
 pub mod Needs
 pub mod Calls
 pub mod Making
+pub mod Spent

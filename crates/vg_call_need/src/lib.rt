@@ -12,4 +12,4 @@ pub mod within;
 pub use bounding::stack_need;
 pub use need::Need;
 pub use telling::bound_of;
-pub use within::have_room;
+pub use within::is_spent;

@@ -1,21 +1,35 @@
-// Whether there is room for frames within costs.
-ghost use Rattle.std.specs.Prelude.{IsTrue};
-ghost use Rattle.vg_call_need.specs.Within.{HaveRoom};
+// Whether the calls of some way cost as much as is needed.
+ghost use Rattle.std.specs.Prelude.{◌<◌, ◌≤◌, IfOk, IsTrue, length};
+ghost use Rattle.vg_call_need.specs.Within.{IsSpentWithin};
 
-use crate::graph::frame_of;
-use vg_firm::Procedure;
+use crate::bounding::stack_need;
+use crate::need::Need;
+use std::alloc::Global;
+use vg_base::NoMemory;
+use vg_packed::FirmProgram;
 
-/// Whether the frame of the method that each procedure is, and so many bytes beside, are at most four more than that method costs.
-pub fn have_room(extra: u32, frames: &[u32], costs: &[u32], procedures: &[Procedure]) -> bool
-    ensures { IsTrue result → HaveRoom extra frames.now costs.now procedures.now }
+/// Whether so many bytes are at least four, and at most four more than the calls of some way from main or a handler cost, by costs of methods in bytes. It takes
+/// time that is linear in procedures and what they call.
+#[tactic(auto, using(crate::proofs::Spent::spent_within))]
+pub fn is_spent(
+    alloc: Global,
+    firm: &FirmProgram,
+    costs: &[u32],
+    need: u64,
+) -> Result<bool, NoMemory>
+    requires few { length firm.now.procedures ≤ 65536 }
+    requires main { firm.now.main < length firm.now.procedures }
+    ensures { IfOk result (λ spent. IsTrue spent → IsSpentWithin firm.now costs.now need) }
 {
-    match procedures {
-        [] => true,
-        [procedure, more @ ..] => {
-            let frame = frame_of(frames, procedure.method);
-            let cost = frame_of(costs, procedure.method);
-            u64::from(frame) + u64::from(extra) <= u64::from(cost) + 4
-                && have_room(extra, frames, costs, more)
-        }
+    match stack_need(alloc, firm, costs, 4)? {
+        Need::Bytes(paid) => Ok(is_between(need, paid)),
+        Need::Cycle(_) => Ok(false),
     }
+}
+
+fn is_between(need: u64, paid: u64) -> bool
+    ensures four { IsTrue result → 4 ≤ need }
+    ensures most { IsTrue result → need ≤ paid }
+{
+    4 <= need && need <= paid
 }

@@ -19,7 +19,7 @@ use Rattle.vg_compile.proofs.Following.{follows, peaks_hold}
 use Rattle.vg_call_need.specs.Bounds.{BoundsCalls, IsBoundOf}
 use Rattle.vg_call_need.proofs.Calls.{bounds_bytes, bounds_calls}
 use Rattle.vg_call_need.specs.Within.{IsNeedWithin}
-use Rattle.vg_compile.specs.Bounds.{HoldsBound}
+use Rattle.vg_compile.specs.Bounds.{ArePaidFor, DoesFor, HoldsBound}
 use Rattle.vg_compile.specs.Compile.{CallsNeedAsSaid, IsImageOf, NeedsAsSaid}
 use Rattle.vg_compile.specs.declared.no_image.NoImage.TheVariants.{NotLinear, Received, Costly, Deep, Full}
 use Rattle.vg_compile.specs.declared.no_image.NoImage.{NoImage}
@@ -45,10 +45,15 @@ module _ (p : Program) (h : Heap) (s : LiveSet) (n : Numbers) (c : Columns) (f :
       follows p h s n c f image.linear image.unlinked compiled.linked given ready packed image.is_linear image.is_unlinked image.can_be_linked image.is_linked
       extra frames fit e flash static floor slept woken
 
-  pub does : DoesInImage compiled.linked c 4 costs p h
-  does =
-      does_by 4 costs
-      (fit_costs image.linear.procedures image.linear.start image.frames costs image.are_frames.hold image.are_frames.paid)
+  does_for : (need : Need) (bound : StackBound) → IsBoundOf f need bound → ArePaidFor image.frames costs need → DoesFor compiled.linked c costs p h bound
+  does_for (need.Bytes bytes) (Bytes same) e paid = tt
+  does_for (need.Bytes bytes) (Cycle methods) e paid = absurd e
+  does_for (need.Cycle procedures) (Bytes bytes) e paid = tt
+  does_for (need.Cycle procedures) (Cycle methods) e paid =
+      does_by 4 costs (fit_costs image.linear.procedures image.linear.start image.frames costs image.are_frames paid)
+
+  pub does : DoesFor compiled.linked c costs p h compiled.bound
+  does = does_for image.need compiled.bound image.is_bound image.are_paid
 
   abbrev frames : List ℕ
   frames = image.frames.by_method
@@ -63,7 +68,7 @@ module _ (p : Program) (h : Heap) (s : LiveSet) (n : Numbers) (c : Columns) (f :
         extra,
         (
           frames,
-          does_by extra frames (fit_frames image.linear.procedures image.linear.start image.frames image.are_frames.hold),
+          does_by extra frames (fit_frames image.linear.procedures image.linear.start image.frames image.are_frames),
           λ floor fits.
               peaks_hold p h s n c f image.linear image.unlinked compiled.linked given ready packed image.is_linear image.is_unlinked image.can_be_linked
               image.is_linked frames enough is_enough floor extra (lower floor extra bytes enough exact fits),

@@ -1,2 +1,2 @@
 -- That they do so, for those who stand on this room.
-pub use Rattle.vg_stack_bound.proofs.Memory.{agrees, keeps, never}
+pub use Rattle.vg_stack_bound.proofs.Memory.{agrees, agrees_held, keeps, never}

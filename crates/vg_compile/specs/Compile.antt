@@ -16,7 +16,7 @@ use Rattle.vg_compile.specs.Unlinked.{IsUnlinked}
 use Rattle.vg_compile.specs.declared.no_image.NoImage.{NoImage}
 use Rattle.vg_compile.specs.declared.no_image.NoImage.TheVariants.{NotLinear, Received, Costly, Deep, Full}
 use Rattle.vg_compile.specs.declared.compiled.Compiled.{Compiled}
-use Rattle.vg_compile.specs.Bounds.{AreFramesOf, BoundsCalls, NeedsAtLeast}
+use Rattle.vg_compile.specs.Bounds.{AreFramesOf, ArePaidFor, BoundsCalls, NeedsAtLeast}
 use Rattle.vg_call_need.specs.Within.{IsNeedWithin}
 use Rattle.vg_core.specs.declared.heap.Heap.{Heap}
 use Rattle.vg_core.specs.Program.{Program}
@@ -24,18 +24,20 @@ use Rattle.vg_layout.specs.declared.stack_bound.StackBound.TheVariants.{Bytes}
 use Rattle.vg_call_need.specs.Bounds.{IsBoundOf}
 use Rattle.vg_call_need.specs.declared.need.Need.{Need}
 
--- The image of a packed program: it is made linear, the costs of methods pay for their frames, what its calls need is known, and that is linked.
+-- The image of a packed program: it is made linear, what its calls need is known by the frames of methods, which their costs pay for where calls go round, and it
+-- is linked.
 pub record IsImageOf (c : Columns) (f : FirmProgram) (costs : List ℕ) (compiled : Compiled) : Type 0 where
   pub linear : Linear
   pub is_linear : IsLinear c.list f linear
   pub frames : Frames
-  pub are_frames : AreFramesOf linear costs frames
+  pub are_frames : AreFramesOf linear frames
   pub unlinked : Unlinked
   pub is_unlinked : IsUnlinked c f linear unlinked
   pub can_be_linked : CanBeLinked unlinked
   pub is_linked : IsLinked unlinked compiled.linked
   pub need : Need
   pub is_need : IsNeedWithin frames.beside f frames.by_method costs need
+  pub are_paid : ArePaidFor frames costs need
   pub is_bound : IsBoundOf f need compiled.bound
 
 -- A handler of the packed program.

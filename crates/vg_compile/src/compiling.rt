@@ -1,5 +1,5 @@
 // From a typed program and its heap to an image.
-ghost use Rattle.std.specs.Prelude.{ℕ, ◌≤◌, ◌<◌, List, length, IfErr, IfOk, IfSome};
+ghost use Rattle.std.specs.Prelude.{ℕ, ◌≤◌, ◌<◌, List, length, IfErr, IfOk, IfSome, IsTrue};
 ghost use Rattle.vg_base.specs.Limits.{flash_bytes};
 ghost use Rattle.vg_core.specs.HeldProgram.{program_at};
 ghost use Rattle.vg_packed.specs.declared.program.FirmProgram.{FirmProgram as TheFirm};
@@ -12,10 +12,10 @@ ghost use Rattle.vg_compile.specs.Unlinked.{AlwaysLinks};
 ghost use Rattle.vg_linear.specs.Whole.{IsLinear};
 ghost use Rattle.vg_call_need.specs.Bounds.{BoundsCalls, IsFewOf};
 ghost use Rattle.vg_call_need.specs.Within.{IsNeedWithin};
-ghost use Rattle.vg_compile.specs.Bounds.{AreFramesOf, HoldsBound};
+ghost use Rattle.vg_call_need.specs.Within.{IsSpentBy};
+ghost use Rattle.vg_compile.specs.Bounds.{AreFramesOf, ArePaidFor, DoesFor, HoldsBound};
 ghost use Rattle.vg_layout.specs.Few.{IsFew};
 ghost use Rattle.vg_compile.specs.Compile.{CallsNeedAsSaid, IsImageOf, IsRefusedFor, NeedsAsSaid};
-ghost use Rattle.vg_compile.specs.Runs.{DoesInImage};
 
 use crate::compiled::Compiled;
 use crate::handlers::all_can_handle;
@@ -24,7 +24,7 @@ use crate::pieces::pieces_of;
 use crate::unlinking::unlinked;
 use std::alloc::Global;
 use vg_base::{NoMemory, Refusal};
-use vg_call_need::{Need, bound_of, have_room, stack_need};
+use vg_call_need::{Need, bound_of, is_spent, stack_need};
 use vg_core::Program;
 use vg_frame_costs::{Frames, are_paid, method_frames};
 use vg_linear::{Linear, make_linear};
@@ -38,12 +38,14 @@ use vg_shape::Store;
 
 /// The image of a typed program with the heap that its constructors left, of what is live, by its numbers and its columns: it is packed, made linear and
 /// linked. The machine does in it what the program does from that heap, where the program is ready to be packed; or it reaches below the floor of its stack
-/// first, for which the active calls must cost more than the stack. Costs are by the numbers of methods. Where calls do not go round, a stack of so many bytes
-/// as is said is enough for each run, and they are at most four more than what the methods of some way of calls cost; where they do, a cycle of them is said.
+/// first. Where calls do not go round, a stack of so many bytes as is said is enough for each run, so that it does not, and they are at most four more than what
+/// the methods of some way of calls cost. Where they do, a cycle of them is said, and it reaches below the floor only where the active calls cost more than the
+/// stack. Costs are by the numbers of methods.
 ///
-/// It refuses what has no linear code, what has a procedure whose frame is more than its method costs, what needs more than a stack of so many bytes (then calls
-/// do not go round, and what is said to be needed is at most four more than what the methods of some way of calls cost), what has a handler whose procedure
-/// receives something, and what takes more words than the flash has: 65,535, since the last word stays free.
+/// It refuses what has no linear code; where calls do not go round, what needs more than four bytes beyond what each way of calls costs, and else what needs
+/// more than a stack of so many bytes (then what is said to be needed is at most four more than what the methods of some way of calls cost); where they go round,
+/// what has a procedure whose frame is more than its method costs; what has a handler whose procedure receives something; and what takes more words than the
+/// flash has: 65,535, since the last word stays free.
 pub fn compile(
     alloc: Global,
     program: &Program,
@@ -58,7 +60,7 @@ pub fn compile(
     requires ready { IsReady (program_at program.now) heap.now }
     requires chip { NamesChip (program_at program.now) }
     ensures does { IfOk result (λ compiled. IsReady (program_at program.now) heap.now
-        → DoesInImage compiled.linked columns.now 4 costs.now (program_at program.now) heap.now) }
+        → DoesFor compiled.linked columns.now costs.now (program_at program.now) heap.now compiled.bound) }
     ensures bound { IfOk result (λ compiled. IsReady (program_at program.now) heap.now
         → HoldsBound compiled.linked columns.now (program_at program.now) heap.now compiled.bound) }
     ensures calls { IfOk result (λ compiled. IsReady (program_at program.now) heap.now
@@ -140,7 +142,7 @@ fn linear_of(
     }
 }
 
-// The frames of the methods of a linear program, which these costs pay.
+// The frames of the methods of a linear program, for as many as have costs.
 fn frames_of(
     alloc: Global,
     firm: &FirmProgram,
@@ -148,19 +150,13 @@ fn frames_of(
     costs: &[u32],
     stack: u16,
 ) -> Result<Frames, Refusal<NoImage>>
-    ensures frames { IfOk result (AreFramesOf linear.now costs.now) }
+    ensures frames { IfOk result (AreFramesOf linear.now) }
     ensures refused { IsRefusedFor stack result }
     ensures deep { IfErr result (NeedsAsSaid firm.now costs.now) }
 {
     let procedures = linear.procedures.as_slice();
     match method_frames(alloc, procedures, linear.start, costs.len())? {
-        Some(frames) => {
-            if are_paid(frames.beside, 4, frames.by_method.as_slice(), costs) {
-                Ok(frames)
-            } else {
-                Err(Refusal::Fault(NoImage::Costly))
-            }
-        }
+        Some(frames) => Ok(frames),
         None => Err(Refusal::Fault(NoImage::Costly)),
     }
 }
@@ -176,6 +172,7 @@ fn need_of(
     requires procedures { length firm.now.procedures ≤ 65536 }
     requires main { firm.now.main < length firm.now.procedures }
     ensures need { IfOk result (IsNeedWithin frames.now.beside firm.now frames.now.by_method costs.now) }
+    ensures paid { IfOk result (ArePaidFor frames.now costs.now) }
     ensures few { IfOk result (IsFewOf stack) }
     ensures refused { IsRefusedFor stack result }
     ensures deep { IfErr result (NeedsAsSaid firm.now costs.now) }
@@ -194,7 +191,7 @@ fn need_of(
     }
 }
 
-// What they need by these frames, where there is room for them within the costs of methods.
+// What they need by these frames, where the costs of methods pay for that.
 fn need_by(
     alloc: Global,
     firm: &FirmProgram,
@@ -203,15 +200,30 @@ fn need_by(
 ) -> Result<Option<Need>, NoMemory>
     requires procedures { length firm.now.procedures ≤ 65536 }
     requires main { firm.now.main < length firm.now.procedures }
-    ensures { IfOk result (λ need. IfSome need (IsNeedWithin frames.now.beside firm.now frames.now.by_method costs.now)) }
+    ensures within { IfOk result (λ need. IfSome need (IsNeedWithin frames.now.beside firm.now frames.now.by_method costs.now)) }
+    ensures paid { IfOk result (λ need. IfSome need (ArePaidFor frames.now costs.now)) }
 {
-    let by_method = frames.by_method.as_slice();
-    let procedures = firm.procedures.as_slice();
-    if frames.beside >= 4 && have_room(frames.beside, by_method, costs, procedures) {
-        let need = stack_need(alloc, firm, by_method, frames.beside)?;
-        Ok(Some(need))
-    } else {
-        Ok(None)
+    let need = stack_need(alloc, firm, frames.by_method.as_slice(), frames.beside)?;
+    let paid = is_paid(alloc, firm, frames, costs, &need)?;
+    if paid { Ok(Some(need)) } else { Ok(None) }
+}
+
+// Whether the calls of some way cost as much as is needed, but for four bytes; or, where calls go round, the costs pay for each frame.
+fn is_paid(
+    alloc: Global,
+    firm: &FirmProgram,
+    frames: &Frames,
+    costs: &[u32],
+    need: &Need,
+) -> Result<bool, NoMemory>
+    requires procedures { length firm.now.procedures ≤ 65536 }
+    requires main { firm.now.main < length firm.now.procedures }
+    ensures spent { IfOk result (λ paid. IsTrue paid → IsSpentBy firm.now costs.now need.now) }
+    ensures paid { IfOk result (λ paid. IsTrue paid → ArePaidFor frames.now costs.now need.now) }
+{
+    match need {
+        Need::Bytes(bytes) => is_spent(alloc, firm, costs, *bytes),
+        Need::Cycle(_) => Ok(are_paid(frames.beside, 4, frames.by_method.as_slice(), costs)),
     }
 }
 

@@ -13,13 +13,18 @@ ghost use Rattle.vg_core.specs.Typing.{WellTyped};
 ghost use Rattle.vg_sound.specs.Good.{HasTypedHeap};
 ghost use Rattle.vg_renamed.specs.IsNamed.{IsNamed};
 ghost use Rattle.vg_memory.specs.Does.{DoesAsProgram};
+ghost use Rattle.vg_memory.specs.Holds.{HoldsPeaks};
 ghost use Rattle.vg_memory.specs.Whole.{with_whole};
 
 /// A law of images. Where the machine does in a flash what a typed program does from its heap, or reaches below its floor where the calls that are active cost
-/// more than the stack, the flash agrees with the sessions of the text for which the program stands, from the heap with names in place of numbers. The body is
-/// empty: its contract is a law of the definitions.
+/// more than the stack, the flash agrees with the sessions of the text for which the program stands, from the heap with names in place of numbers; so it does by
+/// any costs of methods, and so many bytes beside them, where the stack holds what active calls cost by these. The body is empty: its contract is a law of the
+/// definitions.
 pub fn images_agree()
-    ensures { (n : Naming) (p : Program) (text : Node) → IsNamed n p (source_of text) → WellTyped p → (h : Heap) → HasTypedHeap p.tables h
+    ensures costs { (n : Naming) (p : Program) (text : Node) → IsNamed n p (source_of text) → WellTyped p → (h : Heap) → HasTypedHeap p.tables h
         → (e : Run) (stack : ℕ) → e.floor + stack ≡ 0x1100 → ((whole : List Event) → DoesAsProgram (with_whole e whole) 4 (costs text) p h)
         → Agrees (sessions text (named_heap n p.tables h)) e.flash e.floor stack }
+    ensures held { (n : Naming) (p : Program) (text : Node) → IsNamed n p (source_of text) → WellTyped p → (h : Heap) → HasTypedHeap p.tables h
+        → (e : Run) (stack extra : ℕ) (by_method : List ℕ) → ((whole : List Event) → DoesAsProgram (with_whole e whole) extra by_method p h)
+        → HoldsPeaks e.floor extra by_method p h → Agrees (sessions text (named_heap n p.tables h)) e.flash e.floor stack }
 {}

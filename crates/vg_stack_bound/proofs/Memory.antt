@@ -2,4 +2,4 @@
 pub use Rattle.vg_memory.proofs.Keeping.{keeps}
 pub use Rattle.vg_memory.proofs.Never.{never}
 pub use Rattle.vg_memory.proofs.Peaks.{within_peak}
-pub use Rattle.vg_memory.proofs.SessionsAgree.{agrees}
+pub use Rattle.vg_memory.proofs.SessionsAgree.{agrees, agrees_held}

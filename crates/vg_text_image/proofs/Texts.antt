@@ -29,7 +29,7 @@ use Rattle.vg_costs.proofs.Bounded.{small}
 use Rattle.vg_costs.proofs.Limited.{not_too_many}
 use Rattle.vg_compile.specs.Compile.{CallsNeedAsSaid, Linked}
 use Rattle.vg_compile.specs.declared.no_image.NoImage.{NoImage}
-use Rattle.vg_compile.proofs.Memory.{agrees}
+use Rattle.vg_compile.proofs.Memory.{agrees, agrees_held}
 use Rattle.vg_compile.specs.Memory.{DoesAsProgram}
 use Rattle.vg_compile.specs.Memory.{with_whole}
 use Rattle.vg_compile.specs.Memory.{KeepsMemory}
@@ -39,7 +39,7 @@ use Rattle.vg_compile.specs.Memory.{HoldsPeaks}
 use Rattle.vg_text_image.specs.declared.making.TextImage.{TextImage}
 use Rattle.vg_text_image.specs.declared.unmade.Unmade.{Unmade}
 use Rattle.vg_text_image.specs.declared.unmade.Unmade.TheVariants.{CodeFull, StackFull, NotBuilt}
-use Rattle.vg_compile.specs.Bounds.{HoldsBound}
+use Rattle.vg_compile.specs.Bounds.{DoesFor, HoldsBound}
 use Rattle.vg_layout.specs.Few.{IsFew}
 use Rattle.vg_compile.specs.Runs.{DoesInImage}
 use Rattle.vg_layout.specs.declared.stack_bound.StackBound.{StackBound}
@@ -93,6 +93,10 @@ floor_at n stack h = omega (arith, h)
 
 floor_low : (stack : ℕ) → 0x1100 - stack ≤ 0x1100
 floor_low stack = omega arith
+
+-- a smaller stack above the same floor ends where SRAM does, or before
+floor_above : (n need stack : ℕ) → n + stack ≤ 4096 → need ≤ stack → 0x1100 - stack + need ≤ 0x1100
+floor_above n need stack h k = omega (arith, h, k)
 
 module _ (bytes : List ℕ) (clock : ℕ) (f : Fitted) (is : IsFittedOf bytes clock f) (short : length bytes ≤ text_limit) where
   abbrev s : Start
@@ -178,16 +182,33 @@ module _ (bytes : List ℕ) (clock : ℕ) (f : Fitted) (is : IsFittedOf bytes cl
         → DoesAsProgram (with_whole run whole) extra by p s.heap
     does_by extra by image whole = image (with_whole run whole) m.flash refl (floor_low stack) slept woken
 
-    does : (whole : List Event) → DoesAsProgram (with_whole run whole) 4 (costs text) p s.heap
-    does = does_by 4 (costs text) (m.does s.names (ready bytes clock f is short))
-
-    agreed : Agrees (sessions text (named_start_heap s)) i.flash (0x1100 - stack) stack
-    agreed = agrees names p text named is.alive.start.program.typed s.heap is.alive.start.typed run stack (floor_is n stack fits) does
+    agreed : IsFew stack i.bound → Agrees (sessions text (named_start_heap s)) i.flash (0x1100 - stack) stack
+    agreed =
+        by i.bound (m.does s.names (ready bytes clock f is short)) (m.bound (ready bytes clock f is short))
+      where
+        by : (b : StackBound) → DoesFor linked f.placed.columns (costs text) p s.heap b → HoldsBound linked f.placed.columns p s.heap b → IsFew stack b
+            → Agrees (sessions text (named_start_heap s)) i.flash (0x1100 - stack) stack
+        by (Bytes need) does (extra, (by_method, image, holds)) few =
+            agrees_held names p text named is.alive.start.program.typed s.heap is.alive.start.typed run stack extra by_method
+            (does_by extra by_method image) (holds (0x1100 - stack) (floor_above n need stack fits few))
+        by (Cycle methods) does holds few =
+            agrees names p text named is.alive.start.program.typed s.heap is.alive.start.typed run stack (floor_is n stack fits)
+            (does_by 4 (costs text) does)
 
     kept : KeepsMemory i.flash n (0x1100 - stack) (linked.idle + 1)
     kept =
-        keeps names p text named is.alive.start.program.typed s.heap is.alive.start.typed run 4 (costs text) (linked.idle + 1)
-        (sleeps linked.idle) does
+        by i.bound (m.does s.names (ready bytes clock f is short)) (m.bound (ready bytes clock f is short))
+      where
+        by_costs : (extra : ℕ) (by_method : List ℕ) → DoesInImage linked f.placed.columns extra by_method p s.heap
+            → KeepsMemory i.flash n (0x1100 - stack) (linked.idle + 1)
+        by_costs extra by_method image =
+            keeps names p text named is.alive.start.program.typed s.heap is.alive.start.typed run extra by_method (linked.idle + 1)
+            (sleeps linked.idle) (does_by extra by_method image)
+
+        by : (b : StackBound) → DoesFor linked f.placed.columns (costs text) p s.heap b → HoldsBound linked f.placed.columns p s.heap b
+            → KeepsMemory i.flash n (0x1100 - stack) (linked.idle + 1)
+        by (Bytes need) does (extra, (by_method, image, holds)) = by_costs extra by_method image
+        by (Cycle methods) does holds = by_costs 4 (costs text) does
 
     -- by costs of methods for which a stack of so many bytes holds what active calls cost, and so many bytes beside them
     never_by : (extra : ℕ) (by : List ℕ) → DoesInImage linked f.placed.columns extra by p s.heap → HoldsPeaks (0x1100 - stack) extra by p s.heap
@@ -208,7 +229,7 @@ module _ (bytes : List ℕ) (clock : ℕ) (f : Fitted) (is : IsFittedOf bytes cl
     static_is = subst (λ z. IsStatic text (named_start_heap s) z) (sym m.static_is) needs_static;
     fits = subst (λ z. z ≤ 4096) (sym m.static_is) low;
     are_bytes = m.are_bytes;
-    agrees = λ stack h. agreed i m stack (subst (λ z. z + stack ≤ 4096) m.static_is h);
+    agrees = λ stack h few. agreed i m stack (subst (λ z. z + stack ≤ 4096) m.static_is h) few;
     memory = λ stack h.
         subst (λ z. KeepsMemory i.flash i.static_bytes (0x1100 - stack) (z + 1)) (sym m.idle)
         (subst (λ z. KeepsMemory i.flash z (0x1100 - stack) (m.linked.idle + 1)) (sym m.static_is)
@@ -220,7 +241,7 @@ module _ (bytes : List ℕ) (clock : ℕ) (f : Fitted) (is : IsFittedOf bytes cl
 -- what is linked of what fits is its image
 pub compiled_of : (f : Fitted) (i : TextImage) (linked : Linked) (cs : List ℕ) → ((texts : List (List ℕ)) → cs ≡ costs (tree_at texts f.alive.start.tree))
     → (IsReady (program_at f.alive.start.program) f.alive.start.heap
-    → DoesInImage linked f.placed.columns 4 cs (program_at f.alive.start.program) f.alive.start.heap)
+    → DoesFor linked f.placed.columns cs (program_at f.alive.start.program) f.alive.start.heap i.bound)
     → (IsReady (program_at f.alive.start.program) f.alive.start.heap
     → HoldsBound linked f.placed.columns (program_at f.alive.start.program) f.alive.start.heap i.bound)
     → (IsReady (program_at f.alive.start.program) f.alive.start.heap
@@ -229,7 +250,7 @@ pub compiled_of : (f : Fitted) (i : TextImage) (linked : Linked) (cs : List ℕ)
     → IsCompiledOf f i
 compiled_of f i linked cs are does bound calls flash bytes static idle = record {
   linked = linked;
-  does = λ texts r. subst (λ z. DoesInImage linked f.placed.columns 4 z (program_at f.alive.start.program) f.alive.start.heap) (are texts) (does r);
+  does = λ texts r. subst (λ z. DoesFor linked f.placed.columns z (program_at f.alive.start.program) f.alive.start.heap i.bound) (are texts) (does r);
   bound = bound;
   calls = λ texts r. subst (λ z. BoundsCalls z (program_at f.alive.start.program) f.alive.start.heap i.bound) (are texts) (calls r);
   flash = flash;
@@ -239,6 +260,14 @@ compiled_of f i linked cs are does bound calls flash bytes static idle = record 
 }
 
 -- the bound of the image is that of what is compiled
+pub does_of : (f : Fitted) (linked : Linked) (cs : List ℕ) (made said : StackBound) → said ≡ made
+    → (IsReady (program_at f.alive.start.program) f.alive.start.heap
+    → DoesFor linked f.placed.columns cs (program_at f.alive.start.program) f.alive.start.heap made)
+    → IsReady (program_at f.alive.start.program) f.alive.start.heap
+    → DoesFor linked f.placed.columns cs (program_at f.alive.start.program) f.alive.start.heap said
+does_of f linked cs made said same does r =
+    subst (λ z. DoesFor linked f.placed.columns cs (program_at f.alive.start.program) f.alive.start.heap z) (sym same) (does r)
+
 pub bound_of : (f : Fitted) (linked : Linked) (made said : StackBound) → said ≡ made
     → (IsReady (program_at f.alive.start.program) f.alive.start.heap
     → HoldsBound linked f.placed.columns (program_at f.alive.start.program) f.alive.start.heap made)

@@ -22,8 +22,8 @@ use Rattle.vg_compile.specs.Compile.{Linked}
 use Rattle.vg_compile.specs.declared.no_image.NoImage.{NoImage}
 use Rattle.vg_compile.specs.declared.no_image.NoImage.TheVariants.{Deep}
 use Rattle.vg_costs.specs.Small.{AreSmall}
-use Rattle.vg_compile.specs.Bounds.{HoldsBound}
-use Rattle.vg_compile.specs.Runs.{DoesInImage}
+use Rattle.vg_compile.specs.Bounds.{DoesFor, HoldsBound}
+use Rattle.vg_layout.specs.Few.{IsFew}
 use Rattle.vg_layout.specs.declared.stack_bound.StackBound.{StackBound}
 use Rattle.vg_layout.specs.declared.stack_bound.StackBound.TheVariants.{Bytes, Cycle}
 pub use Rattle.vg_compile.specs.Memory.{KeepsMemory}
@@ -38,7 +38,8 @@ BoundsCallsOf tree heap (Bytes need) = HasNoCycle tree heap × ((bytes : ℕ) ×
 BoundsCallsOf tree heap (Cycle methods) =
     IsCallCycle tree heap (map (method_numbered tree) methods) × AllByRecursion (λ k. k < length (methods_of tree)) methods
 
--- The image does what the bytes say, where initialisation has this clock, with every stack for which there is room above the static area.
+-- The image does what the bytes say, where initialisation has this clock, with every stack for which there is room above the static area, and which is no smaller
+-- than the bound where the stack is bounded.
 pub record DoesText (bytes : List ℕ) (clock : ℕ) (i : TextImage) : Type 0 where
   -- the bytes are a text of the language with this tree, which keeps all rules and is initialised to this heap; its live methods make nothing, and it fits
   pub tree : Node
@@ -50,8 +51,8 @@ pub record DoesText (bytes : List ℕ) (clock : ℕ) (i : TextImage) : Type 0 wh
   pub are_bytes : AllByRecursion (λ b. b < 256) i.flash
   -- on this flash the machine does what the text does from its heap, with its stack at or above the floor; or the active calls cost more than the stack, and
   -- it reaches below the floor first
-  pub agrees : (stack : ℕ) → i.static_bytes + stack ≤ 4096 → Agrees (sessions tree heap) i.flash (0x1100 - stack) stack
-  -- with each such stack it writes to SRAM in the static area and on the stack alone, and lets interrupts in only at its idle SLEEP and at the CLI behind it
+  pub agrees : (stack : ℕ) → i.static_bytes + stack ≤ 4096 → IsFew stack i.bound → Agrees (sessions tree heap) i.flash (0x1100 - stack) stack
+  -- with each stack for which there is room it writes to SRAM in the static area and on the stack alone, and lets interrupts in only at its idle SLEEP and at the CLI behind it
   pub memory : (stack : ℕ) → i.static_bytes + stack ≤ 4096 → KeepsMemory i.flash i.static_bytes (0x1100 - stack) (i.idle + 1)
   -- where its stack is bounded, no run brings a stack of so many bytes below the floor
   pub never : (bytes : ℕ) → i.bound ≡ Bytes bytes → i.static_bytes + bytes ≤ 4096 → NeverReaches i.flash (0x1100 - bytes)
@@ -65,11 +66,12 @@ pub record CanCompile (f : Fitted) : Type 0 where
   pub chip : NamesChip (program_at f.alive.start.program)
   pub costs : AreSmall (costs (tree_at [] f.alive.start.tree))
 
--- The image of what fits: the program, which is ready to be packed, does in its flash what it does from its heap, by the costs of its methods.
+-- The image of what fits: the program, which is ready to be packed, does in its flash what it does from its heap, by the costs of its methods where calls go
+-- round, and else by frames.
 pub record IsCompiledOf (f : Fitted) (i : TextImage) : Type 0 where
   pub linked : Linked
   pub does : (texts : List (List ℕ)) → IsReady (program_at f.alive.start.program) f.alive.start.heap
-      → DoesInImage linked f.placed.columns 4 (costs (tree_at texts f.alive.start.tree)) (program_at f.alive.start.program) f.alive.start.heap
+      → DoesFor linked f.placed.columns (costs (tree_at texts f.alive.start.tree)) (program_at f.alive.start.program) f.alive.start.heap i.bound
   pub bound : IsReady (program_at f.alive.start.program) f.alive.start.heap
       → HoldsBound linked f.placed.columns (program_at f.alive.start.program) f.alive.start.heap i.bound
   pub calls : (texts : List (List ℕ)) → IsReady (program_at f.alive.start.program) f.alive.start.heap

@@ -21,8 +21,8 @@ pub fn needs_are_of_texts()
 {}
 
 /// A law of the images of texts: the machine does in the image of what fits of a text what the text does from its initialised components, for all contents of
-/// registers and SRAM at power-on, all reads, interrupts and clocks, with every stack for which there is room above the static area; or the active calls cost
-/// more than the stack, and it reaches below the floor first. The body is empty: its contract is a law of the definitions.
+/// registers and SRAM at power-on, all reads, interrupts and clocks, with every stack for which there is room above the static area, and which is no smaller than
+/// the bound where the stack is bounded; or the active calls cost more than the stack, and it reaches below the floor first. The body is empty: its contract is a law of the definitions.
 pub fn images_do_as_texts()
     ensures { (bytes : List ℕ) (clock : ℕ) (f : Fitted) → IsFittedOf bytes clock f → length bytes ≤ text_limit → (i : TextImage) → IsCompiledOf f i
         → DoesText bytes clock i }

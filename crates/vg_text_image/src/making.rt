@@ -32,7 +32,8 @@ pub struct TextImage {
 /// The image of a text that starts, whose live methods make nothing and which fits, with a stack of so many bytes.
 ///
 /// The machine does in it what the text does from its initialised components, for all device reads and interrupts and with every stack for which there is room
-/// above the static area; only where the calls that are active cost more than the stack may it reach below the floor first. It refuses what `compile` refuses;
+/// above the static area, and which is no smaller than the bound where there is one; only where calls go round, and those that are active cost more than the
+/// stack, may it reach below the floor first. It refuses what `compile` refuses;
 /// where that is for the stack, calls do not go round, and what they are said to need is at most four more than what the methods of some way of calls cost.
 pub fn image_of(alloc: Global, fitted: &Fitted, stack: u16) -> Result<TextImage, Refusal<Unmade>>
     requires { CanCompile fitted.now }

@@ -16,6 +16,7 @@ returns-in-Ok-linked_of-clause-image c = record {
   is_linked = c.in-Ok-linked_of.ensures.linked.1;
   need = c.in-Ok-need_of.need;
   is_need = c.in-Ok-need_of.ensures.need;
+  are_paid = c.in-Ok-need_of.ensures.paid;
   is_bound = c.in_ok-bound.ensures.bound;
 }
 

@@ -1,11 +1,12 @@
 use Rattle.std.proofs.Common.{◌∙◌}
-use Rattle.vg_text_image.proofs.Texts.{bound_of, called_of, calls_of, compiled_of, few_of}
+use Rattle.vg_text_image.proofs.Texts.{bound_of, called_of, calls_of, compiled_of, does_of, few_of}
 use Rattle.vg_text_image.proofs.making.compiled.Goals as goal
 
 pub returns-in-Ok-clause-image : goal.returns-in-Ok-clause-image
 returns-in-Ok-clause-image c =
     compiled_of c.args.fitted.now _ c.in-Ok.made.linked c.as_slice.result.now (λ texts. c.as_slice.ensures ∙ c.in_ok-costs.ensures.costs texts)
-    c.in-Ok.ensures.does (bound_of c.args.fitted.now c.in-Ok.made.linked c.in-Ok.made.bound _ c.laid.ensures.bound c.in-Ok.ensures.bound)
+    (does_of c.args.fitted.now c.in-Ok.made.linked c.as_slice.result.now c.in-Ok.made.bound _ c.laid.ensures.bound c.in-Ok.ensures.does)
+    (bound_of c.args.fitted.now c.in-Ok.made.linked c.in-Ok.made.bound _ c.laid.ensures.bound c.in-Ok.ensures.bound)
     (calls_of c.args.fitted.now c.as_slice.result.now c.in-Ok.made.bound _ c.laid.ensures.bound c.in-Ok.ensures.calls)
     c.laid.ensures.flash c.laid.ensures.bytes c.laid.ensures.static_is c.laid.ensures.idle
 
