@@ -1,5 +1,5 @@
 -- The flash of a text, with its layout and its texts, is built of it.
-use Rattle.std.proofs.Common.{◌≡◌, ℕ, zero, suc, ◌+◌, ◌-◌, ◌<◌, ◌≤◌, ◌⊎◌, inl, inr, List, length, map, Option, Some, None, Ok, refl, sym, ap, ◌∙◌, subst, arith}
+use Rattle.std.proofs.Common.{◌≡◌, ℕ, zero, suc, ◌+◌, ◌-◌, ◌<◌, ◌≤◌, inl, inr, List, length, map, Option, Some, None, Ok, refl, sym, ap, ◌∙◌, subst, arith}
 use Rattle.vg_base.specs.Limits.{text_limit}
 use Rattle.vg_syntax.specs.Tree.{Node}
 use Rattle.vg_source.specs.Values.{Heap}

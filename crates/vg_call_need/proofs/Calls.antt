@@ -1,6 +1,5 @@
 -- What the calls of a packed program need by frames bounds the calls of its typed program by costs.
-use Rattle.std.proofs.Common.{◌≡◌, refl, sym, ap, ◌∙◌, subst, arith, ℕ, zero, suc, ◌+◌, ◌-◌, ◌<◌, ◌≤◌, List, [], ◌∷◌, ◌++◌, Option, Some, None, slice_get}
-use Rattle.std.proofs.lemmas.Option.{none-some}
+use Rattle.std.proofs.Common.{◌≡◌, sym, subst, arith, ℕ, ◌+◌, ◌-◌, ◌≤◌, List}
 use Rattle.vg_source.specs.Peak.{cost_of}
 use Rattle.vg_core.specs.declared.heap.Heap.{Heap}
 use Rattle.vg_core.specs.Program.{Program}
@@ -9,7 +8,6 @@ use Rattle.vg_layout.specs.declared.stack_bound.StackBound.TheVariants.{Bytes, C
 use Rattle.vg_live.specs.declared.live_set.LiveSet.{LiveSet}
 use Rattle.vg_number.specs.declared.numbers.Numbers.{Numbers}
 use Rattle.vg_place.specs.declared.placing.Columns.{Columns}
-use Rattle.vg_firm.specs.declared.procedure.Procedure.{Procedure}
 use Rattle.vg_packed.specs.declared.program.FirmProgram.{FirmProgram}
 use Rattle.vg_packed.specs.Given.{IsGiven}
 use Rattle.vg_packed.specs.Packed.{IsPackedFrom}
@@ -17,9 +15,9 @@ use Rattle.vg_packed.specs.Ready.{IsReady}
 use Rattle.vg_packed.specs.Uses.{Calls}
 use Rattle.vg_calls_source.specs.Graphs as graph
 use Rattle.vg_calls_source.specs.Graphs.{sum_of}
-use Rattle.vg_calls_packed.specs.Ways.{IsSpent, cost_at, cost_in, way_cost}
+use Rattle.vg_calls_packed.specs.Ways.{IsSpent}
 use Rattle.vg_calls_packed.specs.Typed.{IsCallCycle, IsEntry}
-use Rattle.vg_calls_packed.proofs.Typed.{cycle_typed, entry_there, has_none, spent_typed}
+use Rattle.vg_calls_packed.proofs.Typed.{cycle_typed, has_none, spent_typed}
 use Rattle.vg_call_need.specs.Bounds.{BoundsCalls, IsBoundOf}
 use Rattle.vg_call_need.specs.declared.need.Need.{Need}
 use Rattle.vg_call_need.specs.declared.need.Need.TheVariants as need

@@ -1,6 +1,6 @@
 -- What is needed within the cost of the dearest way.
 use Rattle.std.specs.Prelude.{ℕ, ◌≤◌, List}
-use Rattle.std.proofs.Common.{◌≡◌, subst}
+use Rattle.std.proofs.Common.{subst}
 use Rattle.vg_packed.specs.declared.program.FirmProgram.{FirmProgram}
 use Rattle.vg_call_need.specs.Need.{IsNeed}
 use Rattle.vg_call_need.specs.Within.{IsSpentWithin}

@@ -29,7 +29,7 @@ use Rattle.vg_status.specs.declared.status.Status.TheVariants.{ReadFault, Refuse
 use Rattle.vg_commands.specs.Texts.{ForTexts}
 use Rattle.vg_commands.specs.Commands.{IsAnswerOfRun}
 use Rattle.vg_commands.specs.Leaves.{Change, Fails, GainsAll, GainsFront, IsBehindFiles, IsLongRun, IsSame, PlayBy}
-use Rattle.vg_commands.specs.Endings.{status_of_end, status_of_played, status_without_file}
+use Rattle.vg_commands.specs.Endings.{status_of_end, status_of_played}
 use Rattle.vg_status.specs.Statuses.{IsBeforeLines, IsSettled, IsShown}
 use Rattle.vg_commands.proofs.Files.{of_files, of_first, of_texts}
 use Rattle.vg_commands.proofs.Sims.{missing_completes, one_lists}

@@ -1,5 +1,5 @@
 -- What the answers of the top call tell of the answer of a command.
-use Rattle.std.specs.Prelude.{ℕ, Option, Some, None}
+use Rattle.std.specs.Prelude.{Option, Some, None}
 use Rattle.vg_base.specs.declared.refusal.Refusal.{Refusal}
 use Rattle.vg_base.specs.declared.refusal.Refusal.TheVariants as refusal
 use Rattle.avr_isa.specs.declared.ending.MachineEnd.{MachineEnd}
@@ -15,7 +15,7 @@ use Rattle.vg_run.specs.declared.playing.Played.TheVariants as played
 use Rattle.vg_sim.specs.declared.simulate.Simulated.{Simulated}
 use Rattle.vg_sim.specs.declared.simulate.Simulated.TheVariants as simulated
 use Rattle.vg_status.specs.declared.status.Status.{Status}
-use Rattle.vg_status.specs.declared.status.Status.TheVariants.{Done, Refused, Usage, ReadFault, WriteFault, NoMemory, TooLong}
+use Rattle.vg_status.specs.declared.status.Status.TheVariants.{Done, Refused, ReadFault, WriteFault, NoMemory, TooLong}
 use Rattle.vg_status.specs.declared.status.Status.TheVariants.{Stopped, Wants, Budget, Depth, HexRefused, ScriptRefused, BadInstruction}
 
 -- the answer that tells why a file is missing

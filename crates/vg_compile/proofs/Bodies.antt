@@ -69,7 +69,7 @@ forgets_apt zero = tt
 forgets_apt (suc count) = (tt, forgets_apt count)
 
 value_apt : (count : ℕ) → CodeApt (call_value count)
-value_apt count = by (nat_lt count 256)
+value_apt count = by (nat_lt count 61)
   where
     by : (b : Bool) → CodeApt (if b then Do (firm.CallValue count) else forgets count (Do firm.LoadNothing))
     by true = tt

@@ -1,5 +1,5 @@
 -- What calls need by frames within which all procedures are.
-use Rattle.std.specs.Prelude.{ℕ, ◌+◌, ◌≤◌, List, min}
+use Rattle.std.specs.Prelude.{ℕ, ◌≤◌, List, min}
 use Rattle.std.proofs.Common.{◌≡◌, subst, arith}
 use Rattle.vg_packed.specs.declared.program.FirmProgram.{FirmProgram}
 use Rattle.vg_call_need.specs.Need.{IsNeed}

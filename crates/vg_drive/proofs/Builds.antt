@@ -11,7 +11,6 @@ use Rattle.vg_io.specs.Piece.{AppendsAll, AppendsFront}
 use Rattle.vg_io.specs.declared.file.File.{File}
 use Rattle.vg_fetch.specs.Told.{ForFile}
 use Rattle.vg_fetch.specs.declared.fetch.NoFile.{NoFile}
-use Rattle.vg_fetch.specs.declared.fetch.NoFile.TheVariants as missing
 use Rattle.vg_first_text.specs.declared.device_write.DeviceWrite.{DeviceWrite}
 use Rattle.vg_first_text.specs.FirstText.{IsFirst}
 use Rattle.vg_hex.specs.HexText.{hex_text}

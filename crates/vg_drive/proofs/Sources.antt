@@ -1,5 +1,5 @@
 -- Exactly which source texts are refused, by each command that reads one.
-use Rattle.std.proofs.Common.{◌≡◌, ℕ, ◌↔◌, List, Option, Some, None}
+use Rattle.std.proofs.Common.{◌≡◌, ℕ, ◌↔◌, List, Option}
 use Rattle.vg_base.specs.declared.place.Place.{Place}
 use Rattle.vg_io.specs.declared.file.File.{File}
 use Rattle.vg_words.specs.Commands.{Command}

@@ -1,6 +1,6 @@
 -- A program of constants makes nothing, has one live method and no other live member, and needs no bytes.
 use Rattle.std.specs.Prelude.{ℕ, ◌+◌, ◌&&◌, Bool, true, false, List, [], ◌∷◌, Some, None, if◌then◌else◌, bytes_eq}
-use Rattle.std.proofs.Common.{◌≡◌, inl, arith, zero, suc, refl, sym, ap, ◌∙◌, subst, slice_get, codes}
+use Rattle.std.proofs.Common.{◌≡◌, inl, arith, zero, suc, refl, sym, ap, ◌∙◌, subst, slice_get}
 use Rattle.std.proofs.lemmas.Slice.Eq.{bytes_eq-Decides}
 use Rattle.vg_syntax.specs.Tree.{Spot, Node}
 use Rattle.vg_syntax.specs.Tree as tree

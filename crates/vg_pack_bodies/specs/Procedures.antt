@@ -39,6 +39,6 @@ abbrev pub packed_methods : Tables → Numbers → Plan → (m : ℕ) → List M
 packed_methods p n x m (y ∷ ys) (b ∷ bs) = packed_if p n x m y b ++ packed_methods p n x (suc m) ys bs
 packed_methods p n x m _ _ = []
 
--- No method has more than 255 parameters.
+-- No method has more than 60 parameters.
 abbrev pub HaveFewParameters : List Method → Type 0
-HaveFewParameters ys = (m : ℕ) (y : Method) → slice_get ys m ≡ Some y → length y.params < 256
+HaveFewParameters ys = (m : ℕ) (y : Method) → slice_get ys m ≡ Some y → length y.params < 61

@@ -18,7 +18,7 @@ use vg_pairs::without_pairs;
 
 /// The procedures of the methods that have one by the plan, in order of the text.
 ///
-/// A method has at most 255 parameters, and fewer than 4,294,967,296 pairs of a class and a selector are asked for.
+/// A method has at most 60 parameters, and fewer than 4,294,967,296 pairs of a class and a selector are asked for.
 pub fn procedures(
     alloc: Global,
     program: &Program,
@@ -57,7 +57,7 @@ fn push_method(
     number: u16,
     method: &Method,
 ) -> Result<(), NoMemory>
-    requires params { length method.now.params < 256 }
+    requires params { length method.now.params < 61 }
     requires asked { length plan.now.asked < 4294967296 }
     ensures { OnOk result (map procedure_of rows.new.items ≡ map procedure_of rows.old.items
         ++ packed_at program.now.tables numbers.now plan.now number method.now (slice_get (map body_at program.now.methods) number)) }
@@ -96,7 +96,7 @@ fn push_if_live(
     method: &Method,
     body: &Body,
 ) -> Result<(), NoMemory>
-    requires params { length method.now.params < 256 }
+    requires params { length method.now.params < 61 }
     requires asked { length plan.now.asked < 4294967296 }
     ensures { OnOk result (map procedure_of rows.new.items ≡ map procedure_of rows.old.items
         ++ packed_if tables.now numbers.now plan.now number method.now (body_at body.now)) }
@@ -131,7 +131,7 @@ fn procedure(
     method: &Method,
     body: &Body,
 ) -> Result<Procedure, NoMemory>
-    requires params { length method.now.params < 256 }
+    requires params { length method.now.params < 61 }
     requires asked { length plan.now.asked < 4294967296 }
     ensures { IfOk result (λ r. procedure_of r ≡ packed_here tables.now numbers.now plan.now number method.now (body_at body.now)) }
 {

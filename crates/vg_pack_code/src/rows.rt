@@ -38,13 +38,13 @@ pub fn single(alloc: Global, step: Option<Step>) -> Code
     }
 }
 
-/// A call of the delegate below so many arguments. No method has more than 255 parameters, so with more arguments null alone can be called:
+/// A call of the delegate below so many arguments. No method of a text has more than 60 parameters, so with more arguments null alone can be called:
 /// they are dropped, and the null check stays.
 pub fn call_value(alloc: Global, count: u16) -> Result<Code, NoMemory>
     ensures code { IfOk result (λ c. firm.code_of c ≡ pass.call_value count) }
     ensures arm { IfOk result (λ c. is_arm c ≡ false) }
 {
-    if count < 256 {
+    if count < 61 {
         Ok(single(alloc, Some(Step::CallValue(count as u8))))
     } else {
         null_call(alloc, count)

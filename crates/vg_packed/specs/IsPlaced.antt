@@ -33,8 +33,8 @@ pub record IsPlaced (p : Program) (l : Layout) (k : Codes) (f : FirmProgram) : T
   pub tables : (j t n : ℕ) → IsArray l j t n → IsTabled l f j t n
   -- a code number stands for its procedure, has two bytes and is not 0
   pub codes : (m q : ℕ) → l.numbering.procedure m ≡ Some q → (k.at_code (k.code q) ≡ Some q) × (0 < k.code q) × (k.code q < 65536)
-  -- a method with a procedure has at most 255 parameters
-  pub few_parameters : (m q : ℕ) (y : Method) → l.numbering.procedure m ≡ Some q → slice_get p.tables.methods m ≡ Some y → length y.params < 256
+  -- a method with a procedure has at most 60 parameters
+  pub few_parameters : (m q : ℕ) (y : Method) → l.numbering.procedure m ≡ Some q → slice_get p.tables.methods m ≡ Some y → length y.params < 61
   -- each procedure is what its method is packed to, and entries have those of their methods
   pub procedures : (m q : ℕ) (g : Signature) (b : Body) → l.numbering.procedure m ≡ Some q → signature_of p.tables (Run m) ≡ Some g
       → slice_get p.methods m ≡ Some b → slice_get f.procedures q ≡ Some (packed p.tables l k m g b)

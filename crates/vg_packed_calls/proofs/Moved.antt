@@ -59,8 +59,8 @@ forgets_calls : (count : ℕ) → called (forgets count (Do firm.LoadNothing)) �
 forgets_calls zero = refl
 forgets_calls (suc count) = forgets_calls count
 
-value_calls : (count : ℕ) → called (call_value count) ≡ (if nat_lt count 256 then Delegated ∷ [] else [])
-value_calls count = by (nat_lt count 256)
+value_calls : (count : ℕ) → called (call_value count) ≡ (if nat_lt count 61 then Delegated ∷ [] else [])
+value_calls count = by (nat_lt count 61)
   where
     by : (b : Bool) → called (if b then Do (firm.CallValue count) else forgets count (Do firm.LoadNothing)) ≡ (if b then Delegated ∷ [] else [])
     by true = refl

@@ -30,9 +30,9 @@ packed_calls (firm.CallValue count) = Delegated ∷ []
 packed_calls _ = []
 
 -- What the call of a typed step becomes: a component's method is called by its procedure's number, an object's by the dispatch of the
--- static class and the selector. A delegate with more than 255 arguments is null, so there is no call.
+-- static class and the selector. A delegate with more than 60 arguments is null, so there is no call.
 abbrev pub typed_calls : Layout → Step → List Called
 typed_calls l (CallMethod at c s count) = Dispatched (l.dispatch c s) ∷ []
-typed_calls l (CallValue at count t) = if nat_lt count 256 then Delegated ∷ [] else []
+typed_calls l (CallValue at count t) = if nat_lt count 61 then Delegated ∷ [] else []
 typed_calls l (CallComponent m count) = Numbered (known (l.numbering.procedure m)) ∷ []
 typed_calls l _ = []

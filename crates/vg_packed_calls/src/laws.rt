@@ -8,7 +8,7 @@ ghost use Rattle.vg_packing.specs.Pass.{packed};
 ghost use Rattle.vg_packed_calls.specs.Calls.{calls_of, packed_calls, typed_calls};
 
 /// The calls of a procedure are what the pass makes of the calls of its typed body: each stands there once, in their order, and there is no
-/// other; but a call of a delegate with more than 255 arguments, which null alone can be called with, is none. The body is empty: its
+/// other; but a call of a delegate with more than 60 arguments, which null alone can be called with, is none. The body is empty: its
 /// contract is a law of the definitions.
 pub fn packing_keeps_calls()
     ensures { (p : Tables) (l : Layout) (k : Codes) (m : ℕ) (g : Signature) (b : Body)

@@ -49,7 +49,7 @@ forgets_size zero c = refl
 forgets_size (suc count) c = let e = forgets_size count c in omega (arith, e)
 
 call_size : (count : ℕ) → code_size (call_value count) ≤ 1
-call_size count = by (nat_lt count 256)
+call_size count = by (nat_lt count 61)
   where
     by : (b : Bool) → code_size (if b then Do (firm.CallValue count) else forgets count (Do firm.LoadNothing)) ≤ 1
     by true = omega arith

@@ -1,5 +1,5 @@
 -- That what stands for a step takes and leaves what the step does, and names what is there.
-use Rattle.std.specs.Prelude.{ℕ, ◌+◌, ◌<◌, ◌≤◌, Bool, true, false, nat_lt, if◌then◌else◌, List, [], length, Option, Some, None, slice_get, get_or}
+use Rattle.std.specs.Prelude.{ℕ, zero, suc, ◌+◌, ◌<◌, ◌≤◌, Bool, true, false, nat_lt, if◌then◌else◌, List, [], length, Option, Some, None, slice_get, get_or}
 use Rattle.std.proofs.Common.{◌≡◌, ◌⊎◌, inl, inr, refl, sym, ap, ◌∙◌, subst, arith}
 use Rattle.std.proofs.lemmas.List.{length-map}
 use Rattle.std.proofs.lemmas.Option.{slice_get_cases}
@@ -121,17 +121,27 @@ module _ (p : Tables) (l : Layout) (k : Codes) (f : FirmProgram) (lay : Placed) 
           (suits.fields f' c e ram) h
       by_column None e ram = one_step below x y (SetField at f') firm.StoreNothing refl refl (λ n a. tt) tt h
 
-  few : (n : ℕ) → n < 256 → nat_lt n 256 ≡ true
-  few n h = grind (arith, h)
+  -- the arguments of null are dropped one by one
+  forgets_typed : (looped : Bool) (below count rest x : ℕ) → x ≡ count + suc rest → below + x + 2 ≤ 191
+      → Typed knows looped below (forgets count (Do firm.LoadNothing)) x (suc rest)
+  forgets_typed looped below zero rest x e room = record { rest = rest; before = e; behind = refl; room = room; alone = tt; names = tt }
+  forgets_typed looped below (suc n) rest x e room = (
+    n + suc rest,
+    record { rest = n + suc rest; before = e; behind = refl; room = room; alone = tt; names = tt },
+    forgets_typed looped below n rest (n + suc rest) refl (omega (arith, e, room)),
+  )
 
-  -- as few values wait, a byte counts the arguments
+  one_more : (count rest x : ℕ) → x ≡ suc count + rest → x ≡ count + suc rest
+  one_more count rest x e = omega (arith, e)
+
   call_typed : (looped : Bool) (below x y at count t : ℕ) → Counts 191 below (CallValue at count t) x y → Typed knows looped below (call_value count) x y
-  call_typed looped below x y at count t c =
-      let e = c.before in
-      let room = c.room in
-      subst (λ b. Typed knows looped below (if b then Do (firm.CallValue count) else forgets count (Do firm.LoadNothing)) x y)
-      (sym (few count (omega (arith, e, room))))
-      (one_step below x y (CallValue at count t) (firm.CallValue count) refl refl (λ n z. tt) tt c)
+  call_typed looped below x y at count t c = by (nat_lt count 61)
+    where
+      by : (b : Bool) → Typed knows looped below (if b then Do (firm.CallValue count) else forgets count (Do firm.LoadNothing)) x y
+      by true = one_step below x y (CallValue at count t) (firm.CallValue count) refl refl (λ n z. tt) tt c
+      by false =
+          subst (λ z. Typed knows looped below (forgets count (Do firm.LoadNothing)) x z) (sym c.behind)
+          (forgets_typed looped below count c.rest x (one_more count c.rest x c.before) c.room)
 
   step_typed : (looped : Bool) (calls : List ℕ) (o : Owner) (below x y : ℕ) (xs ys : List CoreType) (s : Step) → Takes p ts o s xs ys → Allowed p l f calls s
       → Counts 191 below s x y → Typed knows looped below (move p l k s) x y

@@ -753,14 +753,14 @@ module _ {K : Type 0} (p : Program) (formed : WellFormed p.tables) (l : Layout) 
 
     -- no method that a delegate is of has so many parameters
     none_bound : (at t ps rt : ℕ) (params us : List CoreType) → IsRow p.tables params ps → Subs p.tables us (onto params [])
-        → nat_lt (length us) 256 ≡ false → (receiver : Option ℕ) (n : ℕ) → IsDelegate p.tables l.kinds receiver n ps rt
+        → nat_lt (length us) 61 ≡ false → (receiver : Option ℕ) (n : ℕ) → IsDelegate p.tables l.kinds receiver n ps rt
         → IsKept l.numbering (Bound receiver n) → ⊥
     none_bound at t ps rt params us row subs e receiver n (y, ey, ef, h) ((q, eq, bi), kept) =
         let few = laid.few_parameters n q y eq ey in
         let same : length y.params ≡ length params = ap length (params_are p.tables y ps rt params (formed.functions n y ey) ef row) in
         let many : length us ≡ length params = subs_length p.tables us (onto params []) subs ∙ (onto_length params [] ∙ nothing_more (length params)) in
-        let lt : length us < 256 = omega (arith, few, same, many) in
-        clash (sym (below (length us) 256 lt) ∙ e)
+        let lt : length us < 61 = omega (arith, few, same, many) in
+        clash (sym (below (length us) 61 lt) ∙ e)
       where
         nothing_more : (n : ℕ) → n + length {0} {A = CoreType} [] ≡ n
         nothing_more n = omega arith
@@ -769,7 +769,7 @@ module _ {K : Type 0} (p : Program) (formed : WellFormed p.tables) (l : Layout) 
         clash z = absurd (let q : true ≡ false = z in cc)
 
     step_call_null : (x : List CoreType) (at t ps rt : ℕ) (params us : List CoreType) → IsRow p.tables params ps → Subs p.tables us (onto params [])
-        → nat_lt (length us) 256 ≡ false
+        → nat_lt (length us) 61 ≡ false
         → StandsFor' (us ++ FunctionType ps rt ∷ x) (CallValue at (length us) t) (forgets (length us) (Do steps.LoadNothing))
     step_call_null x at t ps rt params us row subs many _ _ w i
         (packs {vs = vs} {ls = ls} {self = self} {h = heap} {number = number} {cols = cols} y z ks rec q) j =
@@ -805,11 +805,11 @@ module _ {K : Type 0} (p : Program) (formed : WellFormed p.tables) (l : Layout) 
         by None e = wrong
         by (Some v) e = found v e (kept_get l vs (length us) v y e) (typed_below us (FunctionType ps rt) x before v j e)
 
-    -- a call with as many arguments as a byte counts, or with more
+    -- a call with as many arguments as a method may have, or with more
     step_call : (x : List CoreType) (at t ps rt : ℕ) (params us : List CoreType) → IsRow p.tables params ps → Subs p.tables us (onto params [])
         → ((n q : ℕ) (y : Method) → l.numbering.procedure n ≡ Some q → l.numbering.bindable n ≡ true → slice_get p.tables.methods n ≡ Some y
         → y.function ≡ t → is_among cs q ≡ true)
-        → (b : Bool) → nat_lt (length us) 256 ≡ b
+        → (b : Bool) → nat_lt (length us) 61 ≡ b
         → StandsFor' (us ++ FunctionType ps rt ∷ x) (CallValue at (length us) t)
         (if b then Do (steps.CallValue (length us)) else forgets (length us) (Do steps.LoadNothing))
     step_call x at t ps rt params us row subs among true e = step_call_value x at t ps rt params us row subs among
@@ -858,7 +858,7 @@ module _ {K : Type 0} (p : Program) (formed : WellFormed p.tables) (l : Layout) 
     same_step _ x _ (t_method_of {at = at} {d = d} {s = s} n y em ey ef) a = step_method_of x at d s a
     same_step _ _ _ (t_call_method {at = at} {d = d} {s = s} {x = x} n y us em ey subs) a = step_call_method x at d s n y us em ey subs a
     same_step _ _ _ (t_call_value {at = at} {f = t} {ps = ps} {r = rt} {x = x} params us ef row et subs) a =
-        step_call x at t ps rt params us row subs a (nat_lt (length us) 256) refl
+        step_call x at t ps rt params us row subs a (nat_lt (length us) 61) refl
     same_step _ _ _ (t_call_component {m = n} {k = c} {x = x} y us ey eo subs) a = step_call_component x n c y us ey eo subs a
     same_step _ _ _ (t_new_object c us ek subs) a = absurd a
     same_step _ _ _ (t_new_array e) a = absurd a

@@ -70,6 +70,6 @@ pub record Laid (p : Program) (l : Layout) (k : Codes) (f : FirmProgram) : Type 
       → body_of p (Run m) ≡ Some b → IsPacked p.tables l k f m q g b
   pub procedures : (m q : ℕ) → l.numbering.procedure m ≡ Some q → q < length f.procedures
   pub receivers : (m : ℕ) → l.numbering.bindable m ≡ true → l.receives m ≡ true
-  pub few_parameters : (m q : ℕ) (y : Method) → l.numbering.procedure m ≡ Some q → slice_get p.tables.methods m ≡ Some y → length y.params < 256
+  pub few_parameters : (m q : ℕ) (y : Method) → l.numbering.procedure m ≡ Some q → slice_get p.tables.methods m ≡ Some y → length y.params < 61
   pub main : l.numbering.procedure p.main ≡ Some f.main
   pub handlers : (v : ℕ) → SameEntry l (handler_of p.handlers v) (f.handler v)

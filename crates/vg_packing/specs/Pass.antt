@@ -65,10 +65,10 @@ abbrev pub forgets : ℕ → Code FirmStep → Code FirmStep
 forgets zero c = c
 forgets (suc n) c = Then (Do firm.Forget) (forgets n c)
 
--- A call of the delegate below so many arguments. No method has more than 255 parameters, so null alone can be called with more arguments:
+-- A call of the delegate below so many arguments. No method of a text has more than 60 parameters, so null alone can be called with more arguments:
 -- they are dropped, and the null check stays.
 abbrev pub call_value : (count : ℕ) → Code FirmStep
-call_value count = if nat_lt count 256 then Do (firm.CallValue count) else forgets count (Do firm.LoadNothing)
+call_value count = if nat_lt count 61 then Do (firm.CallValue count) else forgets count (Do firm.LoadNothing)
 
 -- What stands for a step. Nothing is made in a run.
 abbrev pub move : Tables → Layout → Codes → Step → Code FirmStep

@@ -71,7 +71,7 @@ forgets_awake zero c h = h
 forgets_awake (suc n) c h = (tt, tt, forgets_awake n c h)
 
 call_value_awake : (count : ℕ) → IsAwakeCode (call_value count)
-call_value_awake count = by_few (nat_lt count 256)
+call_value_awake count = by_few (nat_lt count 61)
   where
     by_few : (b : Bool) → IsAwakeCode (if b then Do (firm.CallValue count) else forgets count (Do firm.LoadNothing))
     by_few true = tt

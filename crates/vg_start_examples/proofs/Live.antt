@@ -243,8 +243,8 @@ procedures zero q g b e eg eb =
     (subst (λ z. slice_get firm.procedures 0 ≡ Some (packed program.tables layout codes 0 main_signature z)) (the_same _ _ eb) refl))
 procedures (suc m) q g b e eg eb = none_some q e
 
-few_parameters : (m q : ℕ) (y : TheMethod) → procedure_of m ≡ Some q → slice_get program.tables.methods m ≡ Some y → length y.params < 256
-few_parameters zero q y e ey = subst (λ z. length z.params < 256) (the_same _ _ ey) (omega arith)
+few_parameters : (m q : ℕ) (y : TheMethod) → procedure_of m ≡ Some q → slice_get program.tables.methods m ≡ Some y → length y.params < 61
+few_parameters zero q y e ey = subst (λ z. length z.params < 61) (the_same _ _ ey) (omega arith)
 few_parameters (suc m) q y e ey = none_some q e
 
 pub placed : IsPlaced program layout codes firm

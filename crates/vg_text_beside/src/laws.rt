@@ -17,7 +17,7 @@ pub fn programs_of_texts_have_ranges()
         → length bytes < 2 ^ 31 → HaveRanges p }
 {}
 
-/// It has at most 2000 methods, each with fewer than 256 parameters, and its calls of methods have at most 255 arguments.
+/// It has at most 2000 methods, each with at most 60 parameters, and its calls of methods have at most 255 arguments.
 pub fn programs_of_texts_are_small()
     ensures methods { (texts : List Name) (tree : Node) (p : Program) → IsProgramOf texts tree p → refusal_of tree ≡ None
         → length p.tables.methods ≤ 2000 }
