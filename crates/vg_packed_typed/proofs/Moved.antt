@@ -122,16 +122,17 @@ module _ (p : Tables) (l : Layout) (k : Codes) (f : FirmProgram) (lay : Placed) 
       by_column None e ram = one_step below x y (SetField at f') firm.StoreNothing refl refl (λ n a. tt) tt h
 
   -- the arguments of null are dropped one by one
-  forgets_typed : (looped : Bool) (below count rest x : ℕ) → x ≡ count + suc rest → below + x + 2 ≤ 191
-      → Typed knows looped below (forgets count (Do firm.LoadNothing)) x (suc rest)
-  forgets_typed looped below zero rest x e room = record { rest = rest; before = e; behind = refl; room = room; alone = tt; names = tt }
-  forgets_typed looped below (suc n) rest x e room = (
-    n + suc rest,
-    record { rest = n + suc rest; before = e; behind = refl; room = room; alone = tt; names = tt },
-    forgets_typed looped below n rest (n + suc rest) refl (omega (arith, e, room)),
+  forgets_typed : (looped : Bool) (below count rest x y : ℕ) → x ≡ count + (1 + rest) → y ≡ 1 + rest → below + x + 2 ≤ 191
+      → Typed knows looped below (forgets count (Do firm.LoadNothing)) x y
+  forgets_typed looped below zero rest x y e h room =
+      record { rest = rest; before = omega (arith, e); behind = h; room = room; alone = tt; names = tt }
+  forgets_typed looped below (suc n) rest x y e h room = (
+    n + (1 + rest),
+    record { rest = n + (1 + rest); before = omega (arith, e); behind = omega arith; room = room; alone = tt; names = tt },
+    forgets_typed looped below n rest (n + (1 + rest)) y refl h (omega (arith, e, room)),
   )
 
-  one_more : (count rest x : ℕ) → x ≡ suc count + rest → x ≡ count + suc rest
+  one_more : (count rest x : ℕ) → x ≡ suc count + rest → x ≡ count + (1 + rest)
   one_more count rest x e = omega (arith, e)
 
   call_typed : (looped : Bool) (below x y at count t : ℕ) → Counts 191 below (CallValue at count t) x y → Typed knows looped below (call_value count) x y
@@ -139,9 +140,7 @@ module _ (p : Tables) (l : Layout) (k : Codes) (f : FirmProgram) (lay : Placed) 
     where
       by : (b : Bool) → Typed knows looped below (if b then Do (firm.CallValue count) else forgets count (Do firm.LoadNothing)) x y
       by true = one_step below x y (CallValue at count t) (firm.CallValue count) refl refl (λ n z. tt) tt c
-      by false =
-          subst (λ z. Typed knows looped below (forgets count (Do firm.LoadNothing)) x z) (sym c.behind)
-          (forgets_typed looped below count c.rest x (one_more count c.rest x c.before) c.room)
+      by false = forgets_typed looped below count c.rest x y (one_more count c.rest x c.before) c.behind c.room
 
   step_typed : (looped : Bool) (calls : List ℕ) (o : Owner) (below x y : ℕ) (xs ys : List CoreType) (s : Step) → Takes p ts o s xs ys → Allowed p l f calls s
       → Counts 191 below s x y → Typed knows looped below (move p l k s) x y
