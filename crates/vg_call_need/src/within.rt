@@ -1,5 +1,5 @@
 // Whether the calls of some way cost as much as is needed.
-ghost use Rattle.std.specs.Prelude.{◌<◌, ◌≤◌, IfOk, IsTrue, length};
+ghost use Rattle.std.specs.Prelude.{◌↔◌, ◌<◌, ◌≤◌, IfOk, IsTrue, length};
 ghost use Rattle.vg_call_need.specs.Within.{IsSpentWithin};
 
 use crate::bounding::stack_need;
@@ -28,8 +28,7 @@ pub fn is_spent(
 }
 
 fn is_between(need: u64, paid: u64) -> bool
-    ensures four { IsTrue result → 4 ≤ need }
-    ensures most { IsTrue result → need ≤ paid }
+    ensures { IsTrue result ↔ (4 ≤ need) × (need ≤ paid) }
 {
     4 <= need && need <= paid
 }
