@@ -286,6 +286,57 @@ leaves a b x y v hx hy ha hb e = (subst (λ z. 0 < z) (low_same y hy) is.0, sym 
         ∙ ap (λ z. low 4 (cast_unsigned w32 (int_rem (by_sign a x) z))) (signed_is b y hy hb)
         ∙ ap (λ z. low 4 (cast_unsigned w32 z)) (remainder_is a b x y hx hy) ∙ bits_of a n small
 
+-- ---- the byte of the sign
+
+-- the highest byte of a number
+abbrev pub high : ℕ → ℕ
+high x = low 1 (x / 2 ^ 24)
+
+-- the byte with its highest bit turned, unless a sign says that nothing is
+abbrev pub turned_by : Bool → ℕ → ℕ
+turned_by true n = n
+turned_by false n = low 1 (low 1 (n + 0x80))
+
+-- such a byte, and whether it stands for a number that is not negative
+abbrev pub Tells : ℕ → Bool → Type 0
+Tells n a = (n < 256) × (nat_lt (2 * n) 256 ≡ a)
+
+pub high_tells : (b : Bool) (x : ℕ) → x < 2 ^ 32 → is_positive x ≡ b → Tells (high x) b
+high_tells true x h e = (omega arith, positive x h e)
+  where
+    positive : (x : ℕ) → x < 2 ^ 32 → is_positive x ≡ true → nat_lt (2 * high x) 256 ≡ true
+    positive x h e = grind arith
+high_tells false x h e = (omega arith, negative x h e)
+  where
+    negative : (x : ℕ) → x < 2 ^ 32 → is_positive x ≡ false → nat_lt (2 * high x) 256 ≡ false
+    negative x h e = grind arith
+
+pub turned_tells : (a b : Bool) (n : ℕ) → Tells n a → Tells (turned_by b n) (same a b)
+turned_tells true true n t = t
+turned_tells false true n t = t
+turned_tells true false n (h, e) = (omega arith, turns n h e)
+  where
+    turns : (n : ℕ) → n < 256 → nat_lt (2 * n) 256 ≡ true → nat_lt (2 * low 1 (low 1 (n + 0x80))) 256 ≡ false
+    turns n h e = grind arith
+turned_tells false false n (h, e) = (omega arith, turns n h e)
+  where
+    turns : (n : ℕ) → n < 256 → nat_lt (2 * n) 256 ≡ false → nat_lt (2 * low 1 (low 1 (n + 0x80))) 256 ≡ true
+    turns n h e = grind arith
+
+-- what the test of such a byte says
+pub byte_test : (a : Bool) (n : ℕ) → Tells n a → int_lt (signed 1 n) (pos 0) ≡ not a
+byte_test a n (h, e) = ap (λ z. int_lt (if nat_lt (2 * z) 256 then pos z else negsuc (255 - z)) (pos 0)) (low_byte n h) ∙ by a e
+  where
+    low_byte : (n : ℕ) → n < 256 → low 1 n ≡ n
+    low_byte n h = omega arith
+
+    none : (n : ℕ) → int_lt (pos n) (pos 0) ≡ false
+    none n = grind arith
+
+    by : (a : Bool) → nat_lt (2 * n) 256 ≡ a → int_lt (if nat_lt (2 * n) 256 then pos n else negsuc (255 - n)) (pos 0) ≡ not a
+    by true e = ap (λ t. int_lt (if t then pos n else negsuc (255 - n)) (pos 0)) e ∙ none n
+    by false e = ap (λ t. int_lt (if t then pos n else negsuc (255 - n)) (pos 0)) e
+
 -- ---- both see four bytes of their operands
 
 twice : (x : ℕ) → low 4 (low 4 x) ≡ low 4 x

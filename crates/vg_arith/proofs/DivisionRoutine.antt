@@ -1,5 +1,5 @@
 -- That the routine of division computes quotient and remainder. The run is in four parts: the signs are taken off, by cases; one instruction makes
--- the steps, by induction over those to come; and the result that is wanted gets its sign.
+-- the steps, by induction over those to come; and the result that is wanted gets its sign, which the highest bit of a byte has kept.
 use Rattle.std.specs.Prelude.{ℕ, zero, suc, ◌-◌, ◌*◌, ◌/◌, ◌%◌, ◌^◌, ◌<◌, ◌≤◌, Bool, true, false, List, [], ◌∷◌}
 use Rattle.std.specs.Prelude.{ℤ, int_rem, Option, Some, None, slice_get}
 use Rattle.std.specs.Int.{w32, cast_unsigned, int_wrapping_div}
@@ -24,6 +24,7 @@ use Rattle.vg_arith.proofs.ShiftRoutines.{some_is, fetch_of, low_same, low_low, 
 use Rattle.vg_arith.proofs.DivisionLaws.{Divides, divides_on, divides_fits, divides_first, divides_last, is_positive, magnitude, turned, with_sign, same}
 use Rattle.vg_arith.proofs.DivisionLaws.{turned_is, magnitude_small, magnitude_below, magnitude_some, negative_some}
 use Rattle.vg_arith.proofs.DivisionLaws.{sign_test, divides, leaves, divide_low, leave_low}
+use Rattle.vg_arith.proofs.DivisionLaws.{high, turned_by, Tells, high_tells, turned_tells, byte_test}
 
 steps_count : division_steps ≡ 32
 unfolding division_steps
@@ -31,15 +32,15 @@ steps_count = refl
 
 module _ (p : Program) (q : ℕ) (has : slice_get p.procedures q ≡ Some divide) (f : Frame State) (fs : List (Frame State)) (ram : List ℕ)
     (w : World History) where
-  -- the locals: dividend, divisor, what is wanted, remainder and sign
-  abbrev pub held : (x y c : ℕ) → (r n : Option ℕ) → State
-  held x y c r n =
+  -- the locals: dividend, divisor, what is wanted, remainder, what is divided, and the byte of the sign
+  abbrev pub held : (x y c : ℕ) → (r d n : Option ℕ) → State
+  held x y c r d n =
       with_locals ram
       (record { width = 4; value = Some x } ∷ record { width = 4; value = Some y } ∷ record { width = 1; value = Some c }
-      ∷ record { width = 4; value = r } ∷ record { width = 1; value = n } ∷ [])
+      ∷ record { width = 4; value = r } ∷ record { width = 4; value = d } ∷ record { width = 1; value = n } ∷ [])
 
-  abbrev pub at : (pc x y c : ℕ) → (r n : Option ℕ) → Config State
-  at pc x y c r n = conf q pc (f ∷ fs) (held x y c r n) w
+  abbrev pub at : (pc x y c : ℕ) → (r d n : Option ℕ) → Config State
+  at pc x y c r d n = conf q pc (f ∷ fs) (held x y c r d n) w
 
   abbrev pub To : Config State → Config State → Type 0
   To c d = Leads (language p) (codes_in p.procedures) 0 c d
@@ -48,145 +49,172 @@ module _ (p : Program) (q : ℕ) (has : slice_get p.procedures q ≡ Some divide
   then c d e g h = leads_then (language p) (codes_in p.procedures) 0 0 c d e g h
 
   -- one instruction
-  one : (pc x y c : ℕ) (r n : Option ℕ) (i : Instr) (d : Config State) → slice_get divide.code pc ≡ Some i
-      → performed (language p) (at pc x y c r n) (Some i) ≡ d → To (at pc x y c r n) d
-  one pc x y c r n i d e g = free (language p) (codes_in p.procedures) q pc (f ∷ fs) (held x y c r n) w i d (fetch_of p.procedures q divide has pc ∙ e) g
+  one : (pc x y c : ℕ) (r d n : Option ℕ) (i : Instr) (to : Config State) → slice_get divide.code pc ≡ Some i
+      → performed (language p) (at pc x y c r d n) (Some i) ≡ to → To (at pc x y c r d n) to
+  one pc x y c r d n i to e g = free (language p) (codes_in p.procedures) q pc (f ∷ fs) (held x y c r d n) w i to (fetch_of p.procedures q divide has pc ∙ e) g
 
-  -- whether a result is negative, as a number
-  abbrev pub bit : Bool → ℕ
-  bit true = 0
-  bit false = 1
-
-  dividend : (b : Bool) (x y c : ℕ) → x < 2 ^ 32 → is_positive x ≡ b → To (at 2 x y c (Some 0) (Some 0)) (at 5 (magnitude b x) y c (Some 0) (Some (bit b)))
-  dividend true x y c h e = one 2 x y c (Some 0) (Some 0) _ _ refl (ap (λ t. branched (at 2 x y c (Some 0) (Some 0)) false 5 (Some t)) (sign_test true x h e))
-  dividend false x y c h e =
-      then (at 2 x y c (Some 0) (Some 0)) (at 3 x y c (Some 0) (Some 0)) _
-      (one 2 x y c (Some 0) (Some 0) _ _ refl (ap (λ t. branched (at 2 x y c (Some 0) (Some 0)) false 5 (Some t)) (sign_test false x h e)))
-      (then (at 3 x y c (Some 0) (Some 0)) (at 4 (2 ^ 32 - x) y c (Some 0) (Some 0)) _
-      (one 3 x y c (Some 0) (Some 0) _ _ refl (ap (λ z. at 4 z y c (Some 0) (Some 0)) (turned_is x h (negative_some x e))))
-      (one 4 (2 ^ 32 - x) y c (Some 0) (Some 0) _ _ refl refl))
+  -- what is divided is the magnitude of the dividend
+  dividend : (a : Bool) (x y c n : ℕ) → x < 2 ^ 32 → is_positive x ≡ a → Tells n a
+      → To (at 3 x y c (Some 0) (Some x) (Some n)) (at 5 x y c (Some 0) (Some (magnitude a x)) (Some n))
+  dividend true x y c n h e t =
+      one 3 x y c (Some 0) (Some x) (Some n) _ _ refl (ap (λ o. branched (at 3 x y c (Some 0) (Some x) (Some n)) false 5 (Some o)) (byte_test true n t))
+  dividend false x y c n h e t =
+      then (at 3 x y c (Some 0) (Some x) (Some n)) (at 4 x y c (Some 0) (Some x) (Some n)) _
+      (one 3 x y c (Some 0) (Some x) (Some n) _ _ refl (ap (λ o. branched (at 3 x y c (Some 0) (Some x) (Some n)) false 5 (Some o)) (byte_test false n t)))
+      (one 4 x y c (Some 0) (Some x) (Some n) _ _ refl (ap (λ z. at 5 x y c (Some 0) (Some z) (Some n)) (turned_is x h (negative_some x e))))
 
   -- the sign of the quotient; that of the remainder does not ask for the divisor's
-  divisor_false : (b : Bool) (x y : ℕ) → y < 2 ^ 32 → is_positive y ≡ b → (a : Bool)
-      → To (at 5 x y 0 (Some 0) (Some (bit a))) (at 9 x (magnitude b y) 0 (Some 0) (Some (bit (same a b))))
-  divisor_false true x y h e a =
-      subst (λ z. To (at 5 x y 0 (Some 0) (Some (bit a))) (at 9 x y 0 (Some 0) (Some (bit z)))) (kept a)
-      (one 5 x y 0 (Some 0) (Some (bit a)) _ _ refl (ap (λ t. branched (at 5 x y 0 (Some 0) (Some (bit a))) false 9 (Some t)) (sign_test true y h e)))
-    where
-      kept : (a : Bool) → a ≡ same a true
-      kept true = refl
-      kept false = refl
-  divisor_false false x y h e a =
-      then (at 5 x y 0 (Some 0) (Some (bit a))) (at 6 x y 0 (Some 0) (Some (bit a))) _
-      (one 5 x y 0 (Some 0) (Some (bit a)) _ _ refl (ap (λ t. branched (at 5 x y 0 (Some 0) (Some (bit a))) false 9 (Some t)) (sign_test false y h e)))
-      (then (at 6 x y 0 (Some 0) (Some (bit a))) (at 7 x (2 ^ 32 - y) 0 (Some 0) (Some (bit a))) _
-      (one 6 x y 0 (Some 0) (Some (bit a)) _ _ refl (ap (λ z. at 7 x z 0 (Some 0) (Some (bit a))) (turned_is y h (negative_some y e))))
-      (then (at 7 x (2 ^ 32 - y) 0 (Some 0) (Some (bit a))) (at 8 x (2 ^ 32 - y) 0 (Some 0) (Some (bit a))) _
-      (one 7 x (2 ^ 32 - y) 0 (Some 0) (Some (bit a)) _ _ refl refl)
-      (turns a)))
-    where
-      turns : (a : Bool) → To (at 8 x (2 ^ 32 - y) 0 (Some 0) (Some (bit a))) (at 9 x (2 ^ 32 - y) 0 (Some 0) (Some (bit (same a false))))
-      turns true = one 8 x (2 ^ 32 - y) 0 (Some 0) (Some 0) _ _ refl refl
-      turns false = one 8 x (2 ^ 32 - y) 0 (Some 0) (Some 1) _ _ refl refl
+  divisor_false : (b : Bool) (x y d n : ℕ) → y < 2 ^ 32 → is_positive y ≡ b
+      → To (at 5 x y 0 (Some 0) (Some d) (Some n)) (at 9 x (magnitude b y) 0 (Some 0) (Some d) (Some (turned_by b n)))
+  divisor_false true x y d n h e =
+      one 5 x y 0 (Some 0) (Some d) (Some n) _ _ refl (ap (λ t. branched (at 5 x y 0 (Some 0) (Some d) (Some n)) false 9 (Some t)) (sign_test true y h e))
+  divisor_false false x y d n h e =
+      then (at 5 x y 0 (Some 0) (Some d) (Some n)) (at 6 x y 0 (Some 0) (Some d) (Some n)) _
+      (one 5 x y 0 (Some 0) (Some d) (Some n) _ _ refl (ap (λ t. branched (at 5 x y 0 (Some 0) (Some d) (Some n)) false 9 (Some t)) (sign_test false y h e)))
+      (then (at 6 x y 0 (Some 0) (Some d) (Some n)) (at 7 x (2 ^ 32 - y) 0 (Some 0) (Some d) (Some n)) _
+      (one 6 x y 0 (Some 0) (Some d) (Some n) _ _ refl (ap (λ z. at 7 x z 0 (Some 0) (Some d) (Some n)) (turned_is y h (negative_some y e))))
+      (then (at 7 x (2 ^ 32 - y) 0 (Some 0) (Some d) (Some n)) (at 8 x (2 ^ 32 - y) 0 (Some 0) (Some d) (Some n)) _
+      (one 7 x (2 ^ 32 - y) 0 (Some 0) (Some d) (Some n) _ _ refl refl)
+      (one 8 x (2 ^ 32 - y) 0 (Some 0) (Some d) (Some n) _ _ refl refl)))
 
-  divisor_true : (b : Bool) (x y : ℕ) (n : Option ℕ) → y < 2 ^ 32 → is_positive y ≡ b
-      → To (at 5 x y 1 (Some 0) n) (at 9 x (magnitude b y) 1 (Some 0) n)
-  divisor_true true x y n h e =
-      one 5 x y 1 (Some 0) n _ _ refl (ap (λ t. branched (at 5 x y 1 (Some 0) n) false 9 (Some t)) (sign_test true y h e))
-  divisor_true false x y n h e =
-      then (at 5 x y 1 (Some 0) n) (at 6 x y 1 (Some 0) n) _
-      (one 5 x y 1 (Some 0) n _ _ refl (ap (λ t. branched (at 5 x y 1 (Some 0) n) false 9 (Some t)) (sign_test false y h e)))
-      (then (at 6 x y 1 (Some 0) n) (at 7 x (2 ^ 32 - y) 1 (Some 0) n) _
-      (one 6 x y 1 (Some 0) n _ _ refl (ap (λ z. at 7 x z 1 (Some 0) n) (turned_is y h (negative_some y e))))
-      (one 7 x (2 ^ 32 - y) 1 (Some 0) n _ _ refl refl))
+  divisor_true : (b : Bool) (x y : ℕ) (d n : Option ℕ) → y < 2 ^ 32 → is_positive y ≡ b
+      → To (at 5 x y 1 (Some 0) d n) (at 9 x (magnitude b y) 1 (Some 0) d n)
+  divisor_true true x y d n h e =
+      one 5 x y 1 (Some 0) d n _ _ refl (ap (λ t. branched (at 5 x y 1 (Some 0) d n) false 9 (Some t)) (sign_test true y h e))
+  divisor_true false x y d n h e =
+      then (at 5 x y 1 (Some 0) d n) (at 6 x y 1 (Some 0) d n) _
+      (one 5 x y 1 (Some 0) d n _ _ refl (ap (λ t. branched (at 5 x y 1 (Some 0) d n) false 9 (Some t)) (sign_test false y h e)))
+      (then (at 6 x y 1 (Some 0) d n) (at 7 x (2 ^ 32 - y) 1 (Some 0) d n) _
+      (one 6 x y 1 (Some 0) d n _ _ refl (ap (λ z. at 7 x z 1 (Some 0) d n) (turned_is y h (negative_some y e))))
+      (one 7 x (2 ^ 32 - y) 1 (Some 0) d n _ _ refl refl))
 
   -- the steps, so many of which are to come
-  steps_make : (d0 v c : ℕ) (n : Option ℕ) → v ≤ 2 ^ 31 → (left P r d : ℕ) → Divides d0 v P (2 ^ left) r d
-      → makes_steps left 3 0 (Local 1) (held d v c (Some r) n) w.outside ≡ Goes (held (d0 / v) v c (Some (d0 % v)) n) w.outside
-  steps_make d0 v c n small zero P r d g =
+  steps_make : (d0 x v c : ℕ) (n : Option ℕ) → v ≤ 2 ^ 31 → (left P r d : ℕ) → Divides d0 v P (2 ^ left) r d
+      → makes_steps left 3 4 (Local 1) (held x v c (Some r) (Some d) n) w.outside ≡ Goes (held x v c (Some (d0 % v)) (Some (d0 / v)) n) w.outside
+  steps_make d0 x v c n small zero P r d g =
       let last : (d ≡ d0 / v) × (r ≡ d0 % v) = divides_last d0 v P r d g in
-      ap (λ z. Goes (held z v c (Some r) n) w.outside) (last.0) ∙ ap (λ z. Goes (held (d0 / v) v c (Some z) n) w.outside) (last.1)
-  steps_make d0 v c n small (suc left) P r d g =
+      ap (λ z. Goes (held x v c (Some r) (Some z) n) w.outside) (last.0) ∙ ap (λ z. Goes (held x v c (Some z) (Some (d0 / v)) n) w.outside) (last.1)
+  steps_make d0 x v c n small (suc left) P r d g =
       let R = next_remainder r d v in
       let D = next_dividend r d v in
       let next : Divides d0 v (2 * P) (2 ^ left) R D = divides_on d0 v P (2 ^ left) r d small (subst (λ z. Divides d0 v P z r d) (pow-succ' 2 left) g) in
       let fit : (low 4 R ≡ R) × (low 4 D ≡ D) = divides_fits d0 v (2 * P) (2 ^ left) R D small next in
-      ap (λ z. makes_steps left 3 0 (Local 1) (held (low 4 D) v c (Some z) n) w.outside) (fit.0)
-      ∙ ap (λ z. makes_steps left 3 0 (Local 1) (held z v c (Some R) n) w.outside) (fit.1)
-      ∙ steps_make d0 v c n small left (2 * P) R D next
+      ap (λ z. makes_steps left 3 4 (Local 1) (held x v c (Some z) (Some (low 4 D)) n) w.outside) (fit.0)
+      ∙ ap (λ z. makes_steps left 3 4 (Local 1) (held x v c (Some R) (Some z) n) w.outside) (fit.1)
+      ∙ steps_make d0 x v c n small left (2 * P) R D next
 
-  divided : (d0 v c : ℕ) (n : Option ℕ) (from : Config State) → d0 < 2 ^ 32 → 0 < v → v ≤ 2 ^ 31 → To from (at 9 d0 v c (Some 0) n)
-      → To from (at 10 (d0 / v) v c (Some (d0 % v)) n)
-  divided d0 v c n from h some small t =
+  divided : (d0 x v c : ℕ) (n : Option ℕ) (from : Config State) → d0 < 2 ^ 32 → 0 < v → v ≤ 2 ^ 31 → To from (at 9 x v c (Some 0) (Some d0) n)
+      → To from (at 10 x v c (Some (d0 % v)) (Some (d0 / v)) n)
+  divided d0 x v c n from h some small t =
       let first : Divides d0 v 1 (2 ^ division_steps) 0 d0 = subst (λ k. Divides d0 v 1 (2 ^ k) 0 d0) (sym steps_count) (divides_first d0 v h some) in
-      then from (at 9 d0 v c (Some 0) n) (at 10 (d0 / v) v c (Some (d0 % v)) n) t
-      (one 9 d0 v c (Some 0) n of_steps _ refl (ap (went (at 9 d0 v c (Some 0) n)) (steps_make d0 v c n small division_steps 1 0 d0 first)))
+      then from (at 9 x v c (Some 0) (Some d0) n) (at 10 x v c (Some (d0 % v)) (Some (d0 / v)) n) t
+      (one 9 x v c (Some 0) (Some d0) n of_steps _ refl (ap (went (at 9 x v c (Some 0) (Some d0) n)) (steps_make d0 x v c n small division_steps 1 0 d0 first)))
 
   -- the configuration in which the routine begins
   abbrev pub begins : (x y c : ℕ) → Config State
   begins x y c = conf q 0 (f ∷ fs) (with_locals ram (begun divide.widths (x ∷ y ∷ c ∷ []))) w
 
-  opens : (x y c : ℕ) → x < 2 ^ 32 → y < 2 ^ 32 → c < 256 → To (begins x y c) (at 2 x y c (Some 0) (Some 0))
+  opens : (x y c : ℕ) → x < 2 ^ 32 → y < 2 ^ 32 → c < 256 → To (begins x y c) (at 3 x y c (Some 0) (Some x) (Some (high x)))
   opens x y c hx hy hc =
-      subst (λ z. To (begins x y c) (at 2 z y c (Some 0) (Some 0))) (low_same x hx)
-      (subst (λ z. To (begins x y c) (at 2 (low 4 x) z c (Some 0) (Some 0))) (low_same y hy)
-      (subst (λ z. To (begins x y c) (at 2 (low 4 x) (low 4 y) z (Some 0) (Some 0))) (one_byte c hc)
-      (then (begins x y c) (at 1 (low 4 x) (low 4 y) (low 1 c) (Some 0) None) _
-      (one 0 (low 4 x) (low 4 y) (low 1 c) None None _ _ refl refl)
-      (one 1 (low 4 x) (low 4 y) (low 1 c) (Some 0) None _ _ refl refl))))
+      subst (λ z. To (begins x y c) (at 3 z y c (Some 0) (Some z) (Some (high z)))) (low_same x hx)
+      (subst (λ z. To (begins x y c) (at 3 X z c (Some 0) (Some X) (Some (high X)))) (low_same y hy)
+      (subst (λ z. To (begins x y c) (at 3 X Y z (Some 0) (Some X) (Some (high X)))) (one_byte c hc)
+      (then (begins x y c) (at 1 X Y C None (Some X) None) _
+      (one 0 X Y C None None None _ (at 1 X Y C None (Some X) None) refl (ap (λ z. at 1 X Y C None (Some z) None) twice))
+      (then (at 1 X Y C None (Some X) None) (at 2 X Y C (Some 0) (Some X) None) _
+      (one 1 X Y C None (Some X) None _ _ refl refl)
+      (one 2 X Y C (Some 0) (Some X) None _ (at 3 X Y C (Some 0) (Some X) (Some (high X))) refl
+      (ap (λ z. at 3 X Y C (Some 0) (Some X) (Some (high z))) twice))))))
     where
       one_byte : (c : ℕ) → c < 256 → low 1 c ≡ c
       one_byte c h = omega (arith, h)
+
+      X : ℕ
+      X = low 4 x
+
+      Y : ℕ
+      Y = low 4 y
+
+      C : ℕ
+      C = low 1 c
+
+      twice : low 4 X ≡ X
+      twice = omega arith
 
   -- the end of the routine, which gives this result
   abbrev pub Back : ℕ → Config State → Type 0
   Back v c = (left : List LocalState) × To c (conf f.proc (suc f.pc) fs (resume f.awaits f.kept (with_locals ram left) (low 4 v)) w)
 
-  signed_result : (a : Bool) (x y c : ℕ) (r : Option ℕ) (from : Config State) → To from (at 12 x y c r (Some (bit a))) → Back (with_sign a x) from
-  signed_result true x y c r from t = (
+  signed_result : (a : Bool) (x y c d n : ℕ) (r : Option ℕ) (from : Config State) → Tells n a → To from (at 12 x y c r (Some d) (Some n))
+      → Back (with_sign a d) from
+  signed_result true x y c d n r from s t = (
     _,
-    then from (at 12 x y c r (Some 0)) _ t
-        (then (at 12 x y c r (Some 0)) (at 14 x y c r (Some 0)) _ (one 12 x y c r (Some 0) _ _ refl refl) (one 14 x y c r (Some 0) _ _ refl refl)),
+    then from (at 12 x y c r (Some d) (Some n)) _ t
+        (then (at 12 x y c r (Some d) (Some n)) (at 14 x y c r (Some d) (Some n)) _
+        (one 12 x y c r (Some d) (Some n) _ (at 14 x y c r (Some d) (Some n)) refl
+        (ap (λ o. branched (at 12 x y c r (Some d) (Some n)) false 14 (Some o)) (byte_test true n s)))
+        (one 14 x y c r (Some d) (Some n) _ _ refl refl)),
   )
-  signed_result false x y c r from t = (
+  signed_result false x y c d n r from s t = (
     _,
-    then from (at 12 x y c r (Some 1)) _ t
-        (then (at 12 x y c r (Some 1)) (at 13 x y c r (Some 1)) _ (one 12 x y c r (Some 1) _ _ refl refl)
-        (then (at 13 x y c r (Some 1)) (at 14 (turned x) y c r (Some 1)) _ (one 13 x y c r (Some 1) _ _ refl refl)
-        (one 14 (turned x) y c r (Some 1) _ _ refl refl))),
+    then from (at 12 x y c r (Some d) (Some n)) _ t
+        (then (at 12 x y c r (Some d) (Some n)) (at 13 x y c r (Some d) (Some n)) _
+        (one 12 x y c r (Some d) (Some n) _ (at 13 x y c r (Some d) (Some n)) refl
+        (ap (λ o. branched (at 12 x y c r (Some d) (Some n)) false 14 (Some o)) (byte_test false n s)))
+        (then (at 13 x y c r (Some d) (Some n)) (at 14 x y c r (Some (turned d)) (Some n)) _
+        (one 13 x y c r (Some d) (Some n) _ (at 14 x y c r (Some (turned d)) (Some n)) refl refl)
+        (one 14 x y c r (Some (turned d)) (Some n) _ _ refl refl))),
   )
 
   -- the whole routine
   gives_quotient : (a b : Bool) (x y : ℕ) → x < 2 ^ 32 → y < 2 ^ 32 → 0 < y → is_positive x ≡ a → is_positive y ≡ b
       → Back (with_sign (same a b) (magnitude a x / magnitude b y)) (begins x y 0)
   gives_quotient a b x y hx hy some ea eb =
-      let s : To (begins x y 0) (at 10 (magnitude a x / magnitude b y) (magnitude b y) 0 (Some (magnitude a x % magnitude b y)) (Some (bit (same a b)))) =
-      divided (magnitude a x) (magnitude b y) 0 (Some (bit (same a b))) (begins x y 0) (magnitude_below a x hx ea) (magnitude_some b y hy some)
-      (magnitude_small b y hy eb)
-      (then (begins x y 0) (at 5 (magnitude a x) y 0 (Some 0) (Some (bit a))) _
-      (then (begins x y 0) (at 2 x y 0 (Some 0) (Some 0)) _ (opens x y 0 hx hy (omega arith)) (dividend a x y 0 hx ea))
-      (divisor_false b (magnitude a x) y hy eb a)) in
-      signed_result (same a b) (magnitude a x / magnitude b y) (magnitude b y) 0 (Some (magnitude a x % magnitude b y)) (begins x y 0)
-      (then (begins x y 0) (at 10 (magnitude a x / magnitude b y) (magnitude b y) 0 (Some (magnitude a x % magnitude b y)) (Some (bit (same a b)))) _ s
-      (one 10 (magnitude a x / magnitude b y) (magnitude b y) 0 (Some (magnitude a x % magnitude b y)) (Some (bit (same a b))) _ _ refl refl))
+      signed_result (same a b) x v 0 (d / v) n (Some (d % v)) (begins x y 0) (turned_tells a b (high x) tells)
+      (then (begins x y 0) (at 10 x v 0 (Some (d % v)) (Some (d / v)) (Some n)) _
+      (divided d x v 0 (Some n) (begins x y 0) (magnitude_below a x hx ea) (magnitude_some b y hy some) (magnitude_small b y hy eb)
+      (then (begins x y 0) (at 5 x y 0 (Some 0) (Some d) (Some (high x))) _
+      (then (begins x y 0) (at 3 x y 0 (Some 0) (Some x) (Some (high x))) _ (opens x y 0 hx hy (omega arith)) (dividend a x y 0 (high x) hx ea tells))
+      (divisor_false b x y d (high x) hy eb)))
+      (one 10 x v 0 (Some (d % v)) (Some (d / v)) (Some n) _ _ refl refl))
+    where
+      d : ℕ
+      d = magnitude a x
+
+      v : ℕ
+      v = magnitude b y
+
+      n : ℕ
+      n = turned_by b (high x)
+
+      tells : Tells (high x) a
+      tells = high_tells a x hx ea
 
   gives_remainder : (a b : Bool) (x y : ℕ) → x < 2 ^ 32 → y < 2 ^ 32 → 0 < y → is_positive x ≡ a → is_positive y ≡ b
       → Back (with_sign a (magnitude a x % magnitude b y)) (begins x y 1)
   gives_remainder a b x y hx hy some ea eb =
-      let s : To (begins x y 1) (at 10 (magnitude a x / magnitude b y) (magnitude b y) 1 (Some (magnitude a x % magnitude b y)) (Some (bit a))) =
-      divided (magnitude a x) (magnitude b y) 1 (Some (bit a)) (begins x y 1) (magnitude_below a x hx ea) (magnitude_some b y hy some)
-      (magnitude_small b y hy eb)
-      (then (begins x y 1) (at 5 (magnitude a x) y 1 (Some 0) (Some (bit a))) _
-      (then (begins x y 1) (at 2 x y 1 (Some 0) (Some 0)) _ (opens x y 1 hx hy (omega arith)) (dividend a x y 1 hx ea))
-      (divisor_true b (magnitude a x) y (Some (bit a)) hy eb)) in
-      let rest : magnitude a x % magnitude b y < 2 ^ 32 = let e = mod-le (magnitude a x) (magnitude b y) in omega (arith, e, magnitude_below a x hx ea) in
-      signed_result a (magnitude a x % magnitude b y) (magnitude b y) 1 (Some (magnitude a x % magnitude b y)) (begins x y 1)
-      (then (begins x y 1) (at 10 (magnitude a x / magnitude b y) (magnitude b y) 1 (Some (magnitude a x % magnitude b y)) (Some (bit a))) _ s
-      (then (at 10 (magnitude a x / magnitude b y) (magnitude b y) 1 (Some (magnitude a x % magnitude b y)) (Some (bit a)))
-      (at 11 (magnitude a x / magnitude b y) (magnitude b y) 1 (Some (magnitude a x % magnitude b y)) (Some (bit a))) _
-      (one 10 (magnitude a x / magnitude b y) (magnitude b y) 1 (Some (magnitude a x % magnitude b y)) (Some (bit a)) _ _ refl refl)
-      (one 11 (magnitude a x / magnitude b y) (magnitude b y) 1 (Some (magnitude a x % magnitude b y)) (Some (bit a)) _ _ refl
-      (ap (λ z. at 12 z (magnitude b y) 1 (Some (magnitude a x % magnitude b y)) (Some (bit a))) (low_same _ rest)))))
+      signed_result a x v 1 (d % v) (high x) (Some (d % v)) (begins x y 1) tells
+      (then (begins x y 1) (at 10 x v 1 (Some (d % v)) (Some (d / v)) (Some (high x))) _
+      (divided d x v 1 (Some (high x)) (begins x y 1) (magnitude_below a x hx ea) (magnitude_some b y hy some) (magnitude_small b y hy eb)
+      (then (begins x y 1) (at 5 x y 1 (Some 0) (Some d) (Some (high x))) _
+      (then (begins x y 1) (at 3 x y 1 (Some 0) (Some x) (Some (high x))) _ (opens x y 1 hx hy (omega arith)) (dividend a x y 1 (high x) hx ea tells))
+      (divisor_true b x y (Some d) (Some (high x)) hy eb)))
+      (then (at 10 x v 1 (Some (d % v)) (Some (d / v)) (Some (high x))) (at 11 x v 1 (Some (d % v)) (Some (d / v)) (Some (high x))) _
+      (one 10 x v 1 (Some (d % v)) (Some (d / v)) (Some (high x)) _ _ refl refl)
+      (one 11 x v 1 (Some (d % v)) (Some (d / v)) (Some (high x)) _ _ refl
+      (ap (λ z. at 12 x v 1 (Some (d % v)) (Some z) (Some (high x))) (low_same (d % v) rest)))))
+    where
+      d : ℕ
+      d = magnitude a x
+
+      v : ℕ
+      v = magnitude b y
+
+      tells : Tells (high x) a
+      tells = high_tells a x hx ea
+
+      rest : d % v < 2 ^ 32
+      rest = let e = mod-le d v in omega (arith, e, magnitude_below a x hx ea)
 
 -- at the width of four bytes
 gives_divide : (x y v : ℕ) → x < 2 ^ 32 → y < 2 ^ 32 → computed Divide 4 x y ≡ Some v → Gives divide (x ∷ y ∷ 0 ∷ []) (low 4 v)
@@ -219,7 +247,7 @@ divides_is w x y v hw ha e = given (at_width w (low 4 y) v (int_wrapping_div w32
     given (v4, l, g) = (
       low 4 v4,
       low_low w v4 hw ∙ l,
-      gives_low divide (1 ∷ 4 ∷ 1 ∷ []) (0 ∷ []) x y (low 4 v4) refl (gives_divide (low 4 x) (low 4 y) v4 (small x) (small y)
+      gives_low divide (1 ∷ 4 ∷ 4 ∷ 1 ∷ []) (0 ∷ []) x y (low 4 v4) refl (gives_divide (low 4 x) (low 4 y) v4 (small x) (small y)
           (divide_low x y ∙ g)),
     )
 
@@ -230,6 +258,6 @@ leaves_is w x y v hw ha e = given (at_width w (low 4 y) v (int_rem (signed 4 x) 
     given (v4, l, g) = (
       low 4 v4,
       low_low w v4 hw ∙ l,
-      gives_low divide (1 ∷ 4 ∷ 1 ∷ []) (1 ∷ []) x y (low 4 v4) refl (gives_leave (low 4 x) (low 4 y) v4 (small x) (small y)
+      gives_low divide (1 ∷ 4 ∷ 4 ∷ 1 ∷ []) (1 ∷ []) x y (low 4 v4) refl (gives_leave (low 4 x) (low 4 y) v4 (small x) (small y)
           (leave_low x y ∙ g)),
     )

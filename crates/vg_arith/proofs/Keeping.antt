@@ -236,7 +236,7 @@ shr_sound_as ws code e h =
 pub mul_sound : IsSound mul
 mul_sound =
     sound mul (omega arith) (omega arith) (omega arith)
-    (a_width 4 refl, (a_width 4 refl, (a_width 4 refl, (a_width 1 refl, (a_width 1 refl, (a_width 4 refl, tt {0})))))) (omega arith) refl
+    (a_width 4 refl, (a_width 4 refl, (a_width 2 refl, (a_width 2 refl, (a_width 1 refl, (a_width 1 refl, tt {0})))))) (omega arith) refl
 
 pub mul_sound_as : (ws : List ℕ) (code : List Instr) → ws ≡ mul.widths → code ≡ mul.code
     → IsSound (record { method = None; params = 2; result = 4; widths = ws; code = code })
@@ -246,7 +246,8 @@ mul_sound_as ws code e h =
 
 pub divide_sound : IsSound divide
 divide_sound =
-    sound divide (omega arith) (omega arith) (omega arith) (a_width 4 refl, (a_width 4 refl, (a_width 1 refl, (a_width 4 refl, (a_width 1 refl, tt {0}))))) (omega arith) refl
+    sound divide (omega arith) (omega arith) (omega arith)
+    (a_width 4 refl, (a_width 4 refl, (a_width 1 refl, (a_width 4 refl, (a_width 4 refl, (a_width 1 refl, tt {0})))))) (omega arith) refl
 
 pub divide_sound_as : (ws : List ℕ) (code : List Instr) → ws ≡ divide.widths → code ≡ divide.code
     → IsSound (record { method = None; params = 3; result = 4; widths = ws; code = code })

@@ -26,6 +26,7 @@ fn division_widths(alloc: Global) -> Result<Row<u8>, NoMemory>
     widths.push(4)?;
     widths.push(1)?;
     widths.push(4)?;
+    widths.push(4)?;
     widths.push(1)?;
     Ok(widths)
 }
@@ -44,26 +45,32 @@ fn division_code(alloc: Global) -> Result<Row<Instr>, NoMemory>
 fn push_dividend(code: &mut Row<Instr>) -> Result<(), NoMemory>
     ensures { OnOk result (code.new ≡ code.old ++ of_dividend) }
 {
+    code.push(Instr::Plain(Plain::Copy(4, Operand::Local(0))))?;
     code.push(Instr::Plain(Plain::Copy(3, Operand::Known(0))))?;
-    code.push(Instr::Plain(Plain::Copy(4, Operand::Known(0))))?;
-    code.push(Instr::Unless(negative(0), 5))?;
-    code.push(negate(0))?;
-    code.push(Instr::Plain(Plain::Copy(4, Operand::Known(1))))?;
+    code.push(Instr::Plain(Plain::Compute(Computation {
+        operator: Operator::ShiftRight,
+        width: 4,
+        to: 5,
+        left: Operand::Local(4),
+        right: Operand::Known(24),
+    })))?;
+    code.push(Instr::Unless(negative(1, 5), 5))?;
+    code.push(negate(Operand::Local(3), 4))?;
     Ok(())
 }
 
 fn push_divisor(code: &mut Row<Instr>) -> Result<(), NoMemory>
     ensures { OnOk result (code.new ≡ code.old ++ of_divisor) }
 {
-    code.push(Instr::Unless(negative(1), 9))?;
-    code.push(negate(1))?;
+    code.push(Instr::Unless(negative(4, 1), 9))?;
+    code.push(negate(Operand::Local(3), 1))?;
     code.push(Instr::Unless(zero(2), 9))?;
     code.push(Instr::Plain(Plain::Compute(Computation {
-        operator: Operator::Minus,
+        operator: Operator::Plus,
         width: 1,
-        to: 4,
-        left: Operand::Known(1),
-        right: Operand::Local(4),
+        to: 5,
+        left: Operand::Local(5),
+        right: Operand::Known(0x80),
     })))?;
     Ok(())
 }
@@ -72,10 +79,10 @@ fn push_result(code: &mut Row<Instr>) -> Result<(), NoMemory>
     ensures { OnOk result (code.new ≡ code.old ++ of_result) }
 {
     code.push(Instr::When(zero(2), 12))?;
-    code.push(Instr::Plain(Plain::Copy(0, Operand::Local(3))))?;
-    code.push(Instr::When(zero(4), 14))?;
-    code.push(negate(0))?;
-    code.push(Instr::Return(4, Operand::Local(0)))?;
+    code.push(Instr::Plain(Plain::Copy(4, Operand::Local(3))))?;
+    code.push(Instr::Unless(negative(1, 5), 14))?;
+    code.push(negate(Operand::Known(0), 4))?;
+    code.push(Instr::Return(4, Operand::Local(4)))?;
     Ok(())
 }
 
@@ -83,16 +90,16 @@ fn push_result(code: &mut Row<Instr>) -> Result<(), NoMemory>
 fn steps() -> Instr
     ensures { result ≡ of_steps }
 {
-    Instr::Plain(Plain::DivideSteps(3, 0, Operand::Local(1)))
+    Instr::Plain(Plain::DivideSteps(3, 4, Operand::Local(1)))
 }
 
-// Whether the number in a local is negative.
-fn negative(local: u8) -> Test
-    ensures { result ≡ is_negative local }
+// Whether so many low bytes of a local are a negative number.
+fn negative(width: u8, local: u8) -> Test
+    ensures { result ≡ is_negative width local }
 {
     Test {
         comparison: Comparison::Less,
-        width: 4,
+        width,
         left: Operand::Local(local),
         right: Operand::Known(0),
     }
@@ -110,14 +117,15 @@ fn zero(local: u8) -> Test
     }
 }
 
-fn negate(local: u8) -> Instr
-    ensures { result ≡ negated local }
+// The number in a local is taken from a zero.
+fn negate(none: Operand, local: u8) -> Instr
+    ensures { result ≡ negated none local }
 {
     Instr::Plain(Plain::Compute(Computation {
         operator: Operator::Minus,
         width: 4,
         to: local,
-        left: Operand::Known(0),
+        left: none,
         right: Operand::Local(local),
     }))
 }

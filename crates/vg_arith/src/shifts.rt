@@ -1,26 +1,23 @@
 // The routines of the shifts by an amount that is not known.
-ghost use Rattle.std.specs.Prelude.{◌≡◌, ◌<◌, ◌++◌, [], ◌∷◌, replicate, IfOk, OnOk};
+ghost use Rattle.std.specs.Prelude.{◌≡◌, ◌++◌, replicate, IfOk, OnOk};
 ghost use Rattle.vg_lin.specs.declared.instr.Operator.TheVariants.{And as AndOf, ShiftLeft, ShiftRight};
 ghost use Rattle.vg_lin.specs.declared.instr.Plain.TheVariants.{Compute as Computes};
 ghost use Rattle.vg_lin.specs.declared.instr.Instr.TheVariants.{Plain as PlainInstr};
-ghost use Rattle.vg_lin.specs.declared.instr.Operand.TheVariants.{Local, Known};
-ghost use Rattle.vg_lin.specs.declared.instr.Comparison.TheVariants.{Below};
+ghost use Rattle.vg_lin.specs.declared.instr.Operand.TheVariants.{Local};
 ghost use Rattle.vg_lin.specs.Sound.{IsSound};
 ghost use Rattle.vg_arith.specs.Routines.{IsRoutineOf, IsShort};
-ghost use Rattle.vg_arith.specs.Shifts.{gives_back, shl, shr, stage, stages};
+ghost use Rattle.vg_arith.specs.Shifts.{shifts_back, shl, shr};
 
 use std::alloc::Global;
 use vg_base::{NoMemory, Row};
-use vg_lin::{Comparison, Computation, Instr, LinProc, Operand, Operator, Plain, Test};
+use vg_lin::{Computation, Instr, LinProc, Operand, Operator, Plain};
 
 /// The routine of the shift to the left.
 pub fn left_shift_routine(alloc: Global) -> Result<LinProc, NoMemory>
     ensures { IfOk result (λ p. p ≡ shl) }
 {
     let mut code = Row::new(alloc);
-    code.push(Instr::Unless(amount_below(4, 32), 17))?;
-    push_stages(&mut code, Operator::ShiftLeft, 1)?;
-    push_result(&mut code)?;
+    push_shift(&mut code, Operator::ShiftLeft)?;
     let widths = fours(alloc, 2)?;
     Ok(LinProc::new(None, 2, 4, widths, code))
 }
@@ -31,9 +28,7 @@ pub fn right_shift_routine(alloc: Global) -> Result<LinProc, NoMemory>
 {
     let mut code = Row::new(alloc);
     code.push(seen())?;
-    code.push(Instr::Unless(amount_below(4, 32), 18))?;
-    push_stages(&mut code, Operator::ShiftRight, 2)?;
-    push_result(&mut code)?;
+    push_shift(&mut code, Operator::ShiftRight)?;
     let widths = fours(alloc, 3)?;
     Ok(LinProc::new(None, 3, 4, widths, code))
 }
@@ -58,63 +53,18 @@ fn seen() -> Instr
     }))
 }
 
-// The five stages, from a place on.
-fn push_stages(code: &mut Row<Instr>, operator: Operator, at: u16) -> Result<(), NoMemory>
-    requires { at < 900 }
-    ensures { OnOk result (code.new ≡ code.old ++ stages operator at) }
+// The value is shifted by the amount, and given back.
+fn push_shift(code: &mut Row<Instr>, operator: Operator) -> Result<(), NoMemory>
+    ensures { OnOk result (code.new ≡ code.old ++ shifts_back operator) }
 {
-    push_stage(code, operator, at, 16)?;
-    push_stage(code, operator, at + 3, 8)?;
-    push_stage(code, operator, at + 6, 4)?;
-    push_stage(code, operator, at + 9, 2)?;
-    push_stage(code, operator, at + 12, 1)?;
-    Ok(())
-}
-
-// The value is given back; or, behind that, nothing is left of it.
-fn push_result(code: &mut Row<Instr>) -> Result<(), NoMemory>
-    ensures { OnOk result (code.new ≡ code.old ++ gives_back) }
-{
-    code.push(Instr::Return(4, Operand::Local(0)))?;
-    code.push(Instr::Return(4, Operand::Known(0)))?;
-    Ok(())
-}
-
-fn amount_below(width: u8, amount: u32) -> Test
-    ensures { result ≡ record { comparison = Below; width = width; left = Local 1; right = Known amount } }
-{
-    Test {
-        comparison: Comparison::Below,
-        width,
-        left: Operand::Local(1),
-        right: Operand::Known(amount),
-    }
-}
-
-fn push_stage(
-    code: &mut Row<Instr>,
-    operator: Operator,
-    at: u16,
-    amount: u32,
-) -> Result<(), NoMemory>
-    requires { at < 1000 }
-    ensures { OnOk result (code.new ≡ code.old ++ stage operator at amount) }
-{
-    code.push(Instr::When(amount_below(1, amount), at + 3))?;
     code.push(Instr::Plain(Plain::Compute(Computation {
         operator,
         width: 4,
         to: 0,
         left: Operand::Local(0),
-        right: Operand::Known(amount),
+        right: Operand::Local(1),
     })))?;
-    code.push(Instr::Plain(Plain::Compute(Computation {
-        operator: Operator::Minus,
-        width: 1,
-        to: 1,
-        left: Operand::Local(1),
-        right: Operand::Known(amount),
-    })))?;
+    code.push(Instr::Return(4, Operand::Local(0)))?;
     Ok(())
 }
 

@@ -166,20 +166,21 @@ module _ (m : Procedure) (s : IsSound m) (pc : ℕ) where
   bytewise c op eo bytes at (hw, ht, hl, hr) =
       ((subst IsBytewise (sym eo) bytes, (omega (arith, hw.0), wide m s pc (Plain (Compute c)) at c.to ht)), ((left c at hl, right c at hr), result c at ht))
 
-  computes : (c : Computation) (op : Operator) (a : Operand) → c.operator ≡ op → Stands (Plain (Compute c)) → IsPlain m (Compute c) → IsExpanded op a
+  computes : (c : Computation) (op : Operator) (a : Operand) → c.operator ≡ op → c.right ≡ a → Stands (Plain (Compute c)) → IsPlain m (Compute c)
+      → IsExpanded op
       → CanCompute (framed m) now next c op a
-  computes c Plus a eo at h f = bytewise c Plus eo tt at h
-  computes c Minus a eo at h f = bytewise c Minus eo tt at h
-  computes c Times a eo at h f = absurd f
-  computes c Divide a eo at h f = absurd f
-  computes c Remainder a eo at h f = absurd f
-  computes c And a eo at h f = bytewise c And eo tt at h
-  computes c Or a eo at h f = bytewise c Or eo tt at h
-  computes c Xor a eo at h f = bytewise c Xor eo tt at h
-  computes c ShiftLeft (Known n) eo at (hw, ht, hl, hr) f = (hw, (left c at hl, result c at ht))
-  computes c ShiftLeft (Local i) eo at h f = absurd f
-  computes c ShiftRight (Known n) eo at (hw, ht, hl, hr) f = (hw, (left c at hl, result c at ht))
-  computes c ShiftRight (Local i) eo at h f = absurd f
+  computes c Plus a eo ao at h f = bytewise c Plus eo tt at h
+  computes c Minus a eo ao at h f = bytewise c Minus eo tt at h
+  computes c Times a eo ao at h f = absurd f
+  computes c Divide a eo ao at h f = absurd f
+  computes c Remainder a eo ao at h f = absurd f
+  computes c And a eo ao at h f = bytewise c And eo tt at h
+  computes c Or a eo ao at h f = bytewise c Or eo tt at h
+  computes c Xor a eo ao at h f = bytewise c Xor eo tt at h
+  computes c ShiftLeft (Known n) eo ao at (hw, ht, hl, hr) f = (hw, (left c at hl, result c at ht))
+  computes c ShiftLeft (Local i) eo ao at (hw, ht, hl, hr) f = (hw, ((left c at hl, subst (IsReady (framed m) now) ao (right c at hr)), result c at ht))
+  computes c ShiftRight (Known n) eo ao at (hw, ht, hl, hr) f = (hw, (left c at hl, result c at ht))
+  computes c ShiftRight (Local i) eo ao at (hw, ht, hl, hr) f = (hw, ((left c at hl, subst (IsReady (framed m) now) ao (right c at hr)), result c at ht))
 
   divides : (r d : ℕ) (a : Operand) (p : Program) → Stands (Plain (DivideSteps r d a)) → IsPlain m (DivideSteps r d a) → IsPlainFit p (DivideSteps r d a)
       → CanDivide (framed m) now next r d a
@@ -207,7 +208,7 @@ module _ (m : Procedure) (s : IsSound m) (pc : ℕ) where
   plains : (p : Program) (q : PlainInstr) → Stands (Plain q) → IsPlain m q → IsPlainFit p q → CanBeCoded (framed m) p now next q
   plains p (Copy to a) at (ht, ha) f =
       let i = Plain (Copy to a) in (ready m s pc i at a ha (λ k e. one_holds (reads a k) _ e), set m s pc i at to ht (λ k e. other_holds (reads a k) _ e))
-  plains p (Compute c) at h f = computes c c.operator c.right refl at h f
+  plains p (Compute c) at h f = computes c c.operator c.right refl refl at h f
   plains p (Product to a b) at (ht, ha, hb) f =
       let i = Plain (Product to a b) in (
         (

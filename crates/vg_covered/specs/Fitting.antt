@@ -3,9 +3,8 @@ use Rattle.std.specs.Prelude.{slice_get}
 use Rattle.vg_meaning.specs.Device.{IsDeviceAddress}
 use Rattle.vg_codes.specs.Dispatch.{cases_of}
 use Rattle.vg_lin.specs.declared.instr.Operand.{Operand}
-use Rattle.vg_lin.specs.declared.instr.Operand.TheVariants.{Local}
 use Rattle.vg_lin.specs.declared.instr.Operator.{Operator}
-use Rattle.vg_lin.specs.declared.instr.Operator.TheVariants.{Times, Divide, Remainder, ShiftLeft, ShiftRight}
+use Rattle.vg_lin.specs.declared.instr.Operator.TheVariants.{Times, Divide, Remainder}
 use Rattle.vg_lin.specs.declared.instr.Plain.{Plain as PlainInstr}
 use Rattle.vg_lin.specs.declared.instr.Plain.TheVariants.{Compute, DivideSteps, ReadDevice, WriteDevice, Find}
 use Rattle.vg_lin.specs.declared.instr.Instr.{Instr}
@@ -15,18 +14,16 @@ use Rattle.vg_templates.specs.Flow.{IsDivided}
 use Rattle.vg_followed.specs.Tables.{AreCases}
 use Rattle.vg_followed.specs.Covered.{IsFourBytes}
 
--- Products, quotients, remainders and shifts by amounts that are not known are the routines' work.
-abbrev pub IsExpanded : Operator → (right : Operand) → Type 0
-IsExpanded Times a = ⊥
-IsExpanded Divide a = ⊥
-IsExpanded Remainder a = ⊥
-IsExpanded ShiftLeft (Local i) = ⊥
-IsExpanded ShiftRight (Local i) = ⊥
-IsExpanded op a = Unit {0}
+-- Products, quotients and remainders are the routines' work.
+abbrev pub IsExpanded : Operator → Type 0
+IsExpanded Times = ⊥
+IsExpanded Divide = ⊥
+IsExpanded Remainder = ⊥
+IsExpanded op = Unit {0}
 
 -- What is read and written are device registers, a divisor that is known has four bytes, and the numbers of a dispatch have two.
 abbrev pub IsPlainFit : Program → PlainInstr → Type 0
-IsPlainFit p (Compute c) = IsExpanded c.operator c.right
+IsPlainFit p (Compute c) = IsExpanded c.operator
 IsPlainFit p (DivideSteps r d a) = IsFourBytes a
 IsPlainFit p (ReadDevice to address) = IsDeviceAddress address
 IsPlainFit p (WriteDevice address a) = IsDeviceAddress address

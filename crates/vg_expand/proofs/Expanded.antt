@@ -117,11 +117,10 @@ cut_simple w to = by_test (nat_lt w 4)
     by_test true = refl
     by_test false = refl
 
-shifting_simple : (r : ℕ) (rs : Registers) (width to : ℕ) (left a : Operand) (op : Operator) → needs_no_routine op (Known 0) ≡ true
-    → ((n : ℕ) → needs_no_routine op (Known n) ≡ needs_no_routine op (Known 0))
+shifting_simple : (r : ℕ) (rs : Registers) (width to : ℕ) (left a : Operand) (op : Operator) → needs_no_routine op ≡ true
     → are_simple (shifting r rs (record { operator = op; width = width; to = to; left = left; right = a }) a) ≡ true
-shifting_simple r rs width to left (Known n) op e h = both_true (needs_no_routine op (Known n)) true (h n ∙ e) refl
-shifting_simple r rs width to left (Local i) op e h = cut_simple width to
+shifting_simple r rs width to left (Known n) op e = both_true (needs_no_routine op) true e refl
+shifting_simple r rs width to left (Local i) op e = cut_simple width to
 
 -- what is said of every form of a product
 pub each_product : (P : List Instr → Type 0) (base : Base) (c : Computation) → ((a b : Operand) → P (calling base.first (Two (in_four a) (in_four b)) c))
@@ -175,8 +174,8 @@ computing_simple base width to left right Remainder = cut_simple width to
 computing_simple base width to left right And = refl
 computing_simple base width to left right Or = refl
 computing_simple base width to left right Xor = refl
-computing_simple base width to left right ShiftLeft = shifting_simple (base.first + 2) (Two (in_four left) (in_four right)) width to left right ShiftLeft refl (λ n. refl)
-computing_simple base width to left right ShiftRight = shifting_simple (base.first + 3) (Three (in_four left) (in_four right) (in_four (mask width))) width to left right ShiftRight refl (λ n. refl)
+computing_simple base width to left right ShiftLeft = shifting_simple (base.first + 2) (Two (in_four left) (in_four right)) width to left right ShiftLeft refl
+computing_simple base width to left right ShiftRight = shifting_simple (base.first + 3) (Three (in_four left) (in_four right) (in_four (mask width))) width to left right ShiftRight refl
 
 at_simple : (base : Base) (place : ℕ → ℕ) (i : Instr) → are_simple (expanded_at base place i) ≡ true
 at_simple base place (Plain (Copy to a)) = refl

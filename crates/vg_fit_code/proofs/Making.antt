@@ -8,8 +8,6 @@ use Rattle.vg_firm.specs.declared.step.Step.TheVariants.{Number, This, Local as 
 use Rattle.vg_firm.specs.declared.step.Step.TheVariants.{Load, Store, LoadAt, StoreAt, LoadNothing, StoreNothing, LoadItem, StoreItem, Length, IsWithin}
 use Rattle.vg_firm.specs.declared.step.Step.TheVariants.{StopUnlessWithin, Bind, BindFor, Call, CallFor, CallValue, Idle}
 use Rattle.vg_firm.specs.Program.{Procedure as FirmProcedure}
-use Rattle.vg_lin.specs.declared.instr.Operand.{Operand}
-use Rattle.vg_lin.specs.declared.instr.Operand.TheVariants.{Local, Known}
 use Rattle.vg_lin.specs.declared.instr.Operator.{Operator}
 use Rattle.vg_lin.specs.declared.instr.Operator.TheVariants.{Plus, Minus, Times, Divide, Remainder, And, Or, Xor, ShiftLeft, ShiftRight}
 use Rattle.vg_lin.specs.declared.instr.Plain.{Plain as PlainInstr}
@@ -165,24 +163,22 @@ module _ (p : Program) where
 clash : {A : Type 0} → false ≡ true → A
 clash e = absurd (cc)
 
-no_routine : (op : Operator) (a : Operand) → needs_no_routine op a ≡ true → IsExpanded op a
-no_routine Plus a e = tt
-no_routine Minus a e = tt
-no_routine Times a e = clash e
-no_routine Divide a e = clash e
-no_routine Remainder a e = clash e
-no_routine And a e = tt
-no_routine Or a e = tt
-no_routine Xor a e = tt
-no_routine ShiftLeft (Known n) e = tt
-no_routine ShiftLeft (Local i) e = clash e
-no_routine ShiftRight (Known n) e = tt
-no_routine ShiftRight (Local i) e = clash e
+no_routine : (op : Operator) → needs_no_routine op ≡ true → IsExpanded op
+no_routine Plus e = tt
+no_routine Minus e = tt
+no_routine Times e = clash e
+no_routine Divide e = clash e
+no_routine Remainder e = clash e
+no_routine And e = tt
+no_routine Or e = tt
+no_routine Xor e = tt
+no_routine ShiftLeft e = tt
+no_routine ShiftRight e = tt
 
 module _ (p : Program) where
   plain_fit : (q : PlainInstr) → is_simple (Plain q) ≡ true → IsPlainMade p q → IsPlainFit p q
   plain_fit (Copy to a) e h = tt
-  plain_fit (Compute c) e h = no_routine c.operator c.right e
+  plain_fit (Compute c) e h = no_routine c.operator e
   plain_fit (Product to a b) e h = tt
   plain_fit (DivideSteps r d a) e h = h
   plain_fit (Loads m w to a) e h = tt

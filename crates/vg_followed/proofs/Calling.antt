@@ -1,12 +1,11 @@
 -- Calls, matched by the machine.
-use Rattle.std.proofs.Common.{◌≡◌, ◌≢◌, ℕ, zero, suc, ◌+◌, ◌%◌, ◌<◌, ◌≤◌, inl, inr, Bool, true, false, ◌&&◌, ◌==◌, if◌then◌else◌, List, [], ◌∷◌, ◌++◌, length}
+use Rattle.std.proofs.Common.{◌≡◌, ℕ, zero, suc, ◌+◌, ◌%◌, ◌<◌, ◌≤◌, inl, inr, Bool, true, false, ◌&&◌, ◌==◌, if◌then◌else◌, List, [], ◌∷◌, ◌++◌, length}
 use Rattle.std.proofs.Common.{Option, Some, None, refl, sym, ap, ◌∙◌, subst, arith, append_assoc, length-append, slice_get}
 use Rattle.std.specs.Prelude.{reverse, nat_le}
 use Rattle.std.proofs.lemmas.List.{append-nil, reverse-append, length-reverse}
 use Rattle.std.specs.Prelude.{take, drop}
 use Rattle.std.specs.List.{AllByRecursion}
 use Rattle.vg_meaning.specs.Outside.{Outside}
-use Rattle.avr_instr.specs.declared.instr.Instr.TheVariants.{Movw}
 use Rattle.avr_isa.specs.Machine.{State as MachineState}
 use Rattle.avr_isa.specs.Standing.{widths, StandsAt, AllStandAt}
 use Rattle.avr_isa.proofs.Standing.{front_stands, back_stands, widths-append}
@@ -24,19 +23,16 @@ use Rattle.vg_lin.specs.Program.{Procedure, Program}
 use Rattle.vg_lin.specs.State.{State, Waiting, value}
 use Rattle.vg_lin.specs.Steps.{Result, Frame, Entry, Config, calls, fetch}
 use Rattle.vg_lin.specs.Values.{low}
-use Rattle.avr_view.specs.Registers.{pair, put}
+use Rattle.avr_view.specs.Registers.{pair}
 use Rattle.avr_view.specs.Run.{Run, Goes}
 use Rattle.avr_view.specs.View.{View}
 use Rattle.avr_view.proofs.Going.{goes_then, goes_fewer, goes_wider}
-use Rattle.vg_templates.specs.Layouts.{IsOwned}
 use Rattle.vg_templates.specs.Linkage.{prologue}
 use Rattle.vg_templates.specs.Frames.{bytes_of, wanted, needed}
-use Rattle.vg_templates.proofs.Numbers.{put_other, put_same}
 use Rattle.vg_templates.specs.Pieces.{Sees, Takes}
-use Rattle.vg_templates.specs.Held.{Held, brings, Brought}
-use Rattle.vg_templates.proofs.Composing.{takes_none, takes_then, takes_wider, takes_plain}
-use Rattle.vg_templates.proofs.Holding.{held_scratch}
-use Rattle.vg_templates.proofs.Holding.{takes_brings}
+use Rattle.vg_templates.specs.Held.{Held}
+use Rattle.vg_templates.specs.Pointers.{brings_z}
+use Rattle.vg_templates.proofs.Composing.{takes_none, takes_then, takes_wider}
 use Rattle.vg_templates.specs.Outcomes.{Lies}
 use Rattle.vg_templates.specs.Plain.{pushes_value}
 use Rattle.vg_templates.proofs.Storing.{takes_pushes_value}
@@ -52,6 +48,7 @@ use Rattle.vg_followed.proofs.Counting.{equal, stacked_bytes}
 use Rattle.vg_followed.specs.Followed.{IsLegal}
 use Rattle.vg_followed.proofs.Going.{at_rest}
 use Rattle.vg_followed.proofs.Places.{placed}
+use Rattle.vg_followed.proofs.Aiming.{BroughtZ, takes_brings_z}
 
 -- ---- what waits, with more pushed on it
 
@@ -357,36 +354,13 @@ module _ (e : Run) (x : Links) (p : Program) (st : Stands e x p) (deep : Type 0)
           → Takes e deep v (aims (x.places.layouts m) (ByCode a)) (λ t. Aims m live s frames (ByCode a) v.out t × Keeps v t)
       by_value None got f = absurd (let clash : None ≡ Some q = f in cc)
       by_value (Some y) got f =
-          let l = x.places.layouts m in
-          let goal = λ (t : View). Aims m live s frames (ByCode a) v.out t × Keeps v t in
-          takes_then e deep v (brings l a 26 2) (Movw 30 26 ∷ []) (Brought x.places m live s frames 26 2 y v) goal
-          (takes_brings x.places st.layouts m frames e deep live s a 26 2 y v can got (omega arith) (omega arith) k)
-          (λ u b.
-          let g = put (put u.regs 30 (u.regs.of 26)) 31 (u.regs.of 27) in
-          let w : View = record u { regs = g } in
-          let low' : g.of 30 ≡ u.regs.of 26 = put_other (put u.regs 30 (u.regs.of 26)) 31 (u.regs.of 27) 30 (omega arith) ∙ put_same u.regs 30 (u.regs.of 26) in
-          let high : g.of 31 ≡ u.regs.of 27 = put_same (put u.regs 30 (u.regs.of 26)) 31 (u.regs.of 27) in
-          let holds = b.fetched.holds in
-          takes_wider e deep u (Movw 30 26 ∷ []) (λ t. t ≡ w) goal
-          (λ t put'. subst goal (sym put') (
-            record {
-              lies =
-                  record {
-                    held = held_scratch x.places st.layouts m frames live s u w refl (λ r reliable. still u r reliable) (other u 1 (omega arith)) b.held;
-                    out = ap (λ (z : View). z.out) b.fetched.same;
-                  };
-              aimed = (y, (got, omega (arith, low', high, holds)));
-            },
-            λ z lo hi. other u z (omega (arith, hi)) ∙ b.fetched.others z (omega (arith, hi)) (inl hi),
+          takes_wider e deep v (brings_z (x.places.layouts m) a) (BroughtZ x.places m live s frames y v)
+          (λ t. Aims m live s frames (ByCode a) v.out t × Keeps v t)
+          (λ t b. (
+            record { lies = record { held = b.held; out = ap (λ (z : View). z.out) b.inside.same }; aimed = (y, (got, b.inside.pointer)) },
+            λ z lo hi. b.inside.others z (omega (arith, hi)) (inl hi),
           ))
-          (takes_plain e deep u (Movw 30 26 ∷ []) (tt, tt)))
-        where
-          other : (u : View) (r : ℕ) → r < 30 → (put (put u.regs 30 (u.regs.of 26)) 31 (u.regs.of 27)).of r ≡ u.regs.of r
-          other u r h = put_other (put u.regs 30 _) 31 _ r (let ne : r ≢ 31 = omega arith in ne) ∙ put_other u.regs 30 _ r (let ne : r ≢ 30 = omega arith in ne)
-
-          still : (u : View) (r : ℕ) → IsOwned r → (put (put u.regs 30 (u.regs.of 26)) 31 (u.regs.of 27)).of r ≡ u.regs.of r
-          still u r (inl h) = let up = h.1 in other u r (omega arith)
-          still u r (inr h) = other u r h.1
+          (takes_brings_z x.places st.layouts m frames e deep live s a y v can got k)
 
   -- where the call leads
   pub leads_there : (callee : Callee) (way : Way) (s : State) (place q : ℕ) (v : View) → CalleeLeads x callee way place → called p callee s ≡ Some q → Aimed callee s v

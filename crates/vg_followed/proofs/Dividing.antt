@@ -236,7 +236,7 @@ dividend_is r d x =
     by_test s false t false u = absurd (let more : x ≤ s = grind (arith, t) in let less : s < x = grind (arith, u) in omega (arith, less, more))
 
 -- another local stays
-other_local : (ls : List LocalState) (to x k : ℕ) → to ≢ k → value_in (slice_get (with_local ls to x) k) ≡ value_in (slice_get ls k)
+pub other_local : (ls : List LocalState) (to x k : ℕ) → to ≢ k → value_in (slice_get (with_local ls to x) k) ≡ value_in (slice_get ls k)
 other_local [] to x k ne = refl
 other_local (l ∷ ls) zero x zero ne = absurd (ne refl)
 other_local (l ∷ ls) zero x (suc k) ne = refl

@@ -152,7 +152,7 @@ module _ (e : Run) (deep : Type 0) where
       (λ bytes. takes_wider e deep v is (λ t. (t ≡ u) × ((r : ℕ) → r < 32 → t.regs.of r < 256)) goal
       (λ t k. subst goal (sym k.0) (made bytes (subst (λ (y : View). HoldBytes y.regs) k.0 k.1))) (takes_plain_bytes e deep v is plain))
 
-  takes_doubles : (d n : ℕ) (v : View) → d + n ≤ 32 → Takes e deep v (doubles d n) (Changed d n (2 * number v.regs d n % 256 ^ n) v)
+  pub takes_doubles : (d n : ℕ) (v : View) → d + n ≤ 32 → Takes e deep v (doubles d n) (Changed d n (2 * number v.regs d n % 256 ^ n) v)
   takes_doubles d zero v hi =
       takes_none e deep v (Changed d 0 (2 * number v.regs d 0 % 256 ^ 0) v) (record { holds = omega arith; others = λ r h. refl; same = refl })
   takes_doubles d (suc n) v hi =
@@ -169,7 +169,7 @@ module _ (e : Run) (deep : Type 0) where
         same = refl;
       })
 
-  takes_halves : (d n : ℕ) (v : View) → Takes e deep v (halves d n) (Changed d n (number v.regs d n / 2) v)
+  pub takes_halves : (d n : ℕ) (v : View) → Takes e deep v (halves d n) (Changed d n (number v.regs d n / 2) v)
   takes_halves d zero v = takes_none e deep v (Changed d 0 (number v.regs d 0 / 2) v) (record { holds = omega arith; others = λ r h. refl; same = refl })
   takes_halves d (suc n) v =
       takes_change (halves d (suc n)) d (suc n) (number v.regs d (suc n) / 2) v (halves-plain d (suc n))

@@ -26,13 +26,15 @@ use Rattle.vg_templates.specs.Frames.{Places}
 use Rattle.vg_templates.specs.Pieces.{Sees, Takes}
 use Rattle.vg_templates.specs.Held.{Held}
 use Rattle.vg_templates.specs.Outcomes.{Lies}
-use Rattle.vg_templates.specs.Straight.{pushed_by}
+use Rattle.vg_templates.specs.Plain.{computes}
+use Rattle.vg_templates.specs.Straight.{pushed_by, IsCovered}
 use Rattle.vg_templates.proofs.Joining.{takes_plain_code}
 use Rattle.vg_templates.specs.Plains.{computation_code, plain_template}
 use Rattle.vg_followed.proofs.Shifting.{takes_shifts_left, takes_shifts_right}
 use Rattle.vg_followed.proofs.Multiplying.{takes_multiplies}
 use Rattle.vg_followed.proofs.Made.{IsMade, same_state, same_outside, used, some_same}
-use Rattle.vg_followed.proofs.Turning.{goes_divides}
+use Rattle.vg_followed.proofs.DividingInPlace.{goes_divides}
+use Rattle.vg_followed.proofs.CountingDown.{goes_shifts_left, goes_shifts_right}
 use Rattle.vg_followed.specs.Tables.{HoldsTables}
 use Rattle.vg_followed.proofs.Reading.{takes_loads_table}
 use Rattle.vg_followed.proofs.Finding.{goes_finds_procedure}
@@ -53,51 +55,87 @@ module _ (i : Places) (ok : (m : ℕ) → IsLayout (i.layouts m)) (m : ℕ) (fra
     ended behind is v s s' o o' made go =
         subst (λ x. Leads behind is v x o') (same_state s s' o o' made) (subst (λ x. Leads behind is v s x) (same_outside s s' o o' made) go)
 
+    -- from code that takes each of its instructions
+    by_takes : (is : List Instr) (v : View) (K : View → Type 0) (pc : ℕ) (t : MachineState) → Takes e deep v is K → AllStandAt e.flash pc is
+        → pc + widths is < 65536 → 1 ≤ length is → At e pc v t → Goes e deep 1 t (Sees e K (pc + widths is))
+    by_takes is v K pc t piece stand room some a = goes_fewer e deep (length is) 1 t (Sees e K (pc + widths is)) some (piece pc t stand room a)
+
+    -- what the code of a computation comes to
+    abbrev Ends : (behind : ℕ → Bool) → List Instr → View → State → Outside → Type 0
+    Ends behind is v s' o' =
+        (pc : ℕ) (t : MachineState) → AllStandAt e.flash pc is → pc + widths is < 65536 → 1 ≤ length is → At e pc v t
+        → Goes e deep 1 t (Sees e (Lies i m behind s' frames o') (pc + widths is))
+
+    taken : (behind : ℕ → Bool) (is : List Instr) (v : View) (s' : State) (o' : Outside) → Leads behind is v s' o' → Ends behind is v s' o'
+    taken behind is v s' o' piece pc t = by_takes is v (Lies i m behind s' frames o') pc t piece
+
+    came : (behind : ℕ → Bool) (is : List Instr) (v : View) (s s' : State) (o o' : Outside) → IsMade (GoesOn s o) s' o' → Ends behind is v s o
+        → Ends behind is v s' o'
+    came behind is v s s' o o' made go =
+        subst (λ x. Ends behind is v x o') (same_state s s' o o' made) (subst (λ x. Ends behind is v s x) (same_outside s s' o o' made) go)
+
+    bytewise : (live behind : ℕ → Bool) (c : Computation) (s s' : State) (o' : Outside) (v : View) → plain p (Compute c) s v.out ≡ GoesOn s' o'
+        → IsCovered (i.layouts m) live behind (Compute c) → Front e o' → (0x1100 < e.floor + length v.stack + 0 → deep) → Held i m live s frames v
+        → Ends behind (computes (i.layouts m) c) v s' o'
+    bytewise live behind c s s' o' v made can front full k =
+        taken behind (computes (i.layouts m) c) v s' o' (takes_plain_code i ok m frames e deep p live behind (Compute c) s s' o' v made can front full k)
+
     -- computations by their operators
-    takes_computation : (live behind : ℕ → Bool) (c : Computation) (o : Operator) (a : Operand) (s s' : State) (o' : Outside) (v : View)
+    goes_computation : (live behind : ℕ → Bool) (c : Computation) (o : Operator) (a : Operand) (s s' : State) (o' : Outside) (v : View)
         → c.operator ≡ o → c.right ≡ a → plain p (Compute c) s v.out ≡ GoesOn s' o' → CanCompute (i.layouts m) live behind c o a → Front e o'
-        → (0x1100 < e.floor + length v.stack + 0 → deep) → Held i m live s frames v → Leads behind (computation_code (i.layouts m) c o a) v s' o'
-    takes_computation live behind c Plus a s s' o' v op right made can front full k =
-        takes_plain_code i ok m frames e deep p live behind (Compute c) s s' o' v made can front full k
-    takes_computation live behind c Minus a s s' o' v op right made can front full k =
-        takes_plain_code i ok m frames e deep p live behind (Compute c) s s' o' v made can front full k
-    takes_computation live behind c Times a s s' o' v op right made can front full k =
-        takes_plain_code i ok m frames e deep p live behind (Compute c) s s' o' v made can front full k
-    takes_computation live behind c Divide a s s' o' v op right made can front full k =
-        takes_plain_code i ok m frames e deep p live behind (Compute c) s s' o' v made can front full k
-    takes_computation live behind c Remainder a s s' o' v op right made can front full k =
-        takes_plain_code i ok m frames e deep p live behind (Compute c) s s' o' v made can front full k
-    takes_computation live behind c And a s s' o' v op right made can front full k =
-        takes_plain_code i ok m frames e deep p live behind (Compute c) s s' o' v made can front full k
-    takes_computation live behind c Or a s s' o' v op right made can front full k =
-        takes_plain_code i ok m frames e deep p live behind (Compute c) s s' o' v made can front full k
-    takes_computation live behind c Xor a s s' o' v op right made can front full k =
-        takes_plain_code i ok m frames e deep p live behind (Compute c) s s' o' v made can front full k
-    takes_computation live behind c ShiftLeft (Local j) s s' o' v op right made can front full k =
-        takes_plain_code i ok m frames e deep p live behind (Compute c) s s' o' v made can front full k
-    takes_computation live behind c ShiftRight (Local j) s s' o' v op right made can front full k =
-        takes_plain_code i ok m frames e deep p live behind (Compute c) s s' o' v made can front full k
-    takes_computation live behind c ShiftLeft (Known n) s s' o' v op right made can front full k =
+        → (0x1100 < e.floor + length v.stack + 0 → deep) → Held i m live s frames v → Ends behind (computation_code (i.layouts m) c o a) v s' o'
+    goes_computation live behind c Plus a s s' o' v op right made can front full k = bytewise live behind c s s' o' v made can front full k
+    goes_computation live behind c Minus a s s' o' v op right made can front full k = bytewise live behind c s s' o' v made can front full k
+    goes_computation live behind c Times a s s' o' v op right made can front full k = bytewise live behind c s s' o' v made can front full k
+    goes_computation live behind c Divide a s s' o' v op right made can front full k = bytewise live behind c s s' o' v made can front full k
+    goes_computation live behind c Remainder a s s' o' v op right made can front full k = bytewise live behind c s s' o' v made can front full k
+    goes_computation live behind c And a s s' o' v op right made can front full k = bytewise live behind c s s' o' v made can front full k
+    goes_computation live behind c Or a s s' o' v op right made can front full k = bytewise live behind c s s' o' v made can front full k
+    goes_computation live behind c Xor a s s' o' v op right made can front full k = bytewise live behind c s s' o' v made can front full k
+    goes_computation live behind c ShiftLeft (Local j) s s' o' v op right made can front full k =
+        let go = λ (z : ℕ). GoesOn (sets c.to z s) v.out in
+        let both = λ (x y : ℕ). using (computed c.operator c.width x y) go in
+        let (x, (got, more)) = used (value c.left s) (λ x. using (value c.right s) (both x)) s' o' made in
+        let (y, (got', more')) = used (value c.right s) (both x) s' o' more in
+        let (z, (is, last)) = used (computed c.operator c.width x y) go s' o' more' in
+        let what : computed ShiftLeft c.width x y ≡ Some z = sym (ap (λ j. computed j c.width x y) op) ∙ is in
+        let amount : value (Local j) s ≡ Some y = sym (ap (λ a. value a s) right) ∙ got' in
+        came behind (computation_code (i.layouts m) c ShiftLeft (Local j)) v (sets c.to z s) s' v.out o' last
+        (λ pc t stand room some at.
+        goes_shifts_left i ok m frames e deep live behind s c.width c.to c.left j x y z v can.0.1 can.1.0.0 can.1.0.1 can.1.1 got amount what k
+        pc t stand room at)
+    goes_computation live behind c ShiftRight (Local j) s s' o' v op right made can front full k =
+        let go = λ (z : ℕ). GoesOn (sets c.to z s) v.out in
+        let both = λ (x y : ℕ). using (computed c.operator c.width x y) go in
+        let (x, (got, more)) = used (value c.left s) (λ x. using (value c.right s) (both x)) s' o' made in
+        let (y, (got', more')) = used (value c.right s) (both x) s' o' more in
+        let (z, (is, last)) = used (computed c.operator c.width x y) go s' o' more' in
+        let what : computed ShiftRight c.width x y ≡ Some z = sym (ap (λ j. computed j c.width x y) op) ∙ is in
+        let amount : value (Local j) s ≡ Some y = sym (ap (λ a. value a s) right) ∙ got' in
+        came behind (computation_code (i.layouts m) c ShiftRight (Local j)) v (sets c.to z s) s' v.out o' last
+        (λ pc t stand room some at.
+        goes_shifts_right i ok m frames e deep live behind s c.width c.to c.left j x y z v can.0.1 can.1.0.0 can.1.0.1 can.1.1 got amount what k
+        pc t stand room at)
+    goes_computation live behind c ShiftLeft (Known n) s s' o' v op right made can front full k =
         let (x, (got, more)) = used (value c.left s) (λ x. using (value c.right s) (λ y. using (computed c.operator c.width x y) (λ z. GoesOn (sets c.to z s) v.out))) s' o' made in
         let (y, (got', more')) = used (value c.right s) (λ y. using (computed c.operator c.width x y) (λ z. GoesOn (sets c.to z s) v.out)) s' o' more in
         let (z, (is, last)) = used (computed c.operator c.width x y) (λ z. GoesOn (sets c.to z s) v.out) s' o' more' in
         let amount : y ≡ n = sym (some_same n y (sym (ap (λ a. value a s) right) ∙ got')) in
         let what : computed ShiftLeft c.width x n ≡ Some z = sym (ap (λ j. computed j c.width x y) op ∙ ap (computed ShiftLeft c.width x) amount) ∙ is in
-        ended behind (computation_code (i.layouts m) c ShiftLeft (Known n)) v (sets c.to z s) s' v.out o' last
-        (takes_shifts_left i ok m frames e deep live behind s c.width c.to c.left n x z v can.0.1 can.1.0 can.1.1 got what k)
-    takes_computation live behind c ShiftRight (Known n) s s' o' v op right made can front full k =
+        let code = computation_code (i.layouts m) c ShiftLeft (Known n) in
+        taken behind code v s' o'
+        (ended behind code v (sets c.to z s) s' v.out o' last
+        (takes_shifts_left i ok m frames e deep live behind s c.width c.to c.left n x z v can.0.1 can.1.0 can.1.1 got what k))
+    goes_computation live behind c ShiftRight (Known n) s s' o' v op right made can front full k =
         let (x, (got, more)) = used (value c.left s) (λ x. using (value c.right s) (λ y. using (computed c.operator c.width x y) (λ z. GoesOn (sets c.to z s) v.out))) s' o' made in
         let (y, (got', more')) = used (value c.right s) (λ y. using (computed c.operator c.width x y) (λ z. GoesOn (sets c.to z s) v.out)) s' o' more in
         let (z, (is, last)) = used (computed c.operator c.width x y) (λ z. GoesOn (sets c.to z s) v.out) s' o' more' in
         let amount : y ≡ n = sym (some_same n y (sym (ap (λ a. value a s) right) ∙ got')) in
         let what : computed ShiftRight c.width x n ≡ Some z = sym (ap (λ j. computed j c.width x y) op ∙ ap (computed ShiftRight c.width x) amount) ∙ is in
-        ended behind (computation_code (i.layouts m) c ShiftRight (Known n)) v (sets c.to z s) s' v.out o' last
-        (takes_shifts_right i ok m frames e deep live behind s c.width c.to c.left n x z v can.0.1 can.1.0 can.1.1 got what k)
-
-    -- from code that takes each of its instructions
-    by_takes : (is : List Instr) (v : View) (K : View → Type 0) (pc : ℕ) (t : MachineState) → Takes e deep v is K → AllStandAt e.flash pc is
-        → pc + widths is < 65536 → 1 ≤ length is → At e pc v t → Goes e deep 1 t (Sees e K (pc + widths is))
-    by_takes is v K pc t piece stand room some a = goes_fewer e deep (length is) 1 t (Sees e K (pc + widths is)) some (piece pc t stand room a)
+        let code = computation_code (i.layouts m) c ShiftRight (Known n) in
+        taken behind code v s' o'
+        (ended behind code v (sets c.to z s) s' v.out o' last
+        (takes_shifts_right i ok m frames e deep live behind s c.width c.to c.left n x z v can.0.1 can.1.0 can.1.1 got what k))
 
     module _ (tables : HoldsTables e.flash p.tables) where
       table_there : (s : State) (w address z : ℕ) → loaded p Flash s w (index_of Flash address) ≡ Some z
@@ -145,8 +183,7 @@ module _ (i : Places) (ok : (m : ℕ) → IsLayout (i.layouts m)) (m : ℕ) (fra
           by_takes (plain_template (i.layouts m) p q) v (Lies i m behind s' frames o') pc t
           (takes_plain_code i ok m frames e deep p live behind q s s' o' v made can front full k) stand room some h
       goes_plain live behind (Compute c) s s' o' v pc t made can front full k stand room some h =
-          by_takes (plain_template (i.layouts m) p (Compute c)) v (Lies i m behind s' frames o') pc t
-          (takes_computation live behind c c.operator c.right s s' o' v refl refl made can front full k) stand room some h
+          goes_computation live behind c c.operator c.right s s' o' v refl refl made can front full k pc t stand room some h
       goes_plain live behind (Product to a b) s s' o' v pc t made can front full k stand room some h =
           let is = plain_template (i.layouts m) p (Product to a b) in
           let (x, (got, more)) = used (value a s) (λ x. using (value b s) (λ y. GoesOn (sets to (low 1 x * low 1 y) s) v.out)) s' o' made in

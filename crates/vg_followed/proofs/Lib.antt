@@ -1,7 +1,9 @@
+pub mod Aiming
 pub mod Reading
 pub mod Finding
 pub mod Bits
 pub mod Doubling
+pub mod Above
 pub mod Shifting
 pub mod Popping
 pub mod Working
@@ -10,6 +12,9 @@ pub mod Dividing
 pub mod Made
 pub mod Words
 pub mod Turning
+pub mod StepsInPlace
+pub mod DividingInPlace
+pub mod CountingDown
 pub mod Joining
 pub mod Counting
 pub mod Doing

@@ -2,7 +2,7 @@
 use Rattle.std.proofs.Common.{◌≡◌, ◌≢◌, ℕ, zero, suc, ◌+◌, ◌-◌, ◌*◌, ◌/◌, ◌%◌, ◌<◌, ◌≤◌, ◌⊎◌, inl, inr, List, [], ◌∷◌, ◌++◌}
 use Rattle.std.proofs.Common.{Bool, true, false, ◌==◌, if◌then◌else◌}
 use Rattle.std.proofs.Common.{length, Some, refl, sym, ap, ◌∙◌, subst, arith, slice_index}
-use Rattle.avr_instr.specs.declared.instr.Instr.TheVariants.{Movw, Sbci, Subi}
+use Rattle.avr_instr.specs.declared.instr.Instr.TheVariants.{Sbci, Subi}
 use Rattle.avr_isa.specs.Cpu.{flash_byte}
 use Rattle.vg_lin.specs.declared.instr.Memory.TheVariants.{Flash}
 use Rattle.vg_lin.specs.declared.instr.Operand.{Operand}
@@ -20,10 +20,11 @@ use Rattle.vg_templates.proofs.Numbers.{put_other, put_same}
 use Rattle.vg_templates.specs.Pieces.{Takes}
 use Rattle.vg_templates.specs.Transfers.{known}
 use Rattle.vg_templates.specs.Transferred.{Fetched}
-use Rattle.vg_templates.specs.Held.{Held, IsReady, IsSet, brings, Brought}
+use Rattle.vg_templates.specs.Held.{Held, IsReady, IsSet}
+use Rattle.vg_templates.specs.Pointers.{brings_z}
 use Rattle.vg_templates.specs.Homes.{home_of, made_in, settles}
-use Rattle.vg_templates.proofs.Composing.{takes_then, takes_wider, takes_bytes, takes_plain}
-use Rattle.vg_templates.proofs.Holding.{held_scratch, takes_brings}
+use Rattle.vg_templates.proofs.Composing.{takes_none, takes_then, takes_wider, takes_bytes, takes_plain}
+use Rattle.vg_templates.proofs.Holding.{held_scratch}
 use Rattle.vg_templates.proofs.Settling.{Made, home_is, made_low, takes_settles}
 use Rattle.vg_templates.proofs.Spotting.{takes_known}
 use Rattle.vg_templates.specs.Outcomes.{Lies}
@@ -31,6 +32,7 @@ use Rattle.vg_templates.specs.Accesses.{plus_base}
 use Rattle.vg_templates.proofs.Pointing.{some_there}
 use Rattle.vg_templates.specs.Lookups.{points_z, loads_z, loads_table}
 use Rattle.vg_followed.specs.Tables.{HoldsTables}
+use Rattle.vg_followed.proofs.Aiming.{BroughtZ, takes_brings_z}
 
 -- ---- the bytes
 
@@ -107,61 +109,40 @@ module _ (i : Places) (ok : (m : ℕ) → IsLayout (i.layouts m)) (m : ℕ) (fra
       agree r (inl h) = let up = h.1 in others r (omega arith) (inl up)
       agree r (inr h) = others r h.1 (inr h.0)
 
-  takes_some : (live : ℕ → Bool) (s : State) (base x : ℕ) (v : View) → 0 < base → base + x < 65536 → pair v.regs 26 ≡ x → Held i m live s frames v
-      → Takes e deep v (Movw 30 26 ∷ Subi 30 ((65536 - base) % 256) ∷ Sbci 31 ((65536 - base) / 256) ∷ []) (Pointed i m live s frames (base + x) v)
+  takes_some : (live : ℕ → Bool) (s : State) (base x : ℕ) (v : View) → 0 < base → base + x < 65536 → pair v.regs 30 ≡ x → Held i m live s frames v
+      → Takes e deep v (Subi 30 ((65536 - base) % 256) ∷ Sbci 31 ((65536 - base) / 256) ∷ []) (Pointed i m live s frames (base + x) v)
   takes_some live s base x v some room at k =
-      let is = Movw 30 26 ∷ Subi 30 ((65536 - base) % 256) ∷ Sbci 31 ((65536 - base) / 256) ∷ [] in
+      let is = Subi 30 ((65536 - base) % 256) ∷ Sbci 31 ((65536 - base) / 256) ∷ [] in
       let u : View = record v { regs = does_all e.flash is v.regs } in
       let goal = Pointed i m live s frames (base + x) v in
       takes_bytes e deep v is goal
-      (λ bytes. takes_wider e deep v is (λ t. t ≡ u) goal (λ t put. subst goal (sym put) (pointed (bytes 26 (omega arith)) (bytes 27 (omega arith))))
-      (takes_plain e deep v is (tt, (tt, (tt, tt)))))
+      (λ bytes. takes_wider e deep v is (λ t. t ≡ u) goal (λ t put. subst goal (sym put) (pointed (bytes 30 (omega arith)) (bytes 31 (omega arith))))
+      (takes_plain e deep v is (tt, (tt, tt))))
     where
-      pointed : v.regs.of 26 < 256 → v.regs.of 27 < 256
+      pointed : v.regs.of 30 < 256 → v.regs.of 31 < 256
           → Pointed i m live s frames (base + x) v
-          (record v { regs = does_all e.flash (Movw 30 26 ∷ Subi 30 ((65536 - base) % 256) ∷ Sbci 31 ((65536 - base) / 256) ∷ []) v.regs })
+          (record v { regs = does_all e.flash (Subi 30 ((65536 - base) % 256) ∷ Sbci 31 ((65536 - base) / 256) ∷ []) v.regs })
       pointed a b =
-          let sum = borrowed (v.regs.of 26) (v.regs.of 27) (65536 - base) a b (omega arith) in
+          let sum = borrowed (v.regs.of 30) (v.regs.of 31) (65536 - base) a b (omega arith) in
           record {
             held =
                 by_scratch live s v
-                (record v { regs = does_all e.flash (Movw 30 26 ∷ Subi 30 ((65536 - base) % 256) ∷ Sbci 31 ((65536 - base) / 256) ∷ []) v.regs })
-                (λ r low beside.
-                put_other (put (put (put v.regs 30 _) 31 _) 30 _) 31 _ r (omega arith)
-                ∙ put_other (put (put v.regs 30 _) 31 _) 30 _ r (omega arith)
-                ∙ put_other (put v.regs 30 _) 31 _ r (omega arith)
-                ∙ put_other v.regs 30 _ r (omega arith)) refl k;
+                (record v { regs = does_all e.flash (Subi 30 ((65536 - base) % 256) ∷ Sbci 31 ((65536 - base) / 256) ∷ []) v.regs })
+                (λ r low beside. put_other (put v.regs 30 _) 31 _ r (omega arith) ∙ put_other v.regs 30 _ r (omega arith)) refl k;
             pointer = omega (arith, sum, at);
             out = refl;
           }
 
   -- the base 0 is not added
-  takes_none_added : (live : ℕ → Bool) (s : State) (x : ℕ) (v : View) → pair v.regs 26 ≡ x → Held i m live s frames v
-      → Takes e deep v (Movw 30 26 ∷ []) (Pointed i m live s frames x v)
-  takes_none_added live s x v at k =
-      let is = Movw 30 26 ∷ [] in
-      let u : View = record v { regs = does_all e.flash is v.regs } in
-      let goal = Pointed i m live s frames x v in
-      takes_wider e deep v is (λ t. t ≡ u) goal (λ t put. subst goal (sym put) pointed) (takes_plain e deep v is (tt, tt))
-    where
-      pointed : Pointed i m live s frames x v (record v { regs = does_all e.flash (Movw 30 26 ∷ []) v.regs })
-      pointed =
-          record {
-            held =
-                by_scratch live s v (record v { regs = does_all e.flash (Movw 30 26 ∷ []) v.regs })
-                (λ r low beside. put_other (put v.regs 30 _) 31 _ r (omega arith) ∙ put_other v.regs 30 _ r (omega arith)) refl k;
-            pointer = at;
-            out = refl;
-          }
-
-  takes_base : (live : ℕ → Bool) (s : State) (base x : ℕ) (v : View) → base + x < 65536 → pair v.regs 26 ≡ x → Held i m live s frames v
-      → Takes e deep v (Movw 30 26 ∷ plus_base 30 base) (Pointed i m live s frames (base + x) v)
+  takes_base : (live : ℕ → Bool) (s : State) (base x : ℕ) (v : View) → base + x < 65536 → pair v.regs 30 ≡ x → Held i m live s frames v
+      → Takes e deep v (plus_base 30 base) (Pointed i m live s frames (base + x) v)
   takes_base live s base x v room at k = by_test (base == 0) refl
     where
       by_test : (b : Bool) → (base == 0) ≡ b
-          → Takes e deep v (Movw 30 26 ∷ (if b then [] else Subi 30 ((65536 - base) % 256) ∷ Sbci 31 ((65536 - base) / 256) ∷ []))
-          (Pointed i m live s frames (base + x) v)
-      by_test true q = let none : base ≡ 0 = grind (arith, q) in takes_none_added live s (base + x) v (omega (arith, at, none)) k
+          → Takes e deep v (if b then [] else Subi 30 ((65536 - base) % 256) ∷ Sbci 31 ((65536 - base) / 256) ∷ []) (Pointed i m live s frames (base + x) v)
+      by_test true q =
+          let none : base ≡ 0 = grind (arith, q) in
+          takes_none e deep v (Pointed i m live s frames (base + x) v) (record { held = k; pointer = omega (arith, at, none); out = refl })
       by_test false q = let some : 0 < base = grind (arith, q) in takes_some live s base x v some room at k
 
   takes_points : (live : ℕ → Bool) (s : State) (base x : ℕ) (a : Operand) (v : View) → base + x < 65536 → IsReady (i.layouts m) live a
@@ -182,15 +163,15 @@ module _ (i : Places) (ok : (m : ℕ) → IsLayout (i.layouts m)) (m : ℕ) (fra
       some_same y x e1 = cc
   takes_points live s base x (Local j) v room ready got k =
       let l = i.layouts m in
-      let js = Movw 30 26 ∷ plus_base 30 base in
+      let js = plus_base 30 base in
       let goal = Pointed i m live s frames (base + x) v in
-      takes_then e deep v (brings l (Local j) 26 2) js (Brought i m live s frames 26 2 x v) goal
-      (takes_brings i ok m frames e deep live s (Local j) 26 2 x v ready got (omega arith) (omega arith) k)
+      takes_then e deep v (brings_z l (Local j)) js (BroughtZ i m live s frames x v) goal
+      (takes_brings_z i ok m frames e deep live s (Local j) x v ready got k)
       (λ u b.
-      let holds = b.fetched.holds in
+      let pointer = b.inside.pointer in
       takes_wider e deep u js (Pointed i m live s frames (base + x) u) goal
-      (λ t p. record { held = p.held; pointer = p.pointer; out = p.out ∙ ap (λ (q : View). q.out) b.fetched.same })
-      (takes_base live s base x u room (omega (arith, holds)) b.held))
+      (λ t p. record { held = p.held; pointer = p.pointer; out = p.out ∙ ap (λ (q : View). q.out) b.inside.same })
+      (takes_base live s base x u room (omega (arith, pointer, room)) b.held))
 
   pub takes_loads_table : (tables : List ℕ) (live behind : ℕ → Bool) (s : State) (w to base : ℕ) (index : Operand) (x z : ℕ) (v : View)
       → HoldsTables e.flash tables → 0 < w → w ≤ 4 → first_address Flash ≤ base + x → IsReady (i.layouts m) live index

@@ -1,4 +1,4 @@
--- The template of a division: its turns, one behind another.
+-- The template of a division whose values go through scratch registers: its turns, one behind another.
 use Rattle.std.proofs.Common.{◌≡◌, ◌≢◌, ℕ, zero, suc, ◌+◌, ◌-◌, ◌%◌, ◌^◌, ◌<◌, ◌≤◌, inl, inr, Bool, true, false, ◌==◌, nat_lt, if◌then◌else◌}
 use Rattle.std.proofs.Common.{List, [], ◌∷◌, ◌++◌, length, Some, refl, sym, ap, ◌∙◌, subst, arith, append_assoc, length-append, slice_index}
 use Rattle.std.proofs.Math.Nat.{pow-le-pow_right}
@@ -25,7 +25,7 @@ use Rattle.vg_templates.specs.Frames.{Places}
 use Rattle.vg_templates.specs.Pieces.{Sees, Takes}
 use Rattle.vg_templates.specs.Held.{Held, IsReady}
 use Rattle.vg_templates.specs.Outcomes.{Lies}
-use Rattle.vg_templates.specs.Products.{divides_once, turns_back, divides_steps}
+use Rattle.vg_templates.specs.Products.{divides_once, turns_back, divides_through}
 use Rattle.vg_templates.proofs.Accessing.{read_within}
 use Rattle.vg_templates.proofs.Bytes.{takes_cells, read_small, number_small}
 use Rattle.vg_templates.proofs.Composing.{takes_then, takes_bytes}
@@ -37,7 +37,7 @@ use Rattle.vg_followed.proofs.Working.{Works, SameBut, works_block}
 use Rattle.vg_followed.proofs.Words.{IsShort, once_short}
 use Rattle.vg_followed.proofs.Dividing.{takes_divides_once}
 
-steps_count : division_steps ≡ 32
+pub steps_count : division_steps ≡ 32
 unfolding division_steps
 steps_count = refl
 
@@ -46,10 +46,10 @@ steps_count = refl
 one_less : (x left : ℕ) → x ≡ suc left → suc left < 256 → (x + 255) % 256 ≡ left
 one_less x left h low = omega (arith, h, low)
 
-is_none : (0 == 0) ≡ true
+pub is_none : (0 == 0) ≡ true
 is_none = refl
 
-is_some : (n : ℕ) → (suc n == 0) ≡ false
+pub is_some : (n : ℕ) → (suc n == 0) ≡ false
 is_some n = grind arith
 
 dec_others : (flash : List ℕ) (g : Regs) → SameBut 18 10 g (does_all flash (Dec 27 ∷ []) g)
@@ -73,7 +73,7 @@ back_to pc n few room =
 
 module _ (i : Places) (ok : (m : ℕ) → IsLayout (i.layouts m)) (m : ℕ) (frames : List (Frame State)) (e : Run) (deep : Type 0) where
   -- the value of an operand has four bytes
-  takes_four_bytes : (live : ℕ → Bool) (s : State) (a : Operand) (x : ℕ) (v : View) (is : List Instr) (K : View → Type 0) → IsReady (i.layouts m) live a
+  pub takes_four_bytes : (live : ℕ → Bool) (s : State) (a : Operand) (x : ℕ) (v : View) (is : List Instr) (K : View → Type 0) → IsReady (i.layouts m) live a
       → IsFourBytes a → value a s ≡ Some x → Held i m live s frames v → (x < 256 ^ 4 → Takes e deep v is K) → Takes e deep v is K
   takes_four_bytes live s (Known y) x v is K ready narrow got k h = h (subst (λ z. z < 256 ^ 4) (some_same y x got) narrow)
   takes_four_bytes live s (Local j) x v is K ready narrow got k h =
@@ -224,12 +224,12 @@ module _ (i : Places) (ok : (m : ℕ) → IsLayout (i.layouts m)) (m : ℕ) (fra
         (record { held = k.held; facts = (tt, k.facts.0); out = k.out }) stand room (subst (λ n. At e n u h) back j)))))
 
     -- the whole template
-    pub goes_divides : (s s' : State) (o' : Outside) (v : View) (pc : ℕ) (t : MachineState) → divides division_steps r d a s v.out ≡ GoesOn s' o'
-        → Held i m live s frames v → AllStandAt e.flash pc (divides_steps (i.layouts m) r d a) → pc + widths (divides_steps (i.layouts m) r d a) < 65536
-        → At e pc v t → Goes e deep 1 t (Sees e (Lies i m behind s' frames o') (pc + widths (divides_steps (i.layouts m) r d a)))
-    goes_divides s s' o' v pc t made held stand room at =
-        let goal = Sees e (Lies i m behind s' frames o') (pc + widths (divides_steps (i.layouts m) r d a)) in
-        let last : pc + 1 + widths loop ≡ pc + widths (divides_steps (i.layouts m) r d a) = omega arith in
+    pub goes_through : (s s' : State) (o' : Outside) (v : View) (pc : ℕ) (t : MachineState) → divides division_steps r d a s v.out ≡ GoesOn s' o'
+        → Held i m live s frames v → AllStandAt e.flash pc (divides_through (i.layouts m) r d a) → pc + widths (divides_through (i.layouts m) r d a) < 65536
+        → At e pc v t → Goes e deep 1 t (Sees e (Lies i m behind s' frames o') (pc + widths (divides_through (i.layouts m) r d a)))
+    goes_through s s' o' v pc t made held stand room at =
+        let goal = Sees e (Lies i m behind s' frames o') (pc + widths (divides_through (i.layouts m) r d a)) in
+        let last : pc + 1 + widths loop ≡ pc + widths (divides_through (i.layouts m) r d a) = omega arith in
         goes_fewer e deep (1 + 1) 1 t goal (omega arith)
         (goes_then e deep 1 1 t (Sees e (Between 32 s v.out) (pc + 1)) goal
         (works_block i ok m frames e deep live s v.out (λ g. Unit {0}) (λ g. Unit {0} × (g.of 27 ≡ 32)) (Ldi 27 32 ∷ []) (tt, tt)

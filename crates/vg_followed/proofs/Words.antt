@@ -10,7 +10,7 @@ use Rattle.vg_lin.specs.declared.instr.Operand.{Operand}
 use Rattle.vg_lin.specs.declared.instr.Operand.TheVariants.{Local, Known}
 use Rattle.vg_templates.specs.Spots.{Spot, InFrame, InRegisters}
 use Rattle.vg_templates.specs.Layouts.{Layout, IsLayout, width_of}
-use Rattle.vg_templates.specs.Transfers.{clears, known, moves_two, moves, loads, stores, reach_by, reach, fetch, keep}
+use Rattle.vg_templates.specs.Transfers.{clears, known, is_twice, known_by, moves_two, moves, loads, stores, reach_by, reach, fetch, keep}
 use Rattle.vg_templates.specs.Held.{brings, gives}
 use Rattle.vg_templates.specs.Chains.{adds, ands, subtracts}
 use Rattle.vg_templates.specs.Shifts.{doubles_on}
@@ -49,6 +49,10 @@ clears_short d (suc n) = one (Mov d 1) n (clears (suc d) n) refl (clears_short (
 known_short : (d n x : ℕ) → IsShort n (known d n x)
 known_short d zero x = none 0
 known_short d (suc n) x = one (Ldi d (x % 256)) n (known (suc d) n (x / 256)) refl (known_short (suc d) n (x / 256))
+
+by_short : (b : Bool) (d n x : ℕ) → IsShort (3 + n) (known_by b d n x)
+by_short true d n x = record { words = refl; few = omega arith }
+by_short false d n x = wider n (3 + n) (known d n x) (omega arith) (known_short d n x)
 
 moves_two_short : (r d : ℕ) → IsShort 2 (moves_two r d)
 moves_two_short r d = by_test ((r % 2 == 0) && (d % 2 == 0))
@@ -100,7 +104,7 @@ keep_short (InFrame at) w r n =
 module _ (l : Layout) (ok : IsLayout l) where
   brings_short : (a : Operand) (d n : ℕ) → IsShort (3 + n) (brings l a d n)
   brings_short (Local k) d n = fetch_short (l.spots k) (width_of l k) d n
-  brings_short (Known x) d n = wider n (3 + n) (known d n x) (omega arith) (known_short d n x)
+  brings_short (Known x) d n = by_short (is_twice d n x) d n x
 
   gives_short : (to r n : ℕ) → to < length l.widths → IsShort 7 (gives l to r n)
   gives_short to r n h =

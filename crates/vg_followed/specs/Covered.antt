@@ -33,10 +33,12 @@ use Rattle.vg_followed.specs.Tables.{AreCases}
 
 -- ---- plain instructions
 
--- a shift is by a known amount
+-- the amount of a shift is known, or stands in a local
 abbrev pub CanCompute : Layout → (live behind : ℕ → Bool) → Computation → Operator → (right : Operand) → Type 0
 CanCompute l live behind c ShiftLeft (Known n) = IsWidth c.width × (IsReady l live c.left × IsSet l live behind c.to)
 CanCompute l live behind c ShiftRight (Known n) = IsWidth c.width × (IsReady l live c.left × IsSet l live behind c.to)
+CanCompute l live behind c ShiftLeft (Local k) = IsWidth c.width × ((IsReady l live c.left × IsReady l live (Local k)) × IsSet l live behind c.to)
+CanCompute l live behind c ShiftRight (Local k) = IsWidth c.width × ((IsReady l live c.left × IsReady l live (Local k)) × IsSet l live behind c.to)
 CanCompute l live behind c o a = IsCovered l live behind (Compute c)
 
 -- a known value of four bytes

@@ -13,7 +13,7 @@ ghost use Rattle.vg_templates.specs.Frames.{Places};
 ghost use Rattle.vg_templates.specs.Pieces.{Sees};
 ghost use Rattle.vg_templates.specs.Held.{Held};
 ghost use Rattle.vg_templates.specs.Outcomes.{Lies};
-ghost use Rattle.vg_templates.specs.Products.{divides_steps};
+ghost use Rattle.vg_templates.specs.Divisions.{divides_steps};
 ghost use Rattle.vg_followed.specs.Covered.{CanDivide};
 
 /// A law of the template of a division: its loop leads to the state in which remainder and dividend have got what all steps leave in them.

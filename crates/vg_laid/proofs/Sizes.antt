@@ -11,7 +11,6 @@ use Rattle.vg_lin.specs.declared.instr.Callee.{Callee}
 use Rattle.vg_lin.specs.declared.instr.Callee.TheVariants.{Procedure as ByNumber, Code as ByCode}
 use Rattle.vg_lin.specs.declared.instr.Memory.TheVariants.{Ram, Flash}
 use Rattle.vg_lin.specs.declared.instr.Operand.{Operand}
-use Rattle.vg_lin.specs.declared.instr.Operand.TheVariants.{Known}
 use Rattle.vg_lin.specs.declared.instr.Plain.{Plain as PlainInstr}
 use Rattle.vg_lin.specs.declared.instr.Plain.TheVariants.{Copy, Compute, Product, DivideSteps, Load, Store, ReadDevice, WriteDevice, Push, Pop, Find, CodeOf, Stop}
 use Rattle.vg_lin.specs.declared.instr.Instr.{Instr}
@@ -59,7 +58,7 @@ known_size : (d n x y : ℕ) → widths (known d n x) ≡ widths (known d n y)
 known_size d zero x y = refl
 known_size d (suc n) x y = let rest = known_size (suc d) n (x / 256) (y / 256) in ap (λ k. 1 + k) rest
 
-copies_size : (l : Layout) (to x y : ℕ) → widths (copies_whole l to (Known x)) ≡ widths (copies_whole l to (Known y))
+copies_size : (l : Layout) (to x y : ℕ) → widths (copies_whole l to x) ≡ widths (copies_whole l to y)
 copies_size l to x y =
     let w = width_of l to in both_same (known 22 w x) (gives l to 22 w) (known 22 w y) (gives l to 22 w) (known_size 22 w x y) refl
 
@@ -248,7 +247,7 @@ module _ (l : Layout) (p q : Program) (codes : p.codes.code ≡ q.codes.code) (s
   plain_same (Find place to a) =
       ap (λ f. finds_procedure l f (cases_of (slice_get p.dispatches place)) to a) codes
       ∙ ap (λ ds. finds_procedure l q.codes.code (cases_of (slice_get ds place)) to a) same
-  plain_same (CodeOf m to) = ap (λ (f : ℕ → ℕ). copies_whole l to (Known (f m))) codes
+  plain_same (CodeOf m to) = ap (λ (f : ℕ → ℕ). copies_whole l to (f m)) codes
   plain_same (Stop code) = refl
 
   pub selected_same : (ws : List ℕ) (to : Leading) (i : Instr) → selected l p ws to i ≡ selected l q ws to i

@@ -1,11 +1,11 @@
 -- Each instruction of a sound procedure has code of at least one instruction.
 use Rattle.std.specs.Prelude.{ℕ, zero, suc, ◌+◌, ◌-◌, ◌/◌, ◌%◌, ◌<◌, ◌≤◌, ◌==◌, nat_lt, nat_le, Bool, true, false, ◌&&◌, ◌||◌, not, if◌then◌else◌, List, [], ◌∷◌, ◌++◌, length, slice_index}
-use Rattle.std.specs.Prelude.{Option, Some, None, slice_get}
+use Rattle.std.specs.Prelude.{◌^◌, ◌⊎◌, Option, Some, None, slice_get}
 use Rattle.std.specs.List.{AllByRecursion}
-use Rattle.std.proofs.Common.{◌≡◌, refl, arith}
+use Rattle.std.proofs.Common.{◌≡◌, refl, arith, inl, inr}
 use Rattle.std.proofs.lemmas.List.{length-append}
 use Rattle.avr_instr.specs.declared.instr.Instr.{Instr as Avr}
-use Rattle.avr_instr.specs.declared.instr.Instr.TheVariants.{Mov, Movw, Ret, Push as PushOf}
+use Rattle.avr_instr.specs.declared.instr.Instr.TheVariants.{Ldi, Mov, Movw, Ret, Ror, Push as PushOf}
 use Rattle.avr_instr.specs.declared.operand.Base.{Base}
 use Rattle.avr_isa.specs.Standing.{words_with, widths}
 use Rattle.avr_instr.specs.Spelled.{second_word}
@@ -25,7 +25,7 @@ use Rattle.vg_lin.specs.Sound.{IsWidth, IsPlain, AreOperands, IsSound}
 use Rattle.vg_templates.specs.Spots.{Spot, InFrame, InRegisters}
 use Rattle.vg_templates.specs.Layouts.{Layout, width_of}
 use Rattle.vg_templates.specs.Linkage.{pushes, pops, drops_slots, epilogue}
-use Rattle.vg_templates.specs.Transfers.{clears, moves_two, moves, reach, loads, stores, fetch, keep}
+use Rattle.vg_templates.specs.Transfers.{clears, known, moves_two, moves, reach, loads, stores, fetch, keep}
 use Rattle.vg_templates.specs.Held.{brings, gives}
 use Rattle.vg_templates.specs.Homes.{home_of, made_in, settles, clear_home}
 use Rattle.vg_templates.specs.Branches.{tests, told_by, near_branch}
@@ -33,13 +33,17 @@ use Rattle.vg_templates.specs.Calls.{call_code}
 use Rattle.vg_templates.specs.Operands.{least, padded, known_registers, finds, spot_found, found_in}
 use Rattle.vg_templates.specs.Plain.{bytes_in, copies_low, copies_through, copies_local, copies, is_bytewise, operates, works_with, works, is_there, suits_left, suits_right, is_known, works_at, work_home, comes, computes_in, computes, writes_register, reads_register, first_of}
 use Rattle.vg_templates.specs.Accesses.{loads_x, stores_x, is_near, address_of, loads_at, points_by, loads_by, stores_by}
-use Rattle.vg_templates.specs.Shifts.{doubles, halves, repeats, shifts_left, shifts_right}
+use Rattle.vg_templates.specs.Shifts.{doubles, halves, repeats, fetch_above, brings_above, stays, shift_home, shifts_left, shifts_right}
+use Rattle.vg_templates.specs.Products.{divides_through}
+use Rattle.vg_templates.specs.Divisions.{turns_in_place, divides_in_place, is_other, divides_at}
+use Rattle.vg_templates.specs.Amounts.{tests_amount, bounds_amount, counts_down, shifts_left_by, shifts_right_by}
 use Rattle.vg_templates.specs.Choices.{usual, unusual}
 use Rattle.vg_templates.specs.Lookups.{points_z, loads_z, tries_cases}
 use Rattle.vg_templates.specs.Flow.{jump_code, branch_code, way_of, Turn, Direct, Past, Hop, Near, Far}
 use Rattle.vg_templates.specs.Plains.{computation_code, pops_from, plain_template}
 use Rattle.vg_templates.specs.Whole.{call_front, call_back}
 use Rattle.vg_templates.specs.Framed.{framed}
+use Rattle.vg_followed.proofs.Above.{staying}
 use Rattle.vg_select.specs.Selected.{Leading, selected}
 
 -- ---- lists
@@ -130,6 +134,27 @@ stores_some_by near [] a h = absurd (omega (arith, h))
 stores_some_by true (r ∷ rs) a h = omega arith
 stores_some_by false (r ∷ rs) a h = stores_x_some (r ∷ rs) h
 
+known_number_some : (d n x : ℕ) → 1 ≤ n → 1 ≤ length (known d n x)
+known_number_some d zero x h = absurd (omega (arith, h))
+known_number_some d (suc n) x h = omega arith
+
+repeats_some : (t : ℕ) (is : List Avr) → 1 ≤ t → 1 ≤ length is → 1 ≤ length (repeats t is)
+repeats_some zero is h g = absurd (omega (arith, h))
+repeats_some (suc t) is h g = front is (repeats t is) g
+
+doubles_some : (d n : ℕ) → 1 ≤ n → 1 ≤ length (doubles d n)
+doubles_some d zero h = absurd (omega (arith, h))
+doubles_some d (suc n) h = omega arith
+
+halves_some : (d n : ℕ) → 1 ≤ n → 1 ≤ length (halves d n)
+halves_some d zero h = absurd (omega (arith, h))
+halves_some d (suc zero) h = omega arith
+halves_some d (suc (suc n)) h = back (halves (suc d) (suc n)) (Ror d ∷ []) (omega arith)
+
+none_or_some : (n : ℕ) → (n ≡ 0) ⊎ (1 ≤ n)
+none_or_some zero = inl refl
+none_or_some (suc n) = inr (omega arith)
+
 operates_some : (o : Operator) (d : ℕ) (rs : List ℕ) → is_bytewise o ≡ true → 1 ≤ length rs → 1 ≤ length (operates d o rs)
 operates_some o d [] e h = absurd (omega (arith, h))
 operates_some Plus d (r ∷ rs) e h = omega arith
@@ -186,6 +211,11 @@ fetch_some (InFrame at) w d n h =
     let k = reach at w in back k.code (loads k.base k.displacement d w n) (loads_some k.base k.displacement d w n h)
 fetch_some (InRegisters r) w d n h = moves_some r d w n h
 
+fetch_above_some : (z : Spot) (w k d n : ℕ) → 1 ≤ n → 1 ≤ length (fetch_above z w k d n)
+fetch_above_some (InFrame at) w k d n h =
+    let r = reach at w in back r.code (loads r.base (r.displacement + k) d (w - k) n) (loads_some r.base (r.displacement + k) d (w - k) n h)
+fetch_above_some (InRegisters r) w k d n h = moves_some (r + k) d (w - k) n h
+
 spot_some : (z : Spot) (w d n : ℕ) → 1 ≤ n → 1 ≤ length (spot_found z w d n)
 spot_some (InFrame at) w d n h = padded_some d w n h
 spot_some (InRegisters r) w d n h = padded_some r w n h
@@ -230,18 +260,70 @@ module _ (m : Procedure) (s : IsSound m) where
       let n = least c.width (width_of l c.to) in
       computes_in_some c (home_of l c.to n) n (least_some c.width (width_of l c.to) wide.0 (wide_at m.widths c.to s.widths h)) h
 
-  left_some : (w to : ℕ) (a : Operand) (n : ℕ) → to < length m.widths → 1 ≤ length (shifts_left l w to a n)
-  left_some w to a n h =
-      let k = least w (width_of l to) in let whole = least (n / 8) k in
-      let shifted = repeats (n % 8) (doubles (22 + whole) (k - whole)) in
-      back (brings l a (22 + whole) (k - whole)) (clears 22 whole ++ (shifted ++ gives l to 22 k))
-      (back (clears 22 whole) (shifted ++ gives l to 22 k) (back shifted (gives l to 22 k) (gives_some to 22 k h)))
+  -- the operand comes, or stands where bits are shifted
+  shift_some : (a : Operand) (t k d n : ℕ) (front_of is last : List Avr) → 1 ≤ n → 1 ≤ length is
+      → 1 ≤ length (brings_above (stays l a t d n) l a k d n ++ (front_of ++ (repeats (t % 8) is ++ last)))
+  shift_some a t k d n front_of is last some long = by_test (stays l a t d n) refl
+    where
+      by_test : (b : Bool) → stays l a t d n ≡ b → 1 ≤ length (brings_above b l a k d n ++ (front_of ++ (repeats (t % 8) is ++ last)))
+      by_test true e =
+          let bits = staying l a t d n e in
+          let left_over : 1 ≤ t % 8 = (let few = bits.few in let more = bits.some in omega (arith, few, more)) in
+          back front_of (repeats (t % 8) is ++ last) (front (repeats (t % 8) is) last (repeats_some (t % 8) is left_over long))
+      by_test false e = front (brings_above false l a k d n) (front_of ++ (repeats (t % 8) is ++ last)) (comes_some a)
+        where
+          comes_some : (a : Operand) → 1 ≤ length (brings_above false l a k d n)
+          comes_some (Local j) = fetch_above_some (l.spots j) (width_of l j) (least k (width_of l j)) d n some
+          comes_some (Known x) = known_number_some d n (x / 256 ^ k) some
+
+  settles_some : (to c : ℕ) (h : Option ℕ) → to < length m.widths → c ≡ 0 → 1 ≤ length (settles l to h c)
+  settles_some to c None there none = gives_some to 22 c there
+  settles_some to c (Some r) there none =
+      let wide = wide_at m.widths to s.widths there in clears_some (r + c) (width_of l to - c) (omega (arith, wide, none))
+
+  left_some : (w to : ℕ) (a : Operand) (n : ℕ) → IsWidth w → to < length m.widths → 1 ≤ length (shifts_left l w to a n)
+  left_some w to a n wide there =
+      let k = least w (width_of l to) in
+      let whole = least (n / 8) k in
+      let c = k - whole in
+      let h = shift_home l a n 0 whole c (home_of l to k) in
+      let d = made_in h + whole in
+      let zeros = clears (made_in h) whole in
+      let last = settles l to h k in
+      let rest = repeats (n % 8) (doubles d c) ++ last in
+      let all : 1 ≤ k = least_some w (width_of l to) wide.0 (wide_at m.widths to s.widths there) in
+      elim (none_or_some c) [
+        | inl none ↦
+            back (brings_above (stays l a n d c) l a 0 d c) (zeros ++ rest) (front zeros rest (clears_some (made_in h) whole (omega (arith, none, all))))
+        | inr some ↦ shift_some a n 0 d c zeros (doubles d c) last some (doubles_some d c some)
+      ]
 
   right_some : (w to : ℕ) (a : Operand) (n : ℕ) → to < length m.widths → 1 ≤ length (shifts_right l w to a n)
-  right_some w to a n h =
-      let whole = least (n / 8) w in let shifted = repeats (n % 8) (halves (22 + whole) (w - whole)) in
-      let out = gives l to (22 + whole) (w - whole) in
-      back (brings l a 22 w) (shifted ++ out) (back shifted out (gives_some to (22 + whole) (w - whole) h))
+  right_some w to a n there =
+      let whole = least (n / 8) w in
+      let c = w - whole in
+      let h = shift_home l a n whole 0 c (home_of l to c) in
+      let d = made_in h + 0 in
+      let shifted = repeats (n % 8) (halves d c) in
+      let last = settles l to h c in
+      elim (none_or_some c) [
+        | inl none ↦
+            back (brings_above (stays l a n d c) l a whole d c) (shifted ++ last) (back shifted last (settles_some to c h there none))
+        | inr some ↦ shift_some a n whole d c [] (halves d c) last some (halves_some d c some)
+      ]
+
+  -- a value comes, an amount, and tests of it, behind which there is more
+  amount_some : (a : Operand) (n k : ℕ) (is : List Avr) → 1 ≤ length (brings l a 22 n ++ (brings l (Local k) 18 4 ++ (tests_amount ++ is)))
+  amount_some a n k is =
+      back (brings l a 22 n) (brings l (Local k) 18 4 ++ (tests_amount ++ is))
+      (back (brings l (Local k) 18 4) (tests_amount ++ is) (front tests_amount is (omega arith)))
+
+  left_by_some : (w to : ℕ) (a : Operand) (k : ℕ) → to < length m.widths → 1 ≤ length (shifts_left_by l w to a k)
+  left_by_some w to a k h =
+      let n = least w (width_of l to) in amount_some a n k (bounds_amount ++ (counts_down n (doubles 22 n) ++ gives l to 22 n))
+
+  right_by_some : (w to : ℕ) (a : Operand) (k : ℕ) → to < length m.widths → 1 ≤ length (shifts_right_by l w to a k)
+  right_by_some w to a k h = amount_some a w k (bounds_amount ++ (counts_down w (halves 22 w) ++ gives l to 22 w))
 
   computation_some : (c : Computation) (op : Operator) (a : Operand) → IsWidth c.width → c.to < length m.widths → 1 ≤ length (computation_code l c op a)
   computation_some c Plus a wide h = computes_some c wide h
@@ -252,9 +334,9 @@ module _ (m : Procedure) (s : IsSound m) where
   computation_some c And a wide h = computes_some c wide h
   computation_some c Or a wide h = computes_some c wide h
   computation_some c Xor a wide h = computes_some c wide h
-  computation_some c ShiftLeft (Local k) wide h = computes_some c wide h
-  computation_some c ShiftLeft (Known n) wide h = left_some c.width c.to c.left n h
-  computation_some c ShiftRight (Local k) wide h = computes_some c wide h
+  computation_some c ShiftLeft (Local k) wide h = left_by_some c.width c.to c.left k h
+  computation_some c ShiftLeft (Known n) wide h = left_some c.width c.to c.left n wide h
+  computation_some c ShiftRight (Local k) wide h = right_by_some c.width c.to c.left k h
   computation_some c ShiftRight (Known n) wide h = right_some c.width c.to c.left n h
 
   copies_low_some : (to : ℕ) (a : Operand) (n : ℕ) → to < length m.widths → 1 ≤ length (copies_low l to a n)
@@ -276,12 +358,21 @@ module _ (m : Procedure) (s : IsSound m) where
   copies_some to (Local k) h = copies_local_some to k (l.spots to) (l.spots k) h
   copies_some to (Known v) h = copies_low_some to (Known v) (bytes_in (width_of l to) v) h
 
+  divides_some : (r d : ℕ) (a : Operand) (h k : Option ℕ) → 1 ≤ length (divides_at h k l r d a)
+  divides_some r d a None k = omega arith
+  divides_some r d a (Some p) None = omega arith
+  divides_some r d a (Some p) (Some q) = by_test (is_other a r && is_other a d)
+    where
+      by_test : (b : Bool) → 1 ≤ length (if b then divides_in_place l p q a else divides_through l r d a)
+      by_test true = back (brings l a 18 4) (Ldi 26 32 ∷ turns_in_place p q) (omega arith)
+      by_test false = omega arith
+
   plain_some : (p : Program) (i : PlainInstr) → IsPlain m i → 1 ≤ length (plain_template l p i)
   plain_some p (Copy to a) h = copies_some to a h.0
   plain_some p (Compute c) h = computation_some c c.operator c.right h.0 h.1
   plain_some p (Product to a b) h =
       back (finds l a 18 1) (finds l b 22 1 ++ _) (back (finds l b 22 1) (_ ∷ _) (omega arith))
-  plain_some p (DivideSteps r d a) h = omega arith
+  plain_some p (DivideSteps r d a) h = divides_some r d a (home_of l r 4) (home_of l d 4)
   plain_some p (Load Ram w to a) h =
       let near = is_near w a.index in
       let home = home_of l to w in
@@ -309,7 +400,8 @@ module _ (m : Procedure) (s : IsSound m) where
       let all = cases_of (slice_get p.dispatches place) in
       let cases = tries_cases p.codes.code (usual all) (unusual (usual all) all) in
       back (brings l a 24 2) (cases ++ gives l to 22 2) (back cases (gives l to 22 2) (gives_some to 22 2 h.0))
-  plain_some p (CodeOf q to) h = copies_low_some to (Known (p.codes.code q)) (width_of l to) h
+  plain_some p (CodeOf q to) h =
+      let w = width_of l to in back (known 22 w (p.codes.code q)) (gives l to 22 w) (gives_some to 22 w h)
   plain_some p (Stop code) h = omega arith
 
   pub selected_some : (p : Program) (ws : List ℕ) (to : Leading) (i : Instr) → AreOperands m i → 1 ≤ length (selected l p ws to i)

@@ -14,8 +14,8 @@ fn procedures_are_made(rt: HostRuntime) {
     let division = routine(alloc, 1).map(|p| p.code().len() + p.widths().len());
     let left = routine(alloc, 2).map(|p| p.code().len() + p.widths().len());
     let right = routine(alloc, 3).map(|p| p.code().len() + p.widths().len());
-    assert!(rt; smallest == Ok(1) && product == Ok(52) && division == Ok(20));
-    assert!(rt; left == Ok(20) && right == Ok(22) && ROUTINES == 4);
+    assert!(rt; smallest == Ok(1) && product == Ok(38) && division == Ok(21));
+    assert!(rt; left == Ok(4) && right == Ok(6) && ROUTINES == 4);
 }
 
 // A division, a product that is cut and a shift become calls, and a product by 9 two instructions; the branch leads behind them.

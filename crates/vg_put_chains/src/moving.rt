@@ -1,6 +1,6 @@
 // Numbers that move between registers and memory, byte by byte, low bytes first.
-ghost use Rattle.std.specs.Prelude.{◌≡◌, ◌≤◌, ◌+◌, ◌++◌, OnOk};
-ghost use Rattle.vg_templates.specs.Transfers.{clears, known, moves_two, moves, loads, stores};
+ghost use Rattle.std.specs.Prelude.{◌≡◌, ◌≤◌, ◌+◌, ◌%◌, ◌++◌, Bool, true, OnOk};
+ghost use Rattle.vg_templates.specs.Transfers.{clears, known, is_twice, known_by, known_number, moves_two, moves, loads, stores};
 
 use avr_instr::{Base, Instr, Register, RegisterPair, SixBits, UpperRegister};
 use vg_base::{NoMemory, Row};
@@ -17,7 +17,7 @@ pub fn put_clears(code: &mut Row<Instr>, d: u8, count: u8) -> Result<(), NoMemor
     put_clears(code, d + 1, count - 1)
 }
 
-/// The low bytes of a known number come into so many registers from d on, which is at least 16.
+/// The low bytes of a known number come into so many registers from d on, which is at least 16, by as many instructions whatever the number.
 pub fn put_known(code: &mut Row<Instr>, d: u8, count: u8, value: u64) -> Result<(), NoMemory>
     requires from { 16 ≤ d }
     requires top { d + count ≤ 32 }
@@ -28,6 +28,37 @@ pub fn put_known(code: &mut Row<Instr>, d: u8, count: u8, value: u64) -> Result<
     }
     code.push(Instr::Ldi(UpperRegister::new(d), (value % 256) as u8))?;
     put_known(code, d + 1, count - 1, value / 256)
+}
+
+// Whether four bytes, in registers from an even one on, are two bytes twice.
+fn is_twice(d: u8, count: u8, value: u64) -> bool
+    ensures { result ≡ is_twice d count value }
+{
+    count == 4 && d % 2 == 0 && value % 65536 == value / 65536 % 65536
+}
+
+// Two bytes, and the same behind them.
+fn put_twice(code: &mut Row<Instr>, d: u8, value: u64) -> Result<(), NoMemory>
+    requires from { 16 ≤ d }
+    requires top { d + 4 ≤ 32 }
+    requires even { d % 2 ≡ 0 }
+    ensures { OnOk result (code.new ≡ code.old ++ known_by true d 4 value) }
+{
+    code.push(Instr::Ldi(UpperRegister::new(d), (value % 256) as u8))?;
+    code.push(Instr::Ldi(UpperRegister::new(d + 1), (value / 256 % 256) as u8))?;
+    code.push(Instr::Movw(RegisterPair::new(d + 2), RegisterPair::new(d)))
+}
+
+/// The low bytes of a known number come into so many registers from d on, which is at least 16, by as few instructions.
+pub fn put_known_number(code: &mut Row<Instr>, d: u8, count: u8, value: u64) -> Result<(), NoMemory>
+    requires from { 16 ≤ d }
+    requires top { d + count ≤ 32 }
+    ensures { OnOk result (code.new ≡ code.old ++ known_number d count value) }
+{
+    if is_twice(d, count, value) {
+        return put_twice(code, d, value);
+    }
+    put_known(code, d, count, value)
 }
 
 fn put_moves_two(code: &mut Row<Instr>, r: u8, d: u8) -> Result<(), NoMemory>

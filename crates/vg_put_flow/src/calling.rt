@@ -8,12 +8,12 @@ ghost use Rattle.vg_put_flow.specs.Ways.{call_of};
 ghost use Rattle.vg_put_flow.specs.Callees.{IsCalleeThere};
 
 use crate::ways::Way;
-use avr_instr::{Instr, Register, RegisterPair};
+use avr_instr::{Instr, Register};
 use vg_alloc::Locations;
 use vg_base::{NoMemory, Row};
 use vg_lin::Callee;
 use vg_put_chains::put_sp_is_y;
-use vg_put_values::put_brings;
+use vg_put_values::put_brings_z;
 
 /// The code number of what is called comes into Z, where it is a value.
 pub fn put_aims(
@@ -26,10 +26,7 @@ pub fn put_aims(
 {
     match callee {
         Callee::Procedure(_) => Ok(()),
-        Callee::Code(operand) => {
-            put_brings(code, locations, operand, 26, 2)?;
-            code.push(Instr::Movw(RegisterPair::new(30), RegisterPair::new(26)))
-        }
+        Callee::Code(operand) => put_brings_z(code, locations, operand),
     }
 }
 

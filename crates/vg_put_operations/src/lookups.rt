@@ -14,7 +14,7 @@ use vg_codes::Case;
 use vg_lin::{Address, Operand};
 use vg_put_chains::{put_known, put_takes_known};
 use vg_put_plain::put_plus_base;
-use vg_put_values::{home_of, made_in, put_brings, put_gives, put_settles};
+use vg_put_values::{home_of, made_in, put_brings, put_brings_z, put_gives, put_settles};
 
 // Z becomes the address.
 fn put_points_z(
@@ -28,8 +28,7 @@ fn put_points_z(
     match address.index {
         Operand::Known(x) => put_known(code, 30, 2, u64::from(address.base) + u64::from(x)),
         Operand::Local(_) => {
-            put_brings(code, locations, address.index, 26, 2)?;
-            code.push(Instr::Movw(RegisterPair::new(30), RegisterPair::new(26)))?;
+            put_brings_z(code, locations, address.index)?;
             put_plus_base(code, 30, address.base)
         }
     }

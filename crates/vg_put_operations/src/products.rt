@@ -1,7 +1,7 @@
 // Products of bytes, and steps of division.
 ghost use Rattle.std.specs.Prelude.{◌≡◌, ◌≤◌, ◌<◌, ◌+◌, ◌++◌, OnOk, length};
 ghost use Rattle.vg_templates.specs.Products.{four_from, four_times, multiplies, brings_bit, shifts_remainder, takes_divisor, shifts_dividend, divides_once};
-ghost use Rattle.vg_templates.specs.Products.{turns_back, divides_steps};
+ghost use Rattle.vg_templates.specs.Products.{turns_back, divides_through};
 ghost use Rattle.vg_alloc.specs.Locations.{layout};
 ghost use Rattle.vg_put_operations.specs.Mirrors.{product, takes_four, gives_four};
 ghost use Rattle.vg_put_values.specs.Within.{IsThere};
@@ -74,8 +74,8 @@ fn put_shifts_remainder(
     put_doubles_on(code, 22, 4)
 }
 
-// Four registers from one on, and one of them four times.
-fn four_from(first: u8) -> [Register; 4]
+/// Four registers from one on.
+pub fn four_from(first: u8) -> [Register; 4]
     requires { first + 4 ≤ 32 }
     ensures { result ≡ four_from first }
 {
@@ -87,6 +87,7 @@ fn four_from(first: u8) -> [Register; 4]
     ]
 }
 
+// One register four times.
 fn four_times(register: u8) -> [Register; 4]
     requires { register < 32 }
     ensures { result ≡ four_times register }
@@ -168,8 +169,8 @@ fn put_turns_back(code: &mut Row<Instr>, words: usize) -> Result<(), NoMemory>
     code.push(Instr::Rjmp(FarOffset::new(4093usize.saturating_sub(words) as u16)))
 }
 
-/// The steps of a division, one turn of a loop each.
-pub fn put_divides_steps(
+/// The steps of a division, one turn of a loop each, by scratch registers.
+pub fn put_divides_through(
     code: &mut Row<Instr>,
     locations: &Locations,
     remainder: u8,
@@ -179,7 +180,7 @@ pub fn put_divides_steps(
     requires remainder { remainder < length locations.now.widths }
     requires dividend { dividend < length locations.now.widths }
     requires divisor { IsThere (layout locations.now) divisor }
-    ensures { OnOk result (code.new ≡ code.old ++ divides_steps (layout locations.now) remainder dividend divisor) }
+    ensures { OnOk result (code.new ≡ code.old ++ divides_through (layout locations.now) remainder dividend divisor) }
 {
     code.push(Instr::Ldi(UpperRegister::new(27), 32))?;
     let first = code.len();

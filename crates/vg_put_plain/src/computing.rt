@@ -127,7 +127,8 @@ fn stands(spot: Spot, width: u8, first: u8, count: u8) -> bool
     }
 }
 
-fn is_there(locations: &Locations, operand: Operand, first: u8, count: u8) -> bool
+/// Whether so many bytes of an operand are in registers from one on already.
+pub fn is_there(locations: &Locations, operand: Operand, first: u8, count: u8) -> bool
     requires operand { IsThere (layout locations.now) operand }
     ensures { result ≡ is_there (layout locations.now) operand first count }
 {

@@ -10,7 +10,7 @@ use std::alloc::Global;
 use vg_alloc::{Locations, Spot};
 use vg_base::{NoMemory, Row};
 use vg_lin::Operand;
-use vg_put_chains::put_pushes;
+use vg_put_chains::{put_known, put_pushes};
 use vg_put_values::{
     clear_home_of, found_in, made_in, put_brings, put_fetch, put_finds, put_gives, put_settles,
 };
@@ -32,19 +32,19 @@ fn put_copies_low(
     put_gives(code, locations, to, 22, count)
 }
 
-/// A value goes to a local, by code of as many words for each value of its kind.
+/// A known number goes to a local, by as many instructions whatever the number.
 pub fn put_copies_whole(
     code: &mut Row<Instr>,
     locations: &Locations,
     to: u8,
-    operand: Operand,
+    value: u32,
 ) -> Result<(), NoMemory>
     requires there { to < length locations.now.widths }
-    requires operand { IsThere (layout locations.now) operand }
-    ensures { OnOk result (code.new ≡ code.old ++ copies_whole (layout locations.now) to operand) }
+    ensures { OnOk result (code.new ≡ code.old ++ copies_whole (layout locations.now) to value) }
 {
     let width = locations.width(to);
-    put_copies_low(code, locations, to, operand, width)
+    put_known(code, 22, width, u64::from(value))?;
+    put_gives(code, locations, to, 22, width)
 }
 
 // How many low bytes of a number, of so many, have only zeros behind them.

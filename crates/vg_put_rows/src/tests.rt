@@ -12,6 +12,7 @@ use vg_lin::{Address, Comparison, Computation, Operand, Operator, Test};
 use vg_put_flow::{Hop, Turn, put_branch, put_prologue, put_returns_value, put_tests};
 use vg_put_operations::{
     put_divides_steps, put_finds_procedure, put_loads_table, put_multiplies, put_shifts_left,
+    put_shifts_right,
 };
 use vg_put_plain::{
     put_computes, put_copies, put_copies_whole, put_loads_column, put_pushes_value,
@@ -61,6 +62,29 @@ fn a_procedure_enters_and_returns(rt: HostRuntime) {
         0x93DF, 0x93CF, 0xB7CD, 0xB7DE, // PUSH r29; PUSH r28; IN r28, SPL; IN r29, SPH
         0x808D, // LDD r8, Y+5
         0x2D68, 0x91CF, 0x91DF, 0x9508, // MOV r22, r8; POP r28; POP r29; RET
+    ];
+    let holds = is_spelled(alloc, &code, &expected);
+    assert!(rt; holds);
+}
+
+fn returned(alloc: Global) -> Result<Row<Instr>, NoMemory> {
+    let locations = pushing_locations(alloc, 3)?;
+    let mut code = Row::new(alloc);
+    put_returns_value(&mut code, &locations, Operand::Known(0), 4)?;
+    put_returns_value(&mut code, &locations, Operand::Known(0x0001_0000), 4)?;
+    Ok(code)
+}
+
+// The four bytes of zero are two bytes twice, and those of another number are not.
+#[test]
+fn numbers_are_returned(rt: HostRuntime) {
+    let alloc = rt.alloc();
+    let code = returned(alloc);
+    let expected = [
+        0xE060, 0xE070, 0x01CB, // LDI r22, 0; LDI r23, 0; MOVW r24, r22
+        0x91CF, 0x91DF, 0x9508, // POP r28; POP r29; RET
+        0xE060, 0xE070, 0xE081, 0xE090, // LDI r22, 0; LDI r23, 0; LDI r24, 1; LDI r25, 0
+        0x91CF, 0x91DF, 0x9508, // POP r28; POP r29; RET
     ];
     let holds = is_spelled(alloc, &code, &expected);
     assert!(rt; holds);
@@ -155,6 +179,35 @@ fn addresses_in_locals_are_reached(rt: HostRuntime) {
     assert!(rt; holds);
 }
 
+fn at_addresses_in_registers(alloc: Global) -> Result<Row<Instr>, NoMemory> {
+    let locations = sample_locations(alloc, 0)?;
+    let mut code = Row::new(alloc);
+    let wide = Address {
+        base: 0x8C,
+        index: Operand::Local(0),
+    };
+    let narrow = Address {
+        base: 0,
+        index: Operand::Local(1),
+    };
+    put_loads_table(&mut code, &locations, 1, 1, wide)?;
+    put_loads_table(&mut code, &locations, 1, 1, narrow)?;
+    Ok(code)
+}
+
+// Where the index is in registers, it comes from there into Z at once, with a zero behind a single byte.
+#[test]
+fn addresses_in_registers_are_reached(rt: HostRuntime) {
+    let alloc = rt.alloc();
+    let code = at_addresses_in_registers(alloc);
+    let expected = [
+        0x01F4, 0x57E4, 0x4FFF, 0x90A5, // MOVW r30, r8; SUBI r30, 0x74; SBCI r31, 0xFF; LPM r10, Z+
+        0x2DEA, 0x2DF1, 0x90A5, // MOV r30, r10; MOV r31, r1; LPM r10, Z+
+    ];
+    let holds = is_spelled(alloc, &code, &expected);
+    assert!(rt; holds);
+}
+
 fn branched(alloc: Global) -> Result<Row<Instr>, NoMemory> {
     let locations = pushing_locations(alloc, 3)?;
     let mut code = Row::new(alloc);
@@ -218,6 +271,71 @@ fn shifts_and_products_are_put(rt: HostRuntime) {
         0x816D, 0x0F66, 0x0F66, 0x0F66, 0x836D, // LDD r22, Y+5; ADD r22, r22, three times; STD Y+5, r22
         0x812D, 0xE065, 0x9F26, 0x01B0, 0x2411, // LDD r18, Y+5; LDI r22, 5; MUL r18, r22; MOVW r22, r0; EOR r1, r1
         0x836E, 0x837F, // STD Y+6, r22; STD Y+7, r23
+    ];
+    let holds = is_spelled(alloc, &code, &expected);
+    assert!(rt; holds);
+}
+
+fn shifted_there(alloc: Global) -> Result<Row<Instr>, NoMemory> {
+    let locations = wide_locations(alloc)?;
+    let mut code = Row::new(alloc);
+    put_shifts_left(&mut code, &locations, 2, 5, Operand::Local(5), 1)?;
+    put_shifts_right(&mut code, &locations, 2, 5, Operand::Local(5), 1)?;
+    Ok(code)
+}
+
+// Shifts by one bit, in the registers of the local that has the value and gets it.
+#[test]
+fn shifts_are_put_in_place(rt: HostRuntime) {
+    let alloc = rt.alloc();
+    let code = shifted_there(alloc);
+    let expected = [
+        0x0F00, 0x1F11, // ADD r16, r16; ADC r17, r17
+        0x9516, 0x9507, // LSR r17; ROR r16
+    ];
+    let holds = is_spelled(alloc, &code, &expected);
+    assert!(rt; holds);
+}
+
+fn shifted_home(alloc: Global) -> Result<Row<Instr>, NoMemory> {
+    let locations = wide_locations(alloc)?;
+    let mut code = Row::new(alloc);
+    put_shifts_left(&mut code, &locations, 2, 7, Operand::Local(5), 1)?;
+    put_shifts_left(&mut code, &locations, 4, 4, Operand::Local(3), 16)?;
+    Ok(code)
+}
+
+// Shifts to the left from the registers of one local to those of another one, by one bit and by two bytes.
+#[test]
+fn shifts_to_the_left_are_put_home(rt: HostRuntime) {
+    let alloc = rt.alloc();
+    let code = shifted_home(alloc);
+    let expected = [
+        0x0138, 0x0C66, 0x1C77, // MOVW r6, r16; ADD r6, r6; ADC r7, r7
+        0x0174, 0x2CC1, 0x2CD1, // MOVW r14, r8; MOV r12, r1; MOV r13, r1
+    ];
+    let holds = is_spelled(alloc, &code, &expected);
+    assert!(rt; holds);
+}
+
+fn halves_home(alloc: Global) -> Result<Row<Instr>, NoMemory> {
+    let locations = wide_locations(alloc)?;
+    let mut code = Row::new(alloc);
+    put_shifts_right(&mut code, &locations, 4, 7, Operand::Local(6), 16)?;
+    put_shifts_right(&mut code, &locations, 4, 3, Operand::Local(3), 16)?;
+    put_shifts_right(&mut code, &locations, 2, 5, Operand::Local(8), 8)?;
+    Ok(code)
+}
+
+// Shifts to the right by whole bytes: the high bytes of a local go to another one, to its own low ones, and from the frame to registers.
+#[test]
+fn shifts_to_the_right_are_put_home(rt: HostRuntime) {
+    let alloc = rt.alloc();
+    let code = halves_home(alloc);
+    let expected = [
+        0x0132, // MOVW r6, r4
+        0x0145, 0x2CA1, 0x2CB1, // MOVW r8, r10; MOV r10, r1; MOV r11, r1
+        0x810A, 0x2D11, // LDD r16, Y+2; MOV r17, r1
     ];
     let holds = is_spelled(alloc, &code, &expected);
     assert!(rt; holds);
@@ -409,7 +527,7 @@ fn copied(
     let mut code = Row::new(alloc);
     put_copies(&mut code, locations, narrow, Operand::Known(0))?;
     put_copies(&mut code, locations, wide, Operand::Known(5))?;
-    put_copies_whole(&mut code, locations, wide, Operand::Known(5))?;
+    put_copies_whole(&mut code, locations, wide, 5)?;
     Ok(code)
 }
 

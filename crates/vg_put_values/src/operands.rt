@@ -9,7 +9,7 @@ use avr_instr::Instr;
 use vg_alloc::{Locations, Spot};
 use vg_base::{NoMemory, Row};
 use vg_lin::Operand;
-use vg_put_chains::{put_known, put_loads, put_moves, put_reach, put_stores};
+use vg_put_chains::{put_known_number, put_loads, put_moves, put_reach, put_stores};
 
 /// The value at a spot of `width` bytes comes into `count` registers from d on.
 pub fn put_fetch(
@@ -70,7 +70,7 @@ pub fn put_brings(
 {
     match operand {
         Operand::Local(k) => put_fetch(code, locations.spot(k), locations.width(k), d, count),
-        Operand::Known(x) => put_known(code, d, count, u64::from(x)),
+        Operand::Known(x) => put_known_number(code, d, count, u64::from(x)),
     }
 }
 

@@ -9,11 +9,13 @@ use std::alloc::Global;
 use vg_alloc::Locations;
 use vg_base::{NoMemory, Row};
 use vg_lin::{Computation, Operand, Operator};
-use vg_put_operations::{put_shifts_left, put_shifts_right};
+use vg_put_operations::{
+    put_shifts_left, put_shifts_left_by, put_shifts_right, put_shifts_right_by,
+};
 use vg_put_plain::put_computes;
 use vg_put_values::put_gives;
 
-/// A computation: a shift by a known amount, or an operation byte by byte.
+/// A computation: a shift, or an operation byte by byte.
 pub fn put_computation(
     alloc: Global,
     code: &mut Row<Instr>,
@@ -36,6 +38,22 @@ pub fn put_computation(
             amount,
         ),
         (Operator::ShiftRight, Operand::Known(amount)) => put_shifts_right(
+            code,
+            locations,
+            computation.width,
+            computation.to,
+            computation.left,
+            amount,
+        ),
+        (Operator::ShiftLeft, Operand::Local(amount)) => put_shifts_left_by(
+            code,
+            locations,
+            computation.width,
+            computation.to,
+            computation.left,
+            amount,
+        ),
+        (Operator::ShiftRight, Operand::Local(amount)) => put_shifts_right_by(
             code,
             locations,
             computation.width,

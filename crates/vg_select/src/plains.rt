@@ -13,7 +13,7 @@ use std::alloc::Global;
 use vg_alloc::Locations;
 use vg_base::{NoMemory, Row};
 use vg_codes::Case;
-use vg_lin::{Memory, Operand, Plain};
+use vg_lin::{Memory, Plain};
 use vg_put_operations::{
     code_of, put_divides_steps, put_finds_procedure, put_loads_table, put_multiplies,
 };
@@ -78,7 +78,7 @@ pub fn put_plain(
         ),
         Plain::CodeOf(procedure, to) => {
             let number = u32::from(code_of(codes, procedure));
-            put_copies_whole(code, locations, to, Operand::Known(number))
+            put_copies_whole(code, locations, to, number)
         }
         Plain::Stop(exception) => put_stops(code, exception),
     }

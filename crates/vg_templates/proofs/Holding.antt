@@ -14,11 +14,11 @@ use Rattle.vg_templates.proofs.Saving.{owned, fits_agree, points_outlive, caller
 use Rattle.vg_templates.proofs.Settings.{fits_set, callers_set, points_set}
 use Rattle.vg_templates.proofs.Numbers.{put_number-beside}
 use Rattle.vg_templates.specs.Pieces.{Takes}
-use Rattle.vg_templates.specs.Transfers.{known, fetch, keep}
+use Rattle.vg_templates.specs.Transfers.{known, known_number, fetch, keep}
 use Rattle.vg_templates.specs.Transferred.{IsUsable, Fetched, Kept}
 use Rattle.vg_templates.specs.Held.{Held, IsReady, IsSet, brings, gives, Brought, Given}
 use Rattle.vg_templates.proofs.Composing.{takes_wider}
-use Rattle.vg_templates.proofs.Spotting.{takes_known, takes_fetch, takes_keep, takes_keep_frame}
+use Rattle.vg_templates.proofs.Spotting.{takes_known, takes_known_number, takes_fetch, takes_keep, takes_keep_frame}
 
 -- a spot of a layout can be used where its frame lies
 pub usable : (l : Layout) (s : Spot) (w : ℕ) (own under : List ℕ) (v : View) → IsSpot l s w → Points l own under v.regs → length own ≡ frame_size l
@@ -124,13 +124,20 @@ module _ (i : Places) (ok : (m : ℕ) → IsLayout (i.layouts m)) (m : ℕ) (fra
       one (InRegisters f) w x h = let up = h.0 in put_number-beside v.regs f w x 1 (inl (omega arith))
 
   module _ (e : Run) (deep : Type 0) where
+    -- a known number comes, byte by byte
+    pub takes_brings_known : (live : ℕ → Bool) (s : State) (d n x : ℕ) (v : View) → 18 ≤ d → d + n ≤ 28 → Held i m live s frames v
+        → Takes e deep v (known d n x) (Brought i m live s frames d n x v)
+    takes_brings_known live s d n x v low top k =
+        takes_wider e deep v (known d n x) (Fetched d n x v) (Brought i m live s frames d n x v)
+        (λ u f. fetched-held live s d n x v u low top f k) (takes_known e deep d n x v)
+
     -- an operand is read
     pub takes_brings : (live : ℕ → Bool) (s : State) (a : Operand) (d n x : ℕ) (v : View) → IsReady (i.layouts m) live a → value a s ≡ Some x
         → 18 ≤ d → d + n ≤ 28 → Held i m live s frames v → Takes e deep v (brings (i.layouts m) a d n) (Brought i m live s frames d n x v)
     takes_brings live s (Known y) d n x v ready got low top k =
         let same : y ≡ x = (let e1 : Some y ≡ Some x = got in some_same y x e1) in
-        takes_wider e deep v (known d n y) (Fetched d n y v) (Brought i m live s frames d n x v)
-        (λ u f. fetched-held live s d n x v u low top (subst (λ z. Fetched d n z v u) same f) k) (takes_known e deep d n y v)
+        takes_wider e deep v (known_number d n y) (Fetched d n y v) (Brought i m live s frames d n x v)
+        (λ u f. fetched-held live s d n x v u low top (subst (λ z. Fetched d n z v u) same f) k) (takes_known_number e deep d n y v)
       where
         some_same : (a b : ℕ) → Some a ≡ Some b → a ≡ b
         some_same a b e1 = cc

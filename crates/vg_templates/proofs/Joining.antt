@@ -3,7 +3,6 @@ use Rattle.std.proofs.Common.{◌≡◌, ℕ, ◌+◌, ◌-◌, ◌<◌, ◌≤�
 use Rattle.vg_meaning.specs.declared.event.Event.TheVariants.{Read, Write}
 use Rattle.vg_meaning.specs.Outside.{Outside, with_event}
 use Rattle.vg_lin.specs.declared.instr.Memory.TheVariants.{Ram, Flash}
-use Rattle.vg_lin.specs.declared.instr.Operand.TheVariants.{Known}
 use Rattle.vg_lin.specs.declared.instr.Plain.{Plain}
 use Rattle.vg_lin.specs.declared.instr.Plain.TheVariants.{Copy, Compute, Product, DivideSteps, Load, Store, ReadDevice, WriteDevice, Push, Pop, Find, CodeOf, Stop}
 use Rattle.vg_lin.specs.Program.{Program}
@@ -92,7 +91,7 @@ module _ (i : Places) (ok : (m : ℕ) → IsLayout (i.layouts m)) (m : ℕ) (fra
       (takes_writes_device i ok m frames e deep live behind s address a x v can.1.0 can.1.1 can.0 got (subst (Front e) (sym (same_outside s s' o o' last)) front) k)
   takes_plain_code live behind (CodeOf q to) s s' o' v made can front full k =
       ended behind (CodeOf q to) v (sets to (p.codes.code q) s) s' v.out o' made
-      (takes_copies_whole i ok m frames e deep live behind s to (Known (p.codes.code q)) (p.codes.code q) v tt can refl k)
+      (takes_copies_whole i ok m frames e deep live behind s to (p.codes.code q) v can k)
   takes_plain_code live behind (Push w a) s s' o' v made can front full k =
       let (x, (got, last)) = used (value a s) (λ x. GoesOn (record s { waiting = record { width = w; value = low w x } ∷ s.waiting }) v.out) s' o' made in
       ended behind (Push w a) v (record s { waiting = record { width = w; value = low w x } ∷ s.waiting }) s' v.out o' last

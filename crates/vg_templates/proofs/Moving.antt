@@ -1,12 +1,12 @@
 -- What moves between registers make of them.
 use Rattle.std.proofs.Common.{◌≡◌, ◌≢◌, ℕ, zero, suc, ◌+◌, ◌*◌, ◌/◌, ◌%◌, ◌<◌, ◌≤◌, ◌⊎◌, inl, inr, Bool, true, false, ◌&&◌, ◌==◌}
-use Rattle.std.proofs.Common.{List, [], ◌∷◌, ◌++◌, refl, ap, ◌∙◌, arith, if◌then◌else◌}
+use Rattle.std.proofs.Common.{List, [], ◌∷◌, ◌++◌, refl, sym, ap, ◌∙◌, subst, arith, if◌then◌else◌}
 use Rattle.avr_instr.specs.declared.instr.Instr.{Instr}
 use Rattle.avr_instr.specs.declared.instr.Instr.TheVariants.{Mov, Movw}
 use Rattle.avr_view.specs.Registers.{Regs, put, does_all, ArePlain}
 use Rattle.vg_templates.specs.Spots.{number, put_number}
-use Rattle.vg_templates.proofs.Numbers.{put_other}
-use Rattle.vg_templates.specs.Transfers.{clears, known, moves_two, moves}
+use Rattle.vg_templates.proofs.Numbers.{put_other, put_same}
+use Rattle.vg_templates.specs.Transfers.{clears, known, is_twice, known_by, known_number, moves_two, moves}
 
 pub does_all-append : (flash : List ℕ) (is js : List Instr) (g : Regs) → does_all flash (is ++ js) g ≡ does_all flash js (does_all flash is g)
 does_all-append flash [] js g = refl
@@ -39,6 +39,13 @@ pub known-plain : (d n v : ℕ) → ArePlain (known d n v)
 known-plain d zero v = tt
 known-plain d (suc n) v = (tt, known-plain (suc d) n (v / 256))
 
+by-plain : (b : Bool) (d n v : ℕ) → ArePlain (known_by b d n v)
+by-plain true d n v = (tt, (tt, (tt, tt)))
+by-plain false d n v = known-plain d n v
+
+pub known_number-plain : (d n v : ℕ) → ArePlain (known_number d n v)
+known_number-plain d n v = by-plain (is_twice d n v) d n v
+
 two_plain : (b : Bool) (r d : ℕ) → ArePlain (if b then Movw d r ∷ [] else Mov d r ∷ Mov (suc d) (suc r) ∷ [])
 two_plain true r d = (tt, tt)
 two_plain false r d = (tt, (tt, tt))
@@ -56,6 +63,33 @@ module _ (flash : List ℕ) where
   pub known-put : (d n v : ℕ) (g : Regs) → does_all flash (known d n v) g ≡ put_number g d n v
   known-put d zero v g = refl
   known-put d (suc n) v g = known-put (suc d) n (v / 256) (put g d (v % 256))
+
+  -- two bytes, and the same behind them
+  twice-put : (d v : ℕ) (g : Regs) → v % 65536 ≡ v / 65536 % 65536 → does_all flash (known_by true d 4 v) g ≡ put_number g d 4 v
+  twice-put d v g h =
+      let x = v % 256 in
+      let y = v / 256 % 256 in
+      let g1 = put g d x in
+      let g2 = put g1 (suc d) y in
+      let low : g2.of d ≡ x = put_other g1 (suc d) y d (omega arith) ∙ put_same g d x in
+      let next : d + 1 ≡ suc d = omega arith in
+      let high : g2.of (d + 1) ≡ y = ap (λ k. g2.of k) next ∙ put_same g1 (suc d) y in
+      let third : x ≡ v / 256 / 256 % 256 = omega (arith, h) in
+      let fourth : y ≡ v / 256 / 256 / 256 % 256 = omega (arith, h) in
+      let last : suc (suc d) + 1 ≡ suc (suc (suc d)) = omega arith in
+      ap (λ a. put (put g2 (suc (suc d)) a) (suc (suc d) + 1) (g2.of (d + 1))) (low ∙ third)
+      ∙ ap (λ b. put (put g2 (suc (suc d)) (v / 256 / 256 % 256)) (suc (suc d) + 1) b) (high ∙ fourth)
+      ∙ ap (λ k. put (put g2 (suc (suc d)) (v / 256 / 256 % 256)) k (v / 256 / 256 / 256 % 256)) last
+
+  by-put : (b : Bool) (d n v : ℕ) (g : Regs) → is_twice d n v ≡ b → does_all flash (known_by b d n v) g ≡ put_number g d n v
+  by-put false d n v g e = known-put d n v g
+  by-put true d n v g e =
+      let four : n ≡ 4 = grind (arith, e) in
+      let same : v % 65536 ≡ v / 65536 % 65536 = grind (arith, e) in
+      subst (λ k. does_all flash (known_by true d k v) g ≡ put_number g d k v) (sym four) (twice-put d v g same)
+
+  pub known_number-put : (d n v : ℕ) (g : Regs) → does_all flash (known_number d n v) g ≡ put_number g d n v
+  known_number-put d n v g = by-put (is_twice d n v) d n v g refl
 
   pub clears-put : (d n : ℕ) (g : Regs) → g.of 1 ≡ 0 → 2 ≤ d → does_all flash (clears d n) g ≡ put_number g d n 0
   clears-put d zero g h low = refl

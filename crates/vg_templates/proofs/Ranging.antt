@@ -18,7 +18,7 @@ use Rattle.vg_lin.specs.declared.instr.Plain.TheVariants.{Copy, Compute, Product
 use Rattle.vg_templates.specs.Spots.{Spot, InFrame, InRegisters}
 use Rattle.vg_templates.specs.Layouts.{Layout, IsLayout, IsSpot, width_of}
 use Rattle.vg_templates.specs.Linkage.{pushes}
-use Rattle.vg_templates.specs.Transfers.{clears, known, moves_two, moves, loads, stores, reach, reach_by, fetch, keep}
+use Rattle.vg_templates.specs.Transfers.{clears, known, is_twice, known_by, known_number, moves_two, moves, loads, stores, reach, reach_by, fetch, keep}
 use Rattle.vg_templates.specs.Held.{IsReady, IsSet, brings, gives}
 use Rattle.vg_templates.specs.Homes.{home_of, made_in, settles, IsHome, clear_home}
 use Rattle.vg_templates.proofs.Settling.{home_is, clear_is, made_low}
@@ -48,6 +48,16 @@ clears-fine d (suc n) h = ((omega arith, omega arith), clears-fine (suc d) n (om
 known-fine : (d n v : ℕ) → 16 ≤ d → d + n ≤ 32 → Fine (known d n v)
 known-fine d zero v low h = tt
 known-fine d (suc n) v low h = (((low, omega arith), omega arith), known-fine (suc d) n (v / 256) (omega arith) (omega arith))
+
+by-fine : (b : Bool) (d n v : ℕ) → is_twice d n v ≡ b → 16 ≤ d → d + n ≤ 32 → Fine (known_by b d n v)
+by-fine false d n v e low h = known-fine d n v low h
+by-fine true d n v e low h =
+    let even : d % 2 ≡ 0 = grind (arith, e) in
+    let four : n ≡ 4 = grind (arith, e) in
+    (((low, omega arith), omega arith), (((omega arith, omega arith), omega arith), (((omega arith, omega (arith, even)), (omega arith, even)), tt)))
+
+known_number-fine : (d n v : ℕ) → 16 ≤ d → d + n ≤ 32 → Fine (known_number d n v)
+known_number-fine d n v low h = by-fine (is_twice d n v) d n v refl low h
 
 two_fine : (b : Bool) (r d : ℕ) → ((r % 2 == 0) && (d % 2 == 0)) ≡ b → r + 2 ≤ 32 → d + 2 ≤ 32
     → Fine (if b then Movw d r ∷ [] else Mov d r ∷ Mov (suc d) (suc r) ∷ [])
@@ -104,7 +114,7 @@ module _ (l : Layout) (ok : IsLayout l) where
   keep-fine (InRegisters d) w r n spot small h = let inside = spot.1 in moves-fine r d n w h (omega arith)
 
   brings-fine : (live : ℕ → Bool) (a : Operand) (d n : ℕ) → IsReady l live a → 16 ≤ d → d + n ≤ 32 → Fine (brings l a d n)
-  brings-fine live (Known x) d n ready low h = known-fine d n x low h
+  brings-fine live (Known x) d n ready low h = known_number-fine d n x low h
   brings-fine live (Local k) d n ready low h = fetch-fine (l.spots k) (width_of l k) d n (ok.spot k ready.0) (ok.narrow k ready.0) h
 
   gives-fine : (live behind : ℕ → Bool) (to r n : ℕ) → IsSet l live behind to → r + n ≤ 32 → Fine (gives l to r n)
@@ -268,8 +278,12 @@ module _ (l : Layout) (ok : IsLayout l) (live behind : ℕ → Bool) where
       fine_append (brings l a 22 n) (gives l to 22 n) (brings-fine l ok live a 22 n ready (omega arith) (omega arith))
       (gives-fine l ok live behind to 22 n can (omega arith))
 
-  copies_whole-fine : (to : ℕ) (a : Operand) → IsReady l live a → IsSet l live behind to → Fine (copies_whole l to a)
-  copies_whole-fine to a ready can = copies_low-fine to a (width_of l to) ready can (ok.narrow to can.there)
+  copies_whole-fine : (to x : ℕ) → IsSet l live behind to → Fine (copies_whole l to x)
+  copies_whole-fine to x can =
+      let w = width_of l to in
+      let narrow = ok.narrow to can.there in
+      fine_append (known 22 w x) (gives l to 22 w) (known-fine 22 w x (omega arith) (omega (arith, narrow)))
+      (gives-fine l ok live behind to 22 w can (omega (arith, narrow)))
 
   copies_through-fine : (to k : ℕ) → IsReady l live (Local k) → IsSet l live behind to → Fine (copies_through l to k)
   copies_through-fine to k ready can =
@@ -349,7 +363,7 @@ module _ (l : Layout) (ok : IsLayout l) (live behind : ℕ → Bool) where
 
   pub plain_code-fine : (codes : ℕ → ℕ) (q : Plain) → IsCovered l live behind q → Fine (plain_code l codes q)
   plain_code-fine codes (Copy to a) can = copies-fine to a can.0 can.1
-  plain_code-fine codes (CodeOf q to) can = copies_whole-fine to (Known (codes q)) tt can
+  plain_code-fine codes (CodeOf q to) can = copies_whole-fine to (codes q) can
   plain_code-fine codes (Compute c) can =
       let n = least c.width (width_of l c.to) in
       let narrow = ok.narrow c.to can.1.1.there in

@@ -53,7 +53,7 @@ put_number-byte g r zero z x h = h
 put_number-byte g r (suc w) z x h = put_number-byte (put g r (z % 256)) (suc r) w (z / 256) x (put_byte g r (z % 256) x (omega arith) h)
 
 -- registers that hold a number are as if it was put there
-digits_same : (g h : Regs) (r w z x : ℕ) → number g r w ≡ z → ((y : ℕ) → r ≤ y → y < r + w → g.of y < 256) → r ≤ x → x < r + w
+pub digits_same : (g h : Regs) (r w z x : ℕ) → number g r w ≡ z → ((y : ℕ) → r ≤ y → y < r + w → g.of y < 256) → r ≤ x → x < r + w
     → g.of x ≡ (put_number h r w z).of x
 digits_same g h r zero z x is bytes from below = absurd (omega arith)
 digits_same g h r (suc w) z x is bytes from below =

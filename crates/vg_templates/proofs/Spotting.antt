@@ -1,19 +1,20 @@
 -- Values come from spots, and go to spots.
 use Rattle.std.proofs.Common.{◌≡◌, ℕ, zero, suc, ◌+◌, ◌<◌, ◌≤◌, ◌⊎◌, inl, inr, false, List, ◌++◌, length}
 use Rattle.std.proofs.Common.{refl, sym, ap, ◌∙◌, subst, arith, nat_lt, length-append}
-use Rattle.avr_view.specs.Registers.{Regs, does_all}
+use Rattle.avr_instr.specs.declared.instr.Instr.{Instr}
+use Rattle.avr_view.specs.Registers.{Regs, does_all, ArePlain}
 use Rattle.avr_view.specs.Run.{Run}
 use Rattle.avr_view.specs.View.{View}
 use Rattle.vg_templates.specs.Spots.{Spot, InFrame, InRegisters, number, put_number, read, written, value_at}
 use Rattle.vg_templates.proofs.Numbers.{number-put, put_number-beside}
 use Rattle.vg_templates.specs.Pieces.{Takes}
-use Rattle.vg_templates.specs.Transfers.{known, moves, reach, loads, stores, fetch, keep}
+use Rattle.vg_templates.specs.Transfers.{known, known_number, moves, reach, loads, stores, fetch, keep}
 use Rattle.vg_templates.specs.Transferred.{IsUsable, Fetched, Kept}
 use Rattle.vg_templates.proofs.Composing.{takes_then, takes_wider, takes_bytes, takes_plain}
-use Rattle.vg_templates.proofs.Moving.{known-plain, known-put, moves-plain, moves-put}
+use Rattle.vg_templates.proofs.Moving.{known-plain, known-put, known_number-plain, known_number-put, moves-plain, moves-put}
 use Rattle.vg_templates.proofs.Accessing.{Reached, takes_reach, takes_loads, takes_stores, read_within, written_within}
 
-middle_far : (at w : ℕ) → w ≤ 4 → nat_lt (at + w) 64 ≡ false → 60 ≤ suc at
+pub middle_far : (at w : ℕ) → w ≤ 4 → nat_lt (at + w) 64 ≡ false → 60 ≤ suc at
 middle_far at w h e = let far : 64 ≤ at + w = grind arith in omega arith
 
 number_reached : (old new : Regs) (r n : ℕ) → ((x : ℕ) → x < 30 → new.of x ≡ old.of x) → r + n ≤ 30 → number new r n ≡ number old r n
@@ -22,7 +23,7 @@ number_reached old new r (suc n) h low =
     let one = h r (omega arith) in let rest = number_reached old new (suc r) n h (omega arith) in omega (arith, one, rest)
 
 -- registers that were put are fetched
-fetched_put : (v u : View) (d n x : ℕ) → u ≡ record v { regs = put_number v.regs d n x } → Fetched d n x v u
+pub fetched_put : (v u : View) (d n x : ℕ) → u ≡ record v { regs = put_number v.regs d n x } → Fetched d n x v u
 fetched_put v u d n x k =
     subst (Fetched d n x v) (sym k) (record { others = λ y low beside. put_number-beside v.regs d n x y beside; holds = number-put v.regs d n x; same = refl })
 
@@ -36,12 +37,19 @@ scratch_clear (InFrame at) w d n own under v low can = tt
 scratch_clear (InRegisters r) w d n own under v low can = let inside = can.1 in inl (omega arith)
 
 module _ (e : Run) (deep : Type 0) where
-  -- a known number
+  -- code that puts a number
+  takes_put : (is : List Instr) (d n x : ℕ) (v : View) → ArePlain is → does_all e.flash is v.regs ≡ put_number v.regs d n x
+      → Takes e deep v is (Fetched d n x v)
+  takes_put is d n x v plain puts =
+      takes_wider e deep v is (λ u. u ≡ record v { regs = does_all e.flash is v.regs }) (Fetched d n x v)
+      (λ u k. fetched_put v u d n x (k ∙ ap (λ g. record v { regs = g }) puts)) (takes_plain e deep v is plain)
+
+  -- a known number, byte by byte, and in as few instructions
   pub takes_known : (d n x : ℕ) (v : View) → Takes e deep v (known d n x) (Fetched d n x v)
-  takes_known d n x v =
-      takes_wider e deep v (known d n x) (λ u. u ≡ record v { regs = does_all e.flash (known d n x) v.regs }) (Fetched d n x v)
-      (λ u k. fetched_put v u d n x (k ∙ ap (λ g. record v { regs = g }) (known-put e.flash d n x v.regs)))
-      (takes_plain e deep v (known d n x) (known-plain d n x))
+  takes_known d n x v = takes_put (known d n x) d n x v (known-plain d n x) (known-put e.flash d n x v.regs)
+
+  pub takes_known_number : (d n x : ℕ) (v : View) → Takes e deep v (known_number d n x) (Fetched d n x v)
+  takes_known_number d n x v = takes_put (known_number d n x) d n x v (known_number-plain d n x) (known_number-put e.flash d n x v.regs)
 
   -- a value at a spot, which has no byte where it comes
   pub takes_fetch_clear : (s : Spot) (w d n : ℕ) (v : View) (wait own under : List ℕ) → v.stack ≡ wait ++ (own ++ under) → IsUsable s w own under v → w ≤ 4

@@ -5,6 +5,7 @@ use Rattle.std.specs.Prelude.{map}
 use Rattle.vg_meaning.specs.declared.event.Event.TheVariants.{Write}
 use Rattle.vg_meaning.specs.Device.{IsDeviceAddress}
 use Rattle.vg_meaning.specs.Outside.{Outside, with_event}
+use Rattle.avr_instr.specs.declared.instr.Instr.{Instr}
 use Rattle.avr_instr.specs.declared.instr.Instr.TheVariants.{Out, Push, Sts}
 use Rattle.avr_isa.specs.Standing.{widths}
 use Rattle.vg_lin.specs.declared.instr.Operand.{Operand}
@@ -26,11 +27,11 @@ use Rattle.vg_templates.proofs.Linking.{goes_pushes, widths-pushes}
 use Rattle.vg_templates.specs.Pieces.{Sees, Takes}
 use Rattle.vg_templates.specs.Held.{Held, IsReady, IsSet, brings, gives, Brought, Given}
 use Rattle.vg_templates.proofs.Composing.{takes_none, takes_then, takes_next, takes_wider}
-use Rattle.vg_templates.proofs.Holding.{usable, takes_brings, takes_gives, takes_gives_frame}
+use Rattle.vg_templates.proofs.Holding.{usable, takes_brings_known, takes_brings, takes_gives, takes_gives_frame}
 use Rattle.vg_templates.specs.Numbers.{number_in}
 use Rattle.vg_templates.specs.Operands.{finds, found_in}
 use Rattle.vg_templates.specs.Homes.{home_of, made_in, settles, clear_home}
-use Rattle.vg_templates.specs.Transfers.{fetch}
+use Rattle.vg_templates.specs.Transfers.{known, fetch}
 use Rattle.vg_templates.specs.Transferred.{Fetched}
 use Rattle.vg_templates.proofs.Spotting.{takes_fetch_clear}
 use Rattle.vg_templates.proofs.Settling.{home_is, clear_is, home_clear, made_low, made_above, takes_settles}
@@ -104,17 +105,16 @@ one_register g (r ∷ []) h = omega arith
 one_register g (r ∷ (s ∷ rs)) h = absurd (let none : suc (suc (length rs)) ≡ 1 = h in omega arith)
 
 module _ (i : Places) (ok : (m : ℕ) → IsLayout (i.layouts m)) (m : ℕ) (frames : List (Frame State)) (e : Run) (deep : Type 0) where
-  -- so many low bytes of a value, which tell what a local gets of it, go to the local
-  takes_copies_low : (live behind : ℕ → Bool) (s : State) (to : ℕ) (a : Operand) (n x : ℕ) (v : View) → IsReady (i.layouts m) live a
-      → IsSet (i.layouts m) live behind to → n ≤ 4 → x % 256 ^ n % 256 ^ width_of (i.layouts m) to ≡ x % 256 ^ width_of (i.layouts m) to
-      → value a s ≡ Some x → Held i m live s frames v
-      → Takes e deep v (copies_low (i.layouts m) to a n) (Lies i m behind (sets to x s) frames v.out)
-  takes_copies_low live behind s to a n x v ready can few tell got k =
+  -- code by which the low bytes of a value come into r22 and behind it, where they tell what a local gets of it, and they go to the local
+  takes_copies_by : (live behind : ℕ → Bool) (s : State) (to n x : ℕ) (is : List Instr) (v : View) → IsSet (i.layouts m) live behind to → n ≤ 4
+      → x % 256 ^ n % 256 ^ width_of (i.layouts m) to ≡ x % 256 ^ width_of (i.layouts m) to → Held i m live s frames v
+      → Takes e deep v is (Brought i m live s frames 22 n x v)
+      → Takes e deep v (is ++ gives (i.layouts m) to 22 n) (Lies i m behind (sets to x s) frames v.out)
+  takes_copies_by live behind s to n x is v can few tell k comes =
       let l = i.layouts m in
       let w = width_of l to in
       let goal = Lies i m behind (sets to x s) frames v.out in
-      takes_then e deep v (brings l a 22 n) (gives l to 22 n) (Brought i m live s frames 22 n x v) goal
-      (takes_brings i ok m frames e deep live s a 22 n x v ready got (omega arith) (omega arith) k)
+      takes_then e deep v is (gives l to 22 n) (Brought i m live s frames 22 n x v) goal comes
       (λ u b. takes_wider e deep u (gives l to 22 n) (Given i m behind (sets to (number u.regs 22 n) s) frames u) goal
       (λ t g.
       let same : sets to (number u.regs 22 n) s ≡ sets to x s =
@@ -125,13 +125,23 @@ module _ (i : Places) (ok : (m : ℕ) → IsLayout (i.layouts m)) (m : ℕ) (fra
       })
       (takes_gives i ok m frames e deep live behind s to 22 n u can (omega arith) (omega arith) b.held))
 
-  -- a value goes to a local
-  pub takes_copies_whole : (live behind : ℕ → Bool) (s : State) (to : ℕ) (a : Operand) (x : ℕ) (v : View) → IsReady (i.layouts m) live a
-      → IsSet (i.layouts m) live behind to → value a s ≡ Some x → Held i m live s frames v
-      → Takes e deep v (copies_whole (i.layouts m) to a) (Lies i m behind (sets to x s) frames v.out)
-  takes_copies_whole live behind s to a x v ready can got k =
+  -- so many low bytes of a value, which tell what a local gets of it, go to the local
+  takes_copies_low : (live behind : ℕ → Bool) (s : State) (to : ℕ) (a : Operand) (n x : ℕ) (v : View) → IsReady (i.layouts m) live a
+      → IsSet (i.layouts m) live behind to → n ≤ 4 → x % 256 ^ n % 256 ^ width_of (i.layouts m) to ≡ x % 256 ^ width_of (i.layouts m) to
+      → value a s ≡ Some x → Held i m live s frames v
+      → Takes e deep v (copies_low (i.layouts m) to a n) (Lies i m behind (sets to x s) frames v.out)
+  takes_copies_low live behind s to a n x v ready can few tell got k =
+      takes_copies_by live behind s to n x (brings (i.layouts m) a 22 n) v can few tell k
+      (takes_brings i ok m frames e deep live s a 22 n x v ready got (omega arith) (omega arith) k)
+
+  -- a known number goes to a local
+  pub takes_copies_whole : (live behind : ℕ → Bool) (s : State) (to x : ℕ) (v : View) → IsSet (i.layouts m) live behind to → Held i m live s frames v
+      → Takes e deep v (copies_whole (i.layouts m) to x) (Lies i m behind (sets to x s) frames v.out)
+  takes_copies_whole live behind s to x v can k =
       let w = width_of (i.layouts m) to in
-      takes_copies_low live behind s to a w x v ready can ((ok m).narrow to can.there) (cut_twice x w w (omega arith)) got k
+      let narrow = (ok m).narrow to can.there in
+      takes_copies_by live behind s to w x (known 22 w x) v can narrow (cut_twice x w w (omega arith)) k
+      (takes_brings_known i ok m frames e deep live s 22 w x v (omega arith) (omega (arith, narrow)) k)
 
   -- the value of a local comes into the registers of another one, or through scratch ones
   takes_copies_through : (live behind : ℕ → Bool) (s : State) (to j x : ℕ) (v : View) → IsReady (i.layouts m) live (Local j)

@@ -1,7 +1,7 @@
 -- The code by which a procedure leads to another place: jumps, branches, and calls.
 use Rattle.std.specs.Prelude.{ℕ, ◌≡◌, ◌+◌, ◌<◌, ◌⊎◌, ◌==◌, Bool, true, false, not, ◌&&◌, nat_lt, List, [], ◌∷◌, ◌++◌, length}
 use Rattle.avr_instr.specs.declared.instr.Instr.{Instr}
-use Rattle.avr_instr.specs.declared.instr.Instr.TheVariants.{Jmp, Movw, Rjmp}
+use Rattle.avr_instr.specs.declared.instr.Instr.TheVariants.{Jmp, Rjmp}
 use Rattle.avr_isa.specs.Standing.{widths}
 use Rattle.vg_lin.specs.declared.instr.Callee.{Callee}
 use Rattle.vg_lin.specs.declared.instr.Callee.TheVariants.{Procedure as ByNumber, Code as ByCode}
@@ -10,6 +10,7 @@ use Rattle.vg_lin.specs.declared.instr.Call.{Call as Calling}
 use Rattle.vg_lin.specs.Meaning.{operands}
 use Rattle.vg_templates.specs.Layouts.{Layout}
 use Rattle.vg_templates.specs.Held.{brings}
+use Rattle.vg_templates.specs.Pointers.{brings_z}
 use Rattle.vg_templates.specs.Plain.{pushes_value}
 use Rattle.vg_templates.specs.Branches.{near_branch}
 use Rattle.vg_templates.specs.Calls.{Way, ByZ, by_registers}
@@ -70,7 +71,7 @@ pushed_by_call false as' = passed_bytes as'
 -- a code number comes into Z
 abbrev pub aims : Layout → Callee → List Instr
 aims l (ByNumber q) = []
-aims l (ByCode a) = brings l a 26 2 ++ Movw 30 26 ∷ []
+aims l (ByCode a) = brings_z l a
 
 abbrev pub way_of : Callee → Way → Way
 way_of (ByNumber q) w = w

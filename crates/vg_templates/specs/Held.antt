@@ -10,7 +10,7 @@ use Rattle.avr_view.specs.View.{View}
 use Rattle.vg_templates.specs.Spots.{Apart}
 use Rattle.vg_templates.specs.Layouts.{Layout, width_of}
 use Rattle.vg_templates.specs.Frames.{Places, Stacked}
-use Rattle.vg_templates.specs.Transfers.{known, fetch, keep}
+use Rattle.vg_templates.specs.Transfers.{known_number, fetch, keep}
 use Rattle.vg_templates.specs.Transferred.{Fetched}
 
 -- the stack of procedure m, whose live locals lie at their spots; r1 holds zero, and the static area holds the columns
@@ -32,7 +32,7 @@ pub record IsSet (l : Layout) (live behind : ℕ → Bool) (to : ℕ) : Type 0 w
 -- the low bytes of an operand's value come into `count` registers from d on
 abbrev pub brings : Layout → Operand → (d count : ℕ) → List Instr
 brings l (Local k) d n = fetch (l.spots k) (width_of l k) d n
-brings l (Known x) d n = known d n x
+brings l (Known x) d n = known_number d n x
 
 -- the number in `count` registers from r on goes to a local
 abbrev pub gives : Layout → (to r count : ℕ) → List Instr

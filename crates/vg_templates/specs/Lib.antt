@@ -25,8 +25,11 @@ pub mod Framed
 pub mod Returns
 pub mod Calls
 pub mod Shifts
+pub mod Amounts
 pub mod Products
+pub mod Divisions
 pub mod Choices
+pub mod Pointers
 pub mod Lookups
 pub mod Plains
 pub mod Flow

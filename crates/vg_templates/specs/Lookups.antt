@@ -10,13 +10,14 @@ use Rattle.vg_templates.specs.Transfers.{known}
 use Rattle.vg_templates.specs.Held.{brings, gives}
 use Rattle.vg_templates.specs.Homes.{home_of, made_in, settles}
 use Rattle.vg_templates.specs.Chains.{takes_known}
+use Rattle.vg_templates.specs.Pointers.{brings_z}
 use Rattle.vg_templates.specs.Accesses.{plus_base}
 use Rattle.vg_templates.specs.Choices.{usual, unusual}
 
 -- Z is the address of a base with an index added
 abbrev pub points_z : Layout → (base : ℕ) → Operand → List Instr
 points_z l base (Known x) = known 30 2 (base + x)
-points_z l base (Local k) = brings l (Local k) 26 2 ++ Movw 30 26 ∷ plus_base 30 base
+points_z l base (Local k) = brings_z l (Local k) ++ plus_base 30 base
 
 abbrev pub loads_z : (d count : ℕ) → List Instr
 loads_z d zero = []

@@ -10,7 +10,7 @@ use Rattle.vg_lin.specs.declared.instr.Computation.{Computation}
 use Rattle.vg_templates.specs.Spots.{Spot, InFrame, InRegisters}
 use Rattle.vg_templates.specs.Layouts.{Layout, width_of}
 use Rattle.vg_templates.specs.Linkage.{pushes}
-use Rattle.vg_templates.specs.Transfers.{fetch}
+use Rattle.vg_templates.specs.Transfers.{known, fetch}
 use Rattle.vg_templates.specs.Held.{brings, gives}
 use Rattle.vg_templates.specs.Homes.{home_of, made_in, settles, is_clear, clear_home}
 use Rattle.vg_templates.specs.Chains.{adds, subtracts, takes_known, ands, ors, eors}
@@ -20,9 +20,9 @@ use Rattle.vg_templates.specs.Operands.{least, finds, found_in}
 abbrev pub copies_low : Layout → (to : ℕ) → Operand → (count : ℕ) → List Instr
 copies_low l to a n = brings l a 22 n ++ gives l to 22 n
 
--- a value goes to a local
-abbrev pub copies_whole : Layout → (to : ℕ) → Operand → List Instr
-copies_whole l to a = copies_low l to a (width_of l to)
+-- a known number goes to a local, by as many instructions whatever the number
+abbrev pub copies_whole : Layout → (to value : ℕ) → List Instr
+copies_whole l to x = known 22 (width_of l to) x ++ gives l to 22 (width_of l to)
 
 -- how many low bytes of a number, of so many, have only zeros behind them
 abbrev pub bytes_in : (most value : ℕ) → ℕ

@@ -5,7 +5,7 @@ use Rattle.avr_instr.specs.declared.instr.Instr.TheVariants.{Pop as PopTo}
 use Rattle.vg_codes.specs.Dispatch.{cases_of}
 use Rattle.vg_lin.specs.declared.instr.Memory.TheVariants.{Flash}
 use Rattle.vg_lin.specs.declared.instr.Operand.{Operand}
-use Rattle.vg_lin.specs.declared.instr.Operand.TheVariants.{Known}
+use Rattle.vg_lin.specs.declared.instr.Operand.TheVariants.{Local, Known}
 use Rattle.vg_lin.specs.declared.instr.Operator.{Operator}
 use Rattle.vg_lin.specs.declared.instr.Operator.TheVariants.{ShiftLeft, ShiftRight}
 use Rattle.vg_lin.specs.declared.instr.Computation.{Computation}
@@ -17,13 +17,17 @@ use Rattle.vg_templates.specs.Held.{gives}
 use Rattle.vg_templates.specs.Plain.{computes}
 use Rattle.vg_templates.specs.Straight.{plain_code, stops}
 use Rattle.vg_templates.specs.Shifts.{shifts_left, shifts_right}
-use Rattle.vg_templates.specs.Products.{multiplies, divides_steps}
+use Rattle.vg_templates.specs.Amounts.{shifts_left_by, shifts_right_by}
+use Rattle.vg_templates.specs.Products.{multiplies}
+use Rattle.vg_templates.specs.Divisions.{divides_steps}
 use Rattle.vg_templates.specs.Lookups.{loads_table, finds_procedure}
 
--- a computation: shifts are by known amounts, and products, quotients and remainders are the routines' work
+-- a computation: products, quotients and remainders are the routines' work
 abbrev pub computation_code : Layout → Computation → Operator → (right : Operand) → List Instr
 computation_code l c ShiftLeft (Known n) = shifts_left l c.width c.to c.left n
 computation_code l c ShiftRight (Known n) = shifts_right l c.width c.to c.left n
+computation_code l c ShiftLeft (Local k) = shifts_left_by l c.width c.to c.left k
+computation_code l c ShiftRight (Local k) = shifts_right_by l c.width c.to c.left k
 computation_code l c o a = computes l c
 
 -- the newest value that waits, of so many bytes, goes to a local

@@ -53,7 +53,7 @@ divides_once l remainder dividend divisor =
 abbrev pub turns_back : (words : ℕ) → List Instr
 turns_back n = Dec 27 ∷ Brbs 1 1 ∷ Rjmp (4093 - n) ∷ []
 
--- r27 counts the steps, each of which is one turn; each instruction of a turn is one word
-abbrev pub divides_steps : Layout → (remainder dividend : ℕ) → (divisor : Operand) → List Instr
-divides_steps l remainder dividend divisor =
+-- r27 counts the steps, each of which is one turn; each instruction of a turn is one word, and the values come and go by scratch registers
+abbrev pub divides_through : Layout → (remainder dividend : ℕ) → (divisor : Operand) → List Instr
+divides_through l remainder dividend divisor =
     Ldi 27 32 ∷ (divides_once l remainder dividend divisor ++ turns_back (length (divides_once l remainder dividend divisor)))

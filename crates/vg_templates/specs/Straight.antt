@@ -4,7 +4,6 @@ use Rattle.vg_meaning.specs.Device.{IsDeviceAddress}
 use Rattle.avr_instr.specs.declared.instr.Instr.{Instr}
 use Rattle.avr_instr.specs.declared.instr.Instr.TheVariants.{Ldi, Rjmp}
 use Rattle.vg_lin.specs.declared.instr.Memory.TheVariants.{Ram}
-use Rattle.vg_lin.specs.declared.instr.Operand.TheVariants.{Known}
 use Rattle.vg_lin.specs.declared.instr.Plain.{Plain}
 use Rattle.vg_lin.specs.declared.instr.Plain.TheVariants.{Copy, Compute, Load, Store, ReadDevice, WriteDevice, Push, CodeOf}
 use Rattle.vg_lin.specs.Sound.{IsWidth}
@@ -27,7 +26,7 @@ plain_code l codes (Store w a from) = stores_column l w a.base a.index from
 plain_code l codes (ReadDevice to address) = reads_device l to address
 plain_code l codes (WriteDevice address a) = writes_device l address a
 plain_code l codes (Push w a) = pushes_value l w a
-plain_code l codes (CodeOf q to) = copies_whole l to (Known (codes q))
+plain_code l codes (CodeOf q to) = copies_whole l to (codes q)
 plain_code l codes _ = []
 
 -- There is a template for the instruction, and it can be used where these locals are live, and those behind it: operands are live, a local that is set

@@ -11,10 +11,22 @@ abbrev pub clears : (d count : ℕ) → List Instr
 clears d zero = []
 clears d (suc n) = Mov d 1 ∷ clears (suc d) n
 
--- the low bytes of a known number, in registers from r16 on
+-- the low bytes of a known number, one after the other, in registers from r16 on: as many instructions whatever the number
 abbrev pub known : (d count value : ℕ) → List Instr
 known d zero v = []
 known d (suc n) v = Ldi d (v % 256) ∷ known (suc d) n (v / 256)
+
+-- Whether four bytes, in registers from an even one on, are two bytes twice, as those of zero: the upper two come from the lower ones at once.
+abbrev pub is_twice : (d count value : ℕ) → Bool
+is_twice d n v = ((n == 4) && (d % 2 == 0)) && (v % 65536 == v / 65536 % 65536)
+
+abbrev pub known_by : (twice : Bool) → (d count value : ℕ) → List Instr
+known_by true d n v = Ldi d (v % 256) ∷ Ldi (suc d) (v / 256 % 256) ∷ Movw (suc (suc d)) d ∷ []
+known_by false d n v = known d n v
+
+-- the low bytes of a known number, in as few instructions
+abbrev pub known_number : (d count value : ℕ) → List Instr
+known_number d n v = known_by (is_twice d n v) d n v
 
 -- two registers in one instruction, where both pairs begin at even ones
 abbrev pub moves_two : (r d : ℕ) → List Instr

@@ -65,10 +65,27 @@ fn is_power(number: u32) -> bool {
 // The words that bring so many bytes of a value into registers from one on.
 fn brings(laid: &Laid<'_>, value: Operand, register: u8, count: u8) -> usize {
     match value {
-        Operand::Known(_) => usize::from(count),
+        Operand::Known(number) => known_words(number, register, count),
         Operand::Local(local) => match laid.seat(local) {
             Some(seat) => moves(seat, register, width_in(laid, local), count),
             None => usize::from(count),
+        },
+    }
+}
+
+// The words that bring so many bytes of a number there: four that are two bytes twice take three, from an even register on.
+fn known_words(number: u32, register: u8, count: u8) -> usize {
+    let is_twice = count == 4 && register % 2 == 0 && number % 65_536 == number / 65_536;
+    if is_twice { 3 } else { usize::from(count) }
+}
+
+// The words that bring a value into Z: from registers at once, and else by X.
+fn brings_z(laid: &Laid<'_>, value: Operand) -> usize {
+    match value {
+        Operand::Known(_) => 3,
+        Operand::Local(local) => match laid.seat(local) {
+            Some(seat) => moves(seat, 30, width_in(laid, local), 2),
+            None => 3,
         },
     }
 }
@@ -169,7 +186,7 @@ fn copy_words(laid: &Laid<'_>, to: u8, value: Operand) -> usize {
     match value {
         Operand::Known(number) => {
             let count = smaller(bytes_in(number), width_in(laid, to));
-            gives(laid, to, MADE, count).saturating_add(usize::from(count))
+            gives(laid, to, MADE, count).saturating_add(known_words(number, MADE, count))
         }
         Operand::Local(from) => match laid.seat(from) {
             Some(seat) => gives_from(laid, to, seat, from),
@@ -190,7 +207,7 @@ fn computed_words(laid: &Laid<'_>, c: Computation) -> usize {
     let count = smaller(c.width, width_in(laid, c.to));
     match c.operator {
         Operator::ShiftLeft => shifted_words(laid, c, count, amount_of(c.right)),
-        Operator::ShiftRight => shifted_words(laid, c, count, amount_of(c.right)),
+        Operator::ShiftRight => shifted_words(laid, c, c.width, amount_of(c.right)),
         Operator::Times => product_words(laid, c, count),
         _ => bytewise_words(laid, c, count),
     }
@@ -203,12 +220,20 @@ fn amount_of(value: Operand) -> u32 {
     }
 }
 
-// The words of a shift by so many bits, through scratch registers.
+// The words of a shift by so many bits, in the registers of a local or through scratch ones: bytes that are left behind or become zeros do not come.
 fn shifted_words(laid: &Laid<'_>, c: Computation, count: u8, bits: u32) -> usize {
     let each = (bits % 8) as usize;
-    brings(laid, c.left, MADE, count)
-        .saturating_add(each.saturating_mul(usize::from(count)))
-        .saturating_add(gives(laid, c.to, MADE, count))
+    let whole = smaller((bits / 8 % 256) as u8, count);
+    let moved = count.saturating_sub(whole);
+    let stands = whole == 0 && is_it(c.left, c.to) && laid.seat(c.to).is_some();
+    let comes = if stands {
+        0
+    } else {
+        brings(laid, c.left, seat_or(laid, c.to), moved)
+    };
+    comes
+        .saturating_add(each.saturating_mul(usize::from(moved)))
+        .saturating_add(settles(laid, c.to, moved))
 }
 
 fn product_words(laid: &Laid<'_>, c: Computation, count: u8) -> usize {
@@ -331,6 +356,15 @@ fn points(laid: &Laid<'_>, address: Address) -> usize {
     brings(laid, address.index, 26, 2).saturating_add(base)
 }
 
+// The words after which Z has one.
+fn points_z(laid: &Laid<'_>, address: Address) -> usize {
+    if is_known(address.index) {
+        return 2;
+    }
+    let base = if address.base == 0 { 0 } else { 2 };
+    brings_z(laid, address.index).saturating_add(base)
+}
+
 fn load_words(laid: &Laid<'_>, memory: Memory, width: u8, to: u8, address: Address) -> usize {
     let bytes = usize::from(width);
     let reached = match memory {
@@ -341,7 +375,7 @@ fn load_words(laid: &Laid<'_>, memory: Memory, width: u8, to: u8, address: Addre
                 points(laid, address)
             }
         }
-        Memory::Flash => points(laid, address).saturating_add(1),
+        Memory::Flash => points_z(laid, address),
     };
     reached
         .saturating_add(bytes)
@@ -391,7 +425,7 @@ fn is_joined(laid: &Laid<'_>, test: Test) -> bool {
 fn call_words(laid: &Laid<'_>, call: Call) -> usize {
     let aims = match call.callee {
         Callee::Procedure(_) => 1,
-        Callee::Code(value) => brings(laid, value, 26, 2).saturating_add(2),
+        Callee::Code(value) => brings_z(laid, value).saturating_add(1),
     };
     let result = match call.to {
         Some(target) => gives(laid, target.local, MADE, target.width),

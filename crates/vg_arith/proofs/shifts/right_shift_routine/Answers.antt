@@ -4,5 +4,5 @@ use Rattle.vg_arith.proofs.shifts.right_shift_routine.Goals as goal
 
 pub new-requires : goal.new-requires
 new-requires c =
-    shr_sound_as c.in_ok-widths.widths c.push_result.new.code c.in_ok-widths.ensures
-    (simp (c.in_ok-push_result.ensures, c.in_ok-push_stages.ensures, c.in_ok-push.ensures.ok, c.in_ok-push-2.ensures.ok, c.seen.ensures, c.amount_below.ensures, c.new-code.ensures, append_assoc) refl)
+    shr_sound_as c.in_ok-widths.widths c.push_shift.new.code c.in_ok-widths.ensures
+    (simp (c.in_ok-push_shift.ensures, c.in_ok-push.ensures.ok, c.seen.ensures, c.new-code.ensures, append_assoc) refl)

@@ -1,4 +1,4 @@
-use Rattle.vg_followed.proofs.Turning.{goes_divides}
+use Rattle.vg_followed.proofs.DividingInPlace.{goes_divides}
 use Rattle.vg_followed.proofs.divisions.division_steps_are_made.Goals as goal
 
 pub returns : goal.returns
