@@ -1,15 +1,12 @@
 -- The depth of a configuration, bounded by the procedures that are open in it.
-use Rattle.std.specs.Prelude.{ℕ, true, false, ◌+◌, ◌<◌, ◌≤◌, List, [], ◌∷◌, length, Option, Some, None, slice_get}
-use Rattle.std.proofs.Common.{Bool, ◌≡◌, inl, inr, refl, sym, ap, ◌∙◌, arith}
+use Rattle.std.specs.Prelude.{ℕ, ◌+◌, ◌<◌, ◌≤◌, List, [], ◌∷◌, length, Option, Some, None, slice_get}
+use Rattle.std.proofs.Common.{◌≡◌, inl, inr, refl, sym, ap, ◌∙◌, arith}
 use Rattle.vg_meaning.specs.Answer.{Wrong}
 use Rattle.vg_source.specs.Peak.{most}
-use Rattle.vg_lin.specs.declared.instr.Plain.{Plain as PlainInstr}
-use Rattle.vg_lin.specs.declared.instr.Plain.TheVariants.{Copy, Compute, Product, DivideSteps, Load, Store, ReadDevice, WriteDevice, Push, Pop, Find, CodeOf, Stop}
-use Rattle.vg_lin.specs.declared.instr.Passed.{Passed}
 use Rattle.vg_lin.specs.declared.instr.Call.{Call as CallTo}
 use Rattle.vg_lin.specs.declared.instr.Instr.{Instr}
 use Rattle.vg_lin.specs.declared.instr.Instr.TheVariants.{Plain, When, Unless, Jump, Call, Return, Idle}
-use Rattle.vg_lin.specs.Meaning.{operands, enter, codes_in, run}
+use Rattle.vg_lin.specs.Meaning.{enter, codes_in, run}
 use Rattle.vg_lin.specs.Program.{Procedure, Program}
 use Rattle.vg_lin.specs.State.{State, Waiting}
 use Rattle.vg_lin.specs.Steps.{Awaits, Result, Interrupt, Frame, Entry, Config, fetch}
@@ -18,9 +15,8 @@ use Rattle.vg_templates.specs.Frames.{Places}
 use Rattle.vg_templates.specs.Frames as frames
 use Rattle.vg_templates.specs.Layouts.{Layout, frame_size}
 use Rattle.vg_templates.specs.Framed.{framed}
-use Rattle.vg_templates.specs.Straight.{pushed_by}
-use Rattle.vg_templates.specs.Flow.{passed_bytes, goes_by_registers, pushed_by_call}
 use Rattle.vg_templates.specs.Whole.{Links}
+use Rattle.vg_templates.proofs.Entering.{no_parameters}
 use Rattle.vg_followed.specs.Depth.{frames_bytes, opening_bytes as opening_bytes_at, entry_bytes, handler_bytes, instr_bytes, step_bytes, depth}
 use Rattle.vg_followed.specs.Depth.{between_bytes}
 use Rattle.vg_followed.specs.Stands.{Stands}
@@ -29,8 +25,8 @@ use Rattle.vg_open_calls.specs.Open.{IsReady, waiting_widths, AreOpen, IsOpen}
 use Rattle.vg_open_calls.proofs.Entering.{entered}
 use Rattle.vg_open_calls.proofs.Along.{runs_open}
 use Rattle.vg_frame_costs.specs.Bytes.{bytes_of, opening_bytes, pushed_bytes}
-use Rattle.vg_open_costs.specs.Taken.{frame_in, frame_of, opening_in, opening_of, between, callers_take, pushes, passes, entry_takes, handler_takes, instr_takes}
-use Rattle.vg_open_costs.specs.Taken.{step_takes, taken}
+use Rattle.vg_open_costs.specs.Taken.{opening_in, opening_of, pushed_in, pushed_of, frame_of, between, callers_take, entry_takes, handler_takes, instr_takes}
+use Rattle.vg_open_costs.specs.Taken.{step_takes, taken, ReceiveNothing}
 use Rattle.vg_open_costs.proofs.Costing.{opening_takes, costs}
 use Rattle.vg_deep_costs.specs.Fit.{HasFitFrames}
 
@@ -40,33 +36,9 @@ same_waiting : (ws : List Waiting) → frames.bytes_of ws ≡ bytes_of (waiting_
 same_waiting [] = refl
 same_waiting (w ∷ ws) = ap (λ n. w.width + n) (same_waiting ws)
 
-same_passed : (as' : List Passed) → passed_bytes as' ≡ passes as'
-same_passed [] = refl
-same_passed (a ∷ more) = ap (λ n. a.width + n) (same_passed more)
-
--- a call pushes no more than it passes
-pushed_fewer : (by_registers : Bool) (as' : List Passed) → pushed_by_call by_registers as' ≤ passed_bytes as'
-pushed_fewer true as' = omega arith
-pushed_fewer false as' = omega arith
-
 same_between : (a : Awaits) → between_bytes a ≡ between a
 same_between (Result call) = refl
 same_between Interrupt = refl
-
-same_pushed : (q : PlainInstr) → pushed_by q ≡ pushes q
-same_pushed (Push w a) = refl
-same_pushed (Copy to a) = refl
-same_pushed (Compute c) = refl
-same_pushed (Product to a b) = refl
-same_pushed (DivideSteps r d a) = refl
-same_pushed (Load memory w to a) = refl
-same_pushed (Store w a from) = refl
-same_pushed (ReadDevice to address) = refl
-same_pushed (WriteDevice address a) = refl
-same_pushed (Pop w to) = refl
-same_pushed (Find place to a) = refl
-same_pushed (CodeOf q to) = refl
-same_pushed (Stop code) = refl
 
 -- ---- what stands in a configuration
 
@@ -74,6 +46,10 @@ same_pushed (Stop code) = refl
 same_opening : (procedure : Procedure) → opening_bytes procedure ≡ 2 + length (framed procedure).saved + (framed procedure).slots
 unfolding opening_bytes
 same_opening procedure = refl
+
+same_pushed : (procedure : Procedure) → pushed_bytes procedure ≡ (framed procedure).pushed
+unfolding pushed_bytes
+same_pushed procedure = refl
 
 same_frame : (procedure : Procedure) → opening_bytes procedure + pushed_bytes procedure ≡ frame_size (framed procedure)
 unfolding opening_bytes pushed_bytes
@@ -83,7 +59,7 @@ same_frame procedure = omega arith
 module _ (x : Links) (p : Program) (extra : ℕ) (cs : List ℕ) (ready : IsReady p) (has : HasFitFrames x p extra cs) where
   few_frame : (m : ℕ) (procedure : Procedure) → slice_get p.procedures m ≡ Some procedure → frame_size (x.places.layouts m) ≤ frame_of p m
   few_frame m procedure e =
-      let there : frame_of p m ≡ opening_bytes procedure + pushed_bytes procedure = ap frame_in e in
+      let there : frame_of p m ≡ opening_bytes procedure + pushed_bytes procedure = ap (λ o. opening_in o + pushed_in o) e in
       let same = ap frame_size (has.layouts m procedure e) ∙ sym (same_frame procedure) in omega (arith, there, same)
 
   few_opening : (m : ℕ) (procedure : Procedure) → slice_get p.procedures m ≡ Some procedure → opening_bytes_at x.places m ≤ opening_of p m
@@ -110,14 +86,11 @@ module _ (x : Links) (p : Program) (extra : ℕ) (cs : List ℕ) (ready : IsRead
 
   few_instr : (s : State) (o : Option Instr) → instr_bytes x.places p s o ≤ instr_takes p s o
   few_instr s None = omega arith
-  few_instr s (Some (Plain q)) = let pushed = same_pushed q in omega (arith, pushed)
+  few_instr s (Some (Plain q)) = omega arith
   few_instr s (Some (When t to)) = omega arith
   few_instr s (Some (Unless t to)) = omega arith
   few_instr s (Some (Jump to)) = omega arith
-  few_instr s (Some (Call call)) =
-      let passed = same_passed (operands call.registers) in
-      let fewer = pushed_fewer (goes_by_registers call) (operands call.registers) in
-      let entry = few_entry call s (enter p call s) refl in omega (arith, passed, fewer, entry)
+  few_instr s (Some (Call call)) = let entry = few_entry call s (enter p call s) refl in omega (arith, entry)
   few_instr s (Some (Return w a)) = omega arith
   few_instr s (Some Idle) = omega arith
 
@@ -143,6 +116,20 @@ is_ready e x p extra cs st b has =
       handlers = λ v q h. let s = st.handlers v q h in (s.procedure, s.there);
     }
 
+-- for the procedures with which a run and a handler begin nothing is pushed
+receive_nothing : (e : Run) (x : Links) (p : Program) (extra : ℕ) (cs : List ℕ) → Stands e x p → Begins e x p → HasFitFrames x p extra cs
+    → ReceiveNothing p
+receive_nothing e x p extra cs st b has =
+    record {
+      first = none p.start b.first b.there
+          (no_parameters (x.places.layouts p.start) (x.places.live p.start 0) b.first.params (st.procedures p.start b.first b.there).arguments b.no_params).0;
+      handlers = λ v q h. let s = st.handlers v q h in none q s.procedure s.there s.receives_nothing.on_stack;
+    }
+  where
+    none : (m : ℕ) (procedure : Procedure) → slice_get p.procedures m ≡ Some procedure → (x.places.layouts m).pushed ≡ 0 → pushed_of p m ≡ 0
+    none m procedure there e1 =
+        ap pushed_in there ∙ same_pushed procedure ∙ sym (ap (λ (l : Layout). l.pushed) (has.layouts m procedure there)) ∙ e1
+
 -- ---- deep runs
 
 pub deep_costs : (e : Run) (x : Links) (p : Program) (extra : ℕ) (cs : List ℕ) → Stands e x p → Begins e x p → HasFitFrames x p extra cs
@@ -150,9 +137,11 @@ pub deep_costs : (e : Run) (x : Links) (p : Program) (extra : ℕ) (cs : List �
     → 0x1100 < e.floor + (extra + most cs (run p n reads interrupts).openings)
 deep_costs e x p extra cs st b has n reads interrupts legal (inl first) =
     let ready = is_ready e x p extra cs st b has in
+    let nothing = receive_nothing e x p extra cs st b has in
     let opening = few_opening x p extra cs ready has p.start b.first b.there in
-    let few = opening_takes p ready has.before extra cs has.fit in omega (arith, first, opening, few)
+    let few = opening_takes p ready has.before nothing extra cs has.fit in omega (arith, first, opening, few)
 deep_costs e x p extra cs st b has n reads interrupts legal (inr (j, (less, deep))) =
     let ready = is_ready e x p extra cs st b has in
+    let nothing = receive_nothing e x p extra cs st b has in
     let most_taken = few_depth x p extra cs ready has (run p j reads interrupts) (runs_open p ready j reads interrupts) in
-    let cost = costs p ready has.before extra cs has.fit reads interrupts j n less legal in omega (arith, deep, most_taken, cost)
+    let cost = costs p ready has.before nothing extra cs has.fit reads interrupts j n less legal in omega (arith, deep, most_taken, cost)

@@ -1,5 +1,5 @@
 -- Frames fit by themselves.
-use Rattle.std.specs.Prelude.{ℕ, ◌+◌, ◌≤◌, List, [], ◌∷◌}
+use Rattle.std.specs.Prelude.{ℕ, ◌+◌, List, [], ◌∷◌}
 use Rattle.std.proofs.Common.{sym, subst, arith}
 use Rattle.vg_lin.specs.Program.{Procedure}
 use Rattle.vg_frame_costs.specs.declared.frames.Frames.{Frames}

@@ -1,4 +1,6 @@
 pub mod Counted
 pub mod Fit
 pub mod Grown
+pub mod Newest
+pub mod Pushed
 pub mod Sized

@@ -4,10 +4,10 @@ use Rattle.std.specs.List.{AllByRecursion}
 use Rattle.vg_lin.specs.declared.instr.Callee.{Callee}
 use Rattle.vg_lin.specs.declared.instr.Callee.TheVariants.{Procedure as ByNumber, Code as ByCode}
 use Rattle.vg_lin.specs.declared.instr.Instr.{Instr}
-use Rattle.vg_lin.specs.declared.instr.Instr.TheVariants.{Plain, When, Unless, Jump, Call, Return, Idle}
+use Rattle.vg_lin.specs.declared.instr.Instr.TheVariants.{Call, Idle}
 use Rattle.vg_lin.specs.Program.{Procedure}
 use Rattle.vg_source.specs.Peak.{cost_of}
-use Rattle.vg_frame_costs.specs.Bytes.{procedure_bytes, unpushed_bytes}
+use Rattle.vg_frame_costs.specs.Bytes.{procedure_bytes}
 
 -- ---- the code of methods, of routines and of the procedure with which a run begins
 
@@ -49,24 +49,23 @@ BeginsWithCall is = ⊥
 -- ---- frames
 
 -- A method takes at most the frame of its number.
-pub record IsMethodWithin (start : ℕ) (frames : List ℕ) (above : ℕ) (p : Procedure) : Type 0 where
+pub record IsMethodWithin (start : ℕ) (frames : List ℕ) (p : Procedure) : Type 0 where
   pub method : ℕ
   pub named : p.method ≡ Some method
   pub bytes : procedure_bytes p ≤ cost_of frames method
-  pub unpushed : unpushed_bytes p ≤ above
   pub code : AllByRecursion (IsOfMethod start) p.code
 
 -- A routine is no method, and all that it takes lies above the frames of methods.
 pub record IsRoutineWithin (above : ℕ) (p : Procedure) : Type 0 where
   pub unnamed : p.method ≡ None
-  pub bytes : procedure_bytes p + unpushed_bytes p ≤ above
+  pub bytes : procedure_bytes p ≤ above
   pub code : AllByRecursion IsOfRoutine p.code
 
 -- The procedure with which a run begins is no method, and first calls one by its number. What it takes lies below the frames of methods, and so do the four
 -- bytes that it takes when it idles: the return addresses into its code and into the stub of a handler.
 pub record IsStartWithin (start below : ℕ) (p : Procedure) : Type 0 where
   pub unnamed : p.method ≡ None
-  pub bytes : procedure_bytes p + unpushed_bytes p + 4 ≤ below
+  pub bytes : procedure_bytes p + 4 ≤ below
   pub first : BeginsWithCall p.code
   pub code : AllByRecursion (IsOfStart start) p.code
 
@@ -77,7 +76,7 @@ IsStartIn start below None = ⊥
 -- The procedures before the one with which a run begins are methods, each within the frame of its number, and those behind it are routines. So many bytes may
 -- lie below the frames of the methods that are open at one time, and so many above them.
 pub record FramesWithin (ps : List Procedure) (start : ℕ) (frames : List ℕ) (below above : ℕ) : Type 0 where
-  pub methods : AllByRecursion (IsMethodWithin start frames above) (take start ps)
+  pub methods : AllByRecursion (IsMethodWithin start frames) (take start ps)
   pub first : IsStartIn start below (slice_get ps start)
   pub routines : AllByRecursion (IsRoutineWithin above) (drop (suc start) ps)
 

@@ -1,4 +1,3 @@
 pub mod Bytes
 pub mod Fitting
-pub mod Sizes
 pub mod Noted

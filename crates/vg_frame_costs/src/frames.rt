@@ -1,19 +1,19 @@
 // The frames of methods, and what lies beside them.
-ghost use Rattle.std.specs.Prelude.{◌≡◌, ◌+◌, ◌<◌, ◌≤◌, IfOk, IfSome, IsTrue, Some, drop, length, max, take};
+ghost use Rattle.std.specs.Prelude.{◌≡◌, ◌+◌, ◌<◌, ◌≤◌, IfOk, IfSome, IsTrue, Some, drop, length, take};
 ghost use Rattle.std.specs.List.{AllByRecursion};
 ghost use Rattle.vg_source.specs.Peak.{cost_of};
 ghost use Rattle.vg_frame_costs.specs.Fitting.{IsMethodWithin, IsRoutineWithin, IsStartWithin};
 ghost use Rattle.vg_frame_costs.specs.Noted.{AreAtLeast, HoldsAll};
 
 use crate::codes::{are_of_method, are_of_routine, are_of_start, begins_with_call};
+use crate::counting::larger;
 use crate::sizes::size_of;
 use std::alloc::Global;
 use vg_base::{NoMemory, Row};
 use vg_lin::LinProc;
 
 /// The frames of methods, by their numbers, in bytes of the stack; 0 for a method that has no procedure. So many bytes lie beside the frames of all methods
-/// that are open at one time: below them those that the procedure takes with which a run begins, also where it idles, and above them what a routine takes, or what
-/// a caller passes and does not push.
+/// that are open at one time: below them those that the procedure takes with which a run begins, also where it idles, and above them what a routine takes.
 #[derive(Drop)]
 pub struct Frames {
     pub by_method: Row<u32>,
@@ -46,10 +46,10 @@ pub fn method_frames(
         None => return Ok(None),
     };
     let mut frames = Vec::from_elem(alloc, 0, methods)?;
-    match note_before(alloc, procedures, start, &mut frames)? {
-        Some(unpushed) => Ok(frames_with(frames, below, larger(routines, unpushed))),
-        None => Ok(None),
+    if !note_before(alloc, procedures, start, &mut frames)? {
+        return Ok(None);
     }
+    Ok(frames_with(frames, below, routines))
 }
 
 // Frames with so many bytes below and above them.
@@ -61,12 +61,6 @@ fn frames_with(frames: Vec<u32>, below: u32, above: u32) -> Option<Frames>
         by_method: Row::from_vec(frames),
         beside,
     })
-}
-
-fn larger(first: u32, second: u32) -> u32
-    ensures { result ≡ max first second }
-{
-    if first < second { second } else { first }
 }
 
 // What the procedure takes with which a run begins, with the four bytes of its idling: at most eight.
@@ -81,7 +75,7 @@ fn start_bytes(alloc: Global, first: &LinProc, start: u16) -> Result<Option<u32>
         return Ok(None);
     }
     match size_of(alloc, first)? {
-        Some(size) => Ok(at_most_eight(sum(size.bytes, size.unpushed, 4))),
+        Some(bytes) => Ok(at_most_eight(bytes.checked_add(4))),
         None => Ok(None),
     }
 }
@@ -93,14 +87,6 @@ fn at_most_eight(bytes: Option<u32>) -> Option<u32>
         Some(few) => { if few <= 8 { Some(few) } else { None } }
         None => None,
     }
-}
-
-// The sum, where it fits into 32 bits.
-fn sum(first: u32, second: u32, third: u32) -> Option<u32>
-    ensures { IfSome result (λ sum. sum ≡ first + second + third) }
-{
-    let sum = first.checked_add(second)?;
-    sum.checked_add(third)
 }
 
 // The most that one of the routines takes, which stand behind the procedure with which a run begins.
@@ -132,43 +118,38 @@ fn bytes_of_routine(alloc: Global, routine: &LinProc) -> Result<Option<u32>, NoM
     if routine.method().is_some() || !are_of_routine(routine.code()) {
         return Ok(None);
     }
-    match size_of(alloc, routine)? {
-        Some(size) => Ok(sum(size.bytes, size.unpushed, 0)),
-        None => Ok(None),
-    }
+    size_of(alloc, routine)
 }
 
-// Notes what the methods take that stand before the procedure with which a run begins.
+// Notes what the methods take that stand before the procedure with which a run begins. It answers whether each of them has a place.
 fn note_before(
     alloc: Global,
     procedures: &[LinProc],
     start: u16,
     frames: &mut Vec<u32>,
-) -> Result<Option<u32>, NoMemory>
+) -> Result<bool, NoMemory>
     requires { start < length procedures.now }
-    ensures { IfOk result (λ unpushed. IfSome unpushed (λ above. AllByRecursion (IsMethodWithin start frames.new.items above) (take start procedures.now))) }
+    ensures { IfOk result (λ noted. IsTrue noted → AllByRecursion (IsMethodWithin start frames.new.items) (take start procedures.now)) }
 {
     let end = usize::from(start);
     note_methods(alloc, &procedures[..end], start, frames)
 }
 
-// Notes what these methods take by their numbers. It answers the most bytes that callers pass them and do not push.
+// Notes what these methods take by their numbers.
 fn note_methods(
     alloc: Global,
     methods: &[LinProc],
     start: u16,
     frames: &mut Vec<u32>,
-) -> Result<Option<u32>, NoMemory>
-    ensures { IfOk result (λ unpushed. IfSome unpushed (λ above. AllByRecursion (IsMethodWithin start frames.new.items above) methods.now)) }
+) -> Result<bool, NoMemory>
+    ensures { IfOk result (λ noted. IsTrue noted → AllByRecursion (IsMethodWithin start frames.new.items) methods.now) }
 {
-    let mut most = 0;
     for method in methods {
-        match note_method(alloc, method, start, frames)? {
-            Some(unpushed) => most = larger(most, unpushed),
-            None => return Ok(None),
+        if !note_method(alloc, method, start, frames)? {
+            return Ok(false);
         }
     }
-    Ok(Some(most))
+    Ok(true)
 }
 
 fn note_method(
@@ -176,27 +157,21 @@ fn note_method(
     procedure: &LinProc,
     start: u16,
     frames: &mut Vec<u32>,
-) -> Result<Option<u32>, NoMemory>
+) -> Result<bool, NoMemory>
     ensures grows { AreAtLeast frames.old.items frames.new.items }
-    ensures within { IfOk result (λ unpushed. IfSome unpushed (λ above. IsMethodWithin start frames.new.items above procedure.now)) }
+    ensures within { IfOk result (λ noted. IsTrue noted → IsMethodWithin start frames.new.items procedure.now) }
 {
     match procedure.method() {
         Some(method) => {
             if !are_of_method(procedure.code(), start) {
-                return Ok(None);
+                return Ok(false);
             }
             match size_of(alloc, procedure)? {
-                Some(size) => {
-                    if note(frames, method, size.bytes) {
-                        Ok(Some(size.unpushed))
-                    } else {
-                        Ok(None)
-                    }
-                }
-                None => Ok(None),
+                Some(bytes) => Ok(note(frames, method, bytes)),
+                None => Ok(false),
             }
         }
-        None => Ok(None),
+        None => Ok(false),
     }
 }
 

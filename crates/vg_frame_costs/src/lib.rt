@@ -5,7 +5,9 @@ pub mod codes;
 pub mod counting;
 pub mod frames;
 pub mod paying;
+pub mod pushing;
 pub mod sizes;
+pub mod waiting;
 
 pub use frames::{Frames, method_frames};
 pub use paying::are_paid;

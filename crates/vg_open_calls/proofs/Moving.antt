@@ -23,8 +23,8 @@ use Rattle.vg_lin.specs.Values.{computed, next_remainder, next_dividend}
 use Rattle.vg_lin.specs.Steps.{Awaits, Result, Interrupt, Frame, Went, Goes, Raises, Lacks, Fails, Entry, Config, begins, ends, went, branched, calls, goes_back, returns}
 use Rattle.vg_lin.specs.Steps.{takes, handles, performed, fetch, stepped, step}
 use Rattle.vg_lin.proofs.Scanned.{waits_marked}
-use Rattle.vg_open_calls.specs.Open.{IsReady, waiting_widths, HasWaits, IsOpener, AreOpen, IsAwake, IsOpen}
-use Rattle.vg_open_calls.proofs.Entering.{entered}
+use Rattle.vg_open_calls.specs.Open.{IsReady, waiting_widths, HasWaits, argument_widths, IsPassing, IsOpener, AreOpen, IsAwake, IsOpen}
+use Rattle.vg_open_calls.proofs.Entering.{entered, entered_widths}
 
 -- A step stays in a procedure, opens another one above it, or closes it.
 pub data Move (p : Program) (c : Config State) : Config State → Type 0 where
@@ -182,7 +182,14 @@ module _ (p : Program) (ready : IsReady p) where
       moves_calls call (Some entry) eo e =
           let x = entered p call c.state entry eo in
           let w = waits_here (Call call) e in
-          opens (e, x.aim) refl
+          let passing : IsPassing p c.proc c.pc call entry.proc = record {
+            caller = M;
+            calls = now.here.there;
+            callee = x.procedure;
+            there = x.there;
+            widths = entered_widths p call c.state entry x ∙ ap (λ ws. argument_widths ws call) now.here.waits;
+          } in
+          opens (e, x.aim, passing) refl
           (at_place c.proc c.pc (suc c.pc) c.state entry.kept now.here w.1.0
           (ap waiting_widths x.kept ∙ sym (drop-map (λ (z : Waiting). z.width) call.pushed c.state.waiting) ∙ ap (drop call.pushed) now.here.waits ∙ sym w.1.1))
           (first_place entry.proc x.procedure entry.state x.there x.empty)

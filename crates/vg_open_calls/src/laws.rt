@@ -7,8 +7,8 @@ ghost use Rattle.vg_lin.specs.Steps.{open_calls};
 ghost use Rattle.vg_open_calls.specs.Noted.{IsAmong, IsNoted, CallsFirst, IsAtFirst};
 ghost use Rattle.vg_open_calls.specs.Open.{IsReady, IsOpen};
 
-/// A law of runs of sound procedures: what waits in each open procedure has the widths that its code tells, and each was opened at a call or at an
-/// instruction that idles. The body is empty: its contract is a law of the definitions, as is that below.
+/// A law of runs of sound procedures: what waits in each open procedure has the widths that its code tells, and each was opened at a call, with arguments as
+/// wide as its parameters, or at an instruction that idles. The body is empty: its contract is a law of the definitions, as is that below.
 pub fn open_procedures()
     ensures { (p : Program) → IsReady p → (n : ℕ) (reads interrupts : List ℕ) → IsOpen p (run p n reads interrupts) }
 {}

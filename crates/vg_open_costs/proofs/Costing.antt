@@ -4,7 +4,7 @@ use Rattle.std.proofs.Common.{◌≡◌, ◌⊎◌, inl, inr, refl, sym, ap, ◌
 use Rattle.vg_meaning.specs.Answer.{Wrong}
 use Rattle.vg_meaning.specs.History.{Calling}
 use Rattle.vg_meaning.specs.Outside.{before as outside_before}
-use Rattle.vg_source.specs.Peak.{total_cost, most}
+use Rattle.vg_source.specs.Peak.{most}
 use Rattle.vg_lin.specs.declared.instr.Instr.TheVariants.{Call, Idle}
 use Rattle.vg_lin.specs.Meaning.{language, codes_in, at_start, run}
 use Rattle.vg_lin.specs.Program.{Program}
@@ -16,12 +16,13 @@ use Rattle.vg_open_calls.specs.Open.{IsReady, IsOpen}
 use Rattle.vg_open_calls.specs.Noted.{IsAmong, IsAtFirst}
 use Rattle.vg_open_calls.proofs.Along.{runs_open, first_open, open_after, runs_noted, runs_begun}
 use Rattle.vg_frame_costs.specs.Fitting.{FramesWithin, FramesFit}
-use Rattle.vg_open_costs.specs.Taken.{opening_of, unpushed_of, taken, LeadBefore}
+use Rattle.vg_open_costs.specs.Taken.{opening_of, taken, LeadBefore, ReceiveNothing}
 use Rattle.vg_open_costs.proofs.Paid.{noted_most, all_paid}
 use Rattle.vg_open_costs.proofs.Covered.{idles_at_start, start_stands, stands, FirstCall, calls_first, start_opens}
-use Rattle.vg_open_costs.proofs.Stepping.{opening_within, IsQuiet, IsSettled, IsHeld, stack_of, held, settled_next}
+use Rattle.vg_open_costs.proofs.Once.{all_whole, opening_within, stack_few}
+use Rattle.vg_open_costs.proofs.Stepping.{IsSettled, IsHeld, stack_of, held, settled_next}
 
-module _ (p : Program) (ready : IsReady p) (before : LeadBefore p) where
+module _ (p : Program) (ready : IsReady p) (before : LeadBefore p) (nothing : ReceiveNothing p) where
   module _ (reads interrupts : List ℕ) where
     abbrev at : ℕ → Config State
     at j = run p j reads interrupts
@@ -32,16 +33,19 @@ module _ (p : Program) (ready : IsReady p) (before : LeadBefore p) where
     next_is : (j : ℕ) → at (j + 1) ≡ step (language p) (codes_in p.procedures) (at j)
     next_is j = in_parts p j 1 (at_start p (outside_before reads interrupts))
 
-    settled_after : (n : ℕ) (c : Config State) → IsOpen p c → IsSettled p ready c → IsSettled p ready (after p n c)
+    settled_after : (n : ℕ) (c : Config State) → IsOpen p c → IsSettled p nothing c → IsSettled p nothing (after p n c)
     settled_after zero c h s = s
     settled_after (suc n) c h s =
-        settled_after n (step (language p) (codes_in p.procedures) c) (open_after p ready 1 c h) (settled_next p ready c h s)
+        settled_after n (step (language p) (codes_in p.procedures) c) (open_after p ready 1 c h) (settled_next p nothing c h s)
 
-    settled : (j : ℕ) → IsSettled p ready (at j)
+    settled : (j : ℕ) → IsSettled p nothing (at j)
     settled j = settled_after j (at_start p (outside_before reads interrupts)) (first_open p ready reads interrupts) (inl refl)
 
-    held_at : (j : ℕ) → IsHeld p ready (at j) (step (language p) (codes_in p.procedures) (at j))
-    held_at j = held p ready (at j) (open' j) (settled j)
+    stack_at : (j : ℕ) → stack_of p nothing (at j) ≤ all_whole p (at j)
+    stack_at j = stack_few p nothing (at j) (open' j)
+
+    held_at : (j : ℕ) → IsHeld p nothing (at j) (step (language p) (codes_in p.procedures) (at j))
+    held_at j = held p nothing (at j) (open' j) (settled j)
 
     -- what ended wrongly stays so
     stays_wrong : (j n : ℕ) → j < n → (step (language p) (codes_in p.procedures) (at j)).ending ≡ Some Wrong → (at n).ending ≡ Some Wrong
@@ -57,7 +61,7 @@ module _ (p : Program) (ready : IsReady p) (before : LeadBefore p) where
       first = calls_first p frames below above ready within before
 
       -- what stands in a configuration
-      stands_at : (j n : ℕ) → j ≤ n → stack_of p ready (at j) + unpushed_of p (at j).proc ≤ below + above + most frames (at n).openings
+      stands_at : (j n : ℕ) → j ≤ n → all_whole p (at j) ≤ below + above + most frames (at n).openings
       stands_at j n le =
           let all = stands p frames below above ready within before (at j) (open' j) in
           let active =
@@ -65,20 +69,23 @@ module _ (p : Program) (ready : IsReady p) (before : LeadBefore p) where
           (runs_noted p ready first.first.unnamed j n reads interrupts le) in omega (arith, all, active)
 
       -- where it idles, the procedure stands with which the run begins
-      idles_within : (j : ℕ) → fetch (codes_in p.procedures) (at j).proc (at j).pc ≡ Some Idle → stack_of p ready (at j) + 4 ≤ below
+      idles_within : (j : ℕ) → fetch (codes_in p.procedures) (at j).proc (at j).pc ≡ Some Idle → stack_of p nothing (at j) + 4 ≤ below
       idles_within j e =
           let same = idles_at_start p frames below above ready within before (at j).proc (at j).pc (open' j).here.procedure (open' j).here.there e in
-          let all = start_stands p frames below above ready within before (at j) (open' j) same in omega (arith, all)
+          let all = start_stands p frames below above ready within before (at j) (open' j) same in
+          let few = stack_at j in omega (arith, all, few)
 
       -- before each step
       pub takes_within : (j n : ℕ) → j < n → ((at n).ending ≡ Some Wrong → ⊥) → taken p (at j) ≤ below + above + most frames (at n).openings
       takes_within j n less legal = by_step (held_at j)
         where
-          by_step : IsHeld p ready (at j) (step (language p) (codes_in p.procedures) (at j)) → taken p (at j) ≤ below + above + most frames (at n).openings
-          by_step (inl (inl nothing)) = let s = stands_at j n (omega (arith, less)) in omega (arith, nothing, s)
+          by_step : IsHeld p nothing (at j) (step (language p) (codes_in p.procedures) (at j)) → taken p (at j) ≤ below + above + most frames (at n).openings
+          by_step (inl (inl none)) =
+              let s = stands_at j n (omega (arith, less)) in
+              let few = stack_at j in omega (arith, none, s, few)
           by_step (inl (inr (few, e))) = let s = idles_within j e in omega (arith, few, s)
           by_step (inr (inl h)) =
-              let next = ap (λ c. stack_of p ready c + unpushed_of p c.proc) (next_is j) in
+              let next = ap (all_whole p) (next_is j) in
               let s = stands_at (j + 1) n (omega (arith, less)) in omega (arith, h, next, s)
           by_step (inr (inr wrong)) = absurd (legal (stays_wrong j n less wrong))
 
@@ -94,12 +101,13 @@ module _ (p : Program) (ready : IsReady p) (before : LeadBefore p) where
           → taken p (at j) + 4 ≤ below
       first_takes j n less legal here next = by_step (held_at j)
         where
-          by_step : IsHeld p ready (at j) (step (language p) (codes_in p.procedures) (at j)) → taken p (at j) + 4 ≤ below
-          by_step (inl (inl nothing)) =
-              let s = start_stands p frames below above ready within before (at j) (open' j) here.proc in omega (arith, nothing, s)
+          by_step : IsHeld p nothing (at j) (step (language p) (codes_in p.procedures) (at j)) → taken p (at j) + 4 ≤ below
+          by_step (inl (inl none)) =
+              let s = start_stands p frames below above ready within before (at j) (open' j) here.proc in
+              let few = stack_at j in omega (arith, none, s, few)
           by_step (inl (inr (few, e))) = absurd (not_first j e here)
           by_step (inr (inl h)) =
-              let same = ap (λ c. stack_of p ready c + unpushed_of p c.proc) (next_is j) in
+              let same = ap (all_whole p) (next_is j) in
               let s = start_stands p frames below above ready within before (at (j + 1)) (open' (j + 1)) next.proc in omega (arith, h, same, s)
           by_step (inr (inr wrong)) = absurd (legal (stays_wrong j n less wrong))
 
@@ -108,7 +116,7 @@ module _ (p : Program) (ready : IsReady p) (before : LeadBefore p) where
   module _ (extra : ℕ) (cs : List ℕ) (fit : FramesFit p.procedures p.start extra cs) where
     pub opening_takes : opening_of p p.start ≤ extra
     opening_takes =
-        let within = opening_within p ready p.start ready.first ready.start in
+        let within = opening_within p p.start in
         let frame = start_opens p fit.frames fit.below fit.above ready fit.within before in
         let few = fit.begins in omega (arith, within, frame, few)
 

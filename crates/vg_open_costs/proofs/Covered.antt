@@ -1,7 +1,7 @@
 -- What open procedures take is within the frames of the methods that are called, and what lies beside them.
 use Rattle.std.specs.Prelude.{ℕ, zero, suc, ◌+◌, ◌<◌, ◌≤◌, List, [], ◌∷◌, Some, slice_get}
 use Rattle.std.proofs.Common.{◌≡◌, ◌⊎◌, inl, inr, refl, sym, ap, ◌∙◌, subst, arith}
-use Rattle.vg_meaning.specs.History.{Active, Calling}
+use Rattle.vg_meaning.specs.History.{Calling}
 use Rattle.vg_source.specs.Peak.{cost_of, total_cost}
 use Rattle.vg_lin.specs.declared.instr.Callee.{Callee}
 use Rattle.vg_lin.specs.declared.instr.Callee.TheVariants.{Procedure as ByNumber, Code as ByCode}
@@ -15,12 +15,13 @@ use Rattle.vg_lin.specs.Steps.{Awaits, Result, Interrupt, Frame, Config, with_na
 use Rattle.vg_open_calls.specs.Open.{IsReady, HasWaits, IsAim, IsOpener, AreOpen, IsOpen}
 use Rattle.vg_open_calls.specs.Noted.{CallsFirst}
 use Rattle.vg_open_calls.proofs.Moving.{fetch_in}
-use Rattle.vg_frame_costs.specs.Bytes.{bytes_of, opening_bytes, frame_bytes, procedure_bytes, unpushed_bytes}
+use Rattle.vg_frame_costs.specs.Bytes.{procedure_bytes}
 use Rattle.vg_frame_costs.specs.Fitting.{IsOther, IsOfMethod, IsOfRoutine, IsBefore, IsOfStart, IsByNumber, BeginsWithCall, IsMethodWithin, IsRoutineWithin}
 use Rattle.vg_frame_costs.specs.Fitting.{IsStartWithin, IsStartIn, FramesWithin}
 use Rattle.vg_frame_costs.proofs.Sized.{opens}
-use Rattle.vg_open_costs.specs.Taken.{frame_in, frame_of, unpushed_in, unpushed_of, between, callers_take, stack_takes, LeadBefore}
-use Rattle.vg_open_costs.proofs.Fitted.{all_at, all_before, all_behind, there_before, waits_few}
+use Rattle.vg_open_costs.specs.Taken.{between, LeadBefore}
+use Rattle.vg_open_costs.proofs.Fitted.{all_at, all_before, all_behind, there_before}
+use Rattle.vg_open_costs.proofs.Once.{whole_in, whole_of, callers_whole, all_whole}
 
 -- two numbers in order
 abbrev Order : (m n : ℕ) → Type 0
@@ -44,8 +45,8 @@ module _ (p : Program) (frames : List ℕ) (below above : ℕ) (ready : IsReady 
     (before : LeadBefore p) where
   -- ---- procedures by their places
 
-  method_is : (m : ℕ) (procedure : Procedure) → slice_get p.procedures m ≡ Some procedure → m < p.start → IsMethodWithin p.start frames above procedure
-  method_is m procedure e less = all_before (IsMethodWithin p.start frames above) p.procedures p.start m procedure within.methods less e
+  method_is : (m : ℕ) (procedure : Procedure) → slice_get p.procedures m ≡ Some procedure → m < p.start → IsMethodWithin p.start frames procedure
+  method_is m procedure e less = all_before (IsMethodWithin p.start frames) p.procedures p.start m procedure within.methods less e
 
   routine_is : (m : ℕ) (procedure : Procedure) → slice_get p.procedures m ≡ Some procedure → p.start < m → IsRoutineWithin above procedure
   routine_is m procedure e less = all_behind (IsRoutineWithin above) p.procedures p.start m procedure within.routines less e
@@ -81,7 +82,7 @@ module _ (p : Program) (frames : List ℕ) (below above : ℕ) (ready : IsReady 
       → p.start < f.proc → ⊥
   calls_nothing f procedure there q Interrupt (e, h) more =
       all_at IsOfRoutine procedure.code f.pc Idle (routine_is f.proc procedure there more).code (instr_there f.proc f.pc procedure Idle there e)
-  calls_nothing f procedure there q (Result call) (e, aim) more =
+  calls_nothing f procedure there q (Result call) (e, aim, passing) more =
       all_at IsOfRoutine procedure.code f.pc (Call call) (routine_is f.proc procedure there more).code
       (instr_there f.proc f.pc procedure (Call call) there e)
 
@@ -116,20 +117,17 @@ module _ (p : Program) (frames : List ℕ) (below above : ℕ) (ready : IsReady 
   not_start : (f : Frame State) (procedure : Procedure) → slice_get p.procedures f.proc ≡ Some procedure → (q : ℕ) (a : Awaits) → IsOpener p q f a
       → q ≡ p.start → ⊥
   not_start f procedure there q Interrupt (e, (v, h)) same = let less = before.handlers v q h in omega (arith, less, same)
-  not_start f procedure there q (Result call) (e, aim) same =
+  not_start f procedure there q (Result call) (e, aim, passing) same =
       other_aim call.callee q aim (callee_is f procedure there call e (order f.proc p.start)) same
 
-  no_callers : (m : ℕ) (fs : List (Frame State)) → AreOpen p m fs → m ≡ p.start → callers_take p fs ≡ 0
+  no_callers : (m : ℕ) (fs : List (Frame State)) → AreOpen p m fs → m ≡ p.start → callers_whole p fs ≡ 0
   no_callers m [] h same = refl
   no_callers m (f ∷ fs) (opener, (w, rest)) same = absurd (not_start f w.procedure w.there m f.awaits opener same)
 
   -- ---- what they take
 
-  frame_is : (m : ℕ) (procedure : Procedure) → slice_get p.procedures m ≡ Some procedure → frame_of p m ≡ frame_bytes procedure
-  frame_is m procedure e = ap frame_in e
-
-  unpushed_is : (m : ℕ) (procedure : Procedure) → slice_get p.procedures m ≡ Some procedure → unpushed_of p m ≡ unpushed_bytes procedure
-  unpushed_is m procedure e = ap unpushed_in e
+  whole_is : (m : ℕ) (procedure : Procedure) → slice_get p.procedures m ≡ Some procedure → whole_of p m ≡ procedure_bytes procedure
+  whole_is m procedure e = ap whole_in e
 
   method_total : (m : ℕ) (procedure : Procedure) (there : slice_get p.procedures m ≡ Some procedure) (less : m < p.start) (fs : List (Frame State))
       → total_cost frames (open_calls (language p) m fs)
@@ -144,68 +142,53 @@ module _ (p : Program) (frames : List ℕ) (below above : ℕ) (ready : IsReady 
       ap (λ z. total_cost frames (with_named z (open_below (language p) fs)))
       (ap name_of there ∙ ap call_of (routine_is m procedure there more).unnamed)
 
-  -- a procedure with what waits in it
-  procedure_takes : (m pc : ℕ) (s : State) (w : HasWaits p m pc s) → stack_takes p m s [] ≤ procedure_bytes w.procedure
-  procedure_takes m pc s w =
-      let waits = ap bytes_of w.waits in
-      let few = waits_few w.procedure (ready.sound m w.procedure w.there) pc in
-      let frame = frame_is m w.procedure w.there in omega (arith, waits, few, frame)
-
-  pub start_opens : frame_of p p.start + 4 ≤ below
+  pub start_opens : whole_of p p.start + 4 ≤ below
   start_opens =
-      let frame = frame_is p.start ready.first ready.start in
-      let bytes = first_is.bytes in omega (arith, frame, bytes)
+      let whole = whole_is p.start ready.first ready.start in
+      let bytes = first_is.bytes in omega (arith, whole, bytes)
 
   callers_by : (q : ℕ) (f : Frame State) (fs : List (Frame State)) → IsOpener p q f f.awaits → (w : HasWaits p f.proc (suc f.pc) f.kept)
-      → AreOpen p f.proc fs → callers_take p fs ≤ below + total_cost frames (open_below (language p) fs) → Order f.proc p.start
-      → callers_take p (f ∷ fs) ≤ below + total_cost frames (open_below (language p) (f ∷ fs))
+      → AreOpen p f.proc fs → callers_whole p fs ≤ below + total_cost frames (open_below (language p) fs) → Order f.proc p.start
+      → callers_whole p (f ∷ fs) ≤ below + total_cost frames (open_below (language p) (f ∷ fs))
   callers_by q f fs opener w rest others (inl less) =
-      let takes = procedure_takes f.proc (suc f.pc) f.kept w in
+      let whole = whole_is f.proc w.procedure w.there in
       let bytes = (method_is f.proc w.procedure w.there less).bytes in
       let total = method_total f.proc w.procedure w.there less fs in
-      let space = no_space f w.procedure w.there q f.awaits opener less in omega (arith, takes, bytes, total, space, others)
+      let space = no_space f w.procedure w.there q f.awaits opener less in omega (arith, whole, bytes, total, space, others)
   callers_by q f fs opener w rest others (inr (inl same)) =
-      let takes = procedure_takes f.proc (suc f.pc) f.kept w in
+      let whole = whole_is f.proc w.procedure w.there in
       let bytes = (start_is f.proc w.procedure w.there same).bytes in
       let none = no_callers f.proc fs rest same in
-      let space = between_few f.awaits in omega (arith, takes, bytes, none, space)
+      let space = between_few f.awaits in omega (arith, whole, bytes, none, space)
   callers_by q f fs opener w rest others (inr (inr more)) = absurd (calls_nothing f w.procedure w.there q f.awaits opener more)
 
-  callers : (q : ℕ) (fs : List (Frame State)) → AreOpen p q fs → callers_take p fs ≤ below + total_cost frames (open_below (language p) fs)
+  callers : (q : ℕ) (fs : List (Frame State)) → AreOpen p q fs → callers_whole p fs ≤ below + total_cost frames (open_below (language p) fs)
   callers q [] h = omega arith
   callers q (f ∷ fs) (opener, (w, rest)) = callers_by q f fs opener w rest (callers f.proc fs rest) (order f.proc p.start)
 
-  -- all that is taken where the procedure stands with which a run begins
-  pub start_stands : (c : Config State) → IsOpen p c → c.proc ≡ p.start → stack_takes p c.proc c.state c.frames + unpushed_of p c.proc + 4 ≤ below
+  -- all procedures, where that one runs with which the run begins
+  pub start_stands : (c : Config State) → IsOpen p c → c.proc ≡ p.start → all_whole p c + 4 ≤ below
   start_stands c h same =
-      let takes = procedure_takes c.proc c.pc c.state h.here in
+      let whole = whole_is c.proc h.here.procedure h.here.there in
       let bytes = (start_is c.proc h.here.procedure h.here.there same).bytes in
-      let unpushed = unpushed_is c.proc h.here.procedure h.here.there in
-      let none = no_callers c.proc c.frames h.callers same in omega (arith, takes, bytes, unpushed, none)
+      let none = no_callers c.proc c.frames h.callers same in omega (arith, whole, bytes, none)
 
-  -- all that is taken where any procedure stands
-  pub stands : (c : Config State) → IsOpen p c
-      → stack_takes p c.proc c.state c.frames + unpushed_of p c.proc
-      ≤ below + above + total_cost frames (open_calls (language p) c.proc c.frames)
+  -- all procedures, where any one runs
+  pub stands : (c : Config State) → IsOpen p c → all_whole p c ≤ below + above + total_cost frames (open_calls (language p) c.proc c.frames)
   stands c h = by (order c.proc p.start)
     where
-      by : Order c.proc p.start
-          → stack_takes p c.proc c.state c.frames + unpushed_of p c.proc
-          ≤ below + above + total_cost frames (open_calls (language p) c.proc c.frames)
+      by : Order c.proc p.start → all_whole p c ≤ below + above + total_cost frames (open_calls (language p) c.proc c.frames)
       by (inl less) =
-          let takes = procedure_takes c.proc c.pc c.state h.here in
+          let whole = whole_is c.proc h.here.procedure h.here.there in
           let bytes = (method_is c.proc h.here.procedure h.here.there less).bytes in
-          let most = (method_is c.proc h.here.procedure h.here.there less).unpushed in
-          let unpushed = unpushed_is c.proc h.here.procedure h.here.there in
           let total = method_total c.proc h.here.procedure h.here.there less c.frames in
-          let others = callers c.proc c.frames h.callers in omega (arith, takes, bytes, most, unpushed, total, others)
+          let others = callers c.proc c.frames h.callers in omega (arith, whole, bytes, total, others)
       by (inr (inl same)) = let few = start_stands c h same in omega (arith, few)
       by (inr (inr more)) =
-          let takes = procedure_takes c.proc c.pc c.state h.here in
+          let whole = whole_is c.proc h.here.procedure h.here.there in
           let bytes = (routine_is c.proc h.here.procedure h.here.there more).bytes in
-          let unpushed = unpushed_is c.proc h.here.procedure h.here.there in
           let total = routine_total c.proc h.here.procedure h.here.there more c.frames in
-          let others = callers c.proc c.frames h.callers in omega (arith, takes, bytes, unpushed, total, others)
+          let others = callers c.proc c.frames h.callers in omega (arith, whole, bytes, total, others)
 
   -- ---- the first call
 

@@ -1,4 +1,5 @@
 pub mod Fitted
+pub mod Once
 pub mod Paid
 pub mod Covered
 pub mod Stepping

@@ -1,26 +1,15 @@
 -- How many bytes of the stack the open procedures of a run of linear code take at most.
 use Rattle.std.specs.Prelude.{ℕ, ◌≡◌, ◌+◌, ◌<◌, List, [], ◌∷◌, Option, Some, None, slice_get}
-use Rattle.vg_lin.specs.declared.instr.Plain.{Plain as PlainInstr}
-use Rattle.vg_lin.specs.declared.instr.Plain.TheVariants.{Push}
-use Rattle.vg_lin.specs.declared.instr.Passed.{Passed}
 use Rattle.vg_lin.specs.declared.instr.Instr.{Instr}
 use Rattle.vg_lin.specs.declared.instr.Instr.TheVariants.{Plain, Call, Idle}
-use Rattle.vg_lin.specs.Meaning.{operands, enter, codes_in}
+use Rattle.vg_lin.specs.Meaning.{enter, codes_in}
 use Rattle.vg_lin.specs.Program.{Procedure, Program}
 use Rattle.vg_lin.specs.State.{State}
 use Rattle.vg_lin.specs.Steps.{Awaits, Result, Interrupt, Frame, Entry, Config, fetch}
 use Rattle.vg_open_calls.specs.Open.{waiting_widths}
-use Rattle.vg_frame_costs.specs.Bytes.{bytes_of, opening_bytes, frame_bytes, unpushed_bytes}
+use Rattle.vg_frame_costs.specs.Bytes.{bytes_of, pushed_at, opening_bytes, pushed_bytes}
 
--- a frame: what a procedure takes when it begins, and what its caller pushed
-abbrev pub frame_in : Option Procedure → ℕ
-frame_in (Some m) = frame_bytes m
-frame_in None = 0
-
-abbrev pub frame_of : Program → (m : ℕ) → ℕ
-frame_of p m = frame_in (slice_get p.procedures m)
-
--- the part of it that a procedure takes when it begins
+-- what a procedure takes when it begins
 abbrev pub opening_in : Option Procedure → ℕ
 opening_in (Some m) = opening_bytes m
 opening_in None = 0
@@ -28,13 +17,17 @@ opening_in None = 0
 abbrev pub opening_of : Program → (m : ℕ) → ℕ
 opening_of p m = opening_in (slice_get p.procedures m)
 
--- what is passed to it and not pushed
-abbrev pub unpushed_in : Option Procedure → ℕ
-unpushed_in (Some m) = unpushed_bytes m
-unpushed_in None = 0
+-- what its caller pushed
+abbrev pub pushed_in : Option Procedure → ℕ
+pushed_in (Some m) = pushed_bytes m
+pushed_in None = 0
 
-abbrev pub unpushed_of : Program → (m : ℕ) → ℕ
-unpushed_of p m = unpushed_in (slice_get p.procedures m)
+abbrev pub pushed_of : Program → (m : ℕ) → ℕ
+pushed_of p m = pushed_in (slice_get p.procedures m)
+
+-- its frame: both
+abbrev pub frame_of : Program → (m : ℕ) → ℕ
+frame_of p m = opening_of p m + pushed_of p m
 
 -- an interrupt leaves two return addresses between what it interrupted and its handler
 abbrev pub between : Awaits → ℕ
@@ -49,15 +42,7 @@ callers_take p (f ∷ fs) = between f.awaits + (bytes_of (waiting_widths f.kept.
 abbrev pub stack_takes : Program → (m : ℕ) → State → List (Frame State) → ℕ
 stack_takes p m s fs = bytes_of (waiting_widths s.waiting) + (frame_of p m + callers_take p fs)
 
--- What an instruction pushes beside that. A call is counted to push all that it passes.
-abbrev pub pushes : PlainInstr → ℕ
-pushes (Push w a) = w
-pushes _ = 0
-
-abbrev pub passes : List Passed → ℕ
-passes [] = 0
-passes (a ∷ more) = a.width + passes more
-
+-- What an instruction takes beside that: what it pushes, and what a procedure takes that it calls.
 abbrev pub entry_takes : Program → Option (Entry State) → ℕ
 entry_takes p (Some e) = opening_of p e.proc
 entry_takes p None = 0
@@ -67,8 +52,8 @@ handler_takes p (Some q) = opening_of p q
 handler_takes p None = 0
 
 abbrev pub instr_takes : Program → State → Option Instr → ℕ
-instr_takes p s (Some (Plain q)) = pushes q
-instr_takes p s (Some (Call c)) = passes (operands c.registers) + entry_takes p (enter p c s)
+instr_takes p s (Some (Plain q)) = pushed_at (Plain q)
+instr_takes p s (Some (Call c)) = pushed_at (Call c) + entry_takes p (enter p c s)
 instr_takes p s (Some Idle) = 4
 instr_takes p s _ = 0
 
@@ -84,3 +69,8 @@ taken p c = stack_takes p c.proc c.state c.frames + step_takes p c c.woken
 pub record LeadBefore (p : Program) : Type 0 where
   pub handlers : (v q : ℕ) → p.handler v ≡ Some q → q < p.start
   pub codes : (code q : ℕ) → p.codes.at_code code ≡ Some q → q < p.start
+
+-- Nothing is pushed for the procedures with which a run and a handler begin.
+pub record ReceiveNothing (p : Program) : Type 0 where
+  pub first : pushed_of p p.start ≡ 0
+  pub handlers : (v q : ℕ) → p.handler v ≡ Some q → pushed_of p q ≡ 0

@@ -1,4 +1,4 @@
-use Rattle.std.proofs.Common.{ℕ, ◌≤◌, List, drop}
+use Rattle.std.proofs.Common.{ℕ, List, drop}
 use Rattle.std.specs.List.{AllByRecursion}
 use Rattle.vg_frame_costs.specs.Fitting.{IsMethodWithin}
 use Rattle.vg_frame_costs.specs.Noted.{AreAtLeast}
@@ -6,6 +6,5 @@ use Rattle.vg_frame_costs.proofs.frames.note_methods.Given as goal
 
 abbrev pub invariant-loop-method : goal.invariant-loop-method
 invariant-loop-method l =
-    (frames : List ℕ) (above : ℕ) → AreAtLeast l.frames.items frames → l.most ≤ above
-    → AllByRecursion (IsMethodWithin l.start frames above) (drop l.method-index l.methods)
-    → AllByRecursion (IsMethodWithin l.start frames above) l.methods
+    (frames : List ℕ) → AreAtLeast l.frames.items frames → AllByRecursion (IsMethodWithin l.start frames) (drop l.method-index l.methods)
+    → AllByRecursion (IsMethodWithin l.start frames) l.methods

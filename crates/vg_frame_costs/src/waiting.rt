@@ -1,0 +1,61 @@
+// What waits in a procedure, and the most that waits and is pushed there.
+ghost use Rattle.std.specs.Prelude.{◌≡◌, ◌∷◌, [], IfOk, IfSome, OnOk, drop, reverse};
+ghost use Rattle.vg_lin.specs.Sound.{behind};
+ghost use Rattle.vg_frame_costs.specs.Bytes.{most_waiting as most_in};
+
+use crate::counting::{larger, width_sum};
+use crate::pushing::pushed_at;
+use std::alloc::Global;
+use vg_base::NoMemory;
+use vg_lin::{Instr, Plain};
+
+/// The most bytes that wait at a place of code, with what the instruction there pushes. There are none where more than 65,535 values may wait at one time.
+pub fn most_waiting(alloc: Global, code: &[Instr]) -> Result<Option<u32>, NoMemory>
+    ensures { IfOk result (λ most. IfSome most (λ bytes. bytes ≡ most_in [] code.now)) }
+{
+    let mut waits = Vec::new(alloc);
+    let mut most = 0;
+    for instr in code {
+        if waits.len() > 65_535 {
+            return Ok(None);
+        }
+        most = larger(most, width_sum(waits.as_slice()) + pushed_at(instr));
+        go_behind(&mut waits, instr)?;
+    }
+    Ok(Some(most))
+}
+
+// The widths of the values that wait, the newest of them last, become those behind an instruction.
+fn go_behind(waits: &mut Vec<u8>, instr: &Instr) -> Result<(), NoMemory>
+    ensures { OnOk result (reverse waits.new.items ≡ behind instr.now (reverse waits.old.items)) }
+{
+    match instr {
+        Instr::Plain(Plain::Push(width, _)) => push_newest(waits, *width),
+        Instr::Plain(Plain::Pop(_, _)) => {
+            drop_newest(waits, 1);
+            Ok(())
+        }
+        Instr::Call(call) => {
+            drop_newest(waits, usize::from(call.pushed));
+            Ok(())
+        }
+        _ => Ok(()),
+    }
+}
+
+#[tactic(auto, using(crate::proofs::Newest::newest))]
+fn push_newest(waits: &mut Vec<u8>, width: u8) -> Result<(), NoMemory>
+    ensures { OnOk result (reverse waits.new.items ≡ width ∷ reverse waits.old.items) }
+{
+    waits.push(width)?;
+    Ok(())
+}
+
+// The newest values wait no more, so many.
+#[tactic(auto, using(crate::proofs::Newest::kept))]
+fn drop_newest(waits: &mut Vec<u8>, count: usize)
+    ensures { reverse waits.new.items ≡ drop count (reverse waits.old.items) }
+{
+    let left = waits.len().saturating_sub(count);
+    waits.truncate(left);
+}
