@@ -16,17 +16,17 @@ use Rattle.vg_templates.specs.Frames as frames
 use Rattle.vg_templates.specs.Layouts.{Layout, frame_size}
 use Rattle.vg_templates.specs.Framed.{framed}
 use Rattle.vg_templates.specs.Whole.{Links}
-use Rattle.vg_templates.proofs.Entering.{no_parameters}
 use Rattle.vg_followed.specs.Depth.{frames_bytes, opening_bytes as opening_bytes_at, entry_bytes, handler_bytes, instr_bytes, step_bytes, depth}
 use Rattle.vg_followed.specs.Depth.{between_bytes}
 use Rattle.vg_followed.specs.Stands.{Stands}
 use Rattle.vg_followed.specs.Runs.{Begins, IsDeepRun}
+use Rattle.vg_followed.proofs.Places.{placed}
 use Rattle.vg_open_calls.specs.Open.{IsReady, waiting_widths, AreOpen, IsOpen}
 use Rattle.vg_open_calls.proofs.Entering.{entered}
 use Rattle.vg_open_calls.proofs.Along.{runs_open}
 use Rattle.vg_frame_costs.specs.Bytes.{bytes_of, opening_bytes, pushed_bytes}
-use Rattle.vg_open_costs.specs.Taken.{opening_in, opening_of, pushed_in, pushed_of, frame_of, between, callers_take, entry_takes, handler_takes, instr_takes}
-use Rattle.vg_open_costs.specs.Taken.{step_takes, taken, ReceiveNothing}
+use Rattle.vg_open_costs.specs.Taken.{opening_in, opening_of, pushed_in, frame_of, between, callers_take, entry_takes, handler_takes, instr_takes}
+use Rattle.vg_open_costs.specs.Taken.{step_takes, taken, CallsAreDivided, EndsUnpushed}
 use Rattle.vg_open_costs.proofs.Costing.{opening_takes, costs}
 use Rattle.vg_deep_costs.specs.Fit.{HasFitFrames}
 
@@ -116,32 +116,21 @@ is_ready e x p extra cs st b has =
       handlers = λ v q h. let s = st.handlers v q h in (s.procedure, s.there);
     }
 
--- for the procedures with which a run and a handler begin nothing is pushed
-receive_nothing : (e : Run) (x : Links) (p : Program) (extra : ℕ) (cs : List ℕ) → Stands e x p → Begins e x p → HasFitFrames x p extra cs
-    → ReceiveNothing p
-receive_nothing e x p extra cs st b has =
-    record {
-      first = none p.start b.first b.there
-          (no_parameters (x.places.layouts p.start) (x.places.live p.start 0) b.first.params (st.procedures p.start b.first b.there).arguments b.no_params).0;
-      handlers = λ v q h. let s = st.handlers v q h in none q s.procedure s.there s.receives_nothing.on_stack;
-    }
-  where
-    none : (m : ℕ) (procedure : Procedure) → slice_get p.procedures m ≡ Some procedure → (x.places.layouts m).pushed ≡ 0 → pushed_of p m ≡ 0
-    none m procedure there e1 =
-        ap pushed_in there ∙ same_pushed procedure ∙ sym (ap (λ (l : Layout). l.pushed) (has.layouts m procedure there)) ∙ e1
+-- and their calls are divided
+calls_divided : (e : Run) (x : Links) (p : Program) → Stands e x p → CallsAreDivided p
+calls_divided e x p st m pc call h = (placed e x p st m pc (Call call) h).instr.covers.divided
 
 -- ---- deep runs
 
 pub deep_costs : (e : Run) (x : Links) (p : Program) (extra : ℕ) (cs : List ℕ) → Stands e x p → Begins e x p → HasFitFrames x p extra cs
-    → (n : ℕ) (reads interrupts : List ℕ) → ((run p n reads interrupts).ending ≡ Some Wrong → ⊥) → IsDeepRun e x p n reads interrupts
-    → 0x1100 < e.floor + (extra + most cs (run p n reads interrupts).openings)
-deep_costs e x p extra cs st b has n reads interrupts legal (inl first) =
+    → (n : ℕ) (reads interrupts : List ℕ) → EndsUnpushed p n reads interrupts → ((run p n reads interrupts).ending ≡ Some Wrong → ⊥)
+    → IsDeepRun e x p n reads interrupts → 0x1100 < e.floor + (extra + most cs (run p n reads interrupts).openings)
+deep_costs e x p extra cs st b has n reads interrupts unpushed legal (inl first) =
     let ready = is_ready e x p extra cs st b has in
-    let nothing = receive_nothing e x p extra cs st b has in
     let opening = few_opening x p extra cs ready has p.start b.first b.there in
-    let few = opening_takes p ready has.before nothing extra cs has.fit in omega (arith, first, opening, few)
-deep_costs e x p extra cs st b has n reads interrupts legal (inr (j, (less, deep))) =
+    let few = opening_takes p ready has.before extra cs has.fit in omega (arith, first, opening, few)
+deep_costs e x p extra cs st b has n reads interrupts unpushed legal (inr (j, (less, deep))) =
     let ready = is_ready e x p extra cs st b has in
-    let nothing = receive_nothing e x p extra cs st b has in
     let most_taken = few_depth x p extra cs ready has (run p j reads interrupts) (runs_open p ready j reads interrupts) in
-    let cost = costs p ready has.before nothing extra cs has.fit reads interrupts j n less legal in omega (arith, deep, most_taken, cost)
+    let cost = costs p ready has.before (calls_divided e x p st) extra cs has.fit reads interrupts j n less unpushed legal in
+    omega (arith, deep, most_taken, cost)

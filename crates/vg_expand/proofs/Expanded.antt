@@ -18,6 +18,7 @@ use Rattle.vg_lin.specs.Program.{Procedure}
 use Rattle.vg_lin.specs.Sound.{AreOperands, Waits, IsSound, waits_of}
 use Rattle.vg_arith.specs.Simple.{needs_no_routine, is_simple, are_simple}
 use Rattle.vg_expand.specs.Expansion.{Does, PlainStands, StandsFor, Expands}
+use Rattle.vg_expand.specs.Unpushed.{is_push}
 use Rattle.vg_expand.specs.Code.{worked_out}
 use Rattle.vg_expand.specs.Code.{Base, in_four, cut_to, calling, mask, shifting, shifting_left, shifting_right, is_narrow, narrow_or, product_of, power_of, shifted_by, joined_by, by_difference}
 use Rattle.vg_expand.specs.Code.{by_sum, is_in, in_two, by_power, by_factor, multiplying, computing, expanded_at, expanded_code, size, place_in}
@@ -25,6 +26,71 @@ use Rattle.vg_expand.specs.Code.{base_of, expanded}
 use Rattle.vg_expand.proofs.Computing.{StandAt}
 use Rattle.vg_expand.proofs.Multiplying.{computing_does}
 use Rattle.vg_expand.proofs.Placed.{size_is, place_of, place_next, place_in_is, stands}
+
+-- ---- the forms of a product
+
+-- what is said of every form of a product
+pub each_product : (P : List Instr → Type 0) (base : Base) (c : Computation) → ((a b : Operand) → P (calling base.first (Two (in_four a) (in_four b)) c))
+    → ((a b : Operand) → P (Plain (Product c.to a b) ∷ cut_to c.width c.to)) → ((v : ℕ) → P (Plain (Copy c.to (Known v)) ∷ []))
+    → ((a : Operand) (n : ℕ) → P (shifted_by c a n ∷ [])) → ((a : Operand) (n : ℕ) → P (shifted_by c a n ∷ joined_by Plus c a ∷ []))
+    → ((a : Operand) (n : ℕ) → P (shifted_by c a n ∷ joined_by Minus c a ∷ [])) → (left right : Operand) → P (multiplying base c left right)
+each_product P base c call bytes copy shift sum difference left right = of left right
+  where
+    product : (a b : Operand) → P (product_of base c a b)
+    product a b = by_test (is_narrow base.widths a && is_narrow base.widths b)
+      where
+        by_test : (t : Bool) → P (narrow_or t base.first c a b)
+        by_test true = bytes a b
+        by_test false = call a b
+
+    differences : (a : Operand) (k : ℕ) (o : Option ℕ) → P (by_difference base c a k o)
+    differences a k (Some n) = difference a n
+    differences a k None = product a (Known k)
+
+    sums : (a : Operand) (k : ℕ) (o : Option ℕ) → P (by_sum base c a k o)
+    sums a k (Some n) = sum a n
+    sums a k None = differences a k (power_of (k + 1))
+
+    pairs : (a : Operand) (k : ℕ) (t : Bool) → P (in_two base c a k t)
+    pairs a k true = product a (Known k)
+    pairs a k false = sums a k (power_of (k - 1))
+
+    powers : (a : Operand) (k : ℕ) (o : Option ℕ) → P (by_power base c a k o)
+    powers a k (Some n) = shift a n
+    powers a k None = pairs a k (is_in a c.to)
+
+    factors : (a : Operand) (k : ℕ) (t : Bool) → P (by_factor base c a k t)
+    factors a k true = copy 0
+    factors a k false = powers a k (power_of k)
+
+    of : (left right : Operand) → P (multiplying base c left right)
+    of (Known j) (Known k) = copy (worked_out c.width (j * k))
+    of (Local i) (Known k) = factors (Local i) k (k == 0)
+    of (Known k) (Local i) = factors (Local i) k (k == 0)
+    of (Local i) (Local j) = product (Local i) (Local j)
+
+-- ---- it does not begin with a push
+
+abbrev IsUnpushed : List Instr → Type 0
+IsUnpushed xs = (code : List Instr) (at : ℕ) → StandAt code at xs → is_push (slice_get code at) ≡ false
+
+shifting_unpushed : (r : ℕ) (rs : Registers) (c : Computation) (a : Operand) → IsUnpushed (shifting r rs c a)
+shifting_unpushed r rs c (Known n) = λ code at st. ap is_push st.0
+shifting_unpushed r rs c (Local i) = λ code at st. ap is_push st.0
+
+computing_unpushed : (base : Base) (c : Computation) (op : Operator) → IsUnpushed (computing base c op)
+computing_unpushed base c Plus = λ code at st. ap is_push st.0
+computing_unpushed base c Minus = λ code at st. ap is_push st.0
+computing_unpushed base c Times =
+    each_product IsUnpushed base c (λ a b code at st. ap is_push st.0) (λ a b code at st. ap is_push st.0) (λ v code at st. ap is_push st.0)
+    (λ a n code at st. ap is_push st.0) (λ a n code at st. ap is_push st.0) (λ a n code at st. ap is_push st.0) c.left c.right
+computing_unpushed base c Divide = λ code at st. ap is_push st.0
+computing_unpushed base c Remainder = λ code at st. ap is_push st.0
+computing_unpushed base c And = λ code at st. ap is_push st.0
+computing_unpushed base c Or = λ code at st. ap is_push st.0
+computing_unpushed base c Xor = λ code at st. ap is_push st.0
+computing_unpushed base c ShiftLeft = shifting_unpushed (base.first + 2) (shifting_left c) c c.right
+computing_unpushed base c ShiftRight = shifting_unpushed (base.first + 3) (shifting_right c) c c.right
 
 -- ---- it stands for the code before
 
@@ -48,9 +114,11 @@ module _ (first : ℕ) (m : Procedure) (sound : IsSound m) where
       → StandAt now.code (place at) (expanded_at its_base (place_in its_base m.code) (Plain i))
       → AreOperands m (Plain i) → PlainStands first now place at i
   plain_stands at (Copy to a) e st ok = (st.0, next_is at _ e refl)
-  plain_stands at (Compute c) e st (hw, to, left, right) =
-      subst (λ k. Does first now (place at) k c) (sym (place_next its_base m.code at _ e))
-      (computing_does first now (place at) c.width c.to c.left c.right sound.widths hw to c.operator st)
+  plain_stands at (Compute c) e st (hw, to, left, right) = (
+    computing_unpushed its_base c c.operator now.code (place at) st,
+    subst (λ k. Does first now (place at) k c) (sym (place_next its_base m.code at _ e))
+        (computing_does first now (place at) c.width c.to c.left c.right sound.widths hw to c.operator st),
+  )
   plain_stands at (Product to a b) e st ok = (st.0, next_is at _ e refl)
   plain_stands at (DivideSteps r d a) e st ok = (st.0, next_is at _ e refl)
   plain_stands at (Load x w to a) e st ok = (st.0, next_is at _ e refl)
@@ -121,46 +189,6 @@ shifting_simple : (r : ℕ) (rs : Registers) (width to : ℕ) (left a : Operand)
     → are_simple (shifting r rs (record { operator = op; width = width; to = to; left = left; right = a }) a) ≡ true
 shifting_simple r rs width to left (Known n) op e = both_true (needs_no_routine op) true e refl
 shifting_simple r rs width to left (Local i) op e = cut_simple width to
-
--- what is said of every form of a product
-pub each_product : (P : List Instr → Type 0) (base : Base) (c : Computation) → ((a b : Operand) → P (calling base.first (Two (in_four a) (in_four b)) c))
-    → ((a b : Operand) → P (Plain (Product c.to a b) ∷ cut_to c.width c.to)) → ((v : ℕ) → P (Plain (Copy c.to (Known v)) ∷ []))
-    → ((a : Operand) (n : ℕ) → P (shifted_by c a n ∷ [])) → ((a : Operand) (n : ℕ) → P (shifted_by c a n ∷ joined_by Plus c a ∷ []))
-    → ((a : Operand) (n : ℕ) → P (shifted_by c a n ∷ joined_by Minus c a ∷ [])) → (left right : Operand) → P (multiplying base c left right)
-each_product P base c call bytes copy shift sum difference left right = of left right
-  where
-    product : (a b : Operand) → P (product_of base c a b)
-    product a b = by_test (is_narrow base.widths a && is_narrow base.widths b)
-      where
-        by_test : (t : Bool) → P (narrow_or t base.first c a b)
-        by_test true = bytes a b
-        by_test false = call a b
-
-    differences : (a : Operand) (k : ℕ) (o : Option ℕ) → P (by_difference base c a k o)
-    differences a k (Some n) = difference a n
-    differences a k None = product a (Known k)
-
-    sums : (a : Operand) (k : ℕ) (o : Option ℕ) → P (by_sum base c a k o)
-    sums a k (Some n) = sum a n
-    sums a k None = differences a k (power_of (k + 1))
-
-    pairs : (a : Operand) (k : ℕ) (t : Bool) → P (in_two base c a k t)
-    pairs a k true = product a (Known k)
-    pairs a k false = sums a k (power_of (k - 1))
-
-    powers : (a : Operand) (k : ℕ) (o : Option ℕ) → P (by_power base c a k o)
-    powers a k (Some n) = shift a n
-    powers a k None = pairs a k (is_in a c.to)
-
-    factors : (a : Operand) (k : ℕ) (t : Bool) → P (by_factor base c a k t)
-    factors a k true = copy 0
-    factors a k false = powers a k (power_of k)
-
-    of : (left right : Operand) → P (multiplying base c left right)
-    of (Known j) (Known k) = copy (worked_out c.width (j * k))
-    of (Local i) (Known k) = factors (Local i) k (k == 0)
-    of (Known k) (Local i) = factors (Local i) k (k == 0)
-    of (Local i) (Local j) = product (Local i) (Local j)
 
 computing_simple : (base : Base) (width to : ℕ) (left right : Operand) (op : Operator)
     → are_simple (computing base (record { operator = op; width = width; to = to; left = left; right = right }) op) ≡ true

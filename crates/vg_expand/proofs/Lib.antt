@@ -1,3 +1,4 @@
+pub mod Unpushed
 pub mod Holding
 pub mod Simulated
 pub mod Computing

@@ -12,8 +12,9 @@ use Rattle.vg_lin.specs.Steps.{Config}
 use Rattle.vg_lin.specs.Structured.{Step}
 use Rattle.vg_lin.specs.Follows.{EndsBy, IsLegal}
 use Rattle.vg_lin.specs.Sessions.{ShowsEnd, FollowsSessions}
-use Rattle.vg_lin.proofs.Followed.{counted_within}
+use Rattle.vg_expand.specs.Unpushed.{unpushed_steps}
 use Rattle.vg_expand.specs.Runs.{ShowsSame, RunsAs, FollowsSessionsOf}
+use Rattle.vg_expand.proofs.Unpushed.{unpushed_within, counted_unpushed}
 
 abbrev IsFine : Option End → Type 0
 IsFine (Some Wrong) = ⊥
@@ -47,11 +48,13 @@ followed p n bodies c runs follows clock deepest reads interrupts t v why legal 
         → (i : ℕ) × (clock ≤ v.clock + i) × ShowsEnd why v (run n i reads interrupts)
     shown (j, h, s) = onto (runs j reads interrupts (not_wrong why (run p j reads interrupts) legal s.ending))
       where
-        onto : (i : ℕ) × (j ≤ i) × ShowsSame (run p j reads interrupts) (run n i reads interrupts)
+        onto : (i : ℕ) × (unpushed_steps p j reads interrupts ≤ unpushed_steps n i reads interrupts)
+            × ShowsSame (run p j reads interrupts) (run n i reads interrupts)
             → (i : ℕ) × (clock ≤ v.clock + i) × ShowsEnd why v (run n i reads interrupts)
         onto (i, g, r) = (
           i,
-          let few = counted_within (language p) (codes_in p.procedures) j (at_start p (before reads interrupts)) in omega (arith, h, g, few),
+          let some = counted_unpushed (language p) (codes_in p.procedures) j (at_start p (before reads interrupts)) in
+              let few = unpushed_within (language n) (codes_in n.procedures) i (at_start n (before reads interrupts)) in omega (arith, h, g, some, few),
           record {
             ending = ends_same why (run p j reads interrupts) (run n i reads interrupts) r.ending s.ending;
             outside = r.outside ∙ s.outside;

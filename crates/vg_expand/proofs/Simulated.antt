@@ -1,8 +1,8 @@
 -- That a program with expanded procedures does what it did. Both are at places that stand for one another, in the same state, under
 -- frames that do; each step of the first is one or more of the second, by cases of its instruction, and whole runs follow by induction.
-use Rattle.std.specs.Prelude.{◌≢◌, ℕ, zero, suc, ◌+◌, ◌<◌, ◌≤◌, Bool, true, false, ◌==◌, ◌&&◌, List, [], ◌∷◌, ◌++◌, length, take, drop, reverse}
+use Rattle.std.specs.Prelude.{◌≢◌, ℕ, zero, suc, ◌<◌, ◌≤◌, Bool, true, false, not, ◌==◌, ◌&&◌, List, [], ◌∷◌, ◌++◌, length, take, drop, reverse}
 use Rattle.std.specs.Prelude.{Option, Some, None, slice_get, if◌then◌else◌}
-use Rattle.std.proofs.Common.{◌≡◌, refl, sym, ap, ◌∙◌, subst, arith}
+use Rattle.std.proofs.Common.{◌≡◌, refl, sym, ap, ◌∙◌, subst, arith, inl, inr, ◌⊎◌}
 use Rattle.vg_meaning.specs.declared.event.Event.TheVariants.{Enter}
 use Rattle.vg_meaning.specs.Outside.{Outside, before, with_event}
 use Rattle.vg_meaning.specs.History.{Active, History}
@@ -29,11 +29,14 @@ use Rattle.vg_lin.specs.Meaning.{resume, wake, widths_of, call_of, name_of, lang
 use Rattle.vg_lin.specs.Steps.{stepped}
 use Rattle.vg_lin.specs.Steps.{Awaits, Result, Interrupt, Frame, Went, Goes, Raises, Lacks, Fails, Entry, Config, with_named, open_below, noted}
 use Rattle.vg_lin.specs.Steps.{begins, went, branched, calls, goes_back, returns, takes, handles, performed, step, steps}
+use Rattle.vg_lin.specs.Turns.{one_more}
 use Rattle.vg_lin.specs.Follows.{Leads}
 use Rattle.vg_lin.proofs.Followed.{leads_step}
 use Rattle.vg_arith.proofs.ShiftRoutines.{fetch_of}
 use Rattle.vg_expand.specs.Expansion.{HasRoutines, Holds, Does, Kept, PlainStands, StandsFor, Expands}
+use Rattle.vg_expand.specs.Unpushed.{is_push, step_pushes, unpushed}
 use Rattle.vg_expand.specs.Runs.{with_procedures, AllExpand, IsClosed, ShowsSame, RunsAs}
+use Rattle.vg_expand.proofs.Unpushed.{unpushed_within, leads_unpushed, ended_unpushed}
 use Rattle.vg_expand.proofs.Holding.{begun_holds, sets_holds, Keeps, plain_keeps, resume_holds}
 
 -- ---- the entry of a call
@@ -343,7 +346,7 @@ module _ (first : ℕ) (p : Program) (ms : List Procedure) (all : AllExpand firs
 
     plain_step : (i : PlainInstr) → PlainStands first now ex.place pc i → Stepped d (performed (language p) c (Some (Plain i)))
     plain_step (Copy to a) k = kept_plain (Copy to a) k
-    plain_step (Compute i) k = computation i k
+    plain_step (Compute i) k = computation i k.1
     plain_step (Product to a b) k = kept_plain (Product to a b) k
     plain_step (DivideSteps r e a) k = kept_plain (DivideSteps r e a) k
     plain_step (Load m w to a) k = kept_plain (Load m w to a) k
@@ -433,58 +436,132 @@ module _ (first : ℕ) (p : Program) (ms : List Procedure) (all : AllExpand firs
           with_procedure : (m : Procedure) × (slice_get p.procedures r ≡ Some m) → Stepped d (handles (language p) c (Some r))
           with_procedure (m, f) = with_expanded m f (all r m f)
 
+  -- ---- pushes
+
+  -- a step of the second program is a push only where that of the first one is, or where this one is Wrong
+  abbrev AsPushed : (c d : Config State) → Type 0
+  AsPushed c d =
+      (step_pushes (codes_in ms) d ≡ step_pushes (codes_in p.procedures) c) ⊎ ((step (language p) (codes_in p.procedures) c).ending ≡ Some Wrong)
+
+  plain_pushes : (now : Procedure) (place : ℕ → ℕ) (pc : ℕ) (i : PlainInstr) → PlainStands first now place pc i
+      → is_push (slice_get now.code (place pc)) ≡ is_push (Some (Plain i))
+  plain_pushes now place pc (Copy to a) k = ap is_push k.0
+  plain_pushes now place pc (Compute i) k = k.0
+  plain_pushes now place pc (Product to a b) k = ap is_push k.0
+  plain_pushes now place pc (DivideSteps r e a) k = ap is_push k.0
+  plain_pushes now place pc (Load m w to a) k = ap is_push k.0
+  plain_pushes now place pc (Store w a from) k = ap is_push k.0
+  plain_pushes now place pc (ReadDevice to address) k = ap is_push k.0
+  plain_pushes now place pc (WriteDevice address a) k = ap is_push k.0
+  plain_pushes now place pc (Push w a) k = ap is_push k.0
+  plain_pushes now place pc (Pop w to) k = ap is_push k.0
+  plain_pushes now place pc (Find e to a) k = ap is_push k.0
+  plain_pushes now place pc (CodeOf q to) k = ap is_push k.0
+  plain_pushes now place pc (Stop code) k = ap is_push k.0
+
+  instr_pushes : (now : Procedure) (place : ℕ → ℕ) (pc : ℕ) (i : Instr) → StandsFor first now place pc i
+      → is_push (slice_get now.code (place pc)) ≡ is_push (Some i)
+  instr_pushes now place pc (Plain i) k = plain_pushes now place pc i k
+  instr_pushes now place pc (When t to) k = ap is_push k.0
+  instr_pushes now place pc (Unless t to) k = ap is_push k.0
+  instr_pushes now place pc (Jump to) k = ap is_push k
+  instr_pushes now place pc (Call c) k = ap is_push k.0
+  instr_pushes now place pc (Return w a) k = ap is_push k
+  instr_pushes now place pc Idle k = ap is_push k.0
+
+  pushed_as : (c d : Config State) → Related c d → AsPushed c d
+  pushed_as _ _ (taken v q pc at s fs gs o opens st h) = inl refl
+  pushed_as _ _ (at_place q pc at s fs gs o opens st h) = by_code (slice_get st.old.code pc) refl
+    where
+      by_code : (i : Option Instr) → slice_get st.old.code pc ≡ i → AsPushed (going q pc s fs None o opens) (going q at s gs None o opens)
+      by_code (Some i) e =
+          inl (ap is_push (fetch_of ms q st.now st.has_now at) ∙ ap (λ k. is_push (slice_get st.now.code k)) st.here
+          ∙ instr_pushes st.now st.expands.place pc i (st.expands.each pc i e) ∙ sym (ap is_push (fetch_of p.procedures q st.old st.has pc ∙ e)))
+      by_code None e =
+          inr (ap (λ i. (performed (language p) (going q pc s fs None o opens) i).ending) (fetch_of p.procedures q st.old st.has pc ∙ e))
+
   step_related : (c d : Config State) → Related c d → Stepped d (step (language p) (codes_in p.procedures) c)
   step_related _ _ (at_place q pc at s fs gs o opens st h) = step_at_place q pc at s fs gs o opens st h
   step_related _ _ (taken v q pc at s fs gs o opens st h) = step_taken v q pc at s fs gs o opens st h
 
   -- ---- whole runs
 
-  -- where the first program comes to c, the second one comes from d in as many steps, and shows the same
+  -- so many steps of the first program, and of the second one
+  abbrev after : (n : ℕ) → Config State → Config State
+  after n c = steps (language p) (codes_in p.procedures) n c
+
+  abbrev after_new : (n : ℕ) → Config State → Config State
+  after_new n d = steps (language new) (codes_in ms) n d
+
+  -- how many of them are no pushes
+  abbrev made : (n : ℕ) → Config State → ℕ
+  made n c = unpushed (language p) (codes_in p.procedures) n c
+
+  abbrev made_new : (n : ℕ) → Config State → ℕ
+  made_new n d = unpushed (language new) (codes_in ms) n d
+
+  -- where the first program comes in n steps from c, the second one comes from d in as many that are no pushes, and shows the same
   abbrev pub Shows : (n : ℕ) → (d c : Config State) → Type 0
-  Shows n d c = c.ending ≢ Some Wrong → (j : ℕ) × (n ≤ j) × ShowsSame c (steps (language new) (codes_in ms) j d)
+  Shows n d c = (after n c).ending ≢ Some Wrong → (j : ℕ) × (made n c ≤ made_new j d) × ShowsSame (after n c) (after_new j d)
 
   shows_here : (c d : Config State) → Related c d → ShowsSame c d
   shows_here _ _ (at_place q pc at s fs gs o opens st h) = record { outside = refl; openings = refl; ending = refl }
   shows_here _ _ (taken v q pc at s fs gs o opens st h) = record { outside = refl; openings = refl; ending = refl }
 
   -- a run that has ended stays as it is
-  stays_old : (n : ℕ) (c : Config State) (why : End) → c.ending ≡ Some why → steps (language p) (codes_in p.procedures) n c ≡ c
+  stays_old : (n : ℕ) (c : Config State) (why : End) → c.ending ≡ Some why → after n c ≡ c
   stays_old zero c why e = refl
-  stays_old (suc n) c why e =
-      ap (λ k. steps (language p) (codes_in p.procedures) n (stepped (language p) (codes_in p.procedures) c k c.woken)) e
-      ∙ stays_old n c why e
+  stays_old (suc n) c why e = ap (λ k. after n (stepped (language p) (codes_in p.procedures) c k c.woken)) e ∙ stays_old n c why e
 
-  stays_new : (n : ℕ) (c : Config State) (why : End) → c.ending ≡ Some why → steps (language new) (codes_in ms) n c ≡ c
+  stays_new : (n : ℕ) (c : Config State) (why : End) → c.ending ≡ Some why → after_new n c ≡ c
   stays_new zero c why e = refl
-  stays_new (suc n) c why e =
-      ap (λ k. steps (language new) (codes_in ms) n (stepped (language new) (codes_in ms) c k c.woken)) e ∙ stays_new n c why e
+  stays_new (suc n) c why e = ap (λ k. after_new n (stepped (language new) (codes_in ms) c k c.woken)) e ∙ stays_new n c why e
 
-  runs_on : (n : ℕ) (c d : Config State) → Related c d → Shows n d (steps (language p) (codes_in p.procedures) n c)
-  runs_on zero x e r = λ legal. (0, omega arith, shows_here x e r)
-  runs_on (suc n) y u r = by_step (λ x e g. runs_on n x e g) (step (language p) (codes_in p.procedures) y) (step_related y u r)
+  runs_on : (n : ℕ) (c d : Config State) → Related c d → Shows n d c
+  runs_on zero c d r = λ legal. (0, omega arith, shows_here c d r)
+  runs_on (suc n) c d r = by_pushes (λ x e g. runs_on n x e g) (pushed_as c d r)
     where
-      by_step : ((x e : Config State) → Related x e → Shows n e (steps (language p) (codes_in p.procedures) n x))
-          → (x : Config State) → Stepped u x → Shows (suc n) u (steps (language p) (codes_in p.procedures) n x)
-      by_step runs x (goes e t g) legal = onto (runs x e g legal)
+      pushes : Bool
+      pushes = step_pushes (codes_in p.procedures) c
+
+      -- with the first step
+      AllShown : Config State → Type 0
+      AllShown x = (j : ℕ) × (one_more (not pushes) (made n x) ≤ made_new j d) × ShowsSame (after n x) (after_new j d)
+
+      as_many : (b : Bool) (k m i : ℕ) → k ≤ m → one_more b m ≤ i → one_more b k ≤ i
+      as_many true k m i h g = omega (arith, h, g)
+      as_many false k m i h g = omega (arith, h, g)
+
+      -- by the way from d to e
+      along : (x e : Config State) → step_pushes (codes_in ms) d ≡ pushes → To d e → (m : ℕ) → made n x ≤ made_new m e
+          → ShowsSame (after n x) (after_new m e) → AllShown x
+      along x e same t m h sh = further (leads_unpushed (language new) (codes_in ms) d e t m)
         where
-          onto : (j : ℕ) × (n ≤ j) × ShowsSame (steps (language p) (codes_in p.procedures) n x) (steps (language new) (codes_in ms) j e)
-              → (j : ℕ) × (suc n ≤ j) × ShowsSame (steps (language p) (codes_in p.procedures) n x) (steps (language new) (codes_in ms) j u)
-          onto (j, h, sh) = further (t.by j)
-            where
-              further : (i : ℕ) × (j + 1 ≤ i) × (steps (language new) (codes_in ms) i u ≡ steps (language new) (codes_in ms) j e)
-                  → (i : ℕ) × (suc n ≤ i) × ShowsSame (steps (language p) (codes_in p.procedures) n x) (steps (language new) (codes_in ms) i u)
-              further (i, g, q) = (i, omega (arith, h, g), subst (ShowsSame (steps (language p) (codes_in p.procedures) n x)) (sym q) sh)
-      by_step runs x (stops e why t f g a o) legal = ended (t.by n)
-        where
-          ended : (i : ℕ) × (n + 1 ≤ i) × (steps (language new) (codes_in ms) i u ≡ steps (language new) (codes_in ms) n e)
-              → (i : ℕ) × (suc n ≤ i) × ShowsSame (steps (language p) (codes_in p.procedures) n x) (steps (language new) (codes_in ms) i u)
-          ended (i, h, q) = (
+          further : (i : ℕ) × (one_more (not (step_pushes (codes_in ms) d)) (made_new m e) ≤ made_new i d) × (after_new i d ≡ after_new m e) → AllShown x
+          further (i, g, q) = (
             i,
-            omega (arith, h),
-            subst (λ z. ShowsSame z (steps (language new) (codes_in ms) i u)) (sym (stays_old n x why f))
-                (subst (ShowsSame x) (sym (q ∙ stays_new n e why g)) (record { outside = a; openings = o; ending = g ∙ sym f })),
+            as_many (not pushes) (made n x) (made_new m e) (made_new i d) h (subst (λ b. one_more (not b) (made_new m e) ≤ made_new i d) same g),
+            subst (ShowsSame (after n x)) (sym q) sh,
           )
-      by_step runs x (fails f) legal = absurd (legal (ap (λ z. z.ending) (stays_old n x Wrong f) ∙ f))
+
+      by_step : ((x e : Config State) → Related x e → Shows n e x) → step_pushes (codes_in ms) d ≡ pushes → (x : Config State) → Stepped d x
+          → (after n x).ending ≢ Some Wrong → AllShown x
+      by_step runs same x (goes e t g) legal = onto (runs x e g legal)
+        where
+          onto : (j : ℕ) × (made n x ≤ made_new j e) × ShowsSame (after n x) (after_new j e) → AllShown x
+          onto (j, h, sh) = along x e same t j h sh
+      by_step runs same x (stops e why t f g a o) legal =
+          along x e same t n
+          (let h = unpushed_within (language p) (codes_in p.procedures) n x in
+          let k = ended_unpushed (language new) (codes_in ms) n e why g in omega (arith, h, k))
+          (subst (λ z. ShowsSame z (after_new n e)) (sym (stays_old n x why f))
+          (subst (ShowsSame x) (sym (stays_new n e why g)) (record { outside = a; openings = o; ending = g ∙ sym f })))
+      by_step runs same x (fails f) legal = absurd (legal (ap (λ z. z.ending) (stays_old n x Wrong f) ∙ f))
+
+      by_pushes : ((x e : Config State) → Related x e → Shows n e x) → AsPushed c d → Shows (suc n) d c
+      by_pushes runs (inl same) = by_step runs same (step (language p) (codes_in p.procedures) c) (step_related c d r)
+      by_pushes runs (inr f) = λ legal.
+          absurd (legal (ap (λ z. z.ending) (stays_old n (step (language p) (codes_in p.procedures) c) Wrong f) ∙ f))
 
   pub runs_same : RunsAs p new
   runs_same n reads interrupts = runs_on n (at_start p (before reads interrupts)) (at_start new (before reads interrupts)) (starts

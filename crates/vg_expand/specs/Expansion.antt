@@ -1,5 +1,5 @@
 -- What it means that a procedure of linear code is another one with its arithmetic as calls of routines.
-use Rattle.std.specs.Prelude.{◌≡◌, ℕ, suc, ◌+◌, ◌<◌, ◌^◌, true, List, [], ◌∷◌, Option, Some, None, slice_get}
+use Rattle.std.specs.Prelude.{◌≡◌, ℕ, suc, ◌+◌, ◌<◌, ◌^◌, true, false, List, [], ◌∷◌, Option, Some, None, slice_get}
 use Rattle.vg_meaning.specs.History.{History}
 use Rattle.vg_meaning.specs.World.{World}
 use Rattle.vg_lin.specs.declared.instr.Computation.{Computation}
@@ -15,6 +15,7 @@ use Rattle.vg_lin.specs.Steps.{Frame}
 use Rattle.vg_lin.specs.Follows.{Leads, conf}
 use Rattle.vg_arith.specs.Routines.{IsRoutine}
 use Rattle.vg_expand.specs.Called.{is_called}
+use Rattle.vg_expand.specs.Unpushed.{is_push}
 
 -- ---- what is done
 
@@ -48,8 +49,9 @@ Does first m from to c =
 abbrev pub Kept : Procedure → (place : ℕ → ℕ) → (at : ℕ) → Instr → Type 0
 Kept m place at i = (slice_get m.code (place at) ≡ Some i) × (place (suc at) ≡ suc (place at))
 
+-- The same for a plain instruction. In place of a computation stands code that does it, and does not begin with a push.
 abbrev pub PlainStands : (first : ℕ) → Procedure → (place : ℕ → ℕ) → (at : ℕ) → PlainInstr → Type 0
-PlainStands first m place at (Compute c) = Does first m (place at) (place (suc at)) c
+PlainStands first m place at (Compute c) = (is_push (slice_get m.code (place at)) ≡ false) × Does first m (place at) (place (suc at)) c
 PlainStands first m place at p = Kept m place at (Plain p)
 
 -- What stands in a procedure for the instruction at a place of the other one, by the new places of all its places.

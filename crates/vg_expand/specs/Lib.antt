@@ -1,4 +1,5 @@
 pub mod Called
+pub mod Unpushed
 pub mod Expansion
 pub mod Runs
 pub mod Flow

@@ -14,6 +14,7 @@ use Rattle.vg_lin.specs.Structured.{Step, Deciding}
 use Rattle.vg_lin.specs.Follows.{IsLegal}
 use Rattle.vg_lin.specs.Sessions.{session, ShowsEnd}
 use Rattle.vg_expand.specs.Expansion.{Expands}
+use Rattle.vg_expand.specs.Unpushed.{unpushed_steps}
 
 -- The program with these procedures in place of its own.
 abbrev pub with_procedures : Program → List Procedure → Program
@@ -35,11 +36,12 @@ pub record ShowsSame (c d : Config State) : Type 0 where
   pub openings : d.openings ≡ c.openings
   pub ending : d.ending ≡ c.ending
 
--- Wherever a run of the first program has come that is not Wrong, the second one comes in at least as many steps, and shows the same.
+-- Wherever a run of the first program has come that is not Wrong, the second one comes in at least as many steps that are no pushes, and shows the same.
 abbrev pub RunsAs : (old new : Program) → Type 0
 RunsAs p n =
     (steps : ℕ) (reads interrupts : List ℕ) → (run p steps reads interrupts).ending ≢ Some Wrong
-    → (j : ℕ) × (steps ≤ j) × ShowsSame (run p steps reads interrupts) (run n j reads interrupts)
+    → (j : ℕ) × (unpushed_steps p steps reads interrupts ≤ unpushed_steps n j reads interrupts)
+    × ShowsSame (run p steps reads interrupts) (run n j reads interrupts)
 
 -- The runs of the second program follow the sessions of structured bodies over the first one: where a session is over for a legal
 -- reason, a run shows it, after at least as many steps as ticks were spent.

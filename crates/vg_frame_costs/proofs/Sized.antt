@@ -5,16 +5,16 @@ use Rattle.vg_lin.specs.Program.{Procedure}
 use Rattle.vg_templates.specs.Layouts.{Layout}
 use Rattle.vg_templates.specs.Framed.{framed}
 use Rattle.vg_alloc.specs.Locations.{Located, layout}
-use Rattle.vg_frame_costs.specs.Bytes.{most_waiting, opening_bytes, procedure_bytes}
+use Rattle.vg_frame_costs.specs.Bytes.{most_kept, opening_bytes, pushed_bytes, procedure_bytes}
 
-opening : (l : Located) (p : Procedure) → layout l ≡ framed p → 2 + length l.saved + l.slots ≡ opening_bytes p
-unfolding opening_bytes
-opening l p e = ap (λ (x : Layout). 2 + length x.saved + x.slots) e
+own : (l : Located) (p : Procedure) → layout l ≡ framed p → 2 + length l.saved + l.slots + l.pushed ≡ opening_bytes p + pushed_bytes p
+unfolding opening_bytes pushed_bytes
+own l p e = ap (λ (x : Layout). 2 + length x.saved + x.slots + x.pushed) e
 
-pub size_is : (p : Procedure) (l : Located) (waiting : ℕ) (o : Option ℕ) → layout l ≡ framed p → waiting ≡ most_waiting [] p.code
-    → IfSome o (λ bytes. bytes ≡ 2 + length l.saved + l.slots + waiting) → IfSome o (λ bytes. bytes ≡ procedure_bytes p)
-size_is p l waiting (Some bytes) e waits h = let open' = opening l p e in omega (arith, open', waits, h)
-size_is p l waiting None e waits h = tt
+pub size_is : (p : Procedure) (l : Located) (kept : ℕ) (o : Option ℕ) → layout l ≡ framed p → kept ≡ most_kept [] p.code
+    → IfSome o (λ bytes. bytes ≡ 2 + length l.saved + l.slots + l.pushed + kept) → IfSome o (λ bytes. bytes ≡ procedure_bytes p)
+size_is p l kept (Some bytes) e most h = let both = own l p e in omega (arith, both, most, h)
+size_is p l kept None e most h = tt
 
 -- a procedure that begins takes two bytes at least
 pub opens : (p : Procedure) → 2 ≤ opening_bytes p

@@ -5,7 +5,6 @@ pub mod codes;
 pub mod counting;
 pub mod frames;
 pub mod paying;
-pub mod pushing;
 pub mod sizes;
 pub mod waiting;
 

@@ -2,33 +2,33 @@
 ghost use Rattle.std.specs.Prelude.{◌≡◌, ◌+◌, IfOk, IfSome, length};
 ghost use Rattle.vg_frame_costs.specs.Bytes.{procedure_bytes};
 
-use crate::waiting::most_waiting;
+use crate::waiting::most_kept;
 use std::alloc::Global;
 use vg_alloc::{Locations, frames};
 use vg_base::NoMemory;
 use vg_lin::LinProc;
 
-/// How many bytes of the stack a procedure takes at most while it is open, by its layout, with what waits in it and what it pushes. There are none where more
-/// than 65,535 values may wait in it at one time, and where they do not fit into 32 bits.
+/// How many bytes of the stack a procedure takes at most while it is open, by its layout, with its parameters that were pushed and what is kept in it. There
+/// are none where more than 65,535 values may wait in it at one time, and where they do not fit into 32 bits.
 pub fn size_of(alloc: Global, procedure: &LinProc) -> Result<Option<u32>, NoMemory>
     ensures { IfOk result (λ size. IfSome size (λ bytes. bytes ≡ procedure_bytes procedure.now)) }
 {
-    let waiting = match most_waiting(alloc, procedure.code())? {
-        Some(waiting) => waiting,
+    let kept = match most_kept(alloc, procedure.code())? {
+        Some(kept) => kept,
         None => return Ok(None),
     };
     let frame = frames(alloc, procedure)?;
-    Ok(size_by(&frame, waiting))
+    Ok(size_by(&frame, kept))
 }
 
-// The bytes by a frame, where so many wait or are pushed at most.
-fn size_by(frame: &Locations, waiting: u32) -> Option<u32>
-    ensures { IfSome result (λ bytes. bytes ≡ 2 + length frame.now.saved + frame.now.slots + waiting) }
+// The bytes by a frame, where so many are kept at most.
+fn size_by(frame: &Locations, kept: u32) -> Option<u32>
+    ensures { IfSome result (λ bytes. bytes ≡ 2 + length frame.now.saved + frame.now.slots + frame.now.pushed + kept) }
 {
     let saved = frame.saved().len();
     if saved > 32 {
         return None;
     }
-    let opening = 2 + saved as u32 + u32::from(frame.slots());
-    opening.checked_add(waiting)
+    let own = 2 + saved as u32 + u32::from(frame.slots()) + u32::from(frame.pushed());
+    own.checked_add(kept)
 }

@@ -1,16 +1,15 @@
-// What waits in a procedure, and the most that waits and is pushed there.
-ghost use Rattle.std.specs.Prelude.{◌≡◌, ◌∷◌, [], IfOk, IfSome, OnOk, drop, reverse};
+// What waits in a procedure, and the most that is kept there.
+ghost use Rattle.std.specs.Prelude.{◌≡◌, ◌≤◌, ◌∷◌, [], IfOk, IfSome, OnOk, drop, length, reverse};
 ghost use Rattle.vg_lin.specs.Sound.{behind};
-ghost use Rattle.vg_frame_costs.specs.Bytes.{most_waiting as most_in};
+ghost use Rattle.vg_frame_costs.specs.Bytes.{bytes_of, kept_at as kept_in, most_kept as most_in};
 
 use crate::counting::{larger, width_sum};
-use crate::pushing::pushed_at;
 use std::alloc::Global;
 use vg_base::NoMemory;
 use vg_lin::{Instr, Plain};
 
-/// The most bytes that wait at a place of code, with what the instruction there pushes. There are none where more than 65,535 values may wait at one time.
-pub fn most_waiting(alloc: Global, code: &[Instr]) -> Result<Option<u32>, NoMemory>
+/// The most bytes that are kept at a place of code. There are none where more than 65,535 values may wait at one time.
+pub fn most_kept(alloc: Global, code: &[Instr]) -> Result<Option<u32>, NoMemory>
     ensures { IfOk result (λ most. IfSome most (λ bytes. bytes ≡ most_in [] code.now)) }
 {
     let mut waits = Vec::new(alloc);
@@ -19,10 +18,32 @@ pub fn most_waiting(alloc: Global, code: &[Instr]) -> Result<Option<u32>, NoMemo
         if waits.len() > 65_535 {
             return Ok(None);
         }
-        most = larger(most, width_sum(waits.as_slice()) + pushed_at(instr));
+        most = larger(most, kept_at(waits.as_slice(), instr));
         go_behind(&mut waits, instr)?;
     }
     Ok(Some(most))
+}
+
+// The bytes that are kept at an instruction, where values of these widths wait, the newest of them last.
+fn kept_at(waits: &[u8], instr: &Instr) -> u32
+    requires { length waits.now ≤ 65535 }
+    ensures { result ≡ kept_in (reverse waits.now) instr.now }
+{
+    match instr {
+        Instr::Plain(Plain::Push(_, _)) => 0,
+        Instr::Call(call) => bytes_left(waits, usize::from(call.pushed)),
+        _ => bytes_left(waits, 0),
+    }
+}
+
+// The bytes of values that wait, but for so many of the newest.
+#[tactic(auto, using(crate::proofs::Counted::bytes_left))]
+fn bytes_left(waits: &[u8], count: usize) -> u32
+    requires { length waits.now ≤ 65535 }
+    ensures { result ≡ bytes_of (drop count (reverse waits.now)) }
+{
+    let left = waits.len().saturating_sub(count);
+    width_sum(&waits[..left])
 }
 
 // The widths of the values that wait, the newest of them last, become those behind an instruction.

@@ -3,7 +3,7 @@ use Rattle.std.specs.Prelude.{ℕ, ◌+◌, ◌≤◌, List, length, Option, Som
 use Rattle.std.proofs.Common.{◌≡◌, sym, ap, ◌∙◌, subst, arith}
 use Rattle.vg_meaning.specs.Answer.{End, Stops, Wants, Touches, Done, OutOfClock, OutOfDepth, OutOfRoom, Wrong, Over, Ends}
 use Rattle.vg_meaning.specs.History.{full, History}
-use Rattle.vg_meaning.specs.Outside.{AreReads, AreVectors}
+use Rattle.vg_meaning.specs.Outside.{AreReads, AreVectors, before}
 use Rattle.vg_meaning.specs.World.{World}
 use Rattle.vg_codes.specs.Codes.{Codes}
 use Rattle.vg_firm.specs.Program.{Program as FirmProgram}
@@ -14,12 +14,14 @@ use Rattle.avr_isa.specs.Machine.{started}
 use Rattle.avr_view.specs.Run.{Run, Goes}
 use Rattle.avr_view.specs.View.{Shown}
 use Rattle.vg_lin.specs.Follows.{EndsBy, IsLegal}
-use Rattle.vg_lin.specs.Meaning.{run, counted_steps}
+use Rattle.vg_lin.specs.Meaning.{language, codes_in, at_start, run, counted_steps}
 use Rattle.vg_lin.specs.Program.{Program}
 use Rattle.vg_lin.specs.Sessions.{world, ShowsEnd}
 use Rattle.vg_lin.specs.State.{State}
 use Rattle.vg_lin.specs.Steps.{Config}
+use Rattle.vg_expand.specs.Unpushed.{unpushed_steps}
 use Rattle.vg_expand.specs.Runs.{ShowsSame}
+use Rattle.vg_expand.proofs.Unpushed.{unpushed_within}
 use Rattle.vg_trimming.specs.Runs.{RunsAsRead}
 use Rattle.vg_flatten_shapes.specs.declared.layout.Layout.{Layout}
 use Rattle.vg_flatten.specs.Flattened.{AreFlat}
@@ -84,11 +86,12 @@ joined k lay f p new flat as' e x st b memory powered clock deepest reads interr
         → (n : ℕ) × (clock ≤ v.clock + n) × DoesAs e x new n memory reads interrupts why v
     by_run (j, spent, shows) = by_steps (as' j reads interrupts r (not_wrong why (run p j reads interrupts) legal shows.ending))
       where
-        by_steps : (m : ℕ) × (counted_steps p j reads interrupts ≤ m) × ShowsSame (run p j reads interrupts) (run new m reads interrupts)
+        by_steps : (m : ℕ) × (counted_steps p j reads interrupts ≤ unpushed_steps new m reads interrupts)
+            × ShowsSame (run p j reads interrupts) (run new m reads interrupts)
             → (n : ℕ) × (clock ≤ v.clock + n) × DoesAs e x new n memory reads interrupts why v
         by_steps (m, more, same) = (
           m,
-          omega (arith, spent, more),
+          let few = unpushed_within (language new) (codes_in new.procedures) m (at_start new (before reads interrupts)) in omega (arith, spent, more, few),
           does e x new st b memory powered reads interrupts r is v whole (run p j reads interrupts) m same shows.outside
               (not_wrong why (run p j reads interrupts) legal shows.ending) why shows.ending,
         )

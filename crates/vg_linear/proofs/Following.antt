@@ -8,10 +8,9 @@ use Rattle.vg_firm.specs.declared.procedure.Procedure.{Procedure as HeldProcedur
 use Rattle.vg_firm.specs.Held.{procedure_of}
 use Rattle.vg_firm.specs.Program.{Procedure as FirmProcedure}
 use Rattle.vg_lin.specs.Program.{Procedure, Program}
-use Rattle.vg_lin.specs.Meaning.{run, counted_steps}
 use Rattle.vg_lin.specs.Sound.{IsWidth}
 use Rattle.vg_expand.specs.Expansion.{HasRoutines}
-use Rattle.vg_expand.specs.Runs.{with_procedures, AllExpand, IsClosed, RunsAs, ShowsSame}
+use Rattle.vg_expand.specs.Runs.{with_procedures, AllExpand, IsClosed, RunsAs}
 use Rattle.vg_expand.proofs.Simulated.{runs_same}
 use Rattle.vg_flatten_shapes.specs.declared.layout.Layout.{Layout}
 use Rattle.vg_flatten_steps.specs.Calls.{passing_of}
@@ -173,21 +172,7 @@ module _ (k : Codes) (cs : List Column) (f : FirmProgram) (l : Linear) (tables r
   trimmed_runs = trimming.runs_same old is.trimmed is.are_trimmed closed stand.ram_bytes stand.table_bytes
 
   pub runs_as : RunsAsRead old (linear_program k f l tables ram handler)
-  runs_as steps reads interrupts bytes legal = by (trimmed_runs steps reads interrupts bytes legal)
-    where
-      by : (j : ℕ) × (counted_steps old steps reads interrupts ≤ j) × ShowsSame (run old steps reads interrupts) (run middle j reads interrupts)
-          → (j : ℕ) × (counted_steps old steps reads interrupts ≤ j)
-          × ShowsSame (run old steps reads interrupts) (run (linear_program k f l tables ram handler) j reads interrupts)
-      by (j, more, same) = further (expanded_runs j reads interrupts (λ wrong. legal (sym same.ending ∙ wrong)))
-        where
-          further : (i : ℕ) × (j ≤ i) × ShowsSame (run middle j reads interrupts) (run (linear_program k f l tables ram handler) i reads interrupts)
-              → (i : ℕ) × (counted_steps old steps reads interrupts ≤ i)
-              × ShowsSame (run old steps reads interrupts) (run (linear_program k f l tables ram handler) i reads interrupts)
-          further (i, on, shown) = (
-            i,
-            omega (arith, more, on),
-            record { outside = shown.outside ∙ same.outside; openings = shown.openings ∙ same.openings; ending = shown.ending ∙ same.ending },
-          )
+  runs_as = trimming.runs_then old middle (linear_program k f l tables ram handler) trimmed_runs expanded_runs
 
   pub follows : (p : Program) × AreFlat k lay (program_of k f) p × RunsAsRead p (linear_program k f l tables ram handler)
   follows = (old, are_flat, runs_as)

@@ -1,12 +1,12 @@
 -- What stands where in rows, and how many bytes wait in procedures.
-use Rattle.std.specs.Prelude.{ℕ, zero, suc, ◌+◌, ◌<◌, ◌≤◌, List, [], ◌∷◌, length, drop, take}
+use Rattle.std.specs.Prelude.{ℕ, zero, suc, ◌+◌, ◌<◌, ◌≤◌, List, [], ◌∷◌, drop, take}
 use Rattle.std.specs.Prelude.{Some, slice_get}
 use Rattle.std.specs.List.{AllByRecursion}
 use Rattle.std.proofs.Common.{◌≡◌, refl, ap, subst, arith}
 use Rattle.std.proofs.lemmas.Option.{none-some, same_Some}
 use Rattle.vg_lin.specs.declared.instr.Instr.{Instr}
 use Rattle.vg_lin.specs.Sound.{behind, waits_in}
-use Rattle.vg_frame_costs.specs.Bytes.{bytes_of, pushed_at, most_waiting}
+use Rattle.vg_frame_costs.specs.Bytes.{bytes_of, kept_at, most_kept}
 
 -- ---- rows
 
@@ -36,17 +36,12 @@ there_before (y ∷ ys) (suc n) (suc k) x e less = there_before ys n k x e (omeg
 
 -- ---- values that wait
 
--- what waits at a place is counted, with what its instruction pushes
-pub waits_counted : (ws : List ℕ) (is : List Instr) (at : ℕ) (i : Instr) → slice_get is at ≡ Some i
-    → bytes_of (waits_in ws is at) + pushed_at i ≤ most_waiting ws is
-waits_counted ws [] at i e = absurd (none-some i e)
-waits_counted ws (j ∷ is) zero i e = let same = ap pushed_at (same_Some j i e) in omega (arith, same)
-waits_counted ws (j ∷ is) (suc at) i e = let rest = waits_counted (behind j ws) is at i e in omega (arith, rest)
-
-pub waits_few : (ws : List ℕ) (is : List Instr) (at : ℕ) → at < length is → bytes_of (waits_in ws is at) ≤ most_waiting ws is
-waits_few ws [] at h = absurd (omega (arith, h))
-waits_few ws (j ∷ is) zero h = omega arith
-waits_few ws (j ∷ is) (suc at) h = let rest = waits_few (behind j ws) is at (omega (arith, h)) in omega (arith, rest)
+-- what is kept at a place is counted
+pub kept_counted : (ws : List ℕ) (is : List Instr) (at : ℕ) (i : Instr) → slice_get is at ≡ Some i
+    → kept_at (waits_in ws is at) i ≤ most_kept ws is
+kept_counted ws [] at i e = absurd (none-some i e)
+kept_counted ws (j ∷ is) zero i e = let same = ap (kept_at ws) (same_Some j i e) in omega (arith, same)
+kept_counted ws (j ∷ is) (suc at) i e = let rest = kept_counted (behind j ws) is at i e in omega (arith, rest)
 
 pub bytes_cut : (k : ℕ) (ws : List ℕ) → bytes_of ws ≡ bytes_of (take k ws) + bytes_of (drop k ws)
 bytes_cut zero ws = omega arith

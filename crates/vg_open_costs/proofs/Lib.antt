@@ -4,3 +4,4 @@ pub mod Paid
 pub mod Covered
 pub mod Stepping
 pub mod Costing
+pub mod Cutting

@@ -1,13 +1,18 @@
 -- How many bytes of the stack the open procedures of a run of linear code take at most.
-use Rattle.std.specs.Prelude.{ℕ, ◌≡◌, ◌+◌, ◌<◌, List, [], ◌∷◌, Option, Some, None, slice_get}
+use Rattle.std.specs.Prelude.{ℕ, suc, ◌≡◌, ◌+◌, ◌<◌, ◌≤◌, false, List, [], ◌∷◌, Option, Some, None, slice_get}
+use Rattle.vg_lin.specs.declared.instr.Call.{Call as CallTo}
 use Rattle.vg_lin.specs.declared.instr.Instr.{Instr}
 use Rattle.vg_lin.specs.declared.instr.Instr.TheVariants.{Plain, Call, Idle}
-use Rattle.vg_lin.specs.Meaning.{enter, codes_in}
+use Rattle.vg_lin.specs.Meaning.{operands, enter, codes_in, run}
 use Rattle.vg_lin.specs.Program.{Procedure, Program}
 use Rattle.vg_lin.specs.State.{State}
 use Rattle.vg_lin.specs.Steps.{Awaits, Result, Interrupt, Frame, Entry, Config, fetch}
+use Rattle.vg_expand.specs.Runs.{ShowsSame}
+use Rattle.vg_expand.specs.Unpushed.{step_pushes, unpushed_steps}
+use Rattle.vg_templates.specs.Straight.{pushed_by}
+use Rattle.vg_templates.specs.Flow.{goes_by_registers, pushed_by_call, IsDivided}
 use Rattle.vg_open_calls.specs.Open.{waiting_widths}
-use Rattle.vg_frame_costs.specs.Bytes.{bytes_of, pushed_at, opening_bytes, pushed_bytes}
+use Rattle.vg_frame_costs.specs.Bytes.{bytes_of, opening_bytes, pushed_bytes}
 
 -- what a procedure takes when it begins
 abbrev pub opening_in : Option Procedure → ℕ
@@ -52,8 +57,8 @@ handler_takes p (Some q) = opening_of p q
 handler_takes p None = 0
 
 abbrev pub instr_takes : Program → State → Option Instr → ℕ
-instr_takes p s (Some (Plain q)) = pushed_at (Plain q)
-instr_takes p s (Some (Call c)) = pushed_at (Call c) + entry_takes p (enter p c s)
+instr_takes p s (Some (Plain q)) = pushed_by q
+instr_takes p s (Some (Call c)) = pushed_by_call (goes_by_registers c) (operands c.registers) + entry_takes p (enter p c s)
 instr_takes p s (Some Idle) = 4
 instr_takes p s _ = 0
 
@@ -70,7 +75,17 @@ pub record LeadBefore (p : Program) : Type 0 where
   pub handlers : (v q : ℕ) → p.handler v ≡ Some q → q < p.start
   pub codes : (code q : ℕ) → p.codes.at_code code ≡ Some q → q < p.start
 
--- Nothing is pushed for the procedures with which a run and a handler begin.
-pub record ReceiveNothing (p : Program) : Type 0 where
-  pub first : pushed_of p p.start ≡ 0
-  pub handlers : (v q : ℕ) → p.handler v ≡ Some q → pushed_of p q ≡ 0
+-- Where some of the arguments of a call wait, so many are passed that none go in registers.
+abbrev pub CallsAreDivided : Program → Type 0
+CallsAreDivided p = (m pc : ℕ) (c : CallTo) → fetch (codes_in p.procedures) m pc ≡ Some (Call c) → IsDivided c
+
+-- A run of so many steps does not end within a row of pushes: its last step is none.
+abbrev pub EndsUnpushed : Program → (n : ℕ) → (reads interrupts : List ℕ) → Type 0
+EndsUnpushed p n reads interrupts = (m : ℕ) → suc m ≡ n → step_pushes (codes_in p.procedures) (run p m reads interrupts) ≡ false
+
+-- A run of so many steps is cut back to before its last row of pushes: it makes at least as many steps as there were no pushes, and shows the same.
+pub record IsCutBack (p : Program) (n : ℕ) (reads interrupts : List ℕ) : Type 0 where
+  pub steps : ℕ
+  pub unpushed : EndsUnpushed p steps reads interrupts
+  pub many : unpushed_steps p n reads interrupts ≤ steps
+  pub shows : ShowsSame (run p n reads interrupts) (run p steps reads interrupts)

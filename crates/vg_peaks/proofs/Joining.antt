@@ -21,6 +21,7 @@ use Rattle.vg_lin.specs.Sessions.{world, ShowsEnd}
 use Rattle.vg_lin.specs.State.{State}
 use Rattle.vg_lin.specs.Steps.{Config}
 use Rattle.vg_expand.specs.Runs.{ShowsSame}
+use Rattle.vg_expand.specs.Unpushed.{unpushed_steps}
 use Rattle.vg_trimming.specs.Runs.{RunsAsRead}
 use Rattle.vg_flatten_shapes.specs.declared.layout.Layout.{Layout}
 use Rattle.vg_flatten.specs.Flattened.{AreFlat}
@@ -31,7 +32,9 @@ use Rattle.vg_followed.specs.Stands.{Stands}
 use Rattle.vg_followed.specs.Runs.{Begins, IsDeepRun, Wholes}
 use Rattle.vg_followed.proofs.Running.{ends, goes_on}
 use Rattle.vg_open_calls.specs.Noted.{IsAmong}
+use Rattle.vg_open_costs.specs.Taken.{EndsUnpushed, IsCutBack}
 use Rattle.vg_open_costs.proofs.Paid.{among_most}
+use Rattle.vg_open_costs.proofs.Cutting.{cut_back}
 use Rattle.vg_ticked_calls.specs.Ticked.{AreTicked}
 use Rattle.vg_ticked_calls.proofs.Ticking.{openings_tick}
 use Rattle.vg_deep_costs.specs.Fit.{HasFitFrames}
@@ -63,8 +66,8 @@ deeper e deep other n s P to (inr (d, k)) = inr (to d, k)
 
 module _ (e : Run) (x : Links) (new : Program) (st : Stands e x new) (b : Begins e x new) (extra : ℕ) (cs : List ℕ) (has : HasFitFrames x new extra cs)
     (memory : PowerOn) (powered : IsPowerOn memory) (reads interrupts : List ℕ) (r : AreReads reads) (is : AreVectors interrupts) (v : World History)
-    (whole : e.whole ≡ v.outside.trace) (ticked : AreTicked v.history) (c : Config State) (m : ℕ) (same : ShowsSame c (run new m reads interrupts))
-    (outside : c.outside ≡ v.outside) (openings : c.openings ≡ v.history.at_openings) (legal : c.ending ≡ Some Wrong → ⊥) where
+    (whole : e.whole ≡ v.outside.trace) (ticked : AreTicked v.history) (c : Config State) (m : ℕ) (unpushed : EndsUnpushed new m reads interrupts)
+    (same : ShowsSame c (run new m reads interrupts)) (outside : c.outside ≡ v.outside) (openings : c.openings ≡ v.history.at_openings) (legal : c.ending ≡ Some Wrong → ⊥) where
   there : (run new m reads interrupts).outside ≡ v.outside
   there = same.outside ∙ outside
 
@@ -76,7 +79,7 @@ module _ (e : Run) (x : Links) (new : Program) (st : Stands e x new) (b : Begins
 
   peak : IsDeepRun e x new m reads interrupts → PassesPeak e extra cs v.history
   peak deep =
-      let cost = deep_costs e x new extra cs st b has m reads interrupts right deep in
+      let cost = deep_costs e x new extra cs st b has m reads interrupts unpushed right deep in
       let noted = ap (most cs) (same.openings ∙ openings) in
       let within = most_within cs v.history.at_openings v.history.behind_ticks ticked in omega (arith, cost, noted, within)
 
@@ -102,6 +105,9 @@ module _ (e : Run) (x : Links) (new : Program) (st : Stands e x new) (b : Begins
   does OutOfRoom h = over OutOfRoom h
   does Wrong h = over Wrong h
 
+same_then : (c d e : Config State) → ShowsSame c d → ShowsSame d e → ShowsSame c e
+same_then c d e h k = record { outside = k.outside ∙ h.outside; openings = k.openings ∙ h.openings; ending = k.ending ∙ h.ending }
+
 pub within_peak : (k : Codes) (lay : Layout) (f : FirmProgram) (p new : Program) → AreFlat k lay f p → RunsAsRead p new → (e : Run) (x : Links)
     → Stands e x new → Begins e x new → (extra : ℕ) (cs : List ℕ) → HasFitFrames x new extra cs → (memory : PowerOn) → IsPowerOn memory
     → (clock : ℕ) (deepest : Option ℕ) (reads interrupts : List ℕ) (t : Firm) (v : World History) (why : End)
@@ -117,13 +123,24 @@ within_peak k lay f p new flat as' e x st b extra cs has memory powered clock de
 
     by_run : (j : ℕ) × (clock ≤ v.clock + counted_steps p j reads interrupts) × ShowsEnd why v (run p j reads interrupts)
         → (n : ℕ) × (clock ≤ v.clock + n) × DoesWithinPeak e extra cs n memory reads interrupts why v
-    by_run (j, spent, shows) = by_steps (as' j reads interrupts r (not_wrong why (run p j reads interrupts) legal shows.ending))
+    by_run (j, spent, shows) = by_steps (as' j reads interrupts r legal')
       where
-        by_steps : (m : ℕ) × (counted_steps p j reads interrupts ≤ m) × ShowsSame (run p j reads interrupts) (run new m reads interrupts)
+        legal' : (run p j reads interrupts).ending ≡ Some Wrong → ⊥
+        legal' = not_wrong why (run p j reads interrupts) legal shows.ending
+
+        -- the run of the new program is looked at up to its last row of pushes
+        by_cut : (m : ℕ) → counted_steps p j reads interrupts ≤ unpushed_steps new m reads interrupts
+            → ShowsSame (run p j reads interrupts) (run new m reads interrupts) → IsCutBack new m reads interrupts
             → (n : ℕ) × (clock ≤ v.clock + n) × DoesWithinPeak e extra cs n memory reads interrupts why v
-        by_steps (m, more, same) = (
-          m,
-          omega (arith, spent, more),
-          does e x new st b extra cs has memory powered reads interrupts r is v whole ticked (run p j reads interrupts) m same shows.outside shows.openings
-              (not_wrong why (run p j reads interrupts) legal shows.ending) why shows.ending,
+        by_cut m more same cut = (
+          cut.steps,
+          let many = cut.many in omega (arith, spent, more, many),
+          does e x new st b extra cs has memory powered reads interrupts r is v whole ticked (run p j reads interrupts) cut.steps cut.unpushed
+              (same_then (run p j reads interrupts) (run new m reads interrupts) (run new cut.steps reads interrupts) same cut.shows) shows.outside
+              shows.openings legal' why shows.ending,
         )
+
+        by_steps : (m : ℕ) × (counted_steps p j reads interrupts ≤ unpushed_steps new m reads interrupts)
+            × ShowsSame (run p j reads interrupts) (run new m reads interrupts)
+            → (n : ℕ) × (clock ≤ v.clock + n) × DoesWithinPeak e extra cs n memory reads interrupts why v
+        by_steps (m, more, same) = by_cut m more same (cut_back new reads interrupts m (λ wrong. legal' (sym same.ending ∙ wrong)))

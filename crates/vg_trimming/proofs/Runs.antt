@@ -8,7 +8,8 @@ use Rattle.vg_lin.specs.State.{State}
 use Rattle.vg_lin.specs.Meaning.{language, codes_in, first_state, at_start, run, counted_steps}
 use Rattle.vg_lin.specs.Turns.{next_counts, step_counts, one_more, counted}
 use Rattle.vg_lin.specs.Steps.{Config, stepped, step, steps}
-use Rattle.vg_expand.specs.Runs.{with_procedures, IsClosed, ShowsSame}
+use Rattle.vg_expand.specs.Unpushed.{unpushed, unpushed_steps}
+use Rattle.vg_expand.specs.Runs.{with_procedures, IsClosed, ShowsSame, RunsAs}
 use Rattle.vg_expand.proofs.Simulated.{within}
 use Rattle.vg_trimming.specs.Trimmed.{IsTrimmedTo, AreAllTrimmed}
 use Rattle.vg_trimming.specs.Runs.{AreBytes, RunsAsRead}
@@ -30,12 +31,16 @@ module _ (p : Program) (ms : List Procedure) (all : AreAllTrimmed p.procedures m
   abbrev after_newer : (n : ℕ) → Config State → Config State
   after_newer n d = steps (language newer_program) (codes_in ms) n d
 
-  -- where the first program comes in n steps from c, the second one comes from d, and shows the same; it makes at least as many steps as count, but for one
-  -- where that is not spent
+  -- how many steps of the second program are no pushes
+  abbrev made : (n : ℕ) → Config State → ℕ
+  made n d = unpushed (language newer_program) (codes_in ms) n d
+
+  -- where the first program comes in n steps from c, the second one comes from d, and shows the same; it makes at least as many steps that are no pushes as
+  -- count, but for one where that is not spent
   abbrev Shows : (spent : Bool) (n : ℕ) (c d : Config State) → Type 0
   Shows spent n c d =
       (after n c).ending ≢ Some Wrong
-      → (j : ℕ) × (counted (language p) (codes_in p.procedures) n c ≤ j + credit spent) × ShowsSame (after n c) (after_newer j d)
+      → (j : ℕ) × (counted (language p) (codes_in p.procedures) n c ≤ made j d + credit spent) × ShowsSame (after n c) (after_newer j d)
 
   shows_here : (spent : Bool) (c d : Config State) → Comes spent c d → ShowsSame c d
   shows_here _ _ _ (at_place spent q pc at s u fs gs o opens st h r) = record { outside = refl; openings = refl; ending = refl }
@@ -67,13 +72,13 @@ module _ (p : Program) (ms : List Procedure) (all : AreAllTrimmed p.procedures m
       -- with those of the first step
       AllShown : Config State → Type 0
       AllShown x =
-          (j : ℕ) × (one_more counts (counted (language p) (codes_in p.procedures) n x) ≤ j + credit spent) × ShowsSame (after n x) (after_newer j d)
+          (j : ℕ) × (one_more counts (counted (language p) (codes_in p.procedures) n x) ≤ made j d + credit spent) × ShowsSame (after n x) (after_newer j d)
 
       paid : (b : Bool) (k left j t i : ℕ) → k ≤ j + left → one_more b left ≤ t + credit spent → j + t ≤ i → one_more b k ≤ i + credit spent
       paid true k left j t i f g h = omega (arith, f, g, h)
       paid false k left j t i f g h = omega (arith, f, g, h)
 
-      at_most_one : (b : Bool) (k i : ℕ) → k ≡ 0 → 0 + 1 ≤ i → one_more b k ≤ i + credit spent
+      at_most_one : (b : Bool) (k i : ℕ) → k ≡ 0 → 0 + one_more b 0 ≤ i → one_more b k ≤ i + credit spent
       at_most_one true k i e h = omega (arith, e, h)
       at_most_one false k i e h = omega (arith, e, h)
 
@@ -81,18 +86,21 @@ module _ (p : Program) (ms : List Procedure) (all : AreAllTrimmed p.procedures m
           → (x : Config State) → Stepped p ms all closed tables spent counts d x → (after n x).ending ≢ Some Wrong → AllShown x
       by_step runs x (goes e t spent' k le g) legal = onto (runs spent' x e g legal)
         where
-          onto : (j : ℕ) × (counted (language p) (codes_in p.procedures) n x ≤ j + credit spent') × ShowsSame (after n x) (after_newer j e) → AllShown x
+          onto : (j : ℕ) × (counted (language p) (codes_in p.procedures) n x ≤ made j e + credit spent') × ShowsSame (after n x) (after_newer j e) → AllShown x
           onto (j, h, sh) = further (k.by j)
             where
-              further : (i : ℕ) × (j + t ≤ i) × (after_newer i d ≡ after_newer j e) → AllShown x
-              further (i, g, q) =
-                  (i, paid counts (counted (language p) (codes_in p.procedures) n x) (credit spent') j t i h le g, subst (ShowsSame (after n x)) (sym q) sh)
+              further : (i : ℕ) × (made j e + t ≤ made i d) × (after_newer i d ≡ after_newer j e) → AllShown x
+              further (i, g, q) = (
+                i,
+                paid counts (counted (language p) (codes_in p.procedures) n x) (credit spent') (made j e) t (made i d) h le g,
+                subst (ShowsSame (after n x)) (sym q) sh,
+              )
       by_step runs x (stops e why t f g a o) legal = ended (t.by 0)
         where
-          ended : (i : ℕ) × (0 + 1 ≤ i) × (after_newer i d ≡ after_newer 0 e) → AllShown x
+          ended : (i : ℕ) × (0 + one_more counts 0 ≤ made i d) × (after_newer i d ≡ after_newer 0 e) → AllShown x
           ended (i, h, q) = (
             i,
-            at_most_one counts (counted (language p) (codes_in p.procedures) n x) i (none_counted n x why f) h,
+            at_most_one counts (counted (language p) (codes_in p.procedures) n x) (made i d) (none_counted n x why f) h,
             subst (λ z. ShowsSame z (after_newer i d)) (sym (stays_so n x why f))
                 (subst (ShowsSame x) (sym q) (record { outside = a; openings = o; ending = g ∙ sym f })),
           )
@@ -119,6 +127,28 @@ module _ (p : Program) (ms : List Procedure) (all : AreAllTrimmed p.procedures m
                 here = there (wakes p ms all closed tables p.start m n e g is (first_state p) (first_state newer_program) refl ram);
               }) (tt {0}) are
 
-      in_all : (j : ℕ) × (counted_steps p n reads interrupts ≤ j + 0) × ShowsSame (after n (at_start p o)) (after_newer j (at_start newer_program o))
-          → (j : ℕ) × (counted_steps p n reads interrupts ≤ j) × ShowsSame (run p n reads interrupts) (run newer_program j reads interrupts)
+      in_all : (j : ℕ) × (counted_steps p n reads interrupts ≤ made j (at_start newer_program o) + 0)
+          × ShowsSame (after n (at_start p o)) (after_newer j (at_start newer_program o))
+          → (j : ℕ) × (counted_steps p n reads interrupts ≤ unpushed_steps newer_program j reads interrupts)
+          × ShowsSame (run p n reads interrupts) (run newer_program j reads interrupts)
       in_all (j, h, sh) = (j, omega (arith, h), sh)
+
+-- a program that does what the trimmed one does
+pub runs_then : (p m n : Program) → RunsAsRead p m → RunsAs m n → RunsAsRead p n
+runs_then p m n trims runs steps' reads interrupts are legal = by (trims steps' reads interrupts are legal)
+  where
+    by : (j : ℕ) × (counted_steps p steps' reads interrupts ≤ unpushed_steps m j reads interrupts)
+        × ShowsSame (run p steps' reads interrupts) (run m j reads interrupts)
+        → (i : ℕ) × (counted_steps p steps' reads interrupts ≤ unpushed_steps n i reads interrupts)
+        × ShowsSame (run p steps' reads interrupts) (run n i reads interrupts)
+    by (j, more, same) = further (runs j reads interrupts (λ wrong. legal (sym same.ending ∙ wrong)))
+      where
+        further : (i : ℕ) × (unpushed_steps m j reads interrupts ≤ unpushed_steps n i reads interrupts)
+            × ShowsSame (run m j reads interrupts) (run n i reads interrupts)
+            → (i : ℕ) × (counted_steps p steps' reads interrupts ≤ unpushed_steps n i reads interrupts)
+            × ShowsSame (run p steps' reads interrupts) (run n i reads interrupts)
+        further (i, on, shown) = (
+          i,
+          omega (arith, more, on),
+          record { outside = shown.outside ∙ same.outside; openings = shown.openings ∙ same.openings; ending = shown.ending ∙ same.ending },
+        )

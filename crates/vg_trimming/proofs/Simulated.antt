@@ -1,6 +1,6 @@
 -- That a program with trimmed procedures does what it did. Both are at a place, or the second one is ahead, under frames that go on so; each step of the
 -- first is none, one or two of the second, by what both instructions do there, and whole runs follow by induction.
-use Rattle.std.specs.Prelude.{ℕ, zero, suc, ◌+◌, ◌≤◌, Bool, true, false, ◌&&◌, ◌||◌, List, [], ◌∷◌, drop}
+use Rattle.std.specs.Prelude.{ℕ, zero, suc, ◌+◌, ◌≤◌, Bool, true, false, not, ◌&&◌, ◌||◌, List, [], ◌∷◌, drop}
 use Rattle.std.specs.Prelude.{Option, Some, None, slice_get, if◌then◌else◌}
 use Rattle.std.proofs.Common.{◌≡◌, refl, sym, ap, ◌∙◌, subst, arith, inl, inr, ◌⊎◌}
 use Rattle.std.proofs.lemmas.Option.{same_Some, none-some}
@@ -24,10 +24,10 @@ use Rattle.vg_lin.specs.Meaning.{begun, called, with_code, entry_of, entry_at, r
 use Rattle.vg_lin.specs.Steps.{Result, Interrupt, Frame, Went, Entry, Config, with_named, open_below, noted}
 use Rattle.vg_lin.specs.Steps.{begins, went, branched, calls, goes_back, returns, takes, handles, performed, code_of, step, steps}
 use Rattle.vg_lin.specs.Turns.{instr_counts, counts_at, step_counts, one_more}
-use Rattle.vg_lin.specs.Follows.{Leads}
-use Rattle.vg_lin.proofs.Followed.{leads_step}
 use Rattle.vg_arith.proofs.ShiftRoutines.{fetch_of}
+use Rattle.vg_expand.specs.Unpushed.{is_push, step_pushes, unpushed}
 use Rattle.vg_expand.specs.Runs.{with_procedures, IsClosed}
+use Rattle.vg_expand.proofs.Unpushed.{no_less}
 use Rattle.vg_expand.proofs.Simulated.{within}
 use Rattle.vg_trimming.specs.Trimmed.{IsTrimmedTo, AreAllTrimmed}
 use Rattle.vg_trimming.specs.Runs.{AreBytes}
@@ -164,18 +164,48 @@ module _ (p : Program) (ms : List Procedure) (all : AreAllTrimmed p.procedures m
     taken : (v q pc at : ℕ) (s u : State) (fs gs : List (Frame State)) (o : Outside) (opens : List (List Active)) → StandsAt q (suc pc) (suc at) s u
         → FramesStand fs gs → AreReads o.reads → Related true (going q pc s fs (Some v) o opens) (going q at u gs (Some v) o opens)
 
-  abbrev pub To : ℕ → Config State → Config State → Type 0
-  To t c d = Leads (language new) (codes_in ms) t c d
+  -- from c the second program comes to d in at least t steps that are no pushes
+  pub record To (t : ℕ) (c d : Config State) : Type 0 where
+    pub by : (k : ℕ) → (j : ℕ)
+        × (unpushed (language new) (codes_in ms) k d + t ≤ unpushed (language new) (codes_in ms) j c)
+        × (steps (language new) (codes_in ms) j c ≡ steps (language new) (codes_in ms) k d)
 
   to_here : (d : Config State) → To 0 d d
   to_here d = record { by = λ k. (k, omega arith, refl) }
 
-  -- a step of the first program, which may count, leads to c; from d the second one comes as far, in as many steps as count
+  -- behind a first step
+  to_next : (t : ℕ) (c d : Config State) → t ≤ one_more (not (step_pushes (codes_in ms) c)) 0 → step (language new) (codes_in ms) c ≡ d → To t c d
+  to_next t c d h e = record { by = λ k. (suc k, as_many k, ap (steps (language new) (codes_in ms) k) e) }
+    where
+      one : (b : Bool) (m n : ℕ) → m ≡ n → t ≤ one_more b 0 → n + t ≤ one_more b m
+      one true m n f h = omega (arith, f, h)
+      one false m n f h = omega (arith, f, h)
+
+      as_many : (k : ℕ) → unpushed (language new) (codes_in ms) k d + t ≤ unpushed (language new) (codes_in ms) (suc k) c
+      as_many k = one (not (step_pushes (codes_in ms) c)) _ _ (ap (unpushed (language new) (codes_in ms) k) e) h
+
+  -- a step more
+  to_then : (c d e : Config State) → To 1 c d → step (language new) (codes_in ms) d ≡ e → To 1 c e
+  to_then c d e t f = record { by = λ k. behind k (t.by (suc k)) }
+    where
+      behind : (k : ℕ) → (j : ℕ) × (unpushed (language new) (codes_in ms) (suc k) d + 1 ≤ unpushed (language new) (codes_in ms) j c)
+          × (steps (language new) (codes_in ms) j c ≡ steps (language new) (codes_in ms) (suc k) d)
+          → (j : ℕ) × (unpushed (language new) (codes_in ms) k e + 1 ≤ unpushed (language new) (codes_in ms) j c)
+          × (steps (language new) (codes_in ms) j c ≡ steps (language new) (codes_in ms) k e)
+      behind k (j, h, g) = (
+        j,
+        let m = unpushed (language new) (codes_in ms) k (step (language new) (codes_in ms) d) in
+            let a = no_less (not (step_pushes (codes_in ms) d)) m m (omega arith) in
+            let b = ap (unpushed (language new) (codes_in ms) k) f in omega (arith, a, b, h),
+        g ∙ ap (steps (language new) (codes_in ms) k) f,
+      )
+
+  -- a step of the first program, which may count, leads to c; from d the second one comes as far, in as many steps that are no pushes as count
   pub data Stepped (spent counts : Bool) (d c : Config State) : Type 0 where
     goes : (e : Config State) (t : ℕ) (spent' : Bool) → To t d e → one_more counts (credit spent') ≤ t + credit spent → Related spent' c e
         → Stepped spent counts d c
-    stops : (e : Config State) (why : End) → To 1 d e → c.ending ≡ Some why → e.ending ≡ Some why → e.outside ≡ c.outside → e.openings ≡ c.openings
-        → Stepped spent counts d c
+    stops : (e : Config State) (why : End) → To (one_more counts 0) d e → c.ending ≡ Some why → e.ending ≡ Some why → e.outside ≡ c.outside
+        → e.openings ≡ c.openings → Stepped spent counts d c
     fails : c.ending ≡ Some Wrong → Stepped spent counts d c
 
   more_credit : (spent counts : Bool) (d c : Config State) → Stepped true counts d c → Stepped spent counts d c
@@ -213,8 +243,13 @@ module _ (p : Program) (ms : List Procedure) (all : AreAllTrimmed p.procedures m
     uncounted : (i : Instr) → slice_get old.code pc ≡ Some i → instr_counts old.code pc (Some i) ≡ false → counts ≡ false
     uncounted i e f = ap (instr_counts old.code pc) e ∙ f
 
-    one : (j : Instr) → slice_get now.code at ≡ Some j → To 1 d (performed (language new) d (Some j))
-    one j e = leads_step (language new) (codes_in ms) d _ (ap (performed (language new) d) (fetch_of ms q now has_now at ∙ e))
+    once : (t : ℕ) (j : Instr) → t ≤ one_more (not (is_push (Some j))) 0 → slice_get now.code at ≡ Some j → To t d (performed (language new) d (Some j))
+    once t j h e =
+        to_next t d _ (subst (λ k. t ≤ one_more (not (is_push k)) 0) (sym (fetch_of ms q now has_now at ∙ e)) h)
+        (ap (performed (language new) d) (fetch_of ms q now has_now at ∙ e))
+
+    one : (j : Instr) → is_push (Some j) ≡ false → slice_get now.code at ≡ Some j → To 1 d (performed (language new) d (Some j))
+    one j f e = once 1 j (subst (λ b. 1 ≤ one_more (not b) 0) (sym f) (omega arith)) e
 
     -- both go on
     goes_to : (spent spent' : Bool) (t to to' : ℕ) (s1 u1 : State) (o1 : Outside) → Ahead old now spent' to to' s1 u1 → AreReads o1.reads
@@ -224,24 +259,36 @@ module _ (p : Program) (ms : List Procedure) (all : AreAllTrimmed p.procedures m
         goes (going q to' u1 gs None o1 opens) t spent' k le
         (at_place spent' q to to' s1 u1 fs gs o1 opens (record { old = old; now = now; has = has; has_now = has_now; is = is; here = h }) frames r)
 
-    -- to a place
-    comes_to : (to to' : ℕ) (s1 u1 : State) (o1 : Outside) → AtPlace old now to to' s1 u1 → AreReads o1.reads
-        → To 1 d (going q to' u1 gs None o1 opens) → Steps (going q to s1 fs None o1 opens)
-    comes_to to to' s1 u1 o1 h r k = goes_to true true 1 to to' s1 u1 o1 (there h) r (paid_one counts) k
+    -- where no step counts
+    for_none : (e : Config State) → counts ≡ false → To 0 d e → To (one_more counts 0) d e
+    for_none e f t = subst (λ b. To (one_more b 0) d e) (sym f) t
+
+    -- one is enough
+    for_one : (e : Config State) → To 1 d e → To (one_more counts 0) d e
+    for_one e t = record { by = λ k. less k (t.by k) }
+      where
+        less : (k : ℕ) → (j : ℕ) × (unpushed (language new) (codes_in ms) k e + 1 ≤ unpushed (language new) (codes_in ms) j d)
+            × (steps (language new) (codes_in ms) j d ≡ steps (language new) (codes_in ms) k e)
+            → (j : ℕ) × (unpushed (language new) (codes_in ms) k e + one_more counts 0 ≤ unpushed (language new) (codes_in ms) j d)
+            × (steps (language new) (codes_in ms) j d ≡ steps (language new) (codes_in ms) k e)
+        less k (j, h, g) = (j, let f = paid_one counts in omega (arith, f, h), g)
 
     -- behind a branch
     leads_to : (to to' : ℕ) → Ahead old now counts to to' s u → To 1 d (going q to' u gs None o opens) → Steps (going q to s fs None o opens)
     leads_to to to' h k = goes_to true counts 1 to to' s u o h reads (paid_way counts) k
 
-    by_went : (z z' : Went State) → SameWent (Onward old now pc at) z z' → To 1 d (went d z') → Steps (went c z)
-    by_went _ _ (both_go s1 u1 o1 h) t = comes_to (suc pc) (suc at) s1 u1 o1 h.0 h.1 t
-    by_went _ _ (both_raise code) t = stops _ (Stops code None) t refl refl refl refl
-    by_went _ _ (both_lack address) t = stops _ (Wants address) t refl refl refl refl
-    by_went _ _ (wrong z) t = fails refl
+    -- a plain instruction does not count, and may be a push
+    by_went : (z z' : Went State) → SameWent (Onward old now pc at) z z' → counts ≡ false → To 0 d (went d z') → Steps (went c z)
+    by_went _ _ (both_go s1 u1 o1 h) f t = goes_to true true 0 (suc pc) (suc at) s1 u1 o1 (there h.0) h.1 (paid_none counts true f) t
+    by_went _ _ (both_raise code) f t = stops _ (Stops code None) (for_none _ f t) refl refl refl refl
+    by_went _ _ (both_lack address) f t = stops _ (Wants address) (for_none _ f t) refl refl refl refl
+    by_went _ _ (wrong z) f t = fails refl
 
-    plain_step : (i j : PlainInstr) → SameWent (Onward old now pc at) (plain p i s o) (plain p j u o) → slice_get now.code at ≡ Some (Plain j)
-        → Steps (performed (language p) c (Some (Plain i)))
-    plain_step i j h e = by_went (plain p i s o) (plain p j u o) h (subst (λ z. To 1 d (went d z)) (plain_same j u o) (one (Plain j) e))
+    plain_step : (i j : PlainInstr) → slice_get old.code pc ≡ Some (Plain i) → SameWent (Onward old now pc at) (plain p i s o) (plain p j u o)
+        → slice_get now.code at ≡ Some (Plain j) → Steps (performed (language p) c (Some (Plain i)))
+    plain_step i j has h e =
+        by_went (plain p i s o) (plain p j u o) h (uncounted (Plain i) has refl)
+        (subst (λ z. To 0 d (went d z)) (plain_same j u o) (once 0 (Plain j) (omega arith) e))
 
     -- a branch
     when_step : (t t' : Test) (to to' : ℕ) → ((b : Bool) → holds t s ≡ Some b → holds t' u ≡ Some b) → (holds t s ≡ Some true → Ahead old now counts to to' s u)
@@ -388,39 +435,31 @@ module _ (p : Program) (ms : List Procedure) (all : AreAllTrimmed p.procedures m
     -- a jump, and the instruction there
     two_steps : (to : ℕ) (j : Instr) → slice_get now.code at ≡ Some (Jump to) → slice_get now.code to ≡ Some j
         → To 1 d (performed (language new) (going q to u gs None o opens) (Some j))
-    two_steps to j e f =
-        record {
-          by = λ k. (
-            suc (suc k),
-            omega arith,
-            ap (steps (language new) (codes_in ms) k)
-                (ap (step (language new) (codes_in ms)) (ap (performed (language new) d) (fetch_of ms q now has_now at ∙ e))
-                ∙ ap (performed (language new) (going q to u gs None o opens)) (fetch_of ms q now has_now to ∙ f)),
-          );
-        }
+    two_steps to j e f = to_then d (going q to u gs None o opens) _ (one (Jump to) refl e)
+        (ap (performed (language new) (going q to u gs None o opens)) (fetch_of ms q now has_now to ∙ f))
 
     idle_step : AtPlace old now (suc pc) (suc at) s u → (vs : List ℕ) → To 1 d (takes d vs) → Steps (takes c vs)
-    idle_step h [] t = stops _ Done t refl refl refl refl
+    idle_step h [] t = stops _ Done (for_one _ t) refl refl refl refl
     idle_step h (v ∷ vs) t =
         goes (going q at u gs (Some v) (with_event (record o { interrupts = vs }) (Enter v)) opens) 1 true t (paid_one counts)
         (taken v q pc at s u fs gs _ opens (record { old = old; now = now; has = has; has_now = has_now; is = is; here = h }) frames reads)
 
     by_does : (i j : Instr) → slice_get old.code pc ≡ Some i → Does p old now pc at s u o i j → slice_get now.code at ≡ Some j
         → Steps (performed (language p) c (Some i))
-    by_does _ _ has (plainly i j h) e = plain_step i j h e
-    by_does _ _ has (when_so t t' to to' h f g) e = when_step t t' to to' h f g (one (When t' to') e)
-    by_does _ _ has (unless_so t t' to to' h f g) e = unless_step t t' to to' h f g (one (Unless t' to') e)
-    by_does _ _ has (when_turned t t' to to' h f g) e = when_turned_step t t' to to' h f g (one (Unless t' to') e)
-    by_does _ _ has (unless_turned t t' to to' h f g) e = unless_turned_step t t' to to' h f g (one (When t' to') e)
-    by_does _ _ has (never_so t to to' h f) e = never_step t to to' h f (one (Jump to') e)
-    by_does _ _ has (always_so t to to' h f) e = always_step t to to' h f (one (Jump to') e)
+    by_does _ _ has (plainly i j h) e = plain_step i j has h e
+    by_does _ _ has (when_so t t' to to' h f g) e = when_step t t' to to' h f g (one (When t' to') refl e)
+    by_does _ _ has (unless_so t t' to to' h f g) e = unless_step t t' to to' h f g (one (Unless t' to') refl e)
+    by_does _ _ has (when_turned t t' to to' h f g) e = when_turned_step t t' to to' h f g (one (Unless t' to') refl e)
+    by_does _ _ has (unless_turned t t' to to' h f g) e = unless_turned_step t t' to to' h f g (one (When t' to') refl e)
+    by_does _ _ has (never_so t to to' h f) e = never_step t to to' h f (one (Jump to') refl e)
+    by_does _ _ has (always_so t to to' h f) e = always_step t to to' h f (one (Jump to') refl e)
     by_does _ _ has (jumps to to' h) e =
-        goes_to true false 1 to to' s u o h reads (paid_jump counts (uncounted (Jump to) has refl)) (one (Jump to') e)
-    by_does _ _ has (calls_so i j h) e = call_step i j h (one (Call j) e)
-    by_does _ _ has (returns_so w x y h er bytes) e = return_step w x y at h er bytes (one (Return w y) e)
+        goes_to true false 1 to to' s u o h reads (paid_jump counts (uncounted (Jump to) has refl)) (one (Jump to') refl e)
+    by_does _ _ has (calls_so i j h) e = call_step i j h (one (Call j) refl e)
+    by_does _ _ has (returns_so w x y h er bytes) e = return_step w x y at h er bytes (one (Return w y) refl e)
     by_does _ _ has (returns_there w x y to f h er bytes) e = return_step w x y to h er bytes (two_steps to (Return w y) e f)
-    by_does _ _ has (stops_there code to f) e = stops _ (Stops code None) (two_steps to (Plain (Stop code)) e f) refl refl refl refl
-    by_does _ _ has (idles h) e = idle_step h o.interrupts (one Idle e)
+    by_does _ _ has (stops_there code to f) e = stops _ (Stops code None) (for_one _ (two_steps to (Plain (Stop code)) e f)) refl refl refl refl
+    by_does _ _ has (idles h) e = idle_step h o.interrupts (one Idle refl e)
 
     -- the first program makes a step alone
     alone_step : (spent : Bool) (z : Went State) → counts ≡ false → Alone (λ s1. Ahead old now spent (suc pc) at s1 u) o z
@@ -502,7 +541,7 @@ module _ (p : Program) (ms : List Procedure) (all : AreAllTrimmed p.procedures m
       → FramesStand fs gs → AreReads o.reads
       → Stepped true true (going q at u gs (Some v) o opens) (step (language p) (codes_in p.procedures) (going q pc s fs (Some v) o opens))
   step_taken v q pc at s u fs gs o opens st h reads =
-      by_handler (p.handler v) refl (leads_step (language new) (codes_in ms) (going q at u gs (Some v) o opens) _ refl)
+      by_handler (p.handler v) refl (to_next 1 (going q at u gs (Some v) o opens) _ (omega arith) refl)
     where
       c : Config State
       c = going q pc s fs (Some v) o opens

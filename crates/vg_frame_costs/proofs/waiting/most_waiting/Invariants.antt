@@ -1,7 +1,0 @@
-use Rattle.std.proofs.Common.{◌≡◌, max, [], drop}
-use Rattle.std.specs.Prelude.{reverse}
-use Rattle.vg_frame_costs.specs.Bytes.{most_waiting}
-use Rattle.vg_frame_costs.proofs.waiting.most_waiting.Given as goal
-
-abbrev pub invariant-loop-instr : goal.invariant-loop-instr
-invariant-loop-instr l = max l.most (most_waiting (reverse l.waits.items) (drop l.instr-index l.code)) ≡ most_waiting [] l.code
