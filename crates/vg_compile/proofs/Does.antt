@@ -10,7 +10,8 @@ use Rattle.vg_packed.specs.declared.program.FirmProgram.{FirmProgram}
 use Rattle.vg_packed.specs.Given.{IsGiven}
 use Rattle.vg_packed.specs.Packed.{IsPackedFrom}
 use Rattle.vg_packed.specs.Ready.{IsReady}
-use Rattle.vg_pack.specs.Rows.{IsPackedWhole, RowsFitIn}
+use Rattle.vg_pack.specs.Rows.{RowsFitIn}
+use Rattle.vg_compile.specs.Packed.{IsPackedRows}
 use Rattle.vg_frame_costs.specs.Fitting.{FramesFit}
 use Rattle.vg_frame_costs.proofs.Fit.{fit_costs, fit_frames}
 use Rattle.vg_call_need.specs.declared.need.Need.{Need}
@@ -20,7 +21,8 @@ use Rattle.vg_call_need.specs.Bounds.{BoundsCalls, IsBoundOf}
 use Rattle.vg_call_need.proofs.Calls.{bounds_bytes, bounds_calls}
 use Rattle.vg_call_need.specs.Within.{IsNeedWithin}
 use Rattle.vg_compile.specs.Bounds.{ArePaidFor, DoesFor, HoldsBound}
-use Rattle.vg_compile.specs.Compile.{CallsNeedAsSaid, IsImageOf, NeedsAsSaid}
+use Rattle.vg_compile.specs.Compile.{CallsNeedAsSaid, IsImageOf, LacksLinear, LacksLinearOf, NeedsAsSaid}
+use Rattle.vg_packed_suits.specs.Bodies.{AreTypedWhereCounted}
 use Rattle.vg_compile.specs.declared.no_image.NoImage.TheVariants.{NotLinear, Received, Costly, Deep, Full}
 use Rattle.vg_compile.specs.declared.no_image.NoImage.{NoImage}
 use Rattle.vg_base.specs.declared.refusal.Refusal.{Refusal}
@@ -36,7 +38,7 @@ lower floor extra bytes enough h k = omega (arith, h, k)
 module _ (p : Program) (h : Heap) (s : LiveSet) (n : Numbers) (c : Columns) (f : FirmProgram) (costs : List ℕ) (compiled : Compiled)
     (given : IsGiven p h s n c) (from : IsPackedFrom p h s n c f) (rows : RowsFitIn p h c f) (image : IsImageOf c f costs compiled)
     (ready : IsReady p h) where
-  packed : IsPackedWhole p h s n c f
+  packed : IsPackedRows p h s n c f
   packed = record { from = from; rows = rows }
 
   does_by : (extra : ℕ) (frames : List ℕ) → FramesFit image.linear.procedures image.linear.start extra frames
@@ -94,3 +96,13 @@ refused_calls p h s n c f costs given from (Faulty Received) is ready = tt
 refused_calls p h s n c f costs given from (Faulty Costly) is ready = tt
 refused_calls p h s n c f costs given from (Faulty (Full full)) is ready = tt
 refused_calls p h s n c f costs given from NoMemory is ready = tt
+
+-- what was packed lacks linear code for the cause that is said
+pub refused_linear : (p : Program) (h : Heap) (s : LiveSet) (n : Numbers) (c : Columns) (f : FirmProgram) → IsPackedFrom p h s n c f
+    → AreTypedWhereCounted p h c f → (why : Refusal NoImage) → LacksLinear c.list f why → LacksLinearOf p h s n c why
+refused_linear p h s n c f from typed (Faulty (NotLinear fault)) is = record { firm = f; packed = from; typed = typed; cause = is }
+refused_linear p h s n c f from typed (Faulty (Deep need)) is = tt
+refused_linear p h s n c f from typed (Faulty Received) is = tt
+refused_linear p h s n c f from typed (Faulty Costly) is = tt
+refused_linear p h s n c f from typed (Faulty (Full full)) is = tt
+refused_linear p h s n c f from typed NoMemory is = tt

@@ -38,7 +38,7 @@ use Rattle.vg_flatten_shapes.specs.declared.layout.Layout.{Layout as LinLayout}
 use Rattle.vg_flatten.specs.Columns.{RamStands}
 use Rattle.vg_flatten.specs.Flattened.{AreFlat}
 use Rattle.vg_trimming.specs.Runs.{RunsAsRead}
-use Rattle.vg_pack.specs.Rows.{IsPackedWhole}
+use Rattle.vg_compile.specs.Packed.{IsPackedRows}
 use Rattle.vg_followed.specs.Stands.{Stands}
 use Rattle.vg_followed.specs.Runs.{Begins}
 use Rattle.vg_frame_costs.specs.Fitting.{FramesFit}
@@ -82,7 +82,7 @@ alike_ends {S} {T} {H} why s v a b e h = by b (subst (λ z. Alike z b) e h)
     by (Gives t w) x = absurd x
 
 module _ (p : Program) (h : Heap) (s : LiveSet) (n : Numbers) (c : Columns) (f : FirmProgram) (l : Linear) (u : Unlinked) (linked : Linked)
-    (given : IsGiven p h s n c) (ready : IsReady p h) (packed : IsPackedWhole p h s n c f) (linear : IsLinear c.list f l) (made : IsUnlinked c f l u)
+    (given : IsGiven p h s n c) (ready : IsReady p h) (packed : IsPackedRows p h s n c f) (linear : IsLinear c.list f l) (made : IsUnlinked c f l u)
     (can : CanBeLinked u) (is : IsLinked u linked) where
   abbrev k : Codes
   k = codes_before u.start (codes_by linked.codes)

@@ -20,7 +20,8 @@ use Rattle.vg_packed.specs.Packed.{IsPackedFrom}
 use Rattle.vg_packed.specs.Plans.{planned}
 use Rattle.vg_packed.specs.Programs.{handler_in}
 use Rattle.vg_packed.specs.Ready.{IsReady}
-use Rattle.vg_pack.specs.Rows.{IsPackedWhole, RowsFitIn}
+use Rattle.vg_pack.specs.Rows.{RowsFitIn}
+use Rattle.vg_compile.specs.Packed.{IsPackedRows}
 use Rattle.vg_table_bytes.specs.Bytes.{ram_widths, rows_bytes, table_bytes_of}
 use Rattle.vg_table_bytes.specs.Rows.{HasRows}
 use Rattle.vg_linear.specs.declared.whole.Linear.{Linear}
@@ -46,7 +47,7 @@ pub few : (p : Program) (h : Heap) (s : LiveSet) (n : Numbers) (c : Columns) (f 
     → length f.procedures ≤ 65536
 few p h s n c f given from = let a = few_procedures p h s n c f from in let b = given.few_methods in omega (arith, a, b)
 
-module _ (p : Program) (h : Heap) (s : LiveSet) (n : Numbers) (c : Columns) (f : FirmProgram) (whole : IsPackedWhole p h s n c f)
+module _ (p : Program) (h : Heap) (s : LiveSet) (n : Numbers) (c : Columns) (f : FirmProgram) (whole : IsPackedRows p h s n c f)
     (given : IsGiven p h s n c) (ready : IsReady p h) where
   abbrev its_layout : Layout
   its_layout = planned h n whole.from.plan

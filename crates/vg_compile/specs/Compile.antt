@@ -3,10 +3,17 @@ use Rattle.std.specs.Prelude.{ℕ, ◌<◌, ◌≤◌, List, Result, Ok, Err}
 use Rattle.vg_base.specs.declared.refusal.Refusal.{Refusal}
 use Rattle.vg_base.specs.declared.refusal.Refusal.TheVariants.{Fault as Faulty, NoMemory}
 use Rattle.vg_frame_costs.specs.declared.frames.Frames.{Frames}
+use Rattle.vg_flatten_shapes.specs.declared.fault.Fault.{Fault}
+use Rattle.vg_live.specs.declared.live_set.LiveSet.{LiveSet}
+use Rattle.vg_number.specs.declared.numbers.Numbers.{Numbers}
 use Rattle.vg_place.specs.declared.placing.Columns.{Columns}
+use Rattle.vg_placement.specs.declared.column.Column.{Column}
+use Rattle.vg_packed.specs.Packed.{IsPackedFrom}
+use Rattle.vg_packed_suits.specs.Bodies.{AreTypedWhereCounted}
 use Rattle.vg_packed.specs.declared.program.Entrance.{Entrance}
 use Rattle.vg_packed.specs.declared.program.FirmProgram.{FirmProgram}
 use Rattle.vg_linear.specs.declared.whole.Linear.{Linear}
+use Rattle.vg_linear.specs.Refusals.{IsCauseOf}
 use Rattle.vg_linear.specs.Whole.{IsLinear}
 pub use Rattle.vg_link.specs.declared.linked.Linked.{Linked}
 use Rattle.vg_link.specs.declared.unlinked.Handler.{Handler}
@@ -62,6 +69,23 @@ NeedsAsSaid f costs why = Unit {0}
 abbrev pub CallsNeedAsSaid : (costs : List ℕ) → Program → Heap → Refusal NoImage → Type 0
 CallsNeedAsSaid costs p h (Faulty (Deep need)) = BoundsCalls costs p h (Bytes need)
 CallsNeedAsSaid costs p h why = Unit {0}
+
+-- Where the cause is that it has no linear code, it is one of those for which the packed program with these columns has none.
+abbrev pub LacksLinear : List Column → FirmProgram → Refusal NoImage → Type 0
+LacksLinear cs f (Faulty (NotLinear why)) = IsCauseOf why cs f
+LacksLinear cs f why = Unit {0}
+
+-- What was packed of a program has such a cause; and all of it is typed, where the code of the program's methods takes and leaves its values in order.
+pub record HasNoLinear (p : Program) (h : Heap) (s : LiveSet) (n : Numbers) (c : Columns) (why : Fault) : Type 0 where
+  pub firm : FirmProgram
+  pub packed : IsPackedFrom p h s n c firm
+  pub typed : AreTypedWhereCounted p h c firm
+  pub cause : IsCauseOf why c.list firm
+
+-- Where the cause is that it has no linear code, that is one of what was packed.
+abbrev pub LacksLinearOf : Program → Heap → LiveSet → Numbers → Columns → Refusal NoImage → Type 0
+LacksLinearOf p h s n c (Faulty (NotLinear why)) = HasNoLinear p h s n c why
+LacksLinearOf p h s n c why = Unit {0}
 
 abbrev pub IsRefusedFor : {V : Type 0} → (stack : ℕ) → Result V (Refusal NoImage) → Type 0
 IsRefusedFor stack (Ok v) = Unit {0}

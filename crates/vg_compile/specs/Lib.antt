@@ -5,3 +5,4 @@ pub mod Unlinked
 pub mod Compile
 pub mod Memory
 pub mod Given
+pub mod Packed

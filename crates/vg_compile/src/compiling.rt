@@ -2,6 +2,7 @@
 ghost use Rattle.std.specs.Prelude.{ℕ, ◌≤◌, ◌<◌, List, length, IfErr, IfOk, IfSome, IsTrue};
 ghost use Rattle.vg_base.specs.Limits.{flash_bytes};
 ghost use Rattle.vg_core.specs.HeldProgram.{program_at};
+ghost use Rattle.vg_placement.specs.declared.column.Column.{Column};
 ghost use Rattle.vg_packed.specs.declared.program.FirmProgram.{FirmProgram as TheFirm};
 ghost use Rattle.vg_packed.specs.Given.{IsGiven};
 ghost use Rattle.vg_packed.specs.Ready.{IsReady};
@@ -15,7 +16,7 @@ ghost use Rattle.vg_call_need.specs.Within.{IsNeedWithin};
 ghost use Rattle.vg_call_need.specs.Within.{IsSpentBy};
 ghost use Rattle.vg_compile.specs.Bounds.{AreFramesOf, ArePaidFor, DoesFor, HoldsBound};
 ghost use Rattle.vg_layout.specs.Few.{IsFew};
-ghost use Rattle.vg_compile.specs.Compile.{CallsNeedAsSaid, IsImageOf, IsRefusedFor, NeedsAsSaid};
+ghost use Rattle.vg_compile.specs.Compile.{CallsNeedAsSaid, IsImageOf, IsRefusedFor, LacksLinear, LacksLinearOf, NeedsAsSaid};
 
 use crate::compiled::Compiled;
 use crate::handlers::all_can_handle;
@@ -45,7 +46,8 @@ use vg_shape::Store;
 /// It refuses what has no linear code; where calls do not go round, what needs more than four bytes beyond what each way of calls costs, and else what needs
 /// more than a stack of so many bytes (then what is said to be needed is at most four more than what the methods of some way of calls cost); where they go round,
 /// what has a procedure whose frame is more than its method costs; what has a handler whose procedure receives something; and what takes more words than the
-/// flash has: 65,535, since the last word stays free.
+/// flash has: 65,535, since the last word stays free. What has no linear code has a cause of `make_linear` in what was packed of it, all of which is typed where the
+/// code of its methods takes and leaves its values in order.
 pub fn compile(
     alloc: Global,
     program: &Program,
@@ -70,6 +72,7 @@ pub fn compile(
     ensures refused { IsRefusedFor stack result }
     ensures deep { IfErr result (λ why. IsReady (program_at program.now) heap.now
         → CallsNeedAsSaid costs.now (program_at program.now) heap.now why) }
+    ensures linear { IfErr result (LacksLinearOf (program_at program.now) heap.now live.now numbers.now columns.now) }
 {
     let firm = pack(alloc, program, heap, live, numbers, columns)?;
     match image_of(alloc, columns, firm, costs, stack) {
@@ -91,6 +94,7 @@ fn image_of(
     requires links { AlwaysLinks columns.now firm }
     ensures image { IfOk result (IsImageOf columns.now firm costs.now) }
     ensures deep { IfErr result (NeedsAsSaid firm costs.now) }
+    ensures linear { IfErr result (LacksLinear columns.now.list firm) }
     ensures few { IfOk result (λ compiled. IsFew stack compiled.bound) }
     ensures short { IfOk result (λ compiled. length compiled.linked.flash ≤ flash_bytes) }
     ensures refused { IsRefusedFor stack result }
@@ -133,6 +137,7 @@ fn linear_of(
     requires { firm.now.main < length firm.now.procedures }
     ensures deep { IfErr result (NeedsAsSaid firm.now costs.now) }
     ensures linear { IfOk result (IsLinear columns.now.list firm.now) }
+    ensures lacks { IfErr result (LacksLinear columns.now.list firm.now) }
     ensures refused { IsRefusedFor stack result }
 {
     match make_linear(alloc, columns.list.as_slice(), firm) {
@@ -153,6 +158,7 @@ fn frames_of(
     ensures frames { IfOk result (AreFramesOf linear.now) }
     ensures refused { IsRefusedFor stack result }
     ensures deep { IfErr result (NeedsAsSaid firm.now costs.now) }
+    ensures linear { (cs : List Column) (f : TheFirm) → IfErr result (LacksLinear cs f) }
 {
     let procedures = linear.procedures.as_slice();
     match method_frames(alloc, procedures, linear.start, costs.len())? {
@@ -176,6 +182,7 @@ fn need_of(
     ensures few { IfOk result (IsFewOf stack) }
     ensures refused { IsRefusedFor stack result }
     ensures deep { IfErr result (NeedsAsSaid firm.now costs.now) }
+    ensures linear { (cs : List Column) (f : TheFirm) → IfErr result (LacksLinear cs f) }
 {
     match need_by(alloc, firm, frames, costs)? {
         Some(Need::Bytes(bytes)) => {
@@ -234,6 +241,7 @@ fn linked_of(alloc: Global, unlinked: &Unlinked, stack: u16) -> Result<Linked, R
     ensures short { IfOk result (λ linked. length linked.flash ≤ flash_bytes) }
     ensures refused { IsRefusedFor stack result }
     ensures deep { (f : TheFirm) (costs : List ℕ) → IfErr result (NeedsAsSaid f costs) }
+    ensures linear { (cs : List Column) (f : TheFirm) → IfErr result (LacksLinear cs f) }
 {
     let procedures = unlinked.procedures.as_slice();
     let can = all_can_handle(alloc, procedures, unlinked.handlers.as_slice())?;

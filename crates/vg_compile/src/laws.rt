@@ -9,7 +9,7 @@ ghost use Rattle.vg_place.specs.declared.placing.Columns.{Columns};
 ghost use Rattle.vg_packed.specs.declared.program.FirmProgram.{FirmProgram};
 ghost use Rattle.vg_packed.specs.Given.{IsGiven};
 ghost use Rattle.vg_packed.specs.Ready.{IsReady};
-ghost use Rattle.vg_pack.specs.Rows.{IsPackedWhole};
+ghost use Rattle.vg_compile.specs.Packed.{IsPackedRows};
 ghost use Rattle.vg_linear.specs.declared.whole.Linear.{Linear};
 ghost use Rattle.vg_linear.specs.Whole.{IsLinear};
 ghost use Rattle.vg_link.specs.declared.linked.Linked.{Linked};
@@ -28,7 +28,7 @@ ghost use Rattle.vg_compile.specs.Handlers.{HandlersReceiveNothing};
 /// fit. Interrupts are let in at the idle SLEEP and at the CLI behind it. The body is empty: its contract is a law of the definitions.
 pub fn compiled_programs_follow()
     ensures { (p : Program) (h : Heap) (s : LiveSet) (n : Numbers) (c : Columns) (f : FirmProgram) (l : Linear) (u : Unlinked) (linked : Linked)
-        → IsGiven p h s n c → IsReady p h → IsPackedWhole p h s n c f → IsLinear c.list f l → IsUnlinked c f l u → CanBeLinked u → IsLinked u linked
+        → IsGiven p h s n c → IsReady p h → IsPackedRows p h s n c f → IsLinear c.list f l → IsUnlinked c f l u → CanBeLinked u → IsLinked u linked
         → (extra : ℕ) (costs : List ℕ) → FramesFit l.procedures l.start extra costs → (e : Run) → e.flash ≡ linked.flash → e.static ≡ c.static_bytes
         → e.floor ≤ 0x1100
         → e.lets_in (linked.idle + 1) ≡ true → e.lets_in (linked.idle + 2) ≡ true → DoesAsProgram e extra costs p h }
@@ -38,6 +38,6 @@ pub fn compiled_programs_follow()
 /// interrupts of the chip alone and the handlers of the linear one receive nothing. The body is empty: its contract is a law of the definitions.
 pub fn packed_programs_can_be_linked()
     ensures { (p : Program) (h : Heap) (s : LiveSet) (n : Numbers) (c : Columns) (f : FirmProgram) (l : Linear) (u : Unlinked)
-        → IsGiven p h s n c → IsReady p h → NamesChip p → IsPackedWhole p h s n c f → HandlersReceiveNothing u → IsLinear c.list f l
+        → IsGiven p h s n c → IsReady p h → NamesChip p → IsPackedRows p h s n c f → HandlersReceiveNothing u → IsLinear c.list f l
         → IsUnlinked c f l u → CanBeLinked u }
 {}

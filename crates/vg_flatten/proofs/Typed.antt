@@ -950,7 +950,7 @@ module _ (lay : Layout) (m : Procedure) (typed : IsTyped lay m) where
   -- the cause of a refusal is none that typed procedures have
   pub no_cause : (e : Refusal Fault) → IsCause e lay m → IsLeft e lay m
   no_cause OutOfMemory h = tt
-  no_cause (Faulty TooLong) (inl h) = long_by (made_of lay m) body_fine h
+  no_cause (Faulty TooLong) (inl h) = long_by (made_of lay m) body_fine h.0
   no_cause (Faulty TooLong) (inr h) = absurd (high_by (made_of lay m) body_fine h.0)
   no_cause (Faulty TooHigh) h = not_high h
   no_cause (Faulty NotTaken) (inl h) = taken_by (made_of lay m) body_fine h

@@ -65,13 +65,18 @@ abbrev pub IsRefusedIn : Result LinProcedure (Refusal Fault) → Procedure → M
 IsRefusedIn (Ok p) m made = Unit {0}
 IsRefusedIn (Err e) m made = IsCauseIn e m made
 
+-- It is refused for some cause other than want of memory.
+abbrev pub IsRefusedAs : Procedure → Made → Type 0
+IsRefusedAs m made = (why : Fault) × IsCauseIn (Faulty why) m made
+
 -- The cause of a refusal: one where each waiting value has a home of its own; or, where more wait than there are temporaries, one where
--- each is pushed.
+-- each is pushed. What is too long with homes is refused where each is pushed, too.
 abbrev pub IsCause : Refusal Fault → Layout → Procedure → Type 0
 IsCause Memory lay m = Unit {0}
 IsCause (Faulty NotTaken) lay m = IsNotTakenAs m (made_of lay m) ⊎ ((made_of lay m ≡ Refused TooHigh) × IsNotTakenAs m (stacked_of lay m))
 IsCause (Faulty TooHigh) lay m = IsTooHigh lay m
-IsCause (Faulty TooLong) lay m = IsTooLong m (made_of lay m) ⊎ ((made_of lay m ≡ Refused TooHigh) × IsTooLong m (stacked_of lay m))
+IsCause (Faulty TooLong) lay m =
+    (IsTooLong m (made_of lay m) × IsRefusedAs m (stacked_of lay m)) ⊎ ((made_of lay m ≡ Refused TooHigh) × IsTooLong m (stacked_of lay m))
 
 abbrev pub IsRefusedFor : Result LinProcedure (Refusal Fault) → Layout → Procedure → Type 0
 IsRefusedFor (Ok p) lay m = Unit {0}

@@ -10,7 +10,7 @@ ghost use Rattle.vg_flatten_shapes.specs.Blocks.{set_in};
 ghost use Rattle.vg_flatten.specs.Sealing.{Seals, Wholes};
 ghost use Rattle.vg_lin.specs.Onward.{all_lead_on};
 ghost use Rattle.vg_flatten.specs.Loops.{has_loop};
-ghost use Rattle.vg_flatten.specs.Refusals.{temps_for, made_of, stacked_of, IsRefusedIn, IsRefusedFor};
+ghost use Rattle.vg_flatten.specs.Refusals.{temps_for, made_of, stacked_of, IsTooLong, IsRefusedIn, IsRefusedFor};
 ghost use Rattle.vg_flatten.specs.Taking.{IsTaken};
 ghost use Rattle.vg_flatten.specs.Sizes.{procedure_size};
 ghost use Rattle.vg_flatten.specs.Calls.{calls_in, calls_of};
@@ -222,11 +222,11 @@ fn temps_beside(locals: u8) -> u8
 
 /// A procedure as linear code, in a program whose columns stand so and of whose procedures these get a receiver.
 ///
-/// It refuses what it does not take. Where more values wait at one time than there are temporaries, which are 252 less the locals, each value
-/// that waits is pushed: `TooHigh` is left for more than 252 locals, or for a step that then takes more values than there are temporaries
-/// less two. Of a typed procedure it takes each step, and each value finds a temporary: then the only cause but want of memory is that there
-/// would be more than 65,519 instructions. The calls of the procedure stand in its code, each once and in their order, and no other; it has at
-/// most 252 locals, and a jump back only where its body has a loop.
+/// It refuses what it does not take. Where more values wait at one time than there are temporaries, which are 252 less the locals, or where it
+/// would be too long, each value that waits is pushed: `TooHigh` is left for more than 252 locals, or for a step that then takes more values
+/// than there are temporaries less two; `TooLong` for what there would be more than 65,519 instructions of in either way. Of a typed procedure
+/// it takes each step, and each value finds a temporary: then the only cause but want of memory is its length. The calls of the procedure
+/// stand in its code, each once and in their order, and no other; it has at most 252 locals, and a jump back only where its body has a loop.
 pub fn flatten(
     alloc: Global,
     layout: &Layout,
@@ -304,7 +304,7 @@ fn with_fewest(
     }
 }
 
-/// The procedure with all temporaries that there is room for; where more values wait, each is pushed.
+/// The procedure with all temporaries that there is room for; where more values wait, or where it is too long, each is pushed.
 fn with_most(
     alloc: Global,
     layout: &Layout,
@@ -327,10 +327,39 @@ fn with_most(
         Ok(made) => Ok(made),
         Err(Refusal::NoMemory) => Err(Refusal::NoMemory),
         Err(Refusal::Fault(Fault::NotTaken)) => Err(Refusal::Fault(Fault::NotTaken)),
-        Err(Refusal::Fault(Fault::TooLong)) => Err(Refusal::Fault(Fault::TooLong)),
+        Err(Refusal::Fault(Fault::TooLong)) => {
+            pushed_where_long(alloc, layout, procedure, own, temps)
+        }
         Err(Refusal::Fault(Fault::TooHigh)) => {
             pushed_with_most(alloc, layout, procedure, own, temps)
         }
+    }
+}
+
+/// The same where it is too long otherwise: it is refused as such, unless it is taken so.
+fn pushed_where_long(
+    alloc: Global,
+    layout: &Layout,
+    procedure: &Procedure,
+    own: &[u8],
+    temps: u8,
+) -> Result<LinProc, Refusal<Fault>>
+    requires params { procedure.now.params ≤ length procedure.now.widths }
+    requires widths { AllByRecursion IsWidth procedure.now.widths }
+    requires given { procedure.now.result ≤ 4 }
+    requires own { own.now ≡ own_widths (procedure_of procedure.now) }
+    requires room { length own.now + temps ≤ 252 }
+    requires all { temps ≡ temps_for (length own.now) }
+    requires long { IsTooLong (procedure_of procedure.now) (made_of layout.now (procedure_of procedure.now)) }
+    ensures flat { IfOk result (λ p. IsFlat layout.now (procedure_of procedure.now) p) }
+    ensures onward { IfOk result (λ p. has_loop (code_of procedure.now.body) ≡ false → all_lead_on 0 p.code ≡ true) }
+    ensures few { IfOk result (λ p. length p.widths ≤ 252) }
+    ensures refusal { IsRefusedFor result layout.now (procedure_of procedure.now) }
+{
+    match pushed_with(alloc, layout, procedure, own, temps) {
+        Ok(made) => Ok(made),
+        Err(Refusal::NoMemory) => Err(Refusal::NoMemory),
+        Err(Refusal::Fault(_why)) => Err(Refusal::Fault(Fault::TooLong)),
     }
 }
 

@@ -11,6 +11,7 @@ use Rattle.vg_packed.specs.Given.{IsGiven}
 use Rattle.vg_packed.specs.Packed.{IsPackedFrom}
 use Rattle.vg_packed.specs.Ready.{IsReady}
 use Rattle.vg_packed.proofs.Placed.{do_the_same}
+use Rattle.vg_packed_suits.specs.Bodies.{AreTypedWhereCounted}
 use Rattle.vg_pack.specs.Rows.{IsPackedWhole, RowsFitIn}
 use Rattle.vg_pack.specs.Same.{DoTheSame}
 
@@ -24,6 +25,11 @@ pub has_fitting_rows : {E : Type 0} (p : Program) (h : Heap) (s : LiveSet) (n : 
     → IfOk r (IsPackedWhole p h s n c) → IfOk r (RowsFitIn p h c)
 has_fitting_rows p h s n c (Ok f) whole = whole.rows
 has_fitting_rows p h s n c (Err why) whole = tt
+
+pub are_typed : {E : Type 0} (p : Program) (h : Heap) (s : LiveSet) (n : Numbers) (c : Columns) (r : Result FirmProgram E)
+    → IfOk r (IsPackedWhole p h s n c) → IfOk r (AreTypedWhereCounted p h c)
+are_typed p h s n c (Ok f) whole = whole.typed
+are_typed p h s n c (Err why) whole = tt
 
 pub same : {E : Type 0} (p : Program) (h : Heap) (s : LiveSet) (n : Numbers) (c : Columns) → IsGiven p h s n c → (r : Result FirmProgram E)
     → IfOk r (IsPackedWhole p h s n c) → IfOk r (λ f. IsReady p h → DoTheSame p h f)

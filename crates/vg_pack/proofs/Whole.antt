@@ -36,7 +36,9 @@ use Rattle.vg_packed.specs.Packed.{IsPackedFrom}
 use Rattle.vg_packed.specs.Plans.{planned}
 use Rattle.vg_packed.specs.Programs.{handler_in, program_of}
 use Rattle.vg_plan.specs.declared.planning.Planned.{Planned}
-use Rattle.vg_plan.specs.Planned.{Plans}
+use Rattle.vg_pack_calls.specs.Asked.{steps_from}
+use Rattle.vg_packed_suits.proofs.Bodies.{all_typed}
+use Rattle.vg_plan.specs.Planned.{HasTables, Plans}
 use Rattle.vg_plan_columns.specs.Arrays.{AreRows, Fit, tables_of}
 use Rattle.vg_plan_columns.specs.Items.{no_items}
 use Rattle.vg_plan_columns.specs.Starts.{HasStarts}
@@ -156,6 +158,7 @@ module _ (p : Program) (h : Heap) (s : LiveSet) (n : Numbers) (c : Columns) (g :
     is_whole : (f : FirmProgram) → (from : IsPackedFrom p h s n c f) × (from.plan ≡ x.plan) → IsMade p h s n c x.plan f → IsPackedWhole p h s n c f
     is_whole f (from, e) made = record {
       from = from;
+      typed = all_typed p h s n c f g from (subst (λ z. HasTables p.tables (kinds_of h) s c.list (steps_from p 0 s.methods) z) (sym e) plans.tables);
       rows = λ ready k codes. has_rows p h s n c f g ready from (subst (λ z. IsMade p h s n c z f) (sym e) made) k codes;
     }
 

@@ -10,6 +10,7 @@ use Rattle.vg_table_bytes.specs.Rows.{HasRows}
 use Rattle.vg_packed.specs.declared.program.FirmProgram.{FirmProgram}
 use Rattle.vg_packed.specs.Packed.{IsPackedFrom}
 use Rattle.vg_packed.specs.Ready.{IsReady}
+use Rattle.vg_packed_suits.specs.Bodies.{AreTypedWhereCounted}
 
 -- Its columns and tables have rows that fit into their bytes, whatever the code numbers of its procedures.
 abbrev pub RowsFitIn : Program → Heap → Columns → FirmProgram → Type 0
@@ -18,3 +19,4 @@ RowsFitIn p h c f = IsReady p h → (k : Codes) → AreCodes (length f.procedure
 pub record IsPackedWhole (p : Program) (h : Heap) (s : LiveSet) (n : Numbers) (c : Columns) (f : FirmProgram) : Type 0 where
   pub from : IsPackedFrom p h s n c f
   pub rows : RowsFitIn p h c f
+  pub typed : AreTypedWhereCounted p h c f

@@ -4,6 +4,7 @@ ghost use Rattle.vg_core.specs.HeldProgram.{program_at};
 ghost use Rattle.vg_packed.specs.Given.{IsGiven};
 ghost use Rattle.vg_packed.specs.Packed.{IsPackedFrom};
 ghost use Rattle.vg_packed.specs.Ready.{IsReady};
+ghost use Rattle.vg_packed_suits.specs.Bodies.{AreTypedWhereCounted};
 ghost use Rattle.vg_pack.specs.Rows.{IsPackedWhole, RowsFitIn};
 ghost use Rattle.vg_pack.specs.Same.{DoTheSame};
 
@@ -23,7 +24,8 @@ use vg_shape::Store;
 
 /// The packed program of a typed one, with the heap that its constructors left: code over numbers of objects, columns of values and tables of
 /// arrays, of what is live alone. It does what the program does, and the values of its columns and the places of its arrays fit into their bytes, where
-/// constants and scalars are in their ranges, calls are short, and no live method makes anything.
+/// constants and scalars are in their ranges, calls are short, and no live method makes anything. So all its procedures are typed for linear code, too, if the
+/// code of the program's methods takes and leaves its values in order.
 ///
 /// It refuses nothing but want of memory.
 pub fn pack(
@@ -37,6 +39,7 @@ pub fn pack(
     requires { IsGiven (program_at program.now) heap.now live.now numbers.now columns.now }
     ensures from { IfOk result (IsPackedFrom (program_at program.now) heap.now live.now numbers.now columns.now) }
     ensures rows { IfOk result (RowsFitIn (program_at program.now) heap.now columns.now) }
+    ensures typed { IfOk result (AreTypedWhereCounted (program_at program.now) heap.now columns.now) }
     ensures same { IfOk result (λ f. IsReady (program_at program.now) heap.now → DoTheSame (program_at program.now) heap.now f) }
 {
     by_plan(alloc, program, heap, live, numbers, columns)

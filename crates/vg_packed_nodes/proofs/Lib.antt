@@ -1,1 +1,1 @@
-mod Procedures
+pub mod Procedures

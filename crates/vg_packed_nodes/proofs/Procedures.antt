@@ -20,7 +20,7 @@ use Rattle.vg_packing.specs.Layout.{Layout}
 use Rattle.vg_packing.specs.Pass.{packed}
 
 -- a routine stands among others
-abbrev At : List Routine → Routine → Type 0
+abbrev pub At : List Routine → Routine → Type 0
 At rs r = (i : ℕ) × (slice_get rs i ≡ Some r)
 
 behind : (rs qs : List Routine) (r : Routine) → At qs r → At (rs ++ qs) r
@@ -28,10 +28,10 @@ behind [] qs r h = h
 behind (x ∷ rs) qs r h = let g = behind rs qs r h in (suc g.0, g.1)
 
 module _ (n : Naming) (p : Program) (m : ℕ) (g : Signature) (b : Body) (eg : signature_of p.tables (Run m) ≡ Some g) (eb : body_of p (Run m) ≡ Some b) where
-  abbrev the_routine : Routine
+  abbrev pub the_routine : Routine
   the_routine = named_routine n p.tables (Run m) g b
 
-  present : (ts : List Target) (i : ℕ) → slice_get ts i ≡ Some (Run m) → At (methods_among (routines_at n p ts)) the_routine
+  pub present : (ts : List Target) (i : ℕ) → slice_get ts i ≡ Some (Run m) → At (methods_among (routines_at n p ts)) the_routine
   present [] i e = cc
   present (x ∷ ts) zero e =
       let f : x ≡ Run m = cc in

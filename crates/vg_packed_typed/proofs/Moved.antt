@@ -5,6 +5,7 @@ use Rattle.std.proofs.lemmas.List.{length-map}
 use Rattle.std.proofs.lemmas.Option.{slice_get_cases}
 use Rattle.vg_meaning.specs.Code.{Code, Nothing, Then, Do, If, Loop, Break, Continue, Return, replaced}
 use Rattle.vg_meaning.specs.Shapes.{Fits}
+use Rattle.vg_code_counts.specs.Counted.{Counts, Counted}
 use Rattle.vg_codes.specs.Codes.{Codes}
 use Rattle.vg_core.specs.declared.program.Owner.{Owner}
 use Rattle.vg_core.specs.declared.program.Tables.{Tables}
@@ -26,8 +27,9 @@ use Rattle.vg_firm.specs.Program.{Program as FirmProgram}
 use Rattle.vg_flatten_shapes.specs.declared.layout.Layout.{Layout as Placed}
 use Rattle.vg_firm_typed.specs.Steps.{columns_of, HasElements, LacksTable, LacksColumn, Names}
 use Rattle.vg_firm_typed.specs.Steps as firm_steps
-use Rattle.vg_firm_typed.specs.Typed.{Known, Leads, Typed, IsTyped}
+use Rattle.vg_firm_typed.specs.Typed.{Known, Leads, Typed}
 use Rattle.vg_firm_typed.specs.Typed as firm_typed
+use Rattle.vg_firm_typed_any.specs.TypedFor.{IsTypedFor}
 use Rattle.vg_coded.specs.Numbers.{coded, known}
 use Rattle.vg_coded.specs.Widths.{width_of}
 use Rattle.vg_coded.specs.Operators.{operator_for, prefix_for, cut_for}
@@ -36,8 +38,9 @@ use Rattle.vg_packing.specs.Pass.{width_in, load, store, load_at, store_at, cut,
 use Rattle.vg_pairs.specs.Pairs.{prefix_in, behind, paired, unpaired, without_pairs}
 use Rattle.vg_pairs.proofs.Doing.{prefix_is}
 use Rattle.vg_packing.specs.Allowed.{IsWritten, Allowed, allowing}
-use Rattle.vg_packed_typed.specs.Counted.{takes, leaves, IsAlone, Counts, Counted}
-use Rattle.vg_packed_typed.specs.Suits.{Suits}
+use Rattle.vg_packed_typed.specs.Measured.{takes, leaves, sets, core_measures}
+use Rattle.vg_packed_typed.specs.Suits.{HaveFewParameters, Suits}
+use Rattle.vg_packed_typed.proofs.Few.{all_few}
 
 in_range : {X : Type 0} (xs : List X) (i : ℕ) (x : X) → slice_get xs i ≡ Some x → i < length xs
 in_range {X} xs i x e = by_case (slice_get_cases xs i).1
@@ -49,12 +52,12 @@ in_range {X} xs i x e = by_case (slice_get_cases xs i).1
     by_case (inl h) = h.1
     by_case (inr h) = absurd (none_is (sym h.1 ∙ e))
 
-module _ (p : Tables) (l : Layout) (k : Codes) (f : FirmProgram) (lay : Placed) (suits : Suits p l k lay) (ts : List CoreType) where
+module _ (p : Tables) (l : Layout) (k : Codes) (f : FirmProgram) (lay : Placed) (suits : Suits p l k lay) (most : ℕ) (ts : List CoreType) where
   abbrev knows : Known
-  knows = record { layout = lay; locals = length ts; most = 191 }
+  knows = record { layout = lay; locals = length ts; most = most }
 
   one_step : (below x y : ℕ) (s : Step) (q : FirmStep) → firm_steps.takes q ≡ takes s → firm_steps.leaves q ≡ leaves s
-      → ((n : ℕ) → IsAlone s n → firm_typed.IsAlone q n) → Names lay (length ts) q → Counts 191 below s x y → Leads knows below q x y
+      → ((n : ℕ) → (sets s ≡ true → n ≡ 1) → firm_typed.IsAlone q n) → Names lay (length ts) q → Counts core_measures most below s x y → Leads knows below q x y
   one_step below x y s q et el alone names c =
       record {
         rest = c.rest;
@@ -65,15 +68,16 @@ module _ (p : Tables) (l : Layout) (k : Codes) (f : FirmProgram) (lay : Placed) 
         names = names;
       }
 
-  no_step : (below x y : ℕ) (s : Step) → takes s ≡ leaves s → Counts 191 below s x y → x ≡ y
+  no_step : (below x y : ℕ) (s : Step) → takes s ≡ leaves s → Counts core_measures most below s x y → x ≡ y
   no_step below x y s e c = c.before ∙ ap (λ z. z + c.rest) e ∙ sym c.behind
 
-  cut_typed : (looped : Bool) (below x y : ℕ) (s : Step) (o : Option Prefix) → 1 ≡ takes s → 1 ≡ leaves s → Counts 191 below s x y
+  cut_typed : (looped : Bool) (below x y : ℕ) (s : Step) (o : Option Prefix) → 1 ≡ takes s → 1 ≡ leaves s → Counts core_measures most below s x y
       → Typed knows looped below (cut o) x y
   cut_typed looped below x y s (Some op) et el c = one_step below x y s (firm.Apply op) et el (λ n a. tt) tt c
   cut_typed looped below x y s None et el c = no_step below x y s (sym et ∙ el) c
 
-  cast_typed : (looped : Bool) (below x y : ℕ) (at : ℕ) (t u : CoreType) → Counts 191 below (CastTo at t u) x y → Typed knows looped below (cast l t u) x y
+  cast_typed : (looped : Bool) (below x y : ℕ) (at : ℕ) (t u : CoreType) → Counts core_measures most below (CastTo at t u) x y
+      → Typed knows looped below (cast l t u) x y
   cast_typed looped below x y at t IntType c = cut_typed looped below x y (CastTo at t IntType) (cut_for t IntType) refl refl c
   cast_typed looped below x y at t CharType c = cut_typed looped below x y (CastTo at t CharType) (cut_for t CharType) refl refl c
   cast_typed looped below x y at t (RawType n) c = cut_typed looped below x y (CastTo at t (RawType n)) (cut_for t (RawType n)) refl refl c
@@ -86,13 +90,13 @@ module _ (p : Tables) (l : Layout) (k : Codes) (f : FirmProgram) (lay : Placed) 
   cast_typed looped below x y at t NoType c = no_step below x y (CastTo at t NoType) refl c
   cast_typed looped below x y at t (MoreTypes first rest) c = no_step below x y (CastTo at t (MoreTypes first rest)) refl c
 
-  load_typed : (looped : Bool) (below x y f' : ℕ) (c : Column) → l.column f' ≡ Some c → Counts 191 below (ComponentField f') x y
+  load_typed : (looped : Bool) (below x y f' : ℕ) (c : Column) → l.column f' ≡ Some c → Counts core_measures most below (ComponentField f') x y
       → Typed knows looped below (Do (load (l.column f'))) x y
   load_typed looped below x y f' c e h =
       subst (λ o. Typed knows looped below (Do (load o)) x y) (sym e)
       (one_step below x y (ComponentField f') (firm.Load c.home c.column) refl refl (λ n a. tt) (suits.columns f' c e) h)
 
-  store_typed : (looped : Bool) (below x y f' : ℕ) → IsWritten (l.column f') → Counts 191 below (SetComponentField f') x y
+  store_typed : (looped : Bool) (below x y f' : ℕ) → IsWritten (l.column f') → Counts core_measures most below (SetComponentField f') x y
       → Typed knows looped below (Do (store (l.column f') (width_in l (field_type p f')))) x y
   store_typed looped below x y f' w h = by_column (l.column f') refl w
     where
@@ -101,7 +105,7 @@ module _ (p : Tables) (l : Layout) (k : Codes) (f : FirmProgram) (lay : Placed) 
           one_step below x y (SetComponentField f') (firm.Store c.column (width_in l (field_type p f'))) refl refl (λ n a. tt) (suits.fields f' c e ram) h
       by_column None e ram = one_step below x y (SetComponentField f') firm.Forget refl refl (λ n a. tt) tt h
 
-  load_at_typed : (looped : Bool) (below x y at f' : ℕ) → Counts 191 below (Field at f') x y
+  load_at_typed : (looped : Bool) (below x y at f' : ℕ) → Counts core_measures most below (Field at f') x y
       → Typed knows looped below (Do (load_at (l.column f') (first_with p l f'))) x y
   load_at_typed looped below x y at f' h = by_column (l.column f') refl
     where
@@ -110,7 +114,7 @@ module _ (p : Tables) (l : Layout) (k : Codes) (f : FirmProgram) (lay : Placed) 
           one_step below x y (Field at f') (firm.LoadAt c.home c.column (first_with p l f')) refl refl (λ n a. tt) (suits.columns f' c e) h
       by_column None e = one_step below x y (Field at f') firm.LoadNothing refl refl (λ n a. tt) tt h
 
-  store_at_typed : (looped : Bool) (below x y at f' : ℕ) → IsWritten (l.column f') → Counts 191 below (SetField at f') x y
+  store_at_typed : (looped : Bool) (below x y at f' : ℕ) → IsWritten (l.column f') → Counts core_measures most below (SetField at f') x y
       → Typed knows looped below (Do (store_at (l.column f') (first_with p l f') (width_in l (field_type p f')))) x y
   store_at_typed looped below x y at f' w h = by_column (l.column f') refl w
     where
@@ -122,7 +126,7 @@ module _ (p : Tables) (l : Layout) (k : Codes) (f : FirmProgram) (lay : Placed) 
       by_column None e ram = one_step below x y (SetField at f') firm.StoreNothing refl refl (λ n a. tt) tt h
 
   -- the arguments of null are dropped one by one
-  forgets_typed : (looped : Bool) (below count rest x y : ℕ) → x ≡ count + (1 + rest) → y ≡ 1 + rest → below + x + 2 ≤ 191
+  forgets_typed : (looped : Bool) (below count rest x y : ℕ) → x ≡ count + (1 + rest) → y ≡ 1 + rest → below + x + 2 ≤ most
       → Typed knows looped below (forgets count (Do firm.LoadNothing)) x y
   forgets_typed looped below zero rest x y e h room =
       record { rest = rest; before = omega (arith, e); behind = h; room = room; alone = tt; names = tt }
@@ -135,7 +139,8 @@ module _ (p : Tables) (l : Layout) (k : Codes) (f : FirmProgram) (lay : Placed) 
   one_more : (count rest x : ℕ) → x ≡ suc count + rest → x ≡ count + (1 + rest)
   one_more count rest x e = omega (arith, e)
 
-  call_typed : (looped : Bool) (below x y at count t : ℕ) → Counts 191 below (CallValue at count t) x y → Typed knows looped below (call_value count) x y
+  call_typed : (looped : Bool) (below x y at count t : ℕ) → Counts core_measures most below (CallValue at count t) x y
+      → Typed knows looped below (call_value count) x y
   call_typed looped below x y at count t c = by (nat_lt count 61)
     where
       by : (b : Bool) → Typed knows looped below (if b then Do (firm.CallValue count) else forgets count (Do firm.LoadNothing)) x y
@@ -143,7 +148,7 @@ module _ (p : Tables) (l : Layout) (k : Codes) (f : FirmProgram) (lay : Placed) 
       by false = forgets_typed looped below count c.rest x y (one_more count c.rest x c.before) c.behind c.room
 
   step_typed : (looped : Bool) (calls : List ℕ) (o : Owner) (below x y : ℕ) (xs ys : List CoreType) (s : Step) → Takes p ts o s xs ys → Allowed p l f calls s
-      → Counts 191 below s x y → Typed knows looped below (move p l k s) x y
+      → Counts core_measures most below s x y → Typed knows looped below (move p l k s) x y
   step_typed looped calls o below x y xs ys (Put v) t a c =
       one_step below x y (Put v) (firm.Number (coded l.numbering k v)) refl refl (λ n z. tt) (suits.values v a) c
   step_typed looped calls o below x y xs ys (Literal i) t a c =
@@ -178,7 +183,7 @@ module _ (p : Tables) (l : Layout) (k : Codes) (f : FirmProgram) (lay : Placed) 
   step_typed looped calls o below x y xs ys (NewObject at d count) t a c = absurd a
   step_typed looped calls o below x y xs ys (NewArray at u) t a c = absurd a
   step_typed looped calls o below x y xs ys (SetLocal i u) (t_set_local e sub) a c =
-      one_step below x y (SetLocal i u) (firm.SetLocal i) refl refl (λ n z. z) (in_range ts i u e) c
+      one_step below x y (SetLocal i u) (firm.SetLocal i) refl refl (λ n z. z refl) (in_range ts i u e) c
   step_typed looped calls o below x y xs ys (SetComponentField i) t a c = store_typed looped below x y i a c
   step_typed looped calls o below x y xs ys (SetRegister i) t a c = one_step below x y (SetRegister i) (firm.WriteDevice i) refl refl (λ n z. tt) tt c
   step_typed looped calls o below x y xs ys (SetField at i) t a c = store_at_typed looped below x y at i a c
@@ -195,7 +200,7 @@ module _ (p : Tables) (l : Layout) (k : Codes) (f : FirmProgram) (lay : Placed) 
     -- What stands for the second code takes and leaves what the first does.
     abbrev Types : Bool → Code Step → Code Step → Type 0
     Types looped c d =
-        (below x y : ℕ) (xs ys : List CoreType) → Fits (allowing p l f calls ts o result) looped c xs ys → Counted 191 looped below c x y
+        (below x y : ℕ) (xs ys : List CoreType) → Fits (allowing p l f calls ts o result) looped c xs ys → Counted core_measures most looped below c x y
         → Typed knows looped below (replaced (move p l k) d) x y
 
     behind_typed : (looped : Bool) (w : Option (Operation × CoreType)) (c d : Code Step) → Types looped c d → Types looped (behind w c) (behind w d)
@@ -211,13 +216,13 @@ module _ (p : Tables) (l : Layout) (k : Codes) (f : FirmProgram) (lay : Placed) 
     paired_typed looped a b None (Some (op, t)) e ha hb below x y xs ys (zs, fa, fb) (z, na, nb) =
         let is = prefix_is a op t e in
         hb (Some (op, t)) below x y xs ys (zs, subst (λ c. Fits (allowing p l f calls ts o result) looped c xs zs) is fa, fb)
-        (z, subst (λ c. Counted 191 looped below c x z) is na, nb)
+        (z, subst (λ c. Counted core_measures most looped below c x z) is na, nb)
     paired_typed looped a b (Some (op, t)) None e ha hb below x y xs ys (zs, fo, (vs, fa, fb)) (z, n1, (v, na, nb)) =
         (z, step_typed looped calls o below x z xs zs (Apply op t) fo.0 fo.1 n1, (v, ha below z v zs vs fa na, hb None below v y vs ys fb nb))
     paired_typed looped a b (Some (op, t)) (Some (op', t')) e ha hb below x y xs ys (zs, fo, (vs, fa, fb)) (z, n1, (v, na, nb)) =
         let is = prefix_is a op' t' e in
         let one = no_step below x z (Apply op t) refl n1 in
-        let other = no_step below z v (Apply op' t') refl (subst (λ c. Counted 191 looped below c z v) is na) in (
+        let other = no_step below z v (Apply op' t') refl (subst (λ c. Counted core_measures most looped below c z v) is na) in (
           x,
           refl,
           subst (λ n. Typed knows looped below (replaced (move p l k) (unpaired None b)) n y) (sym (one ∙ other)) (hb None below v y vs ys fb nb),
@@ -252,12 +257,15 @@ module _ (p : Tables) (l : Layout) (k : Codes) (f : FirmProgram) (lay : Placed) 
     code_typed Return looped w = behind_typed looped w Return Return (λ below x y xs ys h c. c)
 
 pub is_typed : (p : Tables) (l : Layout) (k : Codes) (f : FirmProgram) (lay : Placed) (calls : List ℕ) (m : ℕ) (g : Signature) (b : Body) → Suits p l k lay
-    → Fits (allowing p l f calls (locals_of g b) g.owner g.result) false b.code [] [] → length (locals_of g b) ≤ 60 → Counted 191 false 0 b.code 0 0
-    → IsTyped lay (packed p l k m g b)
-is_typed p l k f lay calls m g b suits h few c =
+    → HaveFewParameters p → Fits (allowing p l f calls (locals_of g b) g.owner g.result) false b.code [] [] → length (locals_of g b) ≤ 60
+    → (most : ℕ) → Counted core_measures most false 0 b.code 0 0 → IsTypedFor lay (packed p l k m g b)
+is_typed p l k f lay calls m g b suits params h few most c =
     record {
       few = let e = length-map (locals_of g b) width_of in omega (arith, e, few);
+      most = most;
       code =
-          subst (λ n. Typed (record { layout = lay; locals = n; most = 191 }) false 0 (replaced (move p l k) (without_pairs b.code)) 0 0)
-          (sym (length-map (locals_of g b) width_of)) (code_typed p l k f lay suits (locals_of g b) calls g.owner g.result b.code false None 0 0 0 [] [] h c);
+          subst (λ n. Typed (record { layout = lay; locals = n; most = most }) false 0 (replaced (move p l k) (without_pairs b.code)) 0 0)
+          (sym (length-map (locals_of g b) width_of))
+          (code_typed p l k f lay suits most (locals_of g b) calls g.owner g.result b.code false None 0 0 0 [] [] h c);
+      takes = all_few p l k f params (locals_of g b) calls g.owner g.result b.code h;
     }

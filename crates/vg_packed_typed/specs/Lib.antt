@@ -1,2 +1,3 @@
-pub mod Counted
+pub mod Measured
 pub mod Suits
+pub mod Methods

@@ -1,6 +1,7 @@
 -- That the columns and tables of a packed program stand as it says.
-use Rattle.std.specs.Prelude.{◌≡◌, ◌⊎◌, ℕ, ◌+◌, ◌^◌, ◌<◌, Some, slice_get}
+use Rattle.std.specs.Prelude.{◌≡◌, ◌⊎◌, ℕ, ◌+◌, ◌^◌, ◌<◌, length, Some, slice_get}
 use Rattle.vg_codes.specs.Codes.{Codes}
+use Rattle.vg_core.specs.declared.program.Method.{Method}
 use Rattle.vg_core.specs.declared.program.Tables.{Tables}
 use Rattle.vg_core.specs.declared.types.CoreType.{CoreType}
 use Rattle.vg_core.specs.declared.value.CoreValue.{CoreValue}
@@ -12,6 +13,10 @@ use Rattle.vg_coded.specs.Numbers.{coded}
 use Rattle.vg_coded.specs.Kept.{IsKept}
 use Rattle.vg_packing.specs.Layout.{Column, Layout}
 use Rattle.vg_packing.specs.Pass.{width_in}
+
+-- No method has more than 60 parameters.
+abbrev pub HaveFewParameters : Tables → Type 0
+HaveFewParameters p = (m : ℕ) (y : Method) → slice_get p.methods m ≡ Some y → length y.params < 61
 
 pub record Suits (p : Tables) (l : Layout) (k : Codes) (lay : Placed) : Type 0 where
   -- numbers have at most 32 bits

@@ -27,7 +27,7 @@ pub data At (w : Held) (address : ℕ) : List Column → Type 0 where
 abbrev pub entry : (rows : List Elements) → (t : ℕ) → Elements
 entry rows t = items_in (slice_get rows t)
 
-noted_length : (rows : List Elements) (w : Held) (h : Home) (k at n : ℕ) → length (held_noted w h k at n rows) ≡ length rows
+pub noted_length : (rows : List Elements) (w : Held) (h : Home) (k at n : ℕ) → length (held_noted w h k at n rows) ≡ length rows
 noted_length rows Initial h k at n = refl
 noted_length rows (TheField f) h k at n = refl
 noted_length rows (TheItems t) h k at n = length-set rows t _
@@ -81,10 +81,10 @@ abbrev pub Same : Elements → Elements → Type 0
 Same e r = (e.home ≡ r.home) × (e.column ≡ r.column) × (e.address ≡ r.address)
 
 -- an entry has another column only by a column of elements
-abbrev One : (w : Held) → (h : Home) → (k at t : ℕ) → (e r : Elements) → Type 0
+abbrev pub One : (w : Held) → (h : Home) → (k at t : ℕ) → (e r : Elements) → Type 0
 One w h k at t e r = Same e r ⊎ ((w ≡ TheItems t) × (e.home ≡ h) × (e.column ≡ k) × (e.address ≡ at))
 
-one : (rows : List Elements) (w : Held) (h : Home) (k at n t : ℕ) → t < length rows → One w h k at t (entry (held_noted w h k at n rows) t) (entry rows t)
+pub one : (rows : List Elements) (w : Held) (h : Home) (k at n t : ℕ) → t < length rows → One w h k at t (entry (held_noted w h k at n rows) t) (entry rows t)
 one rows Initial h k at n t lt = inl (refl, refl, refl)
 one rows (TheField f) h k at n t lt = inl (refl, refl, refl)
 one rows (TheItems u) h k at n t lt = by (eqb_tells u t)

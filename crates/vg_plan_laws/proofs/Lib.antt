@@ -15,8 +15,8 @@ pub mod Bounded
 pub mod Joined
 pub mod All
 pub mod Whole
-mod Sizes
-mod Rams
+pub mod Sizes
+pub mod Rams
 mod Entries
 mod Told
 mod Written

@@ -27,7 +27,7 @@ use Rattle.vg_fits_given.specs.Fitted.{Fitted, IsFittedOf, Start, named_start_he
 use Rattle.vg_fits_given.proofs.Given.{chip, given, ready}
 use Rattle.vg_costs.proofs.Bounded.{small}
 use Rattle.vg_costs.proofs.Limited.{not_too_many}
-use Rattle.vg_compile.specs.Compile.{CallsNeedAsSaid, Linked}
+use Rattle.vg_compile.specs.Compile.{CallsNeedAsSaid, LacksLinearOf, Linked}
 use Rattle.vg_compile.specs.declared.no_image.NoImage.{NoImage}
 use Rattle.vg_compile.proofs.Memory.{agrees, agrees_held}
 use Rattle.vg_compile.specs.Memory.{DoesAsProgram}
@@ -38,13 +38,13 @@ use Rattle.vg_compile.proofs.Memory.{never}
 use Rattle.vg_compile.specs.Memory.{HoldsPeaks}
 use Rattle.vg_text_image.specs.declared.making.TextImage.{TextImage}
 use Rattle.vg_text_image.specs.declared.unmade.Unmade.{Unmade}
-use Rattle.vg_text_image.specs.declared.unmade.Unmade.TheVariants.{CodeFull, StackFull, NotBuilt}
+use Rattle.vg_text_image.specs.declared.unmade.Unmade.TheVariants.{CodeFull, StackFull, NotLinear, NotBuilt}
 use Rattle.vg_compile.specs.Bounds.{DoesFor, HoldsBound}
 use Rattle.vg_layout.specs.Few.{IsFew}
 use Rattle.vg_compile.specs.Runs.{DoesInImage}
 use Rattle.vg_layout.specs.declared.stack_bound.StackBound.{StackBound}
 use Rattle.vg_layout.specs.declared.stack_bound.StackBound.TheVariants.{Bytes, Cycle}
-use Rattle.vg_text_image.specs.Made.{BoundsCallsOf, CanCompile, DoesText, IsCalled, IsCompiledOf, IsRefusedFor, NeedsAsSaid, NeedsOf}
+use Rattle.vg_text_image.specs.Made.{BoundsCallsOf, CanCompile, DoesText, IsCalled, IsCompiledOf, IsRefusedFor, LacksAsSaid, LacksLinear, NeedsAsSaid, NeedsOf}
 
 -- ---- bytes of flash
 
@@ -306,4 +306,20 @@ called_of f cs are r why (StackFull need) e called h = λ texts steady.
     (subst (λ z. CallsNeedAsSaid cs (program_at f.alive.start.program) f.alive.start.heap (refusal.Fault z)) called
     (subst (λ z. CallsNeedAsSaid cs (program_at f.alive.start.program) f.alive.start.heap z) e (h steady)))
 called_of f cs are r why (CodeFull words) e called h = tt
+called_of f cs are r why NotLinear e called h = tt
 called_of f cs are r why NotBuilt e called h = tt
+
+pub linear_of : (f : Fitted) (r : Result TextImage (Refusal Unmade)) → IfErr r (LacksAsSaid f) → r ≡ Err (refusal.Fault NotLinear) → LacksLinear f
+linear_of f r h e = subst (λ z. IfErr z (LacksAsSaid f)) e h
+
+-- and so it is with linear code
+pub lacks_of : (f : Fitted) (r : Refusal NoImage) (why : NoImage) (u : Unmade) → r ≡ refusal.Fault why → IsCalled why u
+    → LacksLinearOf (program_at f.alive.start.program) f.alive.start.heap f.alive.live f.placed.numbers f.placed.columns r → LacksAsSaid f (refusal.Fault u)
+lacks_of f r why NotLinear e (fault, is) h = (
+  fault,
+  subst (λ z. LacksLinearOf (program_at f.alive.start.program) f.alive.start.heap f.alive.live f.placed.numbers f.placed.columns (refusal.Fault z)) is
+      (subst (λ z. LacksLinearOf (program_at f.alive.start.program) f.alive.start.heap f.alive.live f.placed.numbers f.placed.columns z) e h),
+)
+lacks_of f r why (CodeFull words) e called h = tt
+lacks_of f r why (StackFull need) e called h = tt
+lacks_of f r why NotBuilt e called h = tt

@@ -20,7 +20,10 @@ use Rattle.vg_compile.specs.Given.{NamesChip}
 use Rattle.vg_fits_given.specs.Fitted.{Fitted}
 use Rattle.vg_compile.specs.Compile.{Linked}
 use Rattle.vg_compile.specs.declared.no_image.NoImage.{NoImage}
+use Rattle.vg_compile.specs.declared.no_image.NoImage.TheVariants as no_image
 use Rattle.vg_compile.specs.declared.no_image.NoImage.TheVariants.{Deep}
+use Rattle.vg_flatten_shapes.specs.declared.fault.Fault.{Fault}
+use Rattle.vg_compile.specs.Compile.{HasNoLinear}
 use Rattle.vg_costs.specs.Small.{AreSmall}
 use Rattle.vg_compile.specs.Bounds.{DoesFor, HoldsBound}
 use Rattle.vg_layout.specs.Few.{IsFew}
@@ -29,7 +32,7 @@ use Rattle.vg_layout.specs.declared.stack_bound.StackBound.TheVariants.{Bytes, C
 pub use Rattle.vg_compile.specs.Memory.{KeepsMemory}
 use Rattle.vg_text_image.specs.declared.making.TextImage.{TextImage}
 use Rattle.vg_text_image.specs.declared.unmade.Unmade.{Unmade}
-use Rattle.vg_text_image.specs.declared.unmade.Unmade.TheVariants.{CodeFull, StackFull, NotBuilt}
+use Rattle.vg_text_image.specs.declared.unmade.Unmade.TheVariants.{CodeFull, StackFull, NotLinear, NotBuilt}
 
 -- No cycle of calls is reached in the text, and the bytes are at most four more than the methods of some way of calls cost; or these are the numbers of methods
 -- of a cycle that is reached.
@@ -85,6 +88,7 @@ pub record IsCompiledOf (f : Fitted) (i : TextImage) : Type 0 where
 abbrev pub IsCauseFor : (stack : ℕ) → Unmade → Type 0
 IsCauseFor stack (CodeFull words) = 65536 ≤ words
 IsCauseFor stack (StackFull need) = stack < need
+IsCauseFor stack NotLinear = Unit {0}
 IsCauseFor stack NotBuilt = Unit {0}
 
 -- No cycle of calls is reached in the program of what fits, and the bytes are at most four more than the methods of some way of calls cost.
@@ -97,9 +101,20 @@ abbrev pub NeedsAsSaid : Fitted → Refusal Unmade → Type 0
 NeedsAsSaid f (refusal.Fault (StackFull need)) = NeedsOf f need
 NeedsAsSaid f why = Unit {0}
 
--- Where a cause is called that of the stack, it is that calls need as many bytes.
+-- What was packed of what fits has no linear code.
+abbrev pub LacksLinear : Fitted → Type 0
+LacksLinear f =
+    (why : Fault) × HasNoLinear (program_at f.alive.start.program) f.alive.start.heap f.alive.live f.placed.numbers f.placed.columns why
+
+-- Where the cause is said to be that it has no linear code, it is.
+abbrev pub LacksAsSaid : Fitted → Refusal Unmade → Type 0
+LacksAsSaid f (refusal.Fault NotLinear) = LacksLinear f
+LacksAsSaid f why = Unit {0}
+
+-- Where a cause is called that of the stack, it is that calls need as many bytes; and where it is called that of linear code, it is that.
 abbrev pub IsCalled : NoImage → Unmade → Type 0
 IsCalled why (StackFull need) = why ≡ Deep need
+IsCalled why NotLinear = (fault : Fault) × (why ≡ no_image.NotLinear fault)
 IsCalled why u = Unit {0}
 
 abbrev pub IsRefusedFor : (stack : ℕ) → Result TextImage (Refusal Unmade) → Type 0

@@ -4,7 +4,7 @@ ghost use Rattle.std.specs.List.{AllByRecursion};
 ghost use Rattle.vg_base.specs.Limits.{flash_bytes};
 ghost use Rattle.vg_layout.specs.Few.{IsFew};
 ghost use Rattle.vg_compile.specs.Compile.{IsCauseFor as IsCauseIn};
-ghost use Rattle.vg_text_image.specs.Made.{CanCompile, IsCalled, IsCauseFor, IsCompiledOf, IsRefusedFor, NeedsAsSaid, NeedsOf};
+ghost use Rattle.vg_text_image.specs.Made.{CanCompile, IsCalled, IsCauseFor, IsCompiledOf, IsRefusedFor, LacksAsSaid, LacksLinear, NeedsAsSaid, NeedsOf};
 
 use crate::unmade::Unmade;
 use avr_isa::Image;
@@ -34,7 +34,8 @@ pub struct TextImage {
 /// The machine does in it what the text does from its initialised components, for all device reads and interrupts and with every stack for which there is room
 /// above the static area, and which is no smaller than the bound where there is one; only where calls go round, and those that are active cost more than the
 /// stack, may it reach below the floor first. It refuses what `compile` refuses;
-/// where that is for the stack, calls do not go round, and what they are said to need is at most four more than what the methods of some way of calls cost.
+/// where that is for the stack, calls do not go round, and what they are said to need is at most four more than what the methods of some way of calls cost. Where it has
+/// no linear code, that is of what was packed of it.
 pub fn image_of(alloc: Global, fitted: &Fitted, stack: u16) -> Result<TextImage, Refusal<Unmade>>
     requires { CanCompile fitted.now }
     ensures image { IfOk result (IsCompiledOf fitted.now) }
@@ -42,6 +43,7 @@ pub fn image_of(alloc: Global, fitted: &Fitted, stack: u16) -> Result<TextImage,
     ensures full { (words : ℕ) → result ≡ Err (Refusal.Fault (Unmade.CodeFull words)) → 65536 ≤ words }
     ensures deep { (need : ℕ) → result ≡ Err (Refusal.Fault (Unmade.StackFull need)) → stack < need }
     ensures calls { (need : ℕ) → result ≡ Err (Refusal.Fault (Unmade.StackFull need)) → NeedsOf fitted.now need }
+    ensures linear { result ≡ Err (Refusal.Fault Unmade.NotLinear) → LacksLinear fitted.now }
 {
     compiled(alloc, fitted, stack)
 }
@@ -53,6 +55,7 @@ fn compiled(alloc: Global, fitted: &Fitted, stack: u16) -> Result<TextImage, Ref
     ensures few { IfOk result (λ image. IsFew stack image.bound) }
     ensures refused { IsRefusedFor stack result }
     ensures calls { IfErr result (NeedsAsSaid fitted.now) }
+    ensures linear { IfErr result (LacksAsSaid fitted.now) }
 {
     let start = &fitted.alive.start;
     let costs = method_costs(alloc, &start.tree)?;
@@ -81,7 +84,8 @@ fn unmade(why: NoImage, stack: u16) -> Unmade
     match why {
         NoImage::Full(full) => Unmade::CodeFull { words: full.words },
         NoImage::Deep { need } => Unmade::StackFull { need },
-        NoImage::NotLinear(_) | NoImage::Received | NoImage::Costly => Unmade::NotBuilt,
+        NoImage::NotLinear(_) => Unmade::NotLinear,
+        NoImage::Received | NoImage::Costly => Unmade::NotBuilt,
     }
 }
 

@@ -7,6 +7,8 @@ pub enum Unmade {
     CodeFull { words: u32 },
     /// The dearest way of its calls needs so many bytes of stack, and it has fewer.
     StackFull { need: u32 },
-    /// It has no linear code, a procedure takes more of the stack than its method costs, or that of a handler receives something.
+    /// What is packed of it has no linear code.
+    NotLinear,
+    /// A procedure takes more of the stack than its method costs, or that of a handler receives something.
     NotBuilt,
 }

@@ -23,3 +23,13 @@ returns-in-Ok-linked_of-clause-image c = record {
 -- what is said where the parts are not linked is said whatever the costs are
 pub returns-clause-deep : goal.returns-clause-deep
 returns-clause-deep c = c.in-Err-linked_of.ensures.deep c.args.firm c.args.costs.now
+
+-- and so it is with linear code, where there is some
+pub returns-in-Err-frames_of-clause-linear : goal.returns-in-Err-frames_of-clause-linear
+returns-in-Err-frames_of-clause-linear c = c.in-Err-frames_of.ensures.linear c.args.columns.now.list c.args.firm
+
+pub returns-in-Err-need_of-clause-linear : goal.returns-in-Err-need_of-clause-linear
+returns-in-Err-need_of-clause-linear c = c.in-Err-need_of.ensures.linear c.args.columns.now.list c.args.firm
+
+pub returns-clause-linear : goal.returns-clause-linear
+returns-clause-linear c = c.in-Err-linked_of.ensures.linear c.args.columns.now.list c.args.firm

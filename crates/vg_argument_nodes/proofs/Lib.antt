@@ -1,0 +1,4 @@
+mod Kept
+mod Parts
+mod Renumbered
+mod Texts

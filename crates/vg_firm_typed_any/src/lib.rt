@@ -1,0 +1,2 @@
+//! Which packed procedures are typed, however many values wait.
+#![tactic(auto)]

@@ -1,0 +1,2 @@
+//! How much linear code packed code becomes at most, as definitions.
+#![tactic(auto)]

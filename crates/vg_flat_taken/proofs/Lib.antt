@@ -1,0 +1,5 @@
+pub mod Fewer
+pub mod FewerCode
+pub mod Rows
+pub mod Pushed
+pub mod Whole

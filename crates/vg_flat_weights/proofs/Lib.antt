@@ -1,0 +1,3 @@
+mod Light
+mod Ways
+pub mod Whole

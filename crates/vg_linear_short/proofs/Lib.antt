@@ -1,0 +1,2 @@
+mod Items
+pub mod Programs

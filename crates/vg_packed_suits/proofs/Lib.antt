@@ -1,0 +1,5 @@
+pub mod Numbers
+pub mod Filled
+pub mod Noted
+pub mod Suited
+pub mod Bodies

@@ -1,0 +1,4 @@
+mod Moves
+mod Pieces
+pub mod Bodies
+pub mod Methods

@@ -1,0 +1,3 @@
+mod Scopes
+pub mod Bodies
+pub mod Methods

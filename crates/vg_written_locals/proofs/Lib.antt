@@ -1,0 +1,4 @@
+mod Kids
+mod Made
+mod Renumbered
+pub mod Texts
