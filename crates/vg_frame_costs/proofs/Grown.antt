@@ -1,6 +1,6 @@
 -- Procedures that are within frames are within larger ones.
 use Rattle.std.specs.Prelude.{ℕ, zero, suc, ◌+◌, ◌<◌, ◌≤◌, List, [], ◌∷◌, drop, length, get_or, slice_set, slice_index}
-use Rattle.std.specs.Prelude.{Option, Some, IfSome}
+use Rattle.std.specs.Prelude.{Option, Some, None, IfSome, IsSomeAnd}
 use Rattle.std.specs.List.{AllByRecursion}
 use Rattle.std.proofs.Common.{◌≡◌, refl, sym, subst, arith}
 use Rattle.std.proofs.lemmas.List.{at_drop_more}
@@ -48,8 +48,19 @@ none_left P [] (suc i) h = tt
 none_left P (x ∷ xs) zero h = absurd (omega (arith, h))
 none_left P (x ∷ xs) (suc i) h = none_left P xs i (omega (arith, h))
 
+pub one_of : {A : Type 0} (P : A → Type 0) (xs : List A) (i : ℕ) (x : A) → i < length xs → x ≡ get_or xs i x → AllByRecursion P xs → P x
+one_of P [] i x less e all = absurd (omega (arith, less))
+one_of P (y ∷ ys) zero x less e all = subst P (sym e) all.0
+one_of P (y ∷ ys) (suc i) x less e all = one_of P ys i x (omega (arith, less)) e all.1
+
 pub grown_then : (fs gs hs : List ℕ) → AreAtLeast fs gs → AreAtLeast gs hs → AreAtLeast fs hs
 grown_then fs gs hs h k method = let one = h method in let two = k method in omega (arith, one, two)
 
 pub some_is : (P : ℕ → Type 0) (o : Option ℕ) (b : ℕ) → o ≡ Some b → IfSome o P → P b
 some_is P o b e h = subst (λ z. IfSome z P) e h
+
+pub some_and : (P : ℕ → Type 0) (o : Option ℕ) (b : ℕ) → o ≡ Some b → IsSomeAnd o P → P b
+some_and P o b e h = subst (λ z. IsSomeAnd z P) e h
+
+pub none_and : (P : ℕ → Type 0) (o : Option ℕ) → o ≡ None → IsSomeAnd o P → ⊥
+none_and P o e h = subst (λ z. IsSomeAnd z P) e h

@@ -2,5 +2,6 @@ pub mod Counted
 pub mod Fit
 pub mod Grown
 pub mod Newest
+pub mod Paid
 pub mod Pushed
 pub mod Sized

@@ -1,3 +1,4 @@
 pub mod Bytes
 pub mod Fitting
 pub mod Noted
+pub mod Payable

@@ -1,9 +1,10 @@
 // The frames of methods, and what lies beside them.
-ghost use Rattle.std.specs.Prelude.{◌≡◌, ◌+◌, ◌<◌, ◌≤◌, IfOk, IfSome, IsTrue, Some, drop, length, take};
+ghost use Rattle.std.specs.Prelude.{ℕ, ◌≡◌, ◌+◌, ◌^◌, ◌<◌, ◌≤◌, IfOk, IfSome, IsSome, IsSomeAnd, IsTrue, List, Some, drop, length, replicate, take};
 ghost use Rattle.std.specs.List.{AllByRecursion};
 ghost use Rattle.vg_source.specs.Peak.{cost_of};
 ghost use Rattle.vg_frame_costs.specs.Fitting.{IsMethodWithin, IsRoutineWithin, IsStartWithin};
-ghost use Rattle.vg_frame_costs.specs.Noted.{AreAtLeast, HoldsAll};
+ghost use Rattle.vg_frame_costs.specs.Noted.{AreAtLeast, HoldsAll, IsPaidBy, Pays};
+ghost use Rattle.vg_frame_costs.specs.Payable.{CanBePaid, HasPaid, IsMethodPaid, IsRoutineShort, IsStartShort};
 
 use crate::codes::{are_of_method, are_of_routine, are_of_start, begins_with_call};
 use crate::counting::larger;
@@ -24,14 +25,15 @@ pub struct Frames {
 ///
 /// There are none where one of the procedures before that is no method or one of a higher number, or idles, or calls that one; where one behind it is a method,
 /// idles, or calls another; where that one takes more than four bytes, does not begin with a call by number, or calls one that is not before it; and where
-/// bytes do not fit into 32 bits.
+/// bytes do not fit into 32 bits. But there are frames where costs can pay the procedures, and such costs pay for them.
 pub fn method_frames(
     alloc: Global,
     procedures: &[LinProc],
     start: u16,
     methods: usize,
 ) -> Result<Option<Frames>, NoMemory>
-    ensures { IfOk result (λ frames. IfSome frames (HoldsAll procedures.now start)) }
+    ensures within { IfOk result (λ frames. IfSome frames (HoldsAll procedures.now start)) }
+    ensures paid { (costs : List ℕ) → length costs ≡ methods → CanBePaid procedures.now start costs → IfOk result (HasPaid costs) }
 {
     let at = usize::from(start);
     if at >= procedures.len() {
@@ -45,16 +47,24 @@ pub fn method_frames(
         Some(routines) => routines,
         None => return Ok(None),
     };
-    let mut frames = Vec::from_elem(alloc, 0, methods)?;
+    let mut frames = no_frames(alloc, methods)?;
     if !note_before(alloc, procedures, start, &mut frames)? {
         return Ok(None);
     }
     Ok(frames_with(frames, below, routines))
 }
 
+// The frames of so many methods, before one is noted.
+fn no_frames(alloc: Global, methods: usize) -> Result<Vec<u32>, NoMemory>
+    ensures { IfOk result (λ frames. frames.items ≡ replicate methods 0) }
+{
+    Ok(Vec::from_elem(alloc, 0, methods)?)
+}
+
 // Frames with so many bytes below and above them.
 fn frames_with(frames: Vec<u32>, below: u32, above: u32) -> Option<Frames>
-    ensures { IfSome result (λ f. (f.by_method ≡ frames.items) × (f.beside ≡ below + above)) }
+    ensures frames { IfSome result (λ f. (f.by_method ≡ frames.items) × (f.beside ≡ below + above)) }
+    ensures there { below + above < 2 ^ 32 → IsSome result }
 {
     let beside = below.checked_add(above)?;
     Some(Frames {
@@ -63,10 +73,11 @@ fn frames_with(frames: Vec<u32>, below: u32, above: u32) -> Option<Frames>
     })
 }
 
-// What the procedure takes with which a run begins, with the four bytes of its idling: at most eight.
+// What the procedure takes with which a run begins, with the four bytes of its idling: at most six.
 fn start_bytes(alloc: Global, first: &LinProc, start: u16) -> Result<Option<u32>, NoMemory>
     ensures start { IfOk result (λ bytes. IfSome bytes (λ below. IsStartWithin start below first.now)) }
-    ensures few { IfOk result (λ bytes. IfSome bytes (λ below. below ≤ 8)) }
+    ensures few { IfOk result (λ bytes. IfSome bytes (λ below. below ≤ 6)) }
+    ensures there { IsStartShort start first.now → IfOk result (λ bytes. IsSome bytes) }
 {
     if first.method().is_some()
         || !begins_with_call(first.code())
@@ -75,16 +86,17 @@ fn start_bytes(alloc: Global, first: &LinProc, start: u16) -> Result<Option<u32>
         return Ok(None);
     }
     match size_of(alloc, first)? {
-        Some(bytes) => Ok(at_most_eight(bytes.checked_add(4))),
+        Some(bytes) => Ok(at_most_six(bytes.checked_add(4))),
         None => Ok(None),
     }
 }
 
-fn at_most_eight(bytes: Option<u32>) -> Option<u32>
-    ensures { IfSome result (λ few. (bytes ≡ Some few) × (few ≤ 8)) }
+fn at_most_six(bytes: Option<u32>) -> Option<u32>
+    ensures few { IfSome result (λ few. (bytes ≡ Some few) × (few ≤ 6)) }
+    ensures there { IsSomeAnd bytes (λ few. few ≤ 6) → IsSome result }
 {
     match bytes {
-        Some(few) => { if few <= 8 { Some(few) } else { None } }
+        Some(few) => { if few <= 6 { Some(few) } else { None } }
         None => None,
     }
 }
@@ -92,7 +104,9 @@ fn at_most_eight(bytes: Option<u32>) -> Option<u32>
 // The most that one of the routines takes, which stand behind the procedure with which a run begins.
 fn bytes_behind(alloc: Global, procedures: &[LinProc], start: u16) -> Result<Option<u32>, NoMemory>
     requires { start < length procedures.now }
-    ensures { IfOk result (λ bytes. IfSome bytes (λ above. AllByRecursion (IsRoutineWithin above) (drop (start + 1) procedures.now))) }
+    ensures within { IfOk result (λ bytes. IfSome bytes (λ above. AllByRecursion (IsRoutineWithin above) (drop (start + 1) procedures.now))) }
+    ensures there { (above : ℕ) → above < 2 ^ 32 → AllByRecursion (IsRoutineShort above) (drop (start + 1) procedures.now)
+        → IfOk result (λ bytes. IsSomeAnd bytes (λ b. b ≤ above)) }
 {
     let behind = usize::from(start) + 1;
     routine_bytes(alloc, &procedures[behind..])
@@ -100,7 +114,9 @@ fn bytes_behind(alloc: Global, procedures: &[LinProc], start: u16) -> Result<Opt
 
 // The most that one of these routines takes.
 fn routine_bytes(alloc: Global, routines: &[LinProc]) -> Result<Option<u32>, NoMemory>
-    ensures { IfOk result (λ bytes. IfSome bytes (λ above. AllByRecursion (IsRoutineWithin above) routines.now)) }
+    ensures within { IfOk result (λ bytes. IfSome bytes (λ above. AllByRecursion (IsRoutineWithin above) routines.now)) }
+    ensures there { (above : ℕ) → above < 2 ^ 32 → AllByRecursion (IsRoutineShort above) routines.now
+        → IfOk result (λ bytes. IsSomeAnd bytes (λ b. b ≤ above)) }
 {
     let mut most = 0;
     for routine in routines {
@@ -113,7 +129,8 @@ fn routine_bytes(alloc: Global, routines: &[LinProc]) -> Result<Option<u32>, NoM
 }
 
 fn bytes_of_routine(alloc: Global, routine: &LinProc) -> Result<Option<u32>, NoMemory>
-    ensures { IfOk result (λ bytes. IfSome bytes (λ above. IsRoutineWithin above routine.now)) }
+    ensures within { IfOk result (λ bytes. IfSome bytes (λ above. IsRoutineWithin above routine.now)) }
+    ensures there { (above : ℕ) → above < 2 ^ 32 → IsRoutineShort above routine.now → IfOk result (λ bytes. IsSomeAnd bytes (λ b. b ≤ above)) }
 {
     if routine.method().is_some() || !are_of_routine(routine.code()) {
         return Ok(None);
@@ -129,7 +146,10 @@ fn note_before(
     frames: &mut Vec<u32>,
 ) -> Result<bool, NoMemory>
     requires { start < length procedures.now }
-    ensures { IfOk result (λ noted. IsTrue noted → AllByRecursion (IsMethodWithin start frames.new.items) (take start procedures.now)) }
+    ensures within { IfOk result (λ noted. IsTrue noted → AllByRecursion (IsMethodWithin start frames.new.items) (take start procedures.now)) }
+    ensures paid { (above : ℕ) (costs : List ℕ) → Pays above costs frames.old.items
+        → AllByRecursion (IsMethodPaid start above costs) (take start procedures.now)
+        → IfOk result (λ noted. IsTrue noted × Pays above costs frames.new.items) }
 {
     let end = usize::from(start);
     note_methods(alloc, &procedures[..end], start, frames)
@@ -142,7 +162,9 @@ fn note_methods(
     start: u16,
     frames: &mut Vec<u32>,
 ) -> Result<bool, NoMemory>
-    ensures { IfOk result (λ noted. IsTrue noted → AllByRecursion (IsMethodWithin start frames.new.items) methods.now) }
+    ensures within { IfOk result (λ noted. IsTrue noted → AllByRecursion (IsMethodWithin start frames.new.items) methods.now) }
+    ensures paid { (above : ℕ) (costs : List ℕ) → Pays above costs frames.old.items → AllByRecursion (IsMethodPaid start above costs) methods.now
+        → IfOk result (λ noted. IsTrue noted × Pays above costs frames.new.items) }
 {
     for method in methods {
         if !note_method(alloc, method, start, frames)? {
@@ -160,6 +182,8 @@ fn note_method(
 ) -> Result<bool, NoMemory>
     ensures grows { AreAtLeast frames.old.items frames.new.items }
     ensures within { IfOk result (λ noted. IsTrue noted → IsMethodWithin start frames.new.items procedure.now) }
+    ensures paid { (above : ℕ) (costs : List ℕ) → Pays above costs frames.old.items → IsMethodPaid start above costs procedure.now
+        → IfOk result (λ noted. IsTrue noted × Pays above costs frames.new.items) }
 {
     match procedure.method() {
         Some(method) => {
@@ -176,10 +200,12 @@ fn note_method(
 }
 
 // Notes that a method takes so many bytes, where it has a place.
-#[tactic(auto, using(crate::proofs::Counted::cost_at, crate::proofs::Grown::set_at, crate::proofs::Grown::grown, crate::proofs::Grown::same_frames))]
+#[tactic(auto, using(crate::proofs::Paid::noting))]
 fn note(frames: &mut Vec<u32>, method: u16, bytes: u32) -> bool
     ensures grows { AreAtLeast frames.old.items frames.new.items }
     ensures noted { IsTrue result → bytes ≤ cost_of frames.new.items method }
+    ensures paid { (above : ℕ) (costs : List ℕ) → Pays above costs frames.old.items → IsPaidBy above costs method bytes
+        → IsTrue result × Pays above costs frames.new.items }
 {
     let at = usize::from(method);
     if at >= frames.len() {

@@ -1,5 +1,5 @@
 // What waits in a procedure, and the most that is kept there.
-ghost use Rattle.std.specs.Prelude.{◌≡◌, ◌≤◌, ◌∷◌, [], IfOk, IfSome, OnOk, drop, length, reverse};
+ghost use Rattle.std.specs.Prelude.{◌≡◌, ◌+◌, ◌≤◌, ◌∷◌, [], IfOk, IfSome, IsSome, OnOk, drop, length, reverse};
 ghost use Rattle.vg_lin.specs.Sound.{behind};
 ghost use Rattle.vg_frame_costs.specs.Bytes.{bytes_of, kept_at as kept_in, most_kept as most_in};
 
@@ -8,9 +8,11 @@ use std::alloc::Global;
 use vg_base::NoMemory;
 use vg_lin::{Instr, Plain};
 
-/// The most bytes that are kept at a place of code. There are none where more than 65,535 values may wait at one time.
+/// The most bytes that are kept at a place of code. There are none where more than 65,535 values may wait at one time, as they never do where code has no more
+/// instructions.
 pub fn most_kept(alloc: Global, code: &[Instr]) -> Result<Option<u32>, NoMemory>
-    ensures { IfOk result (λ most. IfSome most (λ bytes. bytes ≡ most_in [] code.now)) }
+    ensures most { IfOk result (λ most. IfSome most (λ bytes. bytes ≡ most_in [] code.now)) }
+    ensures there { length code.now ≤ 65535 → IfOk result (λ most. IsSome most) }
 {
     let mut waits = Vec::new(alloc);
     let mut most = 0;
@@ -48,7 +50,8 @@ fn bytes_left(waits: &[u8], count: usize) -> u32
 
 // The widths of the values that wait, the newest of them last, become those behind an instruction.
 fn go_behind(waits: &mut Vec<u8>, instr: &Instr) -> Result<(), NoMemory>
-    ensures { OnOk result (reverse waits.new.items ≡ behind instr.now (reverse waits.old.items)) }
+    ensures behind { OnOk result (reverse waits.new.items ≡ behind instr.now (reverse waits.old.items)) }
+    ensures few { OnOk result (length waits.new.items ≤ length waits.old.items + 1) }
 {
     match instr {
         Instr::Plain(Plain::Push(width, _)) => push_newest(waits, *width),
@@ -66,7 +69,8 @@ fn go_behind(waits: &mut Vec<u8>, instr: &Instr) -> Result<(), NoMemory>
 
 #[tactic(auto, using(crate::proofs::Newest::newest))]
 fn push_newest(waits: &mut Vec<u8>, width: u8) -> Result<(), NoMemory>
-    ensures { OnOk result (reverse waits.new.items ≡ width ∷ reverse waits.old.items) }
+    ensures newest { OnOk result (reverse waits.new.items ≡ width ∷ reverse waits.old.items) }
+    ensures few { OnOk result (length waits.new.items ≤ length waits.old.items + 1) }
 {
     waits.push(width)?;
     Ok(())
@@ -75,7 +79,8 @@ fn push_newest(waits: &mut Vec<u8>, width: u8) -> Result<(), NoMemory>
 // The newest values wait no more, so many.
 #[tactic(auto, using(crate::proofs::Newest::kept))]
 fn drop_newest(waits: &mut Vec<u8>, count: usize)
-    ensures { reverse waits.new.items ≡ drop count (reverse waits.old.items) }
+    ensures left { reverse waits.new.items ≡ drop count (reverse waits.old.items) }
+    ensures few { length waits.new.items ≤ length waits.old.items }
 {
     let left = waits.len().saturating_sub(count);
     waits.truncate(left);

@@ -20,7 +20,8 @@ pub fn open_procedures_cost()
         → ((run p n reads interrupts).ending ≡ Some Wrong → ⊥) → taken p (run p j reads interrupts) ≤ extra + most costs (run p n reads interrupts).openings }
     ensures frames { (p : Program) (frames : List ℕ) (below above : ℕ) → IsReady p → FramesWithin p.procedures p.start frames below above → LeadBefore p
         → CallsAreDivided p → (j n : ℕ) (reads interrupts : List ℕ) → j < n → EndsUnpushed p n reads interrupts
-        → ((run p n reads interrupts).ending ≡ Some Wrong → ⊥) → taken p (run p j reads interrupts) ≤ below + above + most frames (run p n reads interrupts).openings }
+        → ((run p n reads interrupts).ending ≡ Some Wrong → ⊥)
+        → taken p (run p j reads interrupts) ≤ below + above + most frames (run p n reads interrupts).openings }
 {}
 
 /// A law of runs: one that did not end wrongly can be cut back to before its last row of pushes. The body is empty: its contract is a law of the definitions.

@@ -67,7 +67,8 @@ deeper e deep other n s P to (inr (d, k)) = inr (to d, k)
 module _ (e : Run) (x : Links) (new : Program) (st : Stands e x new) (b : Begins e x new) (extra : ℕ) (cs : List ℕ) (has : HasFitFrames x new extra cs)
     (memory : PowerOn) (powered : IsPowerOn memory) (reads interrupts : List ℕ) (r : AreReads reads) (is : AreVectors interrupts) (v : World History)
     (whole : e.whole ≡ v.outside.trace) (ticked : AreTicked v.history) (c : Config State) (m : ℕ) (unpushed : EndsUnpushed new m reads interrupts)
-    (same : ShowsSame c (run new m reads interrupts)) (outside : c.outside ≡ v.outside) (openings : c.openings ≡ v.history.at_openings) (legal : c.ending ≡ Some Wrong → ⊥) where
+    (same : ShowsSame c (run new m reads interrupts)) (outside : c.outside ≡ v.outside) (openings : c.openings ≡ v.history.at_openings)
+    (legal : c.ending ≡ Some Wrong → ⊥) where
   there : (run new m reads interrupts).outside ≡ v.outside
   there = same.outside ∙ outside
 

@@ -22,10 +22,10 @@ ghost use Rattle.vg_followed.specs.Runs.{Begins};
 ghost use Rattle.vg_deep_costs.specs.Fit.{HasFitFrames};
 ghost use Rattle.vg_peaks.specs.Peaks.{DoesWithinPeak};
 
-/// A law of images of packed programs whose frames fit, by costs of methods and so many bytes beside them. Where a run of the packed program is over for a legal reason, the machine ends from reset on for the
-/// same reason and with the same outside; where only ticks were spent, or too many calls were active, the machine has shown the same and goes on, after at
-/// least as many instructions as ticks; or its stack reaches below the floor, which it does only where the peak of the run passes the stack. The body is
-/// empty: its contract is a law of the definitions.
+/// A law of images of packed programs whose frames fit, by costs of methods and so many bytes beside them. Where a run of the packed program is over for a
+/// legal reason, the machine ends from reset on for the same reason and with the same outside; where only ticks were spent, or too many calls were active, the
+/// machine has shown the same and goes on, after at least as many instructions as ticks; or its stack reaches below the floor, which it does only where the
+/// peak of the run passes the stack. The body is empty: its contract is a law of the definitions.
 pub fn images_within_peak()
     ensures { (k : Codes) (lay : Layout) (f : FirmProgram) (p new : Program) → AreFlat k lay f p → RunsAsRead p new → (e : Run) (x : Links) → Stands e x new
         → Begins e x new → (extra : ℕ) (costs : List ℕ) → HasFitFrames x new extra costs → (memory : PowerOn) → IsPowerOn memory
