@@ -21,7 +21,8 @@ use Rattle.vg_call_need.specs.Bounds.{BoundsCalls, IsBoundOf}
 use Rattle.vg_call_need.proofs.Calls.{bounds_bytes, bounds_calls}
 use Rattle.vg_call_need.specs.Within.{IsNeedWithin}
 use Rattle.vg_compile.specs.Bounds.{ArePaidFor, DoesFor, HoldsBound}
-use Rattle.vg_compile.specs.Compile.{CallsNeedAsSaid, IsImageOf, LacksLinear, LacksLinearOf, NeedsAsSaid}
+use Rattle.vg_compile.specs.Compile.{CallsNeedAsSaid, IsImageOf, NeedsAsSaid}
+use Rattle.vg_compile.specs.Compile.{LacksFrames, LacksFramesOf, LacksHandlers, LacksHandlersOf, LacksLinear, LacksLinearOf}
 use Rattle.vg_packed_suits.specs.Bodies.{AreTypedWhereCounted}
 use Rattle.vg_compile.specs.declared.no_image.NoImage.TheVariants.{NotLinear, Received, Costly, Deep, Full}
 use Rattle.vg_compile.specs.declared.no_image.NoImage.{NoImage}
@@ -106,3 +107,25 @@ refused_linear p h s n c f from typed (Faulty Received) is = tt
 refused_linear p h s n c f from typed (Faulty Costly) is = tt
 refused_linear p h s n c f from typed (Faulty (Full full)) is = tt
 refused_linear p h s n c f from typed NoMemory is = tt
+
+-- and frames that the costs pay
+pub refused_frames : (p : Program) (h : Heap) (s : LiveSet) (n : Numbers) (c : Columns) (f : FirmProgram) (costs : List ℕ) → IsPackedFrom p h s n c f
+    → AreTypedWhereCounted p h c f → (why : Refusal NoImage) → LacksFrames c.list f costs why → LacksFramesOf p h s n c costs why
+refused_frames p h s n c f costs from typed (Faulty Costly) (l, plain, unpaid) =
+    record { firm = f; packed = from; typed = typed; linear = l; plain = plain; unpaid = unpaid }
+refused_frames p h s n c f costs from typed (Faulty (NotLinear fault)) is = tt
+refused_frames p h s n c f costs from typed (Faulty (Deep need)) is = tt
+refused_frames p h s n c f costs from typed (Faulty Received) is = tt
+refused_frames p h s n c f costs from typed (Faulty (Full full)) is = tt
+refused_frames p h s n c f costs from typed NoMemory is = tt
+
+-- and handlers that receive nothing
+pub refused_handlers : (p : Program) (h : Heap) (s : LiveSet) (n : Numbers) (c : Columns) (f : FirmProgram) → IsPackedFrom p h s n c f
+    → AreTypedWhereCounted p h c f → (why : Refusal NoImage) → LacksHandlers c.list f why → LacksHandlersOf p h s n c why
+refused_handlers p h s n c f from typed (Faulty Received) (l, plain, unhandled) =
+    record { firm = f; packed = from; typed = typed; linear = l; plain = plain; unhandled = unhandled }
+refused_handlers p h s n c f from typed (Faulty (NotLinear fault)) is = tt
+refused_handlers p h s n c f from typed (Faulty (Deep need)) is = tt
+refused_handlers p h s n c f from typed (Faulty Costly) is = tt
+refused_handlers p h s n c f from typed (Faulty (Full full)) is = tt
+refused_handlers p h s n c f from typed NoMemory is = tt

@@ -1,6 +1,7 @@
 -- The start is a procedure without parameters, and the handlers are those of interrupts, and receive nothing.
-use Rattle.std.proofs.Common.{◌≡◌, ◌⊎◌, inl, inr, refl, ap, subst, ◌∙◌, arith, ℕ, ◌==◌, Bool, true, false, List, [], ◌∷◌}
-use Rattle.std.proofs.Common.{length, Some, slice_get, if◌then◌else◌}
+use Rattle.std.proofs.Common.{◌≡◌, ◌⊎◌, inl, inr, refl, sym, ap, subst, ◌∙◌, arith, ℕ, ◌==◌, Bool, true, false, List, [], ◌∷◌}
+use Rattle.std.proofs.Common.{length, map, Some, slice_get, if◌then◌else◌}
+use Rattle.std.specs.Prelude.{None, IsTrue, ◌↔◌}
 use Rattle.std.proofs.lemmas.List.{length-map}
 use Rattle.std.proofs.lemmas.Option.{same_Some, none-some}
 use Rattle.std.proofs.lemmas.Slice.Zip.{AllZip-long}
@@ -23,10 +24,13 @@ use Rattle.vg_linear.proofs.Lists.{get_left, get_right, zip_at}
 use Rattle.vg_link.specs.declared.unlinked.Handler.{Handler as TheHandler}
 use Rattle.vg_link.specs.declared.unlinked.Unlinked.{Unlinked}
 use Rattle.vg_link.specs.Linking as linking
-use Rattle.vg_link.specs.Linking.{CanHandle, IsAlone}
+use Rattle.vg_link.specs.Linking.{CanBeLinked, CanHandle, IsAlone}
+use Rattle.vg_place.specs.declared.placing.Columns.{Columns}
 use Rattle.vg_placement.specs.declared.column.Column.{Column}
 use Rattle.vg_text_chip.specs.Chip.{AreOfInterrupts}
-use Rattle.vg_compile.specs.Handlers.{AllCanHandle, HandlersReceiveNothing}
+use Rattle.vg_compile.specs.Compile.{handler_of as linked_handler}
+use Rattle.vg_compile.specs.Handlers.{AllCanAnswer, AllCanHandle, CanAnswer}
+use Rattle.vg_compile.specs.Unlinked.{AlwaysLinks, IsUnlinked}
 
 -- ---- handlers of the typed program
 
@@ -45,20 +49,33 @@ entered p (h ∷ hs) (a, as_) (i, is) v m e = by (h.vector == v) refl e (entered
 
 -- ---- handlers of the linear one
 
--- a handler that is found is one that an interrupt can call, where each is
-pub received : (ms : List Procedure) (hs : List TheHandler) → AllCanHandle ms hs → (v q : ℕ) → linking.handler_in hs v ≡ Some q → CanHandle ms q
-received ms [] a v q e = absurd (none-some q e)
-received ms (x ∷ xs) (a, as_) v q e = by (x.vector == v) e (received ms xs as_ v q)
+-- a handler that is found among some of them is one that an interrupt can call, where each of these is
+answered : (ms : List Procedure) (all hs : List TheHandler) → AllCanAnswer ms all hs → (v q : ℕ) → linking.handler_in hs v ≡ Some q
+    → linking.handler_in all v ≡ Some q → CanHandle ms q
+answered ms all [] a v q e there = absurd (none-some q e)
+answered ms all (x ∷ xs) (a, as_) v q e there = by (x.vector == v) refl e (answered ms all xs as_ v q)
   where
-    by : (b : Bool) → (if b then Some x.procedure else linking.handler_in xs v) ≡ Some q → (linking.handler_in xs v ≡ Some q → CanHandle ms q)
-        → CanHandle ms q
-    by true h again = subst (CanHandle ms) (same_Some x.procedure q h) a
-    by false h again = again h
+    by : (b : Bool) → (x.vector == v) ≡ b → (if b then Some x.procedure else linking.handler_in xs v) ≡ Some q
+        → (linking.handler_in xs v ≡ Some q → linking.handler_in all v ≡ Some q → CanHandle ms q) → CanHandle ms q
+    by true same h again = a q (ap (linking.handler_in all) (same_number x.vector v same) ∙ there)
+    by false same h again = again h there
 
--- the procedures and the handlers that are looked at are those that are linked
-pub all_received : (u : Unlinked) (ms : List Procedure) (hs : List TheHandler) → ms ≡ u.procedures → hs ≡ u.handlers → AllCanHandle ms hs
-    → HandlersReceiveNothing u
-all_received u ms hs e g h = subst (λ z. AllCanHandle z u.handlers) e (subst (AllCanHandle ms) g h)
+pub received : (ms : List Procedure) (hs : List TheHandler) → AllCanHandle ms hs → (v q : ℕ) → linking.handler_in hs v ≡ Some q → CanHandle ms q
+received ms hs a v q e = answered ms hs hs a v q e e
+
+-- what the call of the procedure for a vector says of it
+pub answers : (ms : List Procedure) (hs : List TheHandler) (v q : ℕ) (can : Bool) → linking.handler_in hs v ≡ Some q → (IsTrue can ↔ CanHandle ms q)
+    → (IsTrue can ↔ CanAnswer ms hs v)
+answers ms hs v q can e (forth, back) = (λ is m there. subst (CanHandle ms) (same_Some q m (sym e ∙ there)) (forth is), λ all. back (all q e))
+
+pub answers_none : (ms : List Procedure) (hs : List TheHandler) (v : ℕ) → linking.handler_in hs v ≡ None → CanAnswer ms hs v
+answers_none ms hs v e m there = absurd (none-some m (sym e ∙ there))
+
+-- what is to be linked of a packed program and its linear one can be linked, where an interrupt can call each handler
+pub linkable : (c : Columns) (f : FirmProgram) (l : Linear) (u : Unlinked) → AlwaysLinks c f → IsLinear c.list f l → IsUnlinked c f l u
+    → u.handlers ≡ map linked_handler f.handlers → AllCanHandle l.procedures (map linked_handler f.handlers) → CanBeLinked u
+linkable c f l u links linear is same handled =
+    links l u (subst (λ z. AllCanHandle z u.handlers) (sym is.procedures) (subst (AllCanHandle l.procedures) (sym same) handled)) linear is
 
 -- ---- procedures of the linear one
 

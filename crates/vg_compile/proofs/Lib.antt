@@ -8,4 +8,5 @@ pub mod Linking
 pub mod Unlinked
 pub mod Does
 pub mod Needs
+mod Measured
 pub mod Memory

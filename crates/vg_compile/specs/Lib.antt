@@ -3,6 +3,7 @@ pub mod Bounds
 pub mod Handlers
 pub mod Unlinked
 pub mod Compile
+pub mod Measured
 pub mod Memory
 pub mod Given
 pub mod Packed

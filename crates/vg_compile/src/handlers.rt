@@ -1,34 +1,66 @@
 // Whether handlers receive nothing.
-ghost use Rattle.std.specs.Prelude.{IfOk, IsTrue};
-ghost use Rattle.vg_link.specs.Linking.{CanHandle};
-ghost use Rattle.vg_compile.specs.Handlers.{AllCanHandle};
+ghost use Rattle.std.specs.Prelude.{◌≡◌, ◌↔◌, map, IfOk, IsTrue};
+ghost use Rattle.vg_link.specs.Linking.{CanHandle, handler_in};
+ghost use Rattle.vg_compile.specs.Compile.{handler_of};
+ghost use Rattle.vg_compile.specs.Handlers.{AllCanHandle, CanAnswer};
 
 use std::alloc::Global;
 use vg_base::NoMemory;
 use vg_covered::receives_nothing;
 use vg_lin::LinProc;
-use vg_link::Handler;
+use vg_packed::Entrance;
 
-/// Whether each of these handlers is a procedure that an interrupt can call: none of its arguments is pushed, and it keeps none of those that arrive in registers.
-/// The error is want of memory.
+/// Whether the procedure that each interrupt calls by these handlers is one that an interrupt can call: none of its arguments is pushed, and it keeps none of
+/// those that arrive in registers. Of two handlers for one vector the first one counts. The error is want of memory.
 pub fn all_can_handle(
     alloc: Global,
     procedures: &[LinProc],
-    handlers: &[Handler],
+    handlers: &[Entrance],
 ) -> Result<bool, NoMemory>
-    ensures { IfOk result (λ can. IsTrue can → AllCanHandle procedures.now handlers.now) }
+    ensures { IfOk result (λ can. IsTrue can ↔ AllCanHandle procedures.now (map handler_of handlers.now)) }
 {
     for handler in handlers {
-        if !can_handle(alloc, procedures, handler.procedure)? {
+        if !can_answer(alloc, procedures, handlers, handler.vector)? {
             return Ok(false);
         }
     }
     Ok(true)
 }
 
+// Whether the procedure for a vector, if there is one, is one that an interrupt can call.
+fn can_answer(
+    alloc: Global,
+    procedures: &[LinProc],
+    handlers: &[Entrance],
+    vector: u8,
+) -> Result<bool, NoMemory>
+    ensures { IfOk result (λ can. IsTrue can ↔ CanAnswer procedures.now (map handler_of handlers.now) vector) }
+{
+    match procedure_for(handlers, vector) {
+        Some(number) => can_handle(alloc, procedures, number),
+        None => Ok(true),
+    }
+}
+
+// The procedure that these handlers have for a vector.
+fn procedure_for(handlers: &[Entrance], vector: u8) -> Option<u16>
+    ensures { result ≡ handler_in (map handler_of handlers.now) vector }
+{
+    match handlers {
+        [] => None,
+        [handler, more @ ..] => {
+            if handler.vector == vector {
+                Some(handler.procedure)
+            } else {
+                procedure_for(more, vector)
+            }
+        }
+    }
+}
+
 // Whether an interrupt can call the procedure of this number.
 fn can_handle(alloc: Global, procedures: &[LinProc], number: u16) -> Result<bool, NoMemory>
-    ensures { IfOk result (λ can. IsTrue can → CanHandle procedures.now number) }
+    ensures { IfOk result (λ can. IsTrue can ↔ CanHandle procedures.now number) }
 {
     match procedures.get(usize::from(number)) {
         Some(procedure) => receives_nothing(alloc, procedure),

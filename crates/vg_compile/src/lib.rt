@@ -6,6 +6,7 @@ pub mod compiled;
 pub mod compiling;
 pub mod handlers;
 pub mod laws;
+pub mod measuring;
 pub mod no_image;
 pub mod pieces;
 pub mod unlinking;

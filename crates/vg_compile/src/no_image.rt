@@ -9,7 +9,7 @@ pub enum NoImage {
     NotLinear(Fault),
     /// The procedure of a handler receives something: an argument is pushed for it, or it keeps one that arrives in a register.
     Received,
-    /// Where calls go round, a procedure takes more of the stack than the method costs that it is; where they do not, they need more than each way of them costs.
+    /// A procedure takes more of the stack than the method costs that it is; and where calls do not go round, they need more than each way of them costs.
     Costly,
     /// The dearest way of its calls needs so many bytes of stack, and it has fewer.
     Deep { need: u32 },

@@ -18,7 +18,8 @@ pub fn unlinked(
     firm: FirmProgram,
     linear: Linear,
 ) -> Result<Unlinked, NoMemory>
-    ensures { IfOk result (IsUnlinked columns.now firm linear) }
+    ensures unlinked { IfOk result (IsUnlinked columns.now firm linear) }
+    ensures handlers { IfOk result (λ unlinked. unlinked.handlers ≡ map handler_of firm.handlers) }
 {
     let tables = tables(alloc, &firm, columns.list.as_slice())?;
     let handlers = handlers_of(alloc, firm.handlers.as_slice())?;

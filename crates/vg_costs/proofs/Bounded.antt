@@ -34,10 +34,13 @@ same texts (held.Row' shape all) = none texts (held.Row' shape all) refl ∙ sym
 same texts (held.Arms' shape all) = none texts (held.Arms' shape all) refl ∙ sym (none [] (held.Arms' shape all) refl)
 same texts _ = refl
 
-pub small : (bytes : List ℕ) (texts : List (List ℕ)) (tree : Tree) → length bytes ≤ text_limit → Reads bytes (tree_at texts tree)
-    → too_many (tree_at texts tree) ≡ None → AreSmall (costs (tree_at [] tree))
-small bytes texts tree short reads fit =
+pub small_named : (bytes : List ℕ) (texts : List (List ℕ)) (tree : Tree) → length bytes ≤ text_limit → Reads bytes (tree_at texts tree)
+    → too_many (tree_at texts tree) ≡ None → AreSmall (costs (tree_at texts tree))
+small_named bytes texts tree short reads fit =
     let few = few_nodes bytes (tree_at texts tree) short reads in
     let less = inside (tree_at texts tree) in
-    subst AreSmall (same texts tree.root) (limited.declarations (declarations_of (tree_at texts tree)) (limited.few_locals (tree_at texts tree) fit)
-    (omega (arith, few, less)))
+    limited.declarations (declarations_of (tree_at texts tree)) (limited.few_locals (tree_at texts tree) fit) (omega (arith, few, less))
+
+pub small : (bytes : List ℕ) (texts : List (List ℕ)) (tree : Tree) → length bytes ≤ text_limit → Reads bytes (tree_at texts tree)
+    → too_many (tree_at texts tree) ≡ None → AreSmall (costs (tree_at [] tree))
+small bytes texts tree short reads fit = subst AreSmall (same texts tree.root) (small_named bytes texts tree short reads fit)

@@ -61,7 +61,7 @@ both_small (x ∷ xs) ys (a, h) k = (a, both_small xs ys h k)
 abbrev FewNodes : Node → Type 0
 FewNodes a = count_nodes a < 134217728
 
-small_cost : (params locals nodes : ℕ) → params + locals ≤ 60 → nodes < 134217728 → 32 + 4 * (params + locals + nodes) < 4294967296
+small_cost : (params locals nodes : ℕ) → params + locals ≤ 60 → nodes < 134217728 → 32 + 4 * (params + locals + nodes) < 2147483648
 small_cost params locals nodes h k = omega (arith, h, k)
 
 method : (m : Node) → first_past 60 (locals_at m) ≡ None → FewNodes m → AreSmall (declared_cost m)

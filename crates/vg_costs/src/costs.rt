@@ -133,7 +133,7 @@ fn method_of(member: &Node) -> Option<(usize, &Node)>
 
 // The cost of a method with so many parameters and this body.
 fn cost_with(params: usize, body: &Node) -> u32
-    requires small { cost_with params (node_at [] body.now) < 2 ^ 32 }
+    requires small { cost_with params (node_at [] body.now) < 2 ^ 31 }
     ensures cost { (texts : List (List ℕ)) → result ≡ cost_with params (node_at texts body.now) }
 {
     32 + 4 * (params as u32 + count_locals(body) + count_nodes(body))

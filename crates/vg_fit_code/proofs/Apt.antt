@@ -35,7 +35,6 @@ carries =
       jumps = λ to. tt;
       calls = λ callee to xs. parts_last callee to xs;
       returns = λ w a. tt;
-      idles = tt;
     }
 
 pub flattened_apt : (lay : Layout) (m : FirmProcedure) (new : Procedure) → IsFlat lay m new → CodeApt m.body → AreApt new.code

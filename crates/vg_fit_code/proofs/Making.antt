@@ -72,7 +72,6 @@ module _ (p : Program) where
         jumps = λ to. tt;
         calls = λ callee to xs. parts_last callee to xs;
         returns = λ w a. tt;
-        idles = tt;
       }
 
   step_has : (s : Step) → IsStepFit p s → StepHas (IsMade p) s

@@ -4,7 +4,7 @@ use Rattle.std.specs.List.{AllByRecursion}
 use Rattle.vg_lin.specs.declared.instr.Passed.{Passed}
 use Rattle.vg_lin.specs.declared.instr.Call.{Call as Calling}
 use Rattle.vg_lin.specs.declared.instr.Instr.{Instr}
-use Rattle.vg_lin.specs.declared.instr.Instr.TheVariants.{Plain, Jump, Call}
+use Rattle.vg_lin.specs.declared.instr.Instr.TheVariants.{Plain, Jump, Call, Idle}
 use Rattle.vg_flatten_shapes.specs.declared.open.Open.{Open}
 use Rattle.vg_flatten_shapes.specs.declared.open.Open.TheVariants.{Set, Break as Breaking, Continue as Continuing}
 use Rattle.vg_flatten_shapes.specs.declared.open.Truth.{Truth}
@@ -14,10 +14,11 @@ use Rattle.vg_flatten_shapes.specs.Blocks.{branch, closed, call_code, open_code,
 use Rattle.vg_flatten_shapes.proofs.Choices.{choice_cases}
 use Rattle.vg_flat_each.specs.Each.{Carries}
 
--- Of its plain instructions and its calls; all others have it anyway.
+-- Of its plain instructions, its calls and those that idle; all others have it anyway.
 abbrev pub EachIn : (Instr → Type 0) → Block → Type 0
 EachIn Has (One p) = Has (Plain p)
 EachIn Has (CallTo pushed c) = Has (Call c)
+EachIn Has TakeInterrupt = Has Idle
 EachIn Has (Both a b) = EachIn Has a × EachIn Has b
 EachIn Has (Choice t a b) = EachIn Has a × EachIn Has b
 EachIn Has (Repeat p t body next) = EachIn Has p × EachIn Has body × EachIn Has next
@@ -61,7 +62,7 @@ module _ (Has : Instr → Type 0) (k : Carries Has) where
   in_block Skip at h = tt
   in_block (One p) at h = (h, tt)
   in_block (CallTo pushed c) at h = calling pushed c h
-  in_block TakeInterrupt at h = (k.idles, tt)
+  in_block TakeInterrupt at h = (h, tt)
   in_block (GiveBack w a) at h = (k.returns w a, tt)
   in_block BreakOut at h = tt
   in_block GoOn at h = tt

@@ -383,4 +383,4 @@ module _ (Has : Instr → Type 0) (k : Carries Has) (lay : Layout) (r : Room) wh
   each_step (CallFor d count) hs h = each_temp Has (temp r hs) _ (λ code. each_taken (taken (count + 1) hs) _ (λ xs rest. each_on d code xs rest h))
   each_step (CallValue count) hs h =
       each_temp Has (temp r hs) _ (λ receiver. each_taken (taken (count + 1) hs) _ (λ xs rest. each_by receiver xs rest))
-  each_step Idle hs h = tt
+  each_step Idle hs h = h

@@ -2,7 +2,7 @@
 use Rattle.std.specs.Prelude.{ℕ, Option, List}
 use Rattle.vg_meaning.specs.Code.{Code, Then, Do, If, Loop}
 use Rattle.vg_firm.specs.declared.step.Step.{Step}
-use Rattle.vg_firm.specs.declared.step.Step.TheVariants.{ReadDevice, WriteDevice, BindFor, CallFor}
+use Rattle.vg_firm.specs.declared.step.Step.TheVariants.{ReadDevice, WriteDevice, BindFor, CallFor, Idle}
 use Rattle.vg_lin.specs.declared.instr.Operand.{Operand}
 use Rattle.vg_lin.specs.declared.instr.Memory.{Memory}
 use Rattle.vg_lin.specs.declared.instr.Address.{Address}
@@ -14,11 +14,11 @@ use Rattle.vg_lin.specs.declared.instr.Test.{Test}
 use Rattle.vg_lin.specs.declared.instr.Plain.TheVariants.{Copy, Compute, Load, Store, Push, Pop, Find, CodeOf, Stop}
 use Rattle.vg_lin.specs.declared.instr.Plain.TheVariants.{ReadDevice as ReadsDevice, WriteDevice as WritesDevice}
 use Rattle.vg_lin.specs.declared.instr.Instr.{Instr}
-use Rattle.vg_lin.specs.declared.instr.Instr.TheVariants.{Plain, When, Unless, Jump, Call, Return, Idle}
+use Rattle.vg_lin.specs.declared.instr.Instr.TheVariants.{Plain, When, Unless, Jump, Call, Return, Idle as Idles}
 use Rattle.vg_flatten_steps.specs.Calls.{call_with}
 
--- It holds of all instructions that name no device and no dispatch, but for those that only routines have; and of the calls that pass their last four
--- arguments beside those that wait.
+-- It holds of all instructions that name no device and no dispatch and do not idle, but for those that only routines have; and of the calls that pass their
+-- last four arguments beside those that wait.
 pub record Carries (Has : Instr → Type 0) : Type 0 where
   pub copies : (to : ℕ) (a : Operand) → Has (Plain (Copy to a))
   pub computes : (c : Computation) → Has (Plain (Compute c))
@@ -33,14 +33,14 @@ pub record Carries (Has : Instr → Type 0) : Type 0 where
   pub jumps : (to : ℕ) → Has (Jump to)
   pub calls : (callee : Callee) (to : Option Target) (xs : List Passed) → Has (Call (call_with callee to xs))
   pub returns : (w : ℕ) (a : Operand) → Has (Return w a)
-  pub idles : Has Idle
 
--- It holds of those that use the device, or the dispatch, which a step names.
+-- It holds of those that use the device, or the dispatch, which a step names; and of that which idles, where the step does.
 abbrev pub StepHas : (Instr → Type 0) → Step → Type 0
 StepHas Has (ReadDevice address) = (to : ℕ) → Has (Plain (ReadsDevice to address))
 StepHas Has (WriteDevice address) = (a : Operand) → Has (Plain (WritesDevice address a))
 StepHas Has (BindFor d) = (to : ℕ) (a : Operand) → Has (Plain (Find d to a))
 StepHas Has (CallFor d count) = (to : ℕ) (a : Operand) → Has (Plain (Find d to a))
+StepHas Has Idle = Has Idles
 StepHas Has p = Unit {0}
 
 -- Something holds of each step of code.

@@ -1,4 +1,4 @@
-//! That typed procedures which weigh little are refused for want of memory alone.
+//! That typed procedures which weigh little are refused for want of memory alone, and with how few temporaries they are flattened.
 #![tactic(auto)]
 
 pub mod laws;

@@ -14,8 +14,8 @@ use Rattle.vg_flatten_control.specs.Flat.{flat}
 use Rattle.vg_firm_typed.specs.Typed.{Known as Knows}
 use Rattle.vg_firm_typed_any.specs.TypedFor.{IsTypedFor}
 use Rattle.vg_flatten.specs.Closing.{AllSet}
-use Rattle.vg_flatten.specs.Flattened.{receivers, with_receiver_width, own_widths, own_params, whole}
-use Rattle.vg_flatten.specs.Refusals.{temps_for, room_for, made_of, stacked_of, IsNotTakenAs, IsTooHigh, IsTooLong, IsCauseIn, IsCause}
+use Rattle.vg_flatten.specs.Flattened.{receivers, with_receiver_width, own_widths, own_params, whole, temps_for}
+use Rattle.vg_flatten.specs.Refusals.{room_for, made_of, stacked_of, IsNotTakenAs, IsTooHigh, IsTooLong, IsCauseIn, IsCause}
 use Rattle.vg_flatten.specs.Taking.{IsMadeTooLong}
 use Rattle.vg_flatten.proofs.Typed.{Stays, Fine, Lands, fine_flat, nothing, empty_is, not_true, stays_set, stays_zeroes}
 use Rattle.vg_flat_taken.specs.Taken.{IsClosed, IsMade, IsLeftFor}
@@ -28,7 +28,7 @@ use Rattle.vg_flat_taken.proofs.Pushed.{pushed_code}
 closed_code : (m : Procedure) (b : Block) → Stays false b → AllSet (open_code (whole m b) 0)
 closed_code m b h = stays_set (whole m b) 0 (stays_zeroes (length m.widths - m.params) (own_params m), (h, tt))
 
-closed_fine : (m : Procedure) (made : Made) → Fine false [] 0 made → IsClosed m made
+pub closed_fine : (m : Procedure) (made : Made) → Fine false [] 0 made → IsClosed m made
 closed_fine m (Refused why) h = absurd h
 closed_fine m (Gives b s) h = (empty_is s h.1, closed_code m b h.0)
 
@@ -67,21 +67,25 @@ refused_long m made NotTaken h g = absurd (not_taken m made h g)
 
 -- ---- whole procedures
 
-receiver_few : (b : Bool) (ws : List ℕ) → length (with_receiver_width b ws) ≡ receivers b + length ws
+pub receiver_few : (b : Bool) (ws : List ℕ) → length (with_receiver_width b ws) ≡ receivers b + length ws
 receiver_few true ws = omega arith
 receiver_few false ws = omega arith
 
-itself : (b : Bool) (ws : List ℕ) → ((receivers b == 0) ≡ true) ⊎ (0 < length (with_receiver_width b ws))
+-- with a receiver there is one local more
+pub own_few : (m : Procedure) → length m.widths ≤ 60 → length (own_widths m) ≤ 61
+own_few m le = let l = receiver_few m.receives m.widths in let o = one m.receives in omega (arith, l, o, le)
+  where
+    one : (b : Bool) → receivers b ≤ 1
+    one true = omega arith
+    one false = omega arith
+
+pub itself : (b : Bool) (ws : List ℕ) → ((receivers b == 0) ≡ true) ⊎ (0 < length (with_receiver_width b ws))
 itself true ws = inr (omega arith)
 itself false ws = inl refl
 
 module _ (lay : Layout) (m : Procedure) (typed : IsTypedFor lay m) where
   few : length (own_widths m) ≤ 61
-  few = let l = receiver_few m.receives m.widths in let o = one m.receives in let t = typed.few in omega (arith, l, o, t)
-    where
-      one : (b : Bool) → receivers b ≤ 1
-      one true = omega arith
-      one false = omega arith
+  few = own_few m typed.few
 
   temps : 191 ≤ temps_for (length (own_widths m))
   temps = let le = few in omega (arith, le)

@@ -15,45 +15,51 @@ use Rattle.vg_flatten_shapes.specs.Made.{Made, Gives, Refused}
 use Rattle.vg_flatten_control.specs.Flat.{flat}
 use Rattle.vg_flatten_pushed.specs.Stacked.{stacked}
 use Rattle.vg_flatten.specs.Closing.{AllSet}
-use Rattle.vg_flatten.specs.Flattened.{receivers, own_widths, result_width}
+use Rattle.vg_flatten.specs.Flattened.{receivers, own_widths, result_width, temps_for, room_with}
 use Rattle.vg_flatten.specs.Sealing.{IsNotTaken, WholeFails, IsWhole}
-use Rattle.vg_flatten.specs.Refusals.{temps_for, room_for, made_of, stacked_of, IsNotTakenAs, IsCauseIn, IsRefusedIn, IsCause, IsRefusedFor}
+use Rattle.vg_flatten.specs.Refusals.{room_for, made_of, stacked_of, IsNotTakenAs, IsCauseIn, IsRefusedIn, IsCause, IsRefusedFor}
 
 abbrev pub room_of : (receiver : ℕ) → (on : Bool) → (locals temps result : ℕ) → Room
 room_of receiver on locals temps result = record { receiver = receiver; on_objects = on; locals = locals; temps = temps; result = result }
 
-module _ (lay : Layout) (m : Procedure) (r : Room) (receiver : r.receiver ≡ receivers m.receives) (on : r.on_objects ≡ m.on_objects) (locals : r.locals ≡ length (own_widths m))
-    (temps : r.temps ≡ temps_for r.locals) (given : r.result ≡ result_width m) where
-  room_is : r ≡ room_for m
+module _ (lay : Layout) (m : Procedure) (r : Room) (receiver : r.receiver ≡ receivers m.receives) (on : r.on_objects ≡ m.on_objects)
+    (locals : r.locals ≡ length (own_widths m)) (given : r.result ≡ result_width m) where
+  room_is : r ≡ room_with r.temps m
   room_is =
-      ap (λ z. room_of r.receiver r.on_objects r.locals z r.result) temps
-      ∙ ap (λ z. room_of r.receiver r.on_objects z (temps_for z) r.result) locals
-      ∙ ap (λ z. room_of z r.on_objects (length (own_widths m)) (temps_for (length (own_widths m))) r.result) receiver
-      ∙ ap (λ z. room_of (receivers m.receives) z (length (own_widths m)) (temps_for (length (own_widths m))) r.result) on
-      ∙ ap (λ z. room_of (receivers m.receives) m.on_objects (length (own_widths m)) (temps_for (length (own_widths m))) z) given
+      ap (λ z. room_of z r.on_objects r.locals r.temps r.result) receiver
+      ∙ ap (λ z. room_of (receivers m.receives) z r.locals r.temps r.result) on
+      ∙ ap (λ z. room_of (receivers m.receives) m.on_objects z r.temps r.result) locals
+      ∙ ap (λ z. room_of (receivers m.receives) m.on_objects (length (own_widths m)) r.temps z) given
 
-  made_is : flat lay r m.body empty ≡ made_of lay m
+  made_is : flat lay r m.body empty ≡ flat lay (room_with r.temps m) m.body empty
   made_is = ap (λ z. flat lay z m.body empty) room_is
 
   not_taken : (made : Made) → IsNotTaken made → IsNotTakenAs m made
   not_taken (Gives b s) h = inl h
   not_taken (Refused why) h = h
 
-  cause_by : (e : Refusal Fault) → WholeFails e (made_of lay m) m → IsCauseIn e m (made_of lay m)
-  cause_by Memory h = tt
-  cause_by (Faulty TooLong) h = h
-  cause_by (Faulty TooHigh) h = h
-  cause_by (Faulty NotTaken) h = not_taken (made_of lay m) h
+  cause_by : (made : Made) (e : Refusal Fault) → WholeFails e made m → IsCauseIn e m made
+  cause_by made Memory h = tt
+  cause_by made (Faulty TooLong) h = h
+  cause_by made (Faulty TooHigh) h = h
+  cause_by made (Faulty NotTaken) h = not_taken made h
 
-  pub failed : (e : Refusal Fault) → WholeFails e (flat lay r m.body empty) m → IsCauseIn e m (made_of lay m)
-  failed e h = cause_by e (subst (λ z. WholeFails e z m) made_is h)
+  pub failed : (e : Refusal Fault) → WholeFails e (flat lay r m.body empty) m → IsCauseIn e m (flat lay (room_with r.temps m) m.body empty)
+  failed e h = cause_by (flat lay (room_with r.temps m) m.body empty) e (subst (λ z. WholeFails e z m) made_is h)
 
   unfit_in : (made : Made) (code : List Open) → IsWhole code made m → (AllSet code → ⊥) → IsNotTakenAs m made
   unfit_in (Refused why) code h no' = absurd h
   unfit_in (Gives b s) code h no' = inr (λ all. no' (subst AllSet (sym h.1) all))
 
-  pub unfit : (code : List Open) → IsWhole code (flat lay r m.body empty) m → (AllSet code → ⊥) → IsCauseIn (Faulty NotTaken) m (made_of lay m)
-  unfit code h no' = unfit_in (made_of lay m) code (subst (λ z. IsWhole code z m) made_is h) no'
+  pub unfit : (code : List Open) → IsWhole code (flat lay r m.body empty) m → (AllSet code → ⊥)
+      → IsCauseIn (Faulty NotTaken) m (flat lay (room_with r.temps m) m.body empty)
+  unfit code h no' = unfit_in (flat lay (room_with r.temps m) m.body empty) code (subst (λ z. IsWhole code z m) made_is h) no'
+
+-- The cause where it has all temporaries that there is room for.
+pub with_all : (lay : Layout) (m : Procedure) (own : List ℕ) (temps : ℕ) (answer : Result LinProcedure (Refusal Fault)) → own ≡ own_widths m
+    → IsRefusedIn answer m (flat lay (room_with temps m) m.body empty) → temps ≡ temps_for (length own) → IsRefusedIn answer m (made_of lay m)
+with_all lay m own temps answer is h t =
+    subst (λ z. IsRefusedIn answer m (flat lay (room_with z m) m.body empty)) (t ∙ ap (λ z. temps_for (length z)) is) h
 
 -- The same where each waiting value is pushed.
 module _ (lay : Layout) (m : Procedure) (r : Room) (receiver : r.receiver ≡ receivers m.receives) (on : r.on_objects ≡ m.on_objects) (locals : r.locals ≡ length (own_widths m))

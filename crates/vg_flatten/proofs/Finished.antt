@@ -31,6 +31,7 @@ use Rattle.vg_base.specs.declared.refusal.Refusal.{Refusal}
 use Rattle.vg_base.specs.declared.refusal.Refusal.TheVariants.{Fault as Faulty, NoMemory as Memory}
 use Rattle.vg_flatten_shapes.specs.declared.fault.Fault.{Fault}
 use Rattle.vg_flatten_shapes.specs.declared.fault.Fault.TheVariants.{NotTaken, TooHigh, TooLong}
+use Rattle.vg_flatten.specs.Searching.{NeedsAsMany}
 use Rattle.vg_flatten.specs.Refusals.{IsTooLong}
 use Rattle.vg_flatten.specs.Sealing.{IsNotTaken, IsWhole, WholeFails, Wholes}
 use Rattle.vg_flatten.proofs.Sound.{MadeIn, BlockIn, in_flat}
@@ -152,9 +153,9 @@ module _ (lay : Layout) (m : FirmProcedure) (r : Room) (receiver : r.receiver �
   pub procedure_sound : IsSound procedure
   procedure_sound = sound_by (flat lay r m.body empty) refl is
 
-  flat_by : (x : Made) → flat lay r m.body empty ≡ x → IsWhole open' x m → IsFlat lay m procedure
-  flat_by (Refused why) e h = absurd h
-  flat_by (Gives b s) e h =
+  flat_by : NeedsAsMany lay m r.temps → (x : Made) → flat lay r m.body empty ≡ x → IsWhole open' x m → IsFlat lay m procedure
+  flat_by needs (Refused why) e h = absurd h
+  flat_by needs (Gives b s) e h =
       record {
         room = r;
         block = b;
@@ -170,10 +171,11 @@ module _ (lay : Layout) (m : FirmProcedure) (r : Room) (receiver : r.receiver �
         result = refl;
         widths = ws;
         code = code_is b h.1;
+        fewest = λ most from. (needs most from, e);
       }
 
-  pub procedure_flat : IsFlat lay m procedure
-  procedure_flat = flat_by (flat lay r m.body empty) refl is
+  pub procedure_flat : NeedsAsMany lay m r.temps → IsFlat lay m procedure
+  procedure_flat needs = flat_by needs (flat lay r m.body empty) refl is
 
   onward_by : (x : Made) → flat lay r m.body empty ≡ x → IsWhole open' x m → has_loop m.body ≡ false → all_lead_on 0 code ≡ true
   onward_by (Refused why) e h none = absurd h

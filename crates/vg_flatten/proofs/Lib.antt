@@ -7,6 +7,7 @@ pub mod Whole
 pub mod Starting
 pub mod Finished
 pub mod Causes
+pub mod Searching
 pub mod Onward
 pub mod Steady
 pub mod PushedBlocks

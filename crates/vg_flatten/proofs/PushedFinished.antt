@@ -16,6 +16,7 @@ use Rattle.vg_flatten_pushed.specs.Stacked.{stacked}
 use Rattle.vg_flatten.specs.Closing.{AllSet}
 use Rattle.vg_flatten_shapes.specs.Blocks.{set_in}
 use Rattle.vg_flatten.specs.Flattened.{receivers, own_widths, own_params, all_widths, result_width, whole, IsFlat}
+use Rattle.vg_flatten.specs.Searching.{HomesNeverDo}
 use Rattle.vg_flatten.specs.Sealing.{IsWhole}
 use Rattle.vg_flatten.proofs.PushedBlocks.{BlockOn, MadeOn}
 use Rattle.vg_flatten.proofs.StackedBlocks.{none_waits, stacked_on}
@@ -52,9 +53,9 @@ module _ (lay : Layout) (m : FirmProcedure) (r : Room) (receiver : r.receiver �
   pub pushed_sound : IsSound procedure
   pushed_sound = sound_by (stacked lay r m.body empty) refl is
 
-  flat_by : (x : Made) → stacked lay r m.body empty ≡ x → IsWhole open' x m → IsFlat lay m procedure
-  flat_by (Refused why) e h = absurd h
-  flat_by (Gives b s) e h =
+  flat_by : HomesNeverDo lay m → (x : Made) → stacked lay r m.body empty ≡ x → IsWhole open' x m → IsFlat lay m procedure
+  flat_by never (Refused why) e h = absurd h
+  flat_by never (Gives b s) e h =
       record {
         room = r;
         block = b;
@@ -70,10 +71,11 @@ module _ (lay : Layout) (m : FirmProcedure) (r : Room) (receiver : r.receiver �
         result = refl;
         widths = ws;
         code = code_is b h.1;
+        fewest = λ most from. absurd (never most from);
       }
 
-  pub pushed_flat : IsFlat lay m procedure
-  pushed_flat = flat_by (stacked lay r m.body empty) refl is
+  pub pushed_flat : HomesNeverDo lay m → IsFlat lay m procedure
+  pushed_flat never = flat_by never (stacked lay r m.body empty) refl is
 
   onward_by : (x : Made) → stacked lay r m.body empty ≡ x → IsWhole open' x m → has_loop m.body ≡ false → all_lead_on 0 code ≡ true
   onward_by (Refused why) e h none = absurd h

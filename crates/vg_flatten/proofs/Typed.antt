@@ -63,8 +63,8 @@ use Rattle.vg_flatten_control.specs.Flat.{landed_as, landed, joined, chosen, rep
 use Rattle.vg_firm_typed.specs.Steps.{takes, leaves, IsWidth, columns_of, Names}
 use Rattle.vg_firm_typed.specs.Typed.{Known as Knows, Leads, IsAlone, Typed, IsTyped}
 use Rattle.vg_flatten.specs.Closing.{AllSet}
-use Rattle.vg_flatten.specs.Flattened.{zeroes, receivers, with_receiver_width, own_widths, own_params, whole}
-use Rattle.vg_flatten.specs.Refusals.{temps_for, room_for, made_of, IsNotTakenAs, IsTooHigh, IsTooLong, IsCause, IsRefusedFor}
+use Rattle.vg_flatten.specs.Flattened.{zeroes, receivers, with_receiver_width, own_widths, own_params, whole, temps_for}
+use Rattle.vg_flatten.specs.Refusals.{room_for, made_of, IsNotTakenAs, IsTooHigh, IsTooLong, IsCause, IsRefusedFor}
 use Rattle.vg_flatten.specs.Taking.{IsMadeTooLong, IsLeft, IsTaken}
 
 -- ---- what is made of typed code

@@ -18,10 +18,11 @@ use Rattle.vg_flatten_shapes.specs.Widths.{all_bytes, result_bytes}
 use Rattle.vg_flatten_steps.specs.Calls.{passing_of}
 use Rattle.vg_flatten_shapes.specs.declared.room.Room.{Room}
 use Rattle.vg_flatten_shapes.specs.Shapes.{Shape, empty, is_empty}
-use Rattle.vg_flatten_shapes.specs.Blocks.{Block, Skip, One, GiveBack, Both, open_code}
-use Rattle.vg_flatten_shapes.specs.Made.{Gives}
+use Rattle.vg_flatten_shapes.specs.Blocks.{Block, Skip, One, GiveBack, Both, open_code, block_size}
+use Rattle.vg_flatten_shapes.specs.Made.{Made, Gives, Refused}
 use Rattle.vg_flatten_control.specs.Flat.{flat}
 use Rattle.vg_flatten_pushed.specs.Stacked.{stacked}
+use Rattle.vg_flatten.specs.Closing.{AllSet}
 use Rattle.vg_flatten.specs.Columns.{FlashStands, RamStands}
 use Rattle.vg_flatten_shapes.specs.Blocks.{set_in}
 
@@ -68,7 +69,35 @@ result_width m = if m.receives then 4 else m.result
 abbrev pub whole : FirmProcedure → Block → Block
 whole m b = Both (zeroes (length m.widths - m.params) (own_params m)) (Both b (GiveBack (result_width m) (Known 0)))
 
--- The procedure of linear code is the flattened one: each waiting value has a home of its own, or each is pushed.
+-- ---- temporaries
+
+-- As many temporaries as there is room for beside the locals.
+abbrev pub temps_for : (locals : ℕ) → ℕ
+temps_for n = 252 - n
+
+-- What is known of a procedure while its body is flattened with so many temporaries.
+abbrev pub room_with : (temps : ℕ) → FirmProcedure → Room
+room_with temps m =
+    record {
+      receiver = receivers m.receives;
+      on_objects = m.on_objects;
+      locals = length (own_widths m);
+      temps = temps;
+      result = result_width m;
+    }
+
+-- No value waits at the end of what was made of the body, no jump is left open in the whole, and the whole is short.
+abbrev pub IsShortAs : FirmProcedure → Made → Type 0
+IsShortAs m (Gives b s) = (is_empty s ≡ true) × AllSet (open_code (whole m b) 0) × (block_size (whole m b) ≤ 65519)
+IsShortAs m (Refused why) = ⊥
+
+-- With so many temporaries, for which there is room, and with more, a procedure is flattened with a home for each value, and is short.
+pub record IsFlatFrom (lay : Layout) (m : FirmProcedure) (most : ℕ) : Type 0 where
+  pub few : most ≤ temps_for (length (own_widths m))
+  pub each : (temps : ℕ) → most ≤ temps → temps ≤ temps_for (length (own_widths m)) → IsShortAs m (flat lay (room_with temps m) m.body empty)
+
+-- The procedure of linear code is the flattened one: each waiting value has a home of its own, or each is pushed. Where homes do from some
+-- number of temporaries on, each has one, and there are no more temporaries than that.
 pub record IsFlat (lay : Layout) (m : FirmProcedure) (p : Procedure) : Type 0 where
   pub room : Room
   pub block : Block
@@ -84,6 +113,7 @@ pub record IsFlat (lay : Layout) (m : FirmProcedure) (p : Procedure) : Type 0 wh
   pub result : p.result ≡ result_width m
   pub widths : p.widths ≡ all_widths m ++ replicate room.temps 4
   pub code : p.code ≡ map (set_in 0 0) (open_code (whole m block) 0)
+  pub fewest : (most : ℕ) → IsFlatFrom lay m most → (room.temps ≤ most) × (flat lay room m.body empty ≡ Gives block shape)
 
 -- Main is called, and on no receiver where it gets one.
 abbrev pub main_args : Bool → Registers

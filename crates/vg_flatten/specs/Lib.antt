@@ -1,6 +1,7 @@
 pub mod Closing
 pub mod Columns
 pub mod Flattened
+pub mod Searching
 pub mod Refusals
 pub mod Loops
 pub mod Sealing

@@ -1,5 +1,5 @@
 -- When a procedure is not flattened.
-use Rattle.std.specs.Prelude.{◌≡◌, ◌⊎◌, ℕ, ◌-◌, ◌<◌, false, length, Result, Ok, Err}
+use Rattle.std.specs.Prelude.{◌≡◌, ◌⊎◌, ◌<◌, false, length, Result, Ok, Err}
 use Rattle.vg_base.specs.declared.refusal.Refusal.{Refusal}
 use Rattle.vg_base.specs.declared.refusal.Refusal.TheVariants.{Fault as Faulty, NoMemory as Memory}
 use Rattle.vg_firm.specs.Program.{Procedure}
@@ -14,21 +14,11 @@ use Rattle.vg_flatten_shapes.specs.Made.{Made, Gives, Refused}
 use Rattle.vg_flatten_control.specs.Flat.{flat}
 use Rattle.vg_flatten_pushed.specs.Stacked.{stacked}
 use Rattle.vg_flatten.specs.Closing.{AllSet}
-use Rattle.vg_flatten.specs.Flattened.{receivers, own_widths, result_width, whole}
+use Rattle.vg_flatten.specs.Flattened.{own_widths, whole, temps_for, room_with}
 
--- As many temporaries as there is room for beside the locals.
-abbrev pub temps_for : (locals : ℕ) → ℕ
-temps_for n = 252 - n
-
+-- With all the temporaries that there is room for.
 abbrev pub room_for : Procedure → Room
-room_for m =
-    record {
-      receiver = receivers m.receives;
-      on_objects = m.on_objects;
-      locals = length (own_widths m);
-      temps = temps_for (length (own_widths m));
-      result = result_width m;
-    }
+room_for m = room_with (temps_for (length (own_widths m))) m
 
 -- What is made of its body.
 abbrev pub made_of : Layout → Procedure → Made

@@ -5,12 +5,13 @@ ghost use Rattle.vg_firm.specs.Held.{procedure_of, code_of};
 ghost use Rattle.vg_lin.specs.Sound.{IsWidth};
 ghost use Rattle.vg_flatten_shapes.specs.Blocks.{Block, open_code};
 ghost use Rattle.vg_flatten.specs.Flattened.{IsFlat, zero_list, receivers, own_widths, own_params, with_receiver_width, widened, wide_params, all_widths, result_width};
-ghost use Rattle.vg_flatten.specs.Flattened.{main_args, whole, start_of};
+ghost use Rattle.vg_flatten.specs.Flattened.{main_args, whole, start_of, temps_for};
+ghost use Rattle.vg_flatten.specs.Searching.{made_with, NeedsAsMany, HomesNeverDo, IsBest, IsFound};
 ghost use Rattle.vg_flatten_shapes.specs.Blocks.{set_in};
 ghost use Rattle.vg_flatten.specs.Sealing.{Seals, Wholes};
 ghost use Rattle.vg_lin.specs.Onward.{all_lead_on};
 ghost use Rattle.vg_flatten.specs.Loops.{has_loop};
-ghost use Rattle.vg_flatten.specs.Refusals.{temps_for, made_of, stacked_of, IsTooLong, IsRefusedIn, IsRefusedFor};
+ghost use Rattle.vg_flatten.specs.Refusals.{made_of, stacked_of, IsTooLong, IsRefusedIn, IsRefusedFor};
 ghost use Rattle.vg_flatten.specs.Taking.{IsTaken};
 ghost use Rattle.vg_flatten.specs.Sizes.{procedure_size};
 ghost use Rattle.vg_flatten.specs.Calls.{calls_in, calls_of};
@@ -224,9 +225,10 @@ fn temps_beside(locals: u8) -> u8
 ///
 /// It refuses what it does not take. Where more values wait at one time than there are temporaries, which are 252 less the locals, or where it
 /// would be too long, each value that waits is pushed: `TooHigh` is left for more than 252 locals, or for a step that then takes more values
-/// than there are temporaries less two; `TooLong` for what there would be more than 65,519 instructions of in either way. Of a typed procedure
-/// it takes each step, and each value finds a temporary: then the only cause but want of memory is its length. The calls of the procedure
-/// stand in its code, each once and in their order, and no other; it has at most 252 locals, and a jump back only where its body has a loop.
+/// than there are temporaries less two; `TooLong` for what there would be more than 65,519 instructions of in either way. Where it does with
+/// so many temporaries and with each larger number, there are no more than that. Of a typed procedure it takes each step, and each value finds
+/// a temporary: then the only cause but want of memory is its length. The calls of the procedure stand in its code, each once and in their
+/// order, and no other; it has at most 252 locals, and a jump back only where its body has a loop.
 pub fn flatten(
     alloc: Global,
     layout: &Layout,
@@ -265,14 +267,14 @@ fn flattened(
         return Err(Refusal::Fault(Fault::TooHigh));
     }
     let most = temps_beside(count as u8);
-    match with_fewest(alloc, layout, procedure, own.as_slice(), 0, most, None) {
+    match with_fewest(alloc, layout, procedure, own.as_slice(), 0, most, None)? {
         Some(made) => Ok(made),
         None => with_most(alloc, layout, procedure, own.as_slice(), most),
     }
 }
 
 /// The procedure with as few temporaries as it can do with, from so many on and fewer than so many, so that no local is there for nothing;
-/// or the best so far. The number is found by halves.
+/// or the best so far. The number is found by halves: it is the least where homes do from some number of temporaries on.
 fn with_fewest(
     alloc: Global,
     layout: &Layout,
@@ -281,26 +283,36 @@ fn with_fewest(
     low: u8,
     high: u8,
     best: Option<LinProc>,
-) -> Option<LinProc>
+) -> Result<Option<LinProc>, NoMemory>
     requires params { procedure.now.params ≤ length procedure.now.widths }
     requires widths { AllByRecursion IsWidth procedure.now.widths }
     requires given { procedure.now.result ≤ 4 }
     requires own { own.now ≡ own_widths (procedure_of procedure.now) }
     requires room { length own.now + high ≤ 252 }
-    requires flat { IfSome best (λ p. IsFlat layout.now (procedure_of procedure.now) p) }
+    requires low { NeedsAsMany layout.now (procedure_of procedure.now) low }
+    requires best { IsBest layout.now (procedure_of procedure.now) (temps_for (length own.now)) high best }
     requires onward { IfSome best (λ p. has_loop (code_of procedure.now.body) ≡ false → all_lead_on 0 p.code ≡ true) }
     requires few { IfSome best (λ p. length p.widths ≤ 252) }
-    ensures flat { IfSome result (λ p. IsFlat layout.now (procedure_of procedure.now) p) }
-    ensures onward { IfSome result (λ p. has_loop (code_of procedure.now.body) ≡ false → all_lead_on 0 p.code ≡ true) }
-    ensures few { IfSome result (λ p. length p.widths ≤ 252) }
+    ensures flat { IfOk result (λ found. IsFound layout.now (procedure_of procedure.now) (temps_for (length own.now)) found) }
+    ensures onward { IfOk result (λ found. IfSome found (λ p. has_loop (code_of procedure.now.body) ≡ false → all_lead_on 0 p.code ≡ true)) }
+    ensures few { IfOk result (λ found. IfSome found (λ p. length p.widths ≤ 252)) }
 {
     if low >= high {
-        return best;
+        return Ok(best);
     }
     let middle = low + (high - low) / 2;
     match flattened_with(alloc, layout, procedure, own, middle) {
         Ok(made) => with_fewest(alloc, layout, procedure, own, low, middle, Some(made)),
-        Err(_) => with_fewest(alloc, layout, procedure, own, middle + 1, high, best),
+        Err(Refusal::NoMemory) => Err(NoMemory),
+        Err(Refusal::Fault(_why)) => with_fewest(
+            alloc,
+            layout,
+            procedure,
+            own,
+            middle + 1,
+            high,
+            best,
+        ),
     }
 }
 
@@ -318,6 +330,7 @@ fn with_most(
     requires own { own.now ≡ own_widths (procedure_of procedure.now) }
     requires room { length own.now + temps ≤ 252 }
     requires all { temps ≡ temps_for (length own.now) }
+    requires needed { NeedsAsMany layout.now (procedure_of procedure.now) temps }
     ensures flat { IfOk result (λ p. IsFlat layout.now (procedure_of procedure.now) p) }
     ensures onward { IfOk result (λ p. has_loop (code_of procedure.now.body) ≡ false → all_lead_on 0 p.code ≡ true) }
     ensures few { IfOk result (λ p. length p.widths ≤ 252) }
@@ -399,9 +412,10 @@ fn flattened_with(
     requires given { procedure.now.result ≤ 4 }
     requires own { own.now ≡ own_widths (procedure_of procedure.now) }
     requires room { length own.now + temps ≤ 252 }
-    ensures flat { IfOk result (λ p. IsFlat layout.now (procedure_of procedure.now) p) }
+    ensures flat { IfOk result (λ p. NeedsAsMany layout.now (procedure_of procedure.now) temps → IsFlat layout.now (procedure_of procedure.now) p) }
     ensures onward { IfOk result (λ p. has_loop (code_of procedure.now.body) ≡ false → all_lead_on 0 p.code ≡ true) }
     ensures few { IfOk result (λ p. length p.widths ≤ 252) }
+    ensures cause { IsRefusedIn result (procedure_of procedure.now) (made_with temps layout.now (procedure_of procedure.now)) }
     ensures refusal { temps ≡ temps_for (length own.now) → IsRefusedIn result (procedure_of procedure.now) (made_of layout.now (procedure_of procedure.now)) }
 {
     let receiver = receivers(procedure.receives);
@@ -437,7 +451,7 @@ fn pushed_with(
     requires given { procedure.now.result ≤ 4 }
     requires own { own.now ≡ own_widths (procedure_of procedure.now) }
     requires room { length own.now + temps ≤ 252 }
-    ensures flat { IfOk result (λ p. IsFlat layout.now (procedure_of procedure.now) p) }
+    ensures flat { IfOk result (λ p. HomesNeverDo layout.now (procedure_of procedure.now) → IsFlat layout.now (procedure_of procedure.now) p) }
     ensures onward { IfOk result (λ p. has_loop (code_of procedure.now.body) ≡ false → all_lead_on 0 p.code ≡ true) }
     ensures few { IfOk result (λ p. length p.widths ≤ 252) }
     ensures refusal { temps ≡ temps_for (length own.now) → IsRefusedIn result (procedure_of procedure.now) (stacked_of layout.now (procedure_of procedure.now)) }

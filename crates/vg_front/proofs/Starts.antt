@@ -19,12 +19,14 @@ use Rattle.vg_core.specs.HeldProgram.{program_at}
 use Rattle.vg_core.specs.Program.{Program}
 use Rattle.vg_core.specs.Session as core
 use Rattle.vg_renamed.specs.Stands.{named_start}
+use Rattle.vg_named_locals.specs.Locals.{HaveLocals}
 use Rattle.vg_types.specs.Checks.{IsProgramOf}
 use Rattle.vg_types.proofs.Alike.{initialised, sessions}
 use Rattle.vg_session.specs.declared.initialisation.InitFault.{InitFault}
 use Rattle.vg_session.specs.Initialises.{Initialises, why_of}
 use Rattle.vg_faults.specs.declared.fault.Fault.{Fault}
-use Rattle.vg_faults.specs.declared.fault.Fault.TheVariants.{NoTree, TooDeep, TooMany, Broken, InitTrap, InitSteps, InitDepth, InitTouches, InitTooBig, Allocates, StaticFull, TableFull}
+use Rattle.vg_faults.specs.declared.fault.Fault.TheVariants.{NoTree, TooDeep, TooMany, Broken, InitTrap, InitSteps, InitDepth}
+use Rattle.vg_faults.specs.declared.fault.Fault.TheVariants.{InitTouches, InitTooBig, Allocates, StaticFull, TableFull}
 use Rattle.vg_faults.specs.declared.fault.Fault.TheVariants.{StackFull, CodeFull, NoMember, NotBuilt}
 use Rattle.vg_front.specs.declared.starting.Start.{Start}
 use Rattle.vg_faults.specs.Judged.{IsLegal, RefusedIn, fault_of, tree_fault}
@@ -136,9 +138,12 @@ made_is bytes names tree clock s text reads m =
     let same : tree_at s.names s.tree ≡ tree_at names tree = ap (λ x. tree_at x s.tree) m.names_is ∙ ap (tree_at names) m.tree_is in
     let program : IsProgramOf s.names (tree_at names tree) (program_at s.program) =
     subst (λ x. IsProgramOf x (tree_at names tree) (program_at s.program)) (sym m.names_is) m.program in
+    let locals : HaveLocals s.names (tree_at names tree) (program_at s.program) =
+    subst (λ x. HaveLocals x (tree_at names tree) (program_at s.program)) (sym m.names_is) m.locals in
     record {
       legal = subst (IsLegal bytes) (sym same) (record { text = text; reads = reads; legal = m.legal });
       program = subst (λ t. IsProgramOf s.names t (program_at s.program)) (sym same) program;
+      locals = subst (λ t. HaveLocals s.names t (program_at s.program)) (sym same) locals;
       typed = m.typed;
       starts = m.starts;
     }

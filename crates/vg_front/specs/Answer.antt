@@ -6,16 +6,19 @@ use Rattle.vg_tree_walks.specs.Whole.{tree_at}
 use Rattle.vg_core.specs.HeldProgram.{program_at}
 use Rattle.vg_core.specs.Session as core
 use Rattle.vg_sound.specs.Good.{HasTypedHeap}
+use Rattle.vg_named_locals.specs.Locals.{HaveLocals}
 use Rattle.vg_types.specs.Checks.{IsProgramOf}
 use Rattle.vg_faults.specs.declared.fault.Fault.{Fault}
 use Rattle.vg_front.specs.declared.starting.Start.{Start}
 use Rattle.vg_faults.specs.Judged.{IsLegal}
 use Rattle.vg_faults.specs.Faults.{HasFault}
 
--- the bytes are a legal text with this tree, whose typed program is initialised with this clock to this heap
+-- the bytes are a legal text with this tree, whose typed program is initialised with this clock to this heap; the parameters and locals of the program's
+-- methods have the types of the tree
 pub record IsStartOf (bytes : List ℕ) (clock : ℕ) (s : Start) : Type 0 where
   pub legal : IsLegal bytes (tree_at s.names s.tree)
   pub program : IsProgramOf s.names (tree_at s.names s.tree) (program_at s.program)
+  pub locals : HaveLocals s.names (tree_at s.names s.tree) (program_at s.program)
   pub typed : HasTypedHeap s.program.tables s.heap
   pub starts : core.started (program_at s.program) clock ≡ core.Started s.heap
 

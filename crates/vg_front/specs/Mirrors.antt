@@ -11,6 +11,7 @@ use Rattle.vg_tree_walks.specs.declared.tree.Tree.{Tree}
 use Rattle.vg_core.specs.HeldProgram.{program_at}
 use Rattle.vg_core.specs.Session as core
 use Rattle.vg_sound.specs.Good.{HasTypedHeap}
+use Rattle.vg_named_locals.specs.Locals.{HaveLocals}
 use Rattle.vg_types.specs.Checks.{IsProgramOf}
 use Rattle.vg_faults.specs.declared.fault.Fault.{Fault}
 use Rattle.vg_front.specs.declared.starting.Start.{Start}
@@ -23,6 +24,7 @@ pub record IsMadeOf (names : List (List ℕ)) (tree : Tree) (clock : ℕ) (s : S
   pub tree_is : s.tree ≡ tree
   pub legal : refusal_of (tree_at names tree) ≡ None
   pub program : IsProgramOf names (tree_at names tree) (program_at s.program)
+  pub locals : HaveLocals names (tree_at names tree) (program_at s.program)
   pub typed : HasTypedHeap s.program.tables s.heap
   pub starts : core.started (program_at s.program) clock ≡ core.Started s.heap
 

@@ -4,8 +4,8 @@ ghost use Rattle.vg_base.specs.Limits.{text_limit};
 ghost use Rattle.vg_rules.specs.Refusal.{refusal_of};
 ghost use Rattle.vg_tree_walks.specs.Whole.{tree_at, node_count};
 ghost use Rattle.vg_core.specs.HeldProgram.{program_at};
-ghost use Rattle.vg_types.specs.Checks.{IsProgramOf};
-ghost use Rattle.vg_types.specs.Checks.{refused_view};
+ghost use Rattle.vg_named_locals.specs.Locals.{HaveLocals};
+ghost use Rattle.vg_types.specs.Checks.{IsProgramOf, refused_view};
 ghost use Rattle.vg_session.specs.Initialises.{why_of};
 ghost use Rattle.vg_faults.specs.Judged.{fault_of, place_in};
 ghost use Rattle.vg_faults.specs.Starting.{failure_of};
@@ -101,6 +101,7 @@ fn initialised(
 ) -> Result<Start, Refusal<Fault>>
     requires legal { refusal_of (tree_at names tree) ≡ None }
     requires typed { IsProgramOf names (tree_at names tree) (program_at program) }
+    requires locals { HaveLocals names (tree_at names tree) (program_at program) }
     ensures { Makes names tree steps result }
 {
     match init(alloc, &program, steps) {

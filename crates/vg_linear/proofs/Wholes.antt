@@ -18,7 +18,7 @@ use Rattle.vg_linear.specs.Laying.{layout_of}
 use Rattle.vg_linear.specs.Flats.{AreAllFlat, AreTaken, AreTyped, IsRefusedFor}
 use Rattle.vg_linear.specs.Expanded.{AreAllExpanded, IsOneTooLong}
 use Rattle.vg_linear.specs.Routines.{WithRoutines}
-use Rattle.vg_linear.specs.Whole.{AreAllMade, IsWithStart, first_routine, packed_of}
+use Rattle.vg_linear.specs.Whole.{AreAllMade, ArePlain, IsWithStart, first_routine, packed_of}
 use Rattle.vg_linear.specs.Widths.{AllHaveWidths}
 use Rattle.vg_linear.specs.Refusals.{AreRefused, AreTakenIn, IsExpandedOrTooLong, IsRefused, IsTakenFor, IsTypedIn}
 use Rattle.vg_linear.proofs.Lists.{get_at}
@@ -82,6 +82,20 @@ module _ (lay : Layout) (f : FirmProgram) where
         expanded = expanded;
         are_expanded = subst (λ z. AreAllExpanded z trimmed expanded) is (subst (λ z. AreAllExpanded first z expanded) e are_expanded);
         routines = subst (λ z. WithRoutines z expanded all) is routines;
+      }
+
+      pub all_plain : trimmed ≡ bs → (expanded all : List Procedure) → first ≡ first_routine f → AreAllExpanded first ms expanded
+          → WithRoutines first expanded all → ArePlain lay f all
+      all_plain kept expanded all is are_expanded routines = λ cs l laid stands has start. record {
+        layout = stands ∙ laid;
+        flats = flats;
+        are_flat = subst (λ z. AreAllFlat z (packed_of f) flats) (sym stands) are_flat;
+        begun = begun;
+        with_start = with_start;
+        expanded = expanded;
+        are_expanded = subst (λ z. AreAllExpanded z begun expanded) is (subst (λ z. AreAllExpanded first z expanded) (e ∙ (kept ∙ same)) are_expanded);
+        routines = subst (λ z. WithRoutines (first_routine f) expanded z) (sym has) (subst (λ z. WithRoutines z expanded all) is routines);
+        start = start;
       }
 
 -- ---- programs

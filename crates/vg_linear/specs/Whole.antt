@@ -55,6 +55,21 @@ pub record IsLinear (cs : List Column) (f : FirmProgram) (l : Linear) : Type 0 w
   pub made : AreAllMade l.layout f l.procedures
   pub start : l.start ≡ length f.procedures
 
+-- The procedures of a linear program are flattened and expanded, and none of them is trimmed.
+pub record IsPlain (cs : List Column) (f : FirmProgram) (l : Linear) : Type 0 where
+  pub layout : l.layout ≡ layout_of cs f
+  -- the procedures of the packed program, flattened
+  pub flats : List Procedure
+  pub are_flat : AreAllFlat l.layout (packed_of f) flats
+  -- with the start behind them
+  pub begun : List Procedure
+  pub with_start : IsWithStart f flats begun
+  -- all expanded, with the routines that they call behind these
+  pub expanded : List Procedure
+  pub are_expanded : AreAllExpanded (first_routine f) begun expanded
+  pub routines : WithRoutines (first_routine f) expanded l.procedures
+  pub start : l.start ≡ length f.procedures
+
 -- The program of these procedures, by the code numbers of the packed ones, the bytes of both memories at the start, and the handlers.
 abbrev pub linear_program : Codes → FirmProgram → Linear → (tables ram : List ℕ) → (handler : ℕ → Option ℕ) → Program
 linear_program k f l tables ram handler = record {
@@ -66,3 +81,10 @@ linear_program k f l tables ram handler = record {
   handler = handler;
   start = l.start;
 }
+
+-- ---- the answer of a function of this crate (a mirror)
+
+-- A linear program with these procedures is plain.
+abbrev pub ArePlain : Layout → FirmProgram → List Procedure → Type 0
+ArePlain lay f all =
+    (cs : List Column) (l : Linear) → lay ≡ layout_of cs f → l.layout ≡ lay → l.procedures ≡ all → l.start ≡ length f.procedures → IsPlain cs f l

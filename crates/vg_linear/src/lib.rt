@@ -1,5 +1,5 @@
 //! The linear program of a packed one: where its columns stand and how its procedures are called, its procedures flattened with the start behind them,
-//! all of them trimmed and expanded, and the routines that they call behind these.
+//! all of them trimmed, where the program is not to be plain, and expanded, and the routines that they call behind these.
 #![tactic(auto)]
 
 pub mod expanding;
@@ -11,4 +11,4 @@ pub mod routines;
 pub mod whole;
 pub mod widths;
 
-pub use whole::{Linear, make_linear};
+pub use whole::{Linear, make_linear, make_plain};

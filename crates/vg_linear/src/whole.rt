@@ -1,9 +1,13 @@
 // Whole programs.
 ghost use Rattle.std.specs.Prelude.{◌≡◌, ◌<◌, ◌≤◌, IfOk, length};
+ghost use Rattle.vg_apt.specs.Apt.{AllKeepApt};
+ghost use Rattle.vg_trim.specs.Looked.{AreNoLonger};
+ghost use Rattle.vg_trimming.specs.Trimmed.{AreAllTrimmed};
+ghost use Rattle.vg_linear.specs.declared.whole.Making.TheVariants.{Plain};
 ghost use Rattle.vg_linear.specs.Flats.{AreAllFlat};
 ghost use Rattle.vg_linear.specs.Laying.{layout_of};
 ghost use Rattle.vg_linear.specs.Refusals.{AreRefused, AreTakenIn, IsExpandedOrTooLong, IsRefused, IsTakenFor, IsTypedIn};
-ghost use Rattle.vg_linear.specs.Whole.{AreAllMade, IsLinear, IsWithStart, packed_of};
+ghost use Rattle.vg_linear.specs.Whole.{AreAllMade, ArePlain, IsLinear, IsPlain, IsWithStart, packed_of};
 ghost use Rattle.vg_linear.specs.Widths.{AllHaveWidths};
 
 use crate::expanding::expand_all;
@@ -18,14 +22,14 @@ use vg_flatten_shapes::{Fault, Layout};
 use vg_lin::LinProc;
 use vg_packed::FirmProgram;
 use vg_placement::Column;
-use vg_trim::trim_all;
+use vg_trim::{keep_all, trim_all};
 
 /// A linear program.
 pub struct Linear {
     /// Where columns and tables stand, and how procedures are called.
     pub layout: Layout,
-    /// Those of the packed program, in their order, and the start, each trimmed and expanded; and behind them, in the place of each of the four routines, the routine
-    /// where one of these procedures calls it, and else a procedure that returns at once.
+    /// Those of the packed program, in their order, and the start, each expanded, and trimmed before that, unless the program is plain; and behind them, in
+    /// the place of each of the four routines, the routine where one of these procedures calls it, and else a procedure that returns at once.
     pub procedures: Row<LinProc>,
     /// The place of the start: behind those of the packed program.
     pub start: u16,
@@ -56,6 +60,15 @@ impl Linear {
     }
 }
 
+// Whether the procedures of a linear program are trimmed before they are expanded.
+#[derive(Clone, Copy)]
+enum Making {
+    // Each has less to do.
+    Trimmed,
+    // Each is as it was flattened.
+    Plain,
+}
+
 /// The linear program of a packed one with these columns. All its procedures are expanded: none of them has a product, a division, a remainder or a shift
 /// by an amount that is not known.
 ///
@@ -72,6 +85,38 @@ pub fn make_linear(
     ensures refusal { IsRefused result columns.now firm.now }
     ensures typed { IsTypedIn (layout_of columns.now firm.now) firm.now → IsTakenFor result columns.now firm.now }
 {
+    make(alloc, columns, firm, Making::Trimmed)
+}
+
+/// A linear program of a packed one with these columns in which no procedure is trimmed: what `make_linear` makes, with more to do, of which more is known.
+/// It refuses what that refuses.
+pub fn make_plain(
+    alloc: Global,
+    columns: &[Column],
+    firm: &FirmProgram,
+) -> Result<Linear, Refusal<Fault>>
+    requires { firm.now.main < length firm.now.procedures }
+    ensures linear { IfOk result (IsLinear columns.now firm.now) }
+    ensures plain { IfOk result (IsPlain columns.now firm.now) }
+    ensures refusal { IsRefused result columns.now firm.now }
+    ensures typed { IsTypedIn (layout_of columns.now firm.now) firm.now → IsTakenFor result columns.now firm.now }
+{
+    make(alloc, columns, firm, Making::Plain)
+}
+
+// The linear program, with its procedures made so.
+fn make(
+    alloc: Global,
+    columns: &[Column],
+    firm: &FirmProgram,
+    making: Making,
+) -> Result<Linear, Refusal<Fault>>
+    requires { firm.now.main < length firm.now.procedures }
+    ensures linear { IfOk result (IsLinear columns.now firm.now) }
+    ensures plain { making ≡ Plain → IfOk result (IsPlain columns.now firm.now) }
+    ensures refusal { IsRefused result columns.now firm.now }
+    ensures typed { IsTypedIn (layout_of columns.now firm.now) firm.now → IsTakenFor result columns.now firm.now }
+{
     let procedures = firm.procedures.as_slice();
     if !all_have_widths(procedures) {
         return Err(Refusal::Fault(Fault::NotTaken));
@@ -80,7 +125,7 @@ pub fn make_linear(
         return Err(Refusal::Fault(Fault::TooLong));
     }
     let layout = layout(alloc, columns, firm)?;
-    let all = match all_procedures(alloc, &layout, firm) {
+    let all = match all_procedures(alloc, &layout, firm, making) {
         Ok(all) => all,
         Err(why) => return Err(why),
     };
@@ -91,16 +136,18 @@ pub fn make_linear(
     })
 }
 
-// Those of the program, flattened, and the start, all of them trimmed and expanded, and the routines that they call.
+// Those of the program, flattened, and the start, all of them made so and expanded, and the routines that they call.
 fn all_procedures(
     alloc: Global,
     layout: &Layout,
     firm: &FirmProgram,
+    making: Making,
 ) -> Result<Row<LinProc>, Refusal<Fault>>
     requires widths { AllHaveWidths firm.now.procedures }
     requires few { length firm.now.procedures ≤ 65531 }
     requires main { firm.now.main < length firm.now.procedures }
     ensures made { IfOk result (AreAllMade layout.now firm.now) }
+    ensures plain { making ≡ Plain → IfOk result (ArePlain layout.now firm.now) }
     ensures refusal { AreRefused result layout.now firm.now }
     ensures typed { IsTypedIn layout.now firm.now → AreTakenIn result layout.now firm.now }
 {
@@ -108,32 +155,47 @@ fn all_procedures(
         Ok(flats) => flats,
         Err(why) => return Err(why),
     };
-    made_of(alloc, layout, firm, flats)
+    made_of(alloc, layout, firm, flats, making)
 }
 
-// The flattened procedures and the start, trimmed and expanded, and the routines that they call.
+// The flattened procedures and the start, made so and expanded, and the routines that they call.
 fn made_of(
     alloc: Global,
     layout: &Layout,
     firm: &FirmProgram,
     flats: Row<LinProc>,
+    making: Making,
 ) -> Result<Row<LinProc>, Refusal<Fault>>
     requires few { length firm.now.procedures ≤ 65531 }
     requires main { firm.now.main < length firm.now.procedures }
     requires flat { AreAllFlat layout.now (packed_of firm.now) flats }
     ensures made { IfOk result (AreAllMade layout.now firm.now) }
+    ensures plain { making ≡ Plain → IfOk result (ArePlain layout.now firm.now) }
     ensures refusal { AreRefused result layout.now firm.now }
     ensures typed { IsTypedIn layout.now firm.now → AreTakenIn result layout.now firm.now }
 {
     let first = firm.procedures.len() as u16 + 1;
     let begun = with_start(alloc, firm, flats)?;
-    let trimmed = trim_all(alloc, begun.as_slice())?;
+    let trimmed = made(alloc, begun.as_slice(), making)?;
     let expanded = match expanded(alloc, trimmed.as_slice(), first) {
         Ok(expanded) => expanded,
         Err(why) => return Err(why),
     };
     let all = with_routines(alloc, expanded, first)?;
     Ok(all)
+}
+
+// The procedures, trimmed or as they are.
+fn made(alloc: Global, procedures: &[LinProc], making: Making) -> Result<Row<LinProc>, NoMemory>
+    ensures trimmed { IfOk result (λ new. AreAllTrimmed procedures.now new) }
+    ensures short { IfOk result (λ new. AreNoLonger procedures.now new) }
+    ensures apt { IfOk result (λ new. AllKeepApt procedures.now new) }
+    ensures same { making ≡ Plain → IfOk result (λ new. new ≡ procedures.now) }
+{
+    match making {
+        Making::Trimmed => trim_all(alloc, procedures),
+        Making::Plain => keep_all(alloc, procedures),
+    }
 }
 
 // The start is put behind the procedures.

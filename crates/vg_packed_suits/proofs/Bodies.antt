@@ -1,5 +1,6 @@
 -- All procedures of a packed program are typed.
 use Rattle.std.proofs.Common.{◌≡◌, refl, sym, ap, subst, ◌∙◌, arith, ℕ, suc, ◌+◌, ◌≤◌, List, [], ◌∷◌, ◌++◌, length, map, Option, Some, None, slice_get}
+use Rattle.std.proofs.lemmas.List.{length-map}
 use Rattle.std.specs.List.{AllByRecursion}
 use Rattle.vg_core.specs.declared.heap.Heap.{Heap}
 use Rattle.vg_core.specs.declared.program.Method.{Method}
@@ -11,8 +12,8 @@ use Rattle.vg_core.specs.Typing.{locals_of}
 use Rattle.vg_sound.proofs.Values.{onto_length}
 use Rattle.vg_firm.specs.Held.{procedure_of}
 use Rattle.vg_firm.specs.Program.{Procedure}
-use Rattle.vg_firm_typed_any.specs.TypedFor.{IsTypedFor}
 use Rattle.vg_flatten_shapes.specs.declared.layout.Layout.{Layout as Placed}
+use Rattle.vg_coded.specs.Widths.{width_of}
 use Rattle.vg_live.specs.declared.live_set.LiveSet.{LiveSet}
 use Rattle.vg_live.specs.Sets.{flat}
 use Rattle.vg_live.specs.Uses.{steps_of, steps_in}
@@ -39,7 +40,7 @@ use Rattle.vg_packed_small.proofs.Procedures.{some_codes, codes}
 use Rattle.vg_packed_typed.proofs.Moved.{is_typed}
 use Rattle.vg_packed_suits.specs.Standing.{StandIn}
 use Rattle.vg_packed_typed.specs.Methods.{AreCounted}
-use Rattle.vg_packed_suits.specs.Bodies.{HaveSmallFields}
+use Rattle.vg_packed_suits.specs.Bodies.{HaveSmallFields, IsTypedOf}
 use Rattle.vg_packed_suits.proofs.Suited.{suits}
 
 -- ---- what holds of each packed procedure
@@ -98,28 +99,37 @@ module _ (p : Program) (h : Heap) (s : LiveSet) (n : Numbers) (c : Columns) (f :
       there : (i : ℕ) (q : Step) → slice_get (steps_in (Some b)) i ≡ Some q → slice_get (steps_of p m) i ≡ Some q
       there i q e = ap (λ o. slice_get (steps_in o) i) eb ∙ e
 
-  few_locals : (y : Method) (b : Body) → length y.params + length b.others ≤ 60 → length (locals_of (signature y) b) ≤ 60
-  few_locals y b few =
-      let a = onto_length y.params [] in let c1 = onto_length (onto y.params []) b.others in omega (arith, few, a, c1)
+  -- a procedure has the parameters and the other locals of its method
+  as_many : (y : Method) (b : Body) → length (locals_of (signature y) b) ≡ length y.params + length b.others
+  as_many y b = let a = onto_length y.params [] in let c1 = onto_length (onto y.params []) b.others in omega (arith, a, c1)
 
   typed_method : (m q : ℕ) (y : Method) (b : Body) → slice_get p.tables.methods m ≡ Some y → slice_get p.methods m ≡ Some b
-      → flat (slice_get from.plan.procedures m) ≡ Some q → IsTypedFor lay (packed_here p.tables n from.plan m y b)
+      → flat (slice_get from.plan.procedures m) ≡ Some q → IsTypedOf p lay (packed_here p.tables n from.plan m y b)
   typed_method m q y b ey eb e =
       let k = counted m y b ey eb in
       let is_codes = codes p h s n c f from given in
-      let few : length (locals_of (signature y) b) ≤ 60 = few_locals y b k.few in
-      subst (IsTypedFor lay) (sym (same_packed m y b eb))
-      (is_typed p.tables l some_codes (program_of some_codes f) lay (l.edges m) m (signature y) b
+      let few : length (locals_of (signature y) b) ≤ 60 = let u = k.few in let v = as_many y b in omega (arith, u, v) in
+      let t = is_typed p.tables l some_codes (program_of some_codes f) lay (l.edges m) m (signature y) b
       (suits p h s n c f given ready fields from is some_codes is_codes lay stand) given.few_parameters
       (live_fits p given.typed ready.plain h given.heap.0 given.heap.1 l some_codes (program_of some_codes f)
       (is_of p h s n c f given ready from some_codes) m (signature y) b (only_methods p h s n c f given ready from some_codes m q e)
       (ap method_signature ey) eb)
-      few k.most k.counted)
+      few k.most k.counted in
+      subst (IsTypedOf p lay) (sym (same_packed m y b eb))
+      (record {
+        typed = t.0;
+        method = y;
+        there = ey;
+        within = let most = t.1 in let u = k.within in omega (arith, most, u);
+        body = b;
+        has_body = eb;
+        locals = length-map (locals_of (signature y) b) width_of ∙ as_many y b;
+      })
 
-  pub all_typed : AllByRecursion (IsTypedFor lay) (map procedure_of f.procedures)
+  pub all_typed : AllByRecursion (IsTypedOf p lay) (map procedure_of f.procedures)
   all_typed =
-      subst (AllByRecursion (IsTypedFor lay)) (sym from.procedures)
-      (each_packed p.tables n from.plan (IsTypedFor lay) 0 p.tables.methods p.methods
+      subst (AllByRecursion (IsTypedOf p lay)) (sym from.procedures)
+      (each_packed p.tables n from.plan (IsTypedOf p lay) 0 p.tables.methods p.methods
       (λ i q y b ey eb e. let z : i + 0 ≡ i = omega arith in
-      subst (λ w. IsTypedFor lay (packed_here p.tables n from.plan w y b)) (sym z)
+      subst (λ w. IsTypedOf p lay (packed_here p.tables n from.plan w y b)) (sym z)
       (typed_method i q y b ey eb (ap (λ w. flat (slice_get from.plan.procedures w)) (sym z) ∙ e))))

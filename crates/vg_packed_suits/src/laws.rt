@@ -27,7 +27,8 @@ pub fn packed_programs_suit()
         → (k : Codes) → AreCodes (length f.procedures) k → (lay : Placed) → StandIn c.list lay → Suits p.tables (planned h n from.plan) k lay }
 {}
 
-/// All procedures of a packed program are typed, where the code of its methods takes and leaves its values in order.
+/// All procedures of a packed program are typed, with as many locals as their methods have, and at most two values more wait in each than its method's body has
+/// nodes, where the code of the methods takes and leaves its values in order.
 pub fn packed_programs_are_typed()
     ensures { (p : Program) (h : Heap) (s : LiveSet) (n : Numbers) (c : Columns) (f : FirmProgram) → IsGiven p h s n c
         → (from : IsPackedFrom p h s n c f) → HasTables p.tables (kinds_of h) s c.list (steps_from p 0 s.methods) from.plan → AreTypedWhereCounted p h c f }

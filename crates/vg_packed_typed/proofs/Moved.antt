@@ -258,14 +258,16 @@ module _ (p : Tables) (l : Layout) (k : Codes) (f : FirmProgram) (lay : Placed) 
 
 pub is_typed : (p : Tables) (l : Layout) (k : Codes) (f : FirmProgram) (lay : Placed) (calls : List ℕ) (m : ℕ) (g : Signature) (b : Body) → Suits p l k lay
     → HaveFewParameters p → Fits (allowing p l f calls (locals_of g b) g.owner g.result) false b.code [] [] → length (locals_of g b) ≤ 60
-    → (most : ℕ) → Counted core_measures most false 0 b.code 0 0 → IsTypedFor lay (packed p l k m g b)
-is_typed p l k f lay calls m g b suits params h few most c =
-    record {
-      few = let e = length-map (locals_of g b) width_of in omega (arith, e, few);
-      most = most;
-      code =
-          subst (λ n. Typed (record { layout = lay; locals = n; most = most }) false 0 (replaced (move p l k) (without_pairs b.code)) 0 0)
-          (sym (length-map (locals_of g b) width_of))
-          (code_typed p l k f lay suits most (locals_of g b) calls g.owner g.result b.code false None 0 0 0 [] [] h c);
-      takes = all_few p l k f params (locals_of g b) calls g.owner g.result b.code h;
-    }
+    → (most : ℕ) → Counted core_measures most false 0 b.code 0 0 → (t : IsTypedFor lay (packed p l k m g b)) × (t.most ≡ most)
+is_typed p l k f lay calls m g b suits params h few most c = (
+  record {
+    few = let e = length-map (locals_of g b) width_of in omega (arith, e, few);
+    most = most;
+    code =
+        subst (λ n. Typed (record { layout = lay; locals = n; most = most }) false 0 (replaced (move p l k) (without_pairs b.code)) 0 0)
+        (sym (length-map (locals_of g b) width_of))
+        (code_typed p l k f lay suits most (locals_of g b) calls g.owner g.result b.code false None 0 0 0 [] [] h c);
+    takes = all_few p l k f params (locals_of g b) calls g.owner g.result b.code h;
+  },
+  refl,
+)

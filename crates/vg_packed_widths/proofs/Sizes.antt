@@ -1,5 +1,5 @@
 -- What the locals of methods take.
-use Rattle.std.proofs.Common.{◌≡◌, arith, ℕ, ◌+◌, ◌<◌, ◌≤◌, ◌/◌, List, [], ◌∷◌, map, Some, slice_get}
+use Rattle.std.proofs.Common.{◌≡◌, ap, arith, ℕ, ◌+◌, ◌<◌, ◌≤◌, ◌/◌, List, [], ◌∷◌, map, Some, slice_get}
 use Rattle.std.specs.List.{AllByRecursion}
 use Rattle.vg_syntax.specs.Tree.{Node}
 use Rattle.vg_syntax.specs.Reads.{Reads}
@@ -15,12 +15,13 @@ use Rattle.vg_core.specs.declared.types.CoreType.TheVariants as types
 use Rattle.vg_core.specs.declared.program.Method.{Method}
 use Rattle.vg_core.specs.declared.program.Tables.{Tables}
 use Rattle.vg_core.specs.Naming.{Naming, naming_of, named_type}
-use Rattle.vg_core.specs.Program.{Program}
+use Rattle.vg_core.specs.Program.{Program, method_signature}
 use Rattle.vg_core.specs.Typing.{locals_of}
+use Rattle.vg_named_locals.specs.Locals.{HaveLocals}
 use Rattle.vg_coded.specs.Widths.{width_of}
 use Rattle.vg_packing.specs.Allowed.{IsSmall}
 use Rattle.vg_pack_bodies.specs.Procedures.{signature}
-use Rattle.vg_packed_widths.specs.Locals.{HaveLocals, TakesBytes, TakeBytes}
+use Rattle.vg_packed_widths.specs.Locals.{TakesBytes, TakeBytes}
 
 at_least_one : (k : ℕ) → 0 < k → 1 ≤ (k + 7) / 8
 at_least_one k h = omega (arith, h)
@@ -63,6 +64,6 @@ take_bytes bytes texts text p reads legal have are small =
     record {
       locals = λ m y b ey eb.
           all_take (naming_of texts p.tables) p.tables (locals_of (signature y) b)
-          (locals_sized text legal have (reads_so bytes text reads) m _ (are m y b ey eb));
+          (locals_sized text legal have (reads_so bytes text reads) m _ (are m (signature y) b (ap method_signature ey) eb));
       results = λ m y e. small_result y.result (small m y e);
     }

@@ -8,13 +8,14 @@ ghost use Rattle.vg_rules.specs.Legal.{Legal};
 ghost use Rattle.vg_source_ranges.specs.Routines.{HaveMembers};
 ghost use Rattle.vg_core.specs.declared.program.Method.{Method};
 ghost use Rattle.vg_core.specs.Program.{Program};
+ghost use Rattle.vg_named_locals.specs.Locals.{HaveLocals};
 ghost use Rattle.vg_firm.specs.declared.procedure.Procedure.{Procedure};
 ghost use Rattle.vg_firm.specs.Held.{procedure_of};
 ghost use Rattle.vg_number.specs.declared.numbers.Numbers.{Numbers};
 ghost use Rattle.vg_packing.specs.Allowed.{IsSmall};
 ghost use Rattle.vg_pack_bodies.specs.Procedures.{packed_methods};
 ghost use Rattle.vg_pack_code.specs.declared.plan.Plan.{Plan};
-ghost use Rattle.vg_packed_widths.specs.Locals.{HaveLocals, TakeBytes};
+ghost use Rattle.vg_packed_widths.specs.Locals.{TakeBytes};
 ghost use Rattle.vg_packed_widths.specs.Widths.{AllHaveWidths};
 
 /// The parameters and locals of the methods of a typed program take one to four bytes, where they have the types of a text that breaks no rule, and in

@@ -1,3 +1,4 @@
 mod Scopes
 pub mod Bodies
 pub mod Methods
+pub mod Added

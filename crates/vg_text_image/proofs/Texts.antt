@@ -27,7 +27,7 @@ use Rattle.vg_fits_given.specs.Fitted.{Fitted, IsFittedOf, Start, named_start_he
 use Rattle.vg_fits_given.proofs.Given.{chip, given, ready}
 use Rattle.vg_costs.proofs.Bounded.{small}
 use Rattle.vg_costs.proofs.Limited.{not_too_many}
-use Rattle.vg_compile.specs.Compile.{CallsNeedAsSaid, LacksLinearOf, Linked}
+use Rattle.vg_compile.specs.Compile.{CallsNeedAsSaid, HasNoFrames, LacksFramesOf, LacksHandlersOf, LacksLinearOf, Linked}
 use Rattle.vg_compile.specs.declared.no_image.NoImage.{NoImage}
 use Rattle.vg_compile.proofs.Memory.{agrees, agrees_held}
 use Rattle.vg_compile.specs.Memory.{DoesAsProgram}
@@ -44,7 +44,8 @@ use Rattle.vg_layout.specs.Few.{IsFew}
 use Rattle.vg_compile.specs.Runs.{DoesInImage}
 use Rattle.vg_layout.specs.declared.stack_bound.StackBound.{StackBound}
 use Rattle.vg_layout.specs.declared.stack_bound.StackBound.TheVariants.{Bytes, Cycle}
-use Rattle.vg_text_image.specs.Made.{BoundsCallsOf, CanCompile, DoesText, IsCalled, IsCompiledOf, IsRefusedFor, LacksAsSaid, LacksLinear, NeedsAsSaid, NeedsOf}
+use Rattle.vg_text_image.specs.Made.{BoundsCallsOf, CanCompile, DoesText, IsCalled, IsCompiledOf, IsRefusedFor, IsUnbuiltAsSaid}
+use Rattle.vg_text_image.specs.Made.{LacksAsSaid, LacksFrames, LacksHandlers, LacksLinear, NeedsAsSaid, NeedsOf}
 
 -- ---- bytes of flash
 
@@ -323,3 +324,25 @@ lacks_of f r why NotLinear e (fault, is) h = (
 lacks_of f r why (CodeFull words) e called h = tt
 lacks_of f r why (StackFull need) e called h = tt
 lacks_of f r why NotBuilt e called h = tt
+
+pub built_of : (f : Fitted) (r : Result TextImage (Refusal Unmade)) → IfErr r (IsUnbuiltAsSaid f) → r ≡ Err (refusal.Fault NotBuilt)
+    → LacksFrames f ⊎ LacksHandlers f
+built_of f r h e = subst (λ z. IfErr z (IsUnbuiltAsSaid f)) e h
+
+-- and with frames that the costs pay, and with handlers
+module _ (f : Fitted) (cs : List ℕ) (are : (texts : List (List ℕ)) → cs ≡ costs (tree_at texts f.alive.start.tree)) where
+  abbrev Unframed : Refusal NoImage → Type 0
+  Unframed = LacksFramesOf (program_at f.alive.start.program) f.alive.start.heap f.alive.live f.placed.numbers f.placed.columns cs
+
+  abbrev Unhandled : Refusal NoImage → Type 0
+  Unhandled = LacksHandlersOf (program_at f.alive.start.program) f.alive.start.heap f.alive.live f.placed.numbers f.placed.columns
+
+  pub unbuilt_of : (r : Refusal NoImage) (why : NoImage) (u : Unmade) → r ≡ refusal.Fault why → IsCalled why u → Unframed r → Unhandled r
+      → IsUnbuiltAsSaid f (refusal.Fault u)
+  unbuilt_of r why NotBuilt e (inl is) frames handlers = inl (λ texts.
+      subst (λ z. HasNoFrames (program_at f.alive.start.program) f.alive.start.heap f.alive.live f.placed.numbers f.placed.columns z) (are texts)
+      (subst (λ z. Unframed (refusal.Fault z)) is (subst Unframed e frames)))
+  unbuilt_of r why NotBuilt e (inr is) frames handlers = inr (subst (λ z. Unhandled (refusal.Fault z)) is (subst Unhandled e handlers))
+  unbuilt_of r why (CodeFull words) e called frames handlers = tt
+  unbuilt_of r why (StackFull need) e called frames handlers = tt
+  unbuilt_of r why NotLinear e called frames handlers = tt

@@ -1,5 +1,5 @@
 -- What it means that an image is made of a text that fits.
-use Rattle.std.specs.Prelude.{ℕ, ◌≡◌, ◌+◌, ◌-◌, ◌<◌, ◌≤◌, List, [], length, map, Result, Ok, Err}
+use Rattle.std.specs.Prelude.{ℕ, ◌≡◌, ◌⊎◌, ◌+◌, ◌-◌, ◌<◌, ◌≤◌, List, [], length, map, Result, Ok, Err}
 use Rattle.std.specs.List.{AllByRecursion}
 use Rattle.vg_base.specs.declared.refusal.Refusal.{Refusal}
 use Rattle.vg_base.specs.declared.refusal.Refusal.TheVariants as refusal
@@ -23,7 +23,7 @@ use Rattle.vg_compile.specs.declared.no_image.NoImage.{NoImage}
 use Rattle.vg_compile.specs.declared.no_image.NoImage.TheVariants as no_image
 use Rattle.vg_compile.specs.declared.no_image.NoImage.TheVariants.{Deep}
 use Rattle.vg_flatten_shapes.specs.declared.fault.Fault.{Fault}
-use Rattle.vg_compile.specs.Compile.{HasNoLinear}
+use Rattle.vg_compile.specs.Compile.{HasNoFrames, HasNoHandlers, HasNoLinear}
 use Rattle.vg_costs.specs.Small.{AreSmall}
 use Rattle.vg_compile.specs.Bounds.{DoesFor, HoldsBound}
 use Rattle.vg_layout.specs.Few.{IsFew}
@@ -111,10 +111,27 @@ abbrev pub LacksAsSaid : Fitted → Refusal Unmade → Type 0
 LacksAsSaid f (refusal.Fault NotLinear) = LacksLinear f
 LacksAsSaid f why = Unit {0}
 
--- Where a cause is called that of the stack, it is that calls need as many bytes; and where it is called that of linear code, it is that.
+-- Where no procedure is trimmed, the costs of the text's methods cannot pay what was packed of what fits.
+abbrev pub LacksFrames : Fitted → Type 0
+LacksFrames f =
+    (texts : List (List ℕ)) → HasNoFrames (program_at f.alive.start.program) f.alive.start.heap f.alive.live f.placed.numbers f.placed.columns
+    (costs (tree_at texts f.alive.start.tree))
+
+-- Where no procedure is trimmed, an interrupt cannot call each handler of what was packed of what fits.
+abbrev pub LacksHandlers : Fitted → Type 0
+LacksHandlers f = HasNoHandlers (program_at f.alive.start.program) f.alive.start.heap f.alive.live f.placed.numbers f.placed.columns
+
+-- Where the cause is said to be that no image is built, it is one of these.
+abbrev pub IsUnbuiltAsSaid : Fitted → Refusal Unmade → Type 0
+IsUnbuiltAsSaid f (refusal.Fault NotBuilt) = LacksFrames f ⊎ LacksHandlers f
+IsUnbuiltAsSaid f why = Unit {0}
+
+-- Where a cause is called that of the stack, it is that calls need as many bytes; where it is called that of linear code, it is that; and where it is that no
+-- image is built, it is that of frames or that of handlers.
 abbrev pub IsCalled : NoImage → Unmade → Type 0
 IsCalled why (StackFull need) = why ≡ Deep need
 IsCalled why NotLinear = (fault : Fault) × (why ≡ no_image.NotLinear fault)
+IsCalled why NotBuilt = (why ≡ no_image.Costly) ⊎ (why ≡ no_image.Received)
 IsCalled why u = Unit {0}
 
 abbrev pub IsRefusedFor : (stack : ℕ) → Result TextImage (Refusal Unmade) → Type 0

@@ -1,10 +1,11 @@
 // From a text that fits to the flash of its image.
-ghost use Rattle.std.specs.Prelude.{◌≡◌, ◌<◌, ◌≤◌, ℕ, List, length, Err, IfErr, IfOk};
+ghost use Rattle.std.specs.Prelude.{◌≡◌, ◌⊎◌, ◌<◌, ◌≤◌, ℕ, List, length, Err, IfErr, IfOk};
 ghost use Rattle.std.specs.List.{AllByRecursion};
 ghost use Rattle.vg_base.specs.Limits.{flash_bytes};
 ghost use Rattle.vg_layout.specs.Few.{IsFew};
 ghost use Rattle.vg_compile.specs.Compile.{IsCauseFor as IsCauseIn};
-ghost use Rattle.vg_text_image.specs.Made.{CanCompile, IsCalled, IsCauseFor, IsCompiledOf, IsRefusedFor, LacksAsSaid, LacksLinear, NeedsAsSaid, NeedsOf};
+ghost use Rattle.vg_text_image.specs.Made.{CanCompile, IsCalled, IsCauseFor, IsCompiledOf, IsRefusedFor, IsUnbuiltAsSaid};
+ghost use Rattle.vg_text_image.specs.Made.{LacksAsSaid, LacksFrames, LacksHandlers, LacksLinear, NeedsAsSaid, NeedsOf};
 
 use crate::unmade::Unmade;
 use avr_isa::Image;
@@ -33,9 +34,11 @@ pub struct TextImage {
 ///
 /// The machine does in it what the text does from its initialised components, for all device reads and interrupts and with every stack for which there is room
 /// above the static area, and which is no smaller than the bound where there is one; only where calls go round, and those that are active cost more than the
-/// stack, may it reach below the floor first. It refuses what `compile` refuses;
-/// where that is for the stack, calls do not go round, and what they are said to need is at most four more than what the methods of some way of calls cost. Where it has
-/// no linear code, that is of what was packed of it.
+/// stack, may it reach below the floor first.
+///
+/// It refuses what `compile` refuses. Where that is for the stack, calls do not go round, and what they are said to need is at most four more than what the
+/// methods of some way of calls cost. Where it has no linear code, that is of what was packed of it. Where no image is built, what was packed of it has a
+/// linear program in which no procedure is trimmed, and either the costs of the text's methods cannot pay that, or an interrupt cannot call each handler of it.
 pub fn image_of(alloc: Global, fitted: &Fitted, stack: u16) -> Result<TextImage, Refusal<Unmade>>
     requires { CanCompile fitted.now }
     ensures image { IfOk result (IsCompiledOf fitted.now) }
@@ -44,6 +47,7 @@ pub fn image_of(alloc: Global, fitted: &Fitted, stack: u16) -> Result<TextImage,
     ensures deep { (need : ℕ) → result ≡ Err (Refusal.Fault (Unmade.StackFull need)) → stack < need }
     ensures calls { (need : ℕ) → result ≡ Err (Refusal.Fault (Unmade.StackFull need)) → NeedsOf fitted.now need }
     ensures linear { result ≡ Err (Refusal.Fault Unmade.NotLinear) → LacksLinear fitted.now }
+    ensures built { result ≡ Err (Refusal.Fault Unmade.NotBuilt) → LacksFrames fitted.now ⊎ LacksHandlers fitted.now }
 {
     compiled(alloc, fitted, stack)
 }
@@ -56,6 +60,7 @@ fn compiled(alloc: Global, fitted: &Fitted, stack: u16) -> Result<TextImage, Ref
     ensures refused { IsRefusedFor stack result }
     ensures calls { IfErr result (NeedsAsSaid fitted.now) }
     ensures linear { IfErr result (LacksAsSaid fitted.now) }
+    ensures built { IfErr result (IsUnbuiltAsSaid fitted.now) }
 {
     let start = &fitted.alive.start;
     let costs = method_costs(alloc, &start.tree)?;

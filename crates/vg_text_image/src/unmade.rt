@@ -9,6 +9,6 @@ pub enum Unmade {
     StackFull { need: u32 },
     /// What is packed of it has no linear code.
     NotLinear,
-    /// A procedure takes more of the stack than its method costs, or that of a handler receives something.
+    /// A procedure takes more of the stack than its method costs, or that of a handler receives something, even where no procedure is trimmed.
     NotBuilt,
 }

@@ -1,3 +1,4 @@
 mod Few
-mod Light
+pub mod Light
 mod Whole
+pub mod Widths

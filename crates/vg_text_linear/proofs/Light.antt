@@ -11,7 +11,6 @@ use Rattle.vg_firm.specs.Held.{procedure_of}
 use Rattle.vg_firm.specs.Program.{Procedure}
 use Rattle.vg_flat_sizes.specs.Weights.{flat_weight}
 use Rattle.vg_flatten_shapes.specs.declared.layout.Layout.{Layout as Placed}
-use Rattle.vg_firm_typed_any.specs.TypedFor.{IsTypedFor}
 use Rattle.vg_live.specs.declared.live_set.LiveSet.{LiveSet}
 use Rattle.vg_live.specs.Sets.{flat}
 use Rattle.vg_live.specs.Uses.{steps_of, steps_in}
@@ -32,6 +31,7 @@ use Rattle.vg_packed.specs.Packed.{IsPackedFrom}
 use Rattle.vg_packed.specs.Ready.{IsReady}
 use Rattle.vg_packed_small.proofs.Procedures.{some_codes}
 use Rattle.vg_packed_suits.proofs.Bodies.{each_packed}
+use Rattle.vg_packed_suits.specs.Bodies.{IsTypedOf}
 use Rattle.vg_types_named.specs.Programs.{IsProgramOf}
 use Rattle.vg_core.specs.Naming.{named_heap, naming_of}
 use Rattle.vg_code_bound.specs.Nodes.{IsCodeBound}
@@ -48,8 +48,8 @@ AreLight texts tree p =
 abbrev pub IsLight : Procedure → Type 0
 IsLight m = flat_weight m.body ≤ 26908
 
-module _ (texts : List (List ℕ)) (tree : Node) (p : Program) (is : IsProgramOf texts tree p) (light : AreLight texts tree p) (h : Heap) (s : LiveSet) (n : Numbers)
-    (c : Columns) (given : IsGiven p h s n c) (ready : IsReady p h) (f : FirmProgram) (from : IsPackedFrom p h s n c f) (words : ℕ)
+module _ (texts : List (List ℕ)) (tree : Node) (p : Program) (is : IsProgramOf texts tree p) (light : AreLight texts tree p) (h : Heap) (s : LiveSet)
+    (n : Numbers) (c : Columns) (given : IsGiven p h s n c) (ready : IsReady p h) (f : FirmProgram) (from : IsPackedFrom p h s n c f) (words : ℕ)
     (bound : IsCodeBound tree (named_heap (naming_of texts p.tables) p.tables h) words) (few : words ≤ 65536) where
   abbrev l : Layout
   l = planned h n from.plan
@@ -81,7 +81,8 @@ module _ (texts : List (List ℕ)) (tree : Node) (p : Program) (is : IsProgramOf
       (light_method i q y b ey eb (ap (λ w. flat (slice_get from.plan.procedures w)) (sym z) ∙ e))))
 
 -- what is typed and light is short
-pub all_short : (lay : Placed) (ms : List Procedure) → AllByRecursion (IsTypedFor lay) ms → AllByRecursion IsLight ms → AllByRecursion (IsShort lay) ms
-all_short lay [] t l = tt
-all_short lay (m ∷ ms) (t, ts) (l, ls) =
-    let few = t.few in (record { typed = t; short = omega (arith, few, l) }, all_short lay ms ts ls)
+pub all_short : (p : Program) (lay : Placed) (ms : List Procedure) → AllByRecursion (IsTypedOf p lay) ms → AllByRecursion IsLight ms
+    → AllByRecursion (IsShort lay) ms
+all_short p lay [] t l = tt
+all_short p lay (m ∷ ms) (t, ts) (l, ls) =
+    let few = t.typed.few in (record { typed = t.typed; short = omega (arith, few, l) }, all_short p lay ms ts ls)

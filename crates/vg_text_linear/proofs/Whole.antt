@@ -1,5 +1,5 @@
 -- What is packed of a text within the bound on code has linear code.
-use Rattle.std.specs.Prelude.{◌<◌, ◌≤◌, ℕ, Bool, true, false, nat_le, List, [], ◌∷◌, None}
+use Rattle.std.specs.Prelude.{◌<◌, ◌≤◌, ℕ, Bool, true, false, nat_le, List, None}
 use Rattle.std.proofs.Common.{◌≡◌, refl, arith}
 use Rattle.vg_syntax.specs.Tree.{Node}
 use Rattle.vg_rules.specs.Refusal.{refusal_of}
@@ -16,8 +16,6 @@ use Rattle.vg_packed.specs.Packed.{IsPackedFrom}
 use Rattle.vg_packed.specs.Ready.{IsReady}
 use Rattle.vg_packed_small.proofs.Procedures.{few_procedures}
 use Rattle.vg_packed_typed.specs.Methods.{AreCounted}
-use Rattle.vg_firm.specs.declared.procedure.Procedure.{Procedure}
-use Rattle.vg_packed_widths.specs.Widths as packed_widths
 use Rattle.vg_packed_suits.specs.Bodies.{AreTypedWhereCounted, HaveSmallFields}
 use Rattle.vg_text_beside.proofs.Beside.{few_methods}
 use Rattle.vg_types_named.specs.Programs.{IsProgramOf}
@@ -28,11 +26,6 @@ use Rattle.vg_linear.specs.Whole.{packed_of}
 use Rattle.vg_linear.specs.Widths.{AllHaveWidths}
 use Rattle.vg_linear_short.proofs.Programs.{no_cause}
 use Rattle.vg_text_linear.proofs.Light.{AreLight, all_light, all_short}
-
--- widths as linear code asks for them
-pub all_have_widths : (ms : List Procedure) → packed_widths.AllHaveWidths ms → AllHaveWidths ms
-all_have_widths [] h = tt
-all_have_widths (m ∷ ms) (h, hs) = (record { params = h.params; widths = h.widths; result = h.result }, all_have_widths ms hs)
 
 more_by : (words : ℕ) → (words ≤ 65536 → ⊥) → 65536 < words
 more_by words none = by (nat_le words 65536) refl
@@ -50,7 +43,7 @@ module _ (texts : List (List ℕ)) (tree : Node) (p : Program) (is : IsProgramOf
       let many = few_procedures p h s n c f from in
       let methods = few_methods texts tree p is legal in
       no_cause c.list f why widths (omega (arith, many, methods))
-      (all_short (layout_of c.list f) (packed_of f)
+      (all_short p (layout_of c.list f) (packed_of f)
       (typed ready fields counted (layout_of c.list f) (record { ram = refl; tables = refl }))
       (all_light texts tree p is light h s n c given ready f from words bound few))
       cause

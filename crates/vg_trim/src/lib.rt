@@ -7,4 +7,4 @@ pub mod ranges;
 pub mod trimmed;
 
 pub use looking::{looks_right, trims};
-pub use trimmed::{trim, trim_all};
+pub use trimmed::{keep_all, trim, trim_all};

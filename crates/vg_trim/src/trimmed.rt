@@ -61,6 +61,23 @@ pub fn trim_all(alloc: Global, procedures: &[LinProc]) -> Result<Row<LinProc>, N
     Ok(row)
 }
 
+/// The procedures as they are, one for one.
+pub fn keep_all(alloc: Global, procedures: &[LinProc]) -> Result<Row<LinProc>, NoMemory>
+    ensures same { IfOk result (λ new. new ≡ procedures.now) }
+    ensures trimmed { IfOk result (λ new. AreAllTrimmed procedures.now new) }
+    ensures short { IfOk result (λ new. AreNoLonger procedures.now new) }
+    ensures apt { IfOk result (λ new. AllKeepApt procedures.now new) }
+{
+    let mut row = Row::new(alloc);
+    for procedure in procedures {
+        match copy(alloc, procedure) {
+            Ok(new) => row.push(new)?,
+            Err(why) => return Err(why),
+        }
+    }
+    Ok(row)
+}
+
 // The procedure of a guess that stands.
 fn trimmed(old: &LinProc, guess: Plan) -> LinProc
     requires looked { IsLookedAt old.now guess.widths guess.code guess.facts guess.places }
@@ -81,6 +98,7 @@ fn trimmed(old: &LinProc, guess: Plan) -> LinProc
 
 // The procedure as it is.
 fn copy(alloc: Global, old: &LinProc) -> Result<LinProc, NoMemory>
+    ensures same { IfOk result (λ new. new ≡ old.now) }
     ensures trimmed { IfOk result (λ new. IsTrimmedTo old.now new) }
     ensures short { IfOk result (λ new. length new.code ≤ length old.now.code) }
     ensures apt { IfOk result (KeepsApt old.now) }

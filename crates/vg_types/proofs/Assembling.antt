@@ -45,6 +45,7 @@ use Rattle.vg_types_named.proofs.Signed.{at_behind, signed, targets}
 use Rattle.vg_types_named.proofs.Telling.{one_some, class_here, one_class, one_component}
 use Rattle.vg_types_named.proofs.Telling.{targets as signed_stands}
 use Rattle.vg_types.specs.Assembled.{IsOf, AreTyped}
+use Rattle.vg_types.proofs.Locals.{own_count}
 
 count_two : {A : Type 0} (xs ys : List A) → length (xs ++ ys) ≡ length xs + length ys
 count_two [] ys = let e : length ys ≡ 0 + length ys = omega arith in e
@@ -141,12 +142,6 @@ module _ (texts : List (List ℕ)) (root : held_node.Node) (d : Declared) (kept 
   methods_of o ro x m (Then _ rest) done own others v e i f w = methods_of o ro x m rest done own others v e i f w
   methods_of o ro x m _ done own others v e i f w = (tt, tt)
 
-  own_count : (o : Owner) (row : Node) (own : List HeldBody) → MethodBodies texts root d o row own → length own ≡ count_methods row
-  own_count o (Then (MethodDecl at n ps t block) rest) (b ∷ own) f = ap suc (own_count o rest own f.1)
-  own_count o (Then (MethodDecl at n ps t block) rest) [] f = absurd f
-  own_count o (Then _ rest) own f = own_count o rest own f
-  own_count o _ own f = ap length f
-
   -- ---- constructions and initialisations
 
   one_making : (x : Name) (above : Option Name) (row : Node) (c : ℕ) (o : Option ℕ) (b : HeldBody) → above_name texts d o ≡ above
@@ -215,7 +210,7 @@ module _ (texts : List (List ℕ)) (root : held_node.Node) (d : Declared) (kept 
       (placed body_at all_ks dk body makings c (b.makings ∙ ap (λ z. dk ++ z) ek) b.making_count) in
       let r = methods_of (InClass c) (resolved_owner.InClass x) x m row dm own others (ap resolved_owner.InClass w.0.named)
       (b.methods ∙ ap (λ z. dm ++ z) em) b.method_count ms_are w.1 in
-      let n = more_methods dm ms own others m (count_methods row) em b.methods b.method_count (own_count (InClass c) row own ms_are) in
+      let n = more_methods dm ms own others m (count_methods row) em b.methods b.method_count (own_count texts root d (InClass c) row own ms_are) in
       let s = all_of rest (dm ++ own) others (dk ++ body ∷ []) makings dx ss (suc c) k (m + count_methods row) (record {
         methods = n.0;
         makings = b.makings ∙ ap (λ z. dk ++ z) ek ∙ sym (append_assoc dk (body ∷ []) makings);
@@ -234,7 +229,7 @@ module _ (texts : List (List ℕ)) (root : held_node.Node) (d : Declared) (kept 
       (placed body_at all_ss dx body starts k (b.starts ∙ ap (λ z. dx ++ z) es) b.start_count) in
       let r = methods_of (InComponent k) (resolved_owner.InComponent x) x m row dm own others (ap resolved_owner.InComponent w.0.named)
       (b.methods ∙ ap (λ z. dm ++ z) em) b.method_count ms_are w.1 in
-      let n = more_methods dm ms own others m (count_methods row) em b.methods b.method_count (own_count (InComponent k) row own ms_are) in
+      let n = more_methods dm ms own others m (count_methods row) em b.methods b.method_count (own_count texts root d (InComponent k) row own ms_are) in
       let s = all_of rest (dm ++ own) others dk ks (dx ++ body ∷ []) starts c (suc k) (m + count_methods row) (record {
         methods = n.0;
         makings = b.makings;

@@ -1,4 +1,5 @@
 pub mod Alike
 mod Assembling
 mod Counted
+mod Locals
 mod Together

@@ -1,21 +1,23 @@
 -- Tables, entries and bodies of a text, put together, are its typed program.
-use Rattle.std.proofs.Common.{◌≡◌, ℕ, true, List, map, Option, Some, None, sym, ap, ◌∙◌, subst}
+use Rattle.std.proofs.Common.{◌≡◌, ℕ, true, List, map, Option, Some, None, slice_get, sym, ap, ◌∙◌, subst}
 use Rattle.vg_syntax.specs.Tree.{Node}
 use Rattle.vg_tree.specs.declared.node.Node as held_node
 use Rattle.vg_source.specs.Program.{declarations_of, program_of, entries_in, main_of, handlers_in}
 use Rattle.vg_rules.specs.Breach.{Breach, ◌or◌}
 use Rattle.vg_rules.specs.Signatures.{signatures_breach}
 use Rattle.vg_rules.specs.Inherited.{inherited_breach}
+use Rattle.vg_source_widths.specs.Sized.{locals_in}
 use Rattle.vg_method_sizes.specs.Sizes.{Size, sizes, sizes_in}
 use Rattle.vg_core.specs.declared.program.Program.{Program as HeldProgram}
 use Rattle.vg_core.specs.declared.program.Method.{Method}
 use Rattle.vg_core.specs.declared.program.Target.TheVariants.{Run}
 use Rattle.vg_core.specs.HeldProgram.{body_at, program_at}
-use Rattle.vg_core.specs.Naming.{naming_of, named, named_target, named_handler}
+use Rattle.vg_core.specs.Naming.{naming_of, named, named_type, named_target, named_handler}
 use Rattle.vg_core.specs.declared.program.Target.{Target}
 use Rattle.vg_core.specs.Program.{Body, Program, Signature, signature_of, body_of}
-use Rattle.vg_core.specs.Typing.{IsEntry, AreEntries, WellFormed, WellTyped}
+use Rattle.vg_core.specs.Typing.{IsEntry, AreEntries, WellFormed, WellTyped, locals_of}
 use Rattle.vg_renamed.specs.NamesTell.{NamesTell}
+use Rattle.vg_named_locals.specs.Locals.{HaveLocals}
 use Rattle.vg_written.specs.Written.{AreWritten, IsWritten, is_written}
 use Rattle.vg_types_tables.specs.declared.declared.Declared.{Declared}
 use Rattle.vg_types_tables.specs.Views.{declarations_at}
@@ -35,6 +37,7 @@ use Rattle.vg_types.specs.Assembled.{IsOf}
 use Rattle.vg_types.proofs.Assembling.{all_typed, program_named, names_told}
 use Rattle.vg_types.specs.Passes.{IsMovedFrom, IsProgramFor}
 use Rattle.vg_types.proofs.Counted.{all_called}
+use Rattle.vg_types.proofs.Locals.{all_locals}
 
 module _ (texts : List (List ℕ)) (root : held_node.Node) (d : Declared) (e : ProgramEntries) (b : Bodies) (q : HeldProgram)
     (kept : Keeps (declarations_at texts root)) (signed : signatures_breach (declarations_at texts root) (declarations_at texts root) ≡ None)
@@ -98,16 +101,26 @@ module _ (texts : List (List ℕ)) (root : held_node.Node) (d : Declared) (e : P
       all_called texts root d ds b.methods.items b.makings.items b.starts.items (naming_of texts p.tables) p bodies is_of.methods is_of.makings is_of.starts
       source_named (ap (λ t. map (λ (m : Method). m.nodes) t.methods) moved.tables ∙ nodes_sized texts ds d left)
 
+  locals_kept : (tree : Node) → declarations_of tree ≡ ds → HaveLocals texts tree p
+  locals_kept tree same m g body e q =
+      ap (λ z. slice_get (locals_in z z) m) same
+      ∙ all_locals texts root d b.methods.items b.makings.items b.starts.items kept left bodies m g body
+      (ap (λ z. signature_of z (Run m)) (sym moved.tables) ∙ e) (ap (λ z. slice_get z m) (sym is_of.methods) ∙ q)
+      ∙ ap (λ z. Some (map (named_type (naming_of texts z) z) (locals_of g body))) (sym moved.tables)
+
   pub is_program : IsProgramFor texts ds p
   is_program tree same =
       record {
-        named = ap program_of same ∙ source_named;
-        typed = typed;
-        told = names_tell;
-        nodes = nodes_kept tree same;
-        written = fields_kept tree same;
-        called = bodies_called;
-        members = ap have_members same ∙ members;
+        program = record {
+          named = ap program_of same ∙ source_named;
+          typed = typed;
+          told = names_tell;
+          nodes = nodes_kept tree same;
+          written = fields_kept tree same;
+          called = bodies_called;
+          members = ap have_members same ∙ members;
+        };
+        locals = locals_kept tree same;
       }
 
 -- where three parts have no breach there is none

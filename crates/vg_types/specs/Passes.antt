@@ -14,7 +14,7 @@ use Rattle.vg_types_signatures.specs.Parts.{declared_part}
 use Rattle.vg_types_tables.specs.declared.declared.Declared.{Declared}
 use Rattle.vg_types_entries.specs.declared.program.ProgramEntries.{ProgramEntries}
 use Rattle.vg_types_routines.specs.declared.pass.Bodies.{Bodies}
-use Rattle.vg_types_named.specs.Programs.{IsProgramOf}
+use Rattle.vg_types.specs.Checks.{IsTypedOf}
 
 -- on what is inherited, on the entries of the program, and on what is written in members
 abbrev pub members_breach : Node → Option Breach
@@ -30,7 +30,7 @@ asked_part tree = names_part tree or declared_part tree or members_part tree
 
 -- a program is that of each tree that has these declarations
 abbrev pub IsProgramFor : List (List ℕ) → Node → Program → Type 0
-IsProgramFor texts ds p = (tree : Node) → declarations_of tree ≡ ds → IsProgramOf texts tree p
+IsProgramFor texts ds p = (tree : Node) → declarations_of tree ≡ ds → IsTypedOf texts tree p
 
 -- the program has these tables, entries and bodies
 pub record IsMovedFrom (d : Declared) (e : ProgramEntries) (b : Bodies) (p : HeldProgram) : Type 0 where

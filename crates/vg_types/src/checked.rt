@@ -4,8 +4,7 @@ ghost use Rattle.vg_rules.specs.Legal.{breach_of};
 ghost use Rattle.vg_core.specs.HeldProgram.{program_at};
 ghost use Rattle.vg_tree_walks.specs.Whole.{tree_at, node_count};
 ghost use Rattle.vg_types_views.specs.Judges.{Judges};
-ghost use Rattle.vg_types_named.specs.Programs.{IsProgramOf};
-ghost use Rattle.vg_types.specs.Checks.{Checks};
+ghost use Rattle.vg_types.specs.Checks.{Checks, IsTypedOf};
 
 use crate::passes::passed;
 use std::alloc::Global;
@@ -45,7 +44,7 @@ pub fn check(alloc: Global, names: &Names, tree: &Tree) -> Result<Program, Refus
 // The typed program of a tree, or the first breach of its rules.
 fn judged(alloc: Global, names: &Names, tree: &Tree) -> Result<Program, Refusal<Broken>>
     requires { node_count tree.now < 2 ^ 32 }
-    ensures { Judges (λ p. IsProgramOf names.now (tree_at names.now tree.now) (program_at p)) result (breach_of (tree_at names.now tree.now)) }
+    ensures { Judges (λ p. IsTypedOf names.now (tree_at names.now tree.now) (program_at p)) result (breach_of (tree_at names.now tree.now)) }
 {
     passed(alloc, names, tree)
 }

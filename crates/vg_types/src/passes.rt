@@ -12,7 +12,7 @@ ghost use Rattle.vg_types_names.specs.Declarations.{are_declarations, names_part
 ghost use Rattle.vg_types_signatures.specs.Parts.{declared_part};
 ghost use Rattle.vg_types_tables.specs.Views.{declarations_at};
 ghost use Rattle.vg_types_declared.specs.Named.{Keeps};
-ghost use Rattle.vg_types_named.specs.Programs.{IsProgramOf};
+ghost use Rattle.vg_types.specs.Checks.{IsTypedOf};
 ghost use Rattle.vg_types.specs.Passes.{asked_part, members_part, members_breach, IsProgramFor, IsMovedFrom};
 
 use std::alloc::Global;
@@ -32,7 +32,7 @@ use vg_types_views::Broken;
 /// The typed program of a tree, or its first breach, asked in parts.
 pub(crate) fn passed(alloc: Global, names: &Names, tree: &Tree) -> Result<Program, Refusal<Broken>>
     requires { node_count tree.now < 2 ^ 32 }
-    ensures { Judges (λ p. IsProgramOf names.now (tree_at names.now tree.now) (program_at p)) result (asked_part (tree_at names.now tree.now)) }
+    ensures { Judges (λ p. IsTypedOf names.now (tree_at names.now tree.now) (program_at p)) result (asked_part (tree_at names.now tree.now)) }
 {
     let declarations = declared_names(alloc, names, tree)?;
     signatures(alloc, names, tree, &declarations)?;
@@ -45,7 +45,7 @@ fn text_program(alloc: Global, names: &Names, root: &Node) -> Result<Program, Re
     requires declared { are_declarations (declarations_of (numbered 0 (node_at names.now root.now))) ≡ true }
     requires kept { declared_part (numbered 0 (node_at names.now root.now)) ≡ None }
     requires room { count_nodes (node_at [] root.now) < 2 ^ 32 }
-    ensures { Judges (λ p. IsProgramOf names.now (numbered 0 (node_at names.now root.now)) (program_at p)) result
+    ensures { Judges (λ p. IsTypedOf names.now (numbered 0 (node_at names.now root.now)) (program_at p)) result
         (members_part (numbered 0 (node_at names.now root.now))) }
 {
     match root {

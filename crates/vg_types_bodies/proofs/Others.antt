@@ -2,7 +2,7 @@
 use Rattle.std.proofs.Common.{◌≡◌, ℕ, List, [], ◌∷◌, ◌++◌, map, reverse, drop, refl, sym, ap, ◌∙◌}
 use Rattle.std.proofs.lemmas.List.{reverse-append, reverse-reverse, map-append, drop-map}
 use Rattle.vg_source.specs.Values as source
-use Rattle.vg_source.specs.Resolved.{Resolved}
+use Rattle.vg_source.specs.Resolved.{Scope, Resolved}
 use Rattle.vg_source.specs.Program.{defaults_of}
 use Rattle.vg_core.specs.declared.types.CoreType.{CoreType}
 use Rattle.vg_core.specs.declared.types.CoreType.TheVariants.{IntType, BoolType, CharType, RawType, NullType, ClassType, ArrayType, FunctionType}
@@ -51,5 +51,10 @@ module _ (texts : List (List ℕ)) (d : Declared) where
         ∙ reverse-reverse (map source.default (map (type_view texts d) ls.declared))))
         ∙ ap (λ z. drop n (defaults_of z)) (sym s)
         ∙ ap (λ z. drop z (defaults_of m.scope)) q;
+    types = ap (map (type_view texts d)) o
+        ∙ sym (drop-map (type_view texts d) n ls.declared)
+        ∙ ap (drop n) (sym (reverse-reverse (map (type_view texts d) ls.declared)))
+        ∙ ap (λ (z : Scope). drop n (reverse z.declared)) (sym s)
+        ∙ ap (λ z. drop z (reverse m.scope.declared)) q;
     does = e;
   }

@@ -1,5 +1,5 @@
 use Rattle.vg_core.specs.HeldProgram.{program_at}
-use Rattle.vg_compile.proofs.Does.{bound_holds, calls_bounded, does, refused_calls, refused_linear}
+use Rattle.vg_compile.proofs.Does.{bound_holds, calls_bounded, does, refused_calls, refused_frames, refused_handlers, refused_linear}
 use Rattle.vg_packed_small.proofs.Procedures.{main_there}
 use Rattle.vg_compile.proofs.Linking.{always_links, few}
 use Rattle.vg_compile.proofs.compiling.compile.Goals as goal
@@ -41,3 +41,13 @@ pub returns-in-Err-clause-linear : goal.returns-in-Err-clause-linear
 returns-in-Err-clause-linear c =
     refused_linear (program_at c.args.program.now) c.args.heap.now c.args.live.now c.args.numbers.now c.args.columns.now c.in_ok-firm.firm
     c.in_ok-firm.ensures.from c.in_ok-firm.ensures.typed c.in-Err.why c.in-Err.ensures.linear
+
+pub returns-in-Err-clause-frames : goal.returns-in-Err-clause-frames
+returns-in-Err-clause-frames c =
+    refused_frames (program_at c.args.program.now) c.args.heap.now c.args.live.now c.args.numbers.now c.args.columns.now c.in_ok-firm.firm c.args.costs.now
+    c.in_ok-firm.ensures.from c.in_ok-firm.ensures.typed c.in-Err.why c.in-Err.ensures.frames
+
+pub returns-in-Err-clause-handlers : goal.returns-in-Err-clause-handlers
+returns-in-Err-clause-handlers c =
+    refused_handlers (program_at c.args.program.now) c.args.heap.now c.args.live.now c.args.numbers.now c.args.columns.now c.in_ok-firm.firm
+    c.in_ok-firm.ensures.from c.in_ok-firm.ensures.typed c.in-Err.why c.in-Err.ensures.handlers

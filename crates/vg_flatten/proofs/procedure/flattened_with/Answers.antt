@@ -60,7 +60,7 @@ returns c =
       code = c.in_ok-instrs.instrs;
     }) c.result_width-given.ensures in
     record {
-      flat =
+      flat = λ needs.
           subst (IsFlat c.args.layout.now (procedure_of c.args.procedure.now)) (sym made_is)
           (procedure_flat c.args.layout.now (procedure_of c.args.procedure.now)
           (room_of c.receivers-receiver.result c.args.procedure.now.on_objects (length c.args.own.now) c.args.temps c.result_width-given.result)
@@ -68,7 +68,7 @@ returns c =
           (ap length own_is) c.result_width-given.ensures c.requires.room c.requires.params c.requires.widths c.requires.given c.in_ok-code.code c.in_ok-instrs.instrs
           c.in_ok-widths.widths c.in_ok-code.ensures (c.in_ok-instrs.ensures.0 ∙ ap (map (set_in 0 0)) c.as_slice.ensures)
           (subst AllSet c.as_slice.ensures c.in_ok-instrs.ensures.1)
-          (c.in_ok-widths.ensures ∙ ap (λ z. z ++ replicate c.args.temps 4) c.in_ok-all_widths.ensures));
+          (c.in_ok-widths.ensures ∙ ap (λ z. z ++ replicate c.args.temps 4) c.in_ok-all_widths.ensures) needs);
       onward =
           subst (λ z. has_loop (code_of c.args.procedure.now.body) ≡ false → all_lead_on 0 z.code ≡ true) (sym made_is)
           (procedure_onward c.args.layout.now (procedure_of c.args.procedure.now)
@@ -79,5 +79,6 @@ returns c =
           (subst AllSet c.as_slice.ensures c.in_ok-instrs.ensures.1)
           (c.in_ok-widths.ensures ∙ ap (λ z. z ++ replicate c.args.temps 4) c.in_ok-all_widths.ensures));
       few = c.keeps.ensures.few;
+      cause = tt;
       refusal = λ e. tt;
     }

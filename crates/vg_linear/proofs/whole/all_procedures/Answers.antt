@@ -11,6 +11,7 @@ flatten_all-requires c = subst AllHaveWidths (sym c.as_slice.ensures) c.requires
 pub returns-in-Err : goal.returns-in-Err
 returns-in-Err c = record {
   made = tt;
+  plain = λ is. tt;
   refusal = flats_refused c.args.layout.now c.args.firm.now c.as_slice.result.now c.as_slice.ensures c.in-Err.why c.in-Err.ensures.refusal;
   typed = flats_left c.args.layout.now c.args.firm.now c.as_slice.result.now c.as_slice.ensures c.in-Err.why c.in-Err.ensures.typed;
 }

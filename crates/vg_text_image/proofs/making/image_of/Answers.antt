@@ -1,4 +1,4 @@
-use Rattle.vg_text_image.proofs.Texts.{deep_of, full_of, linear_of, needs_of}
+use Rattle.vg_text_image.proofs.Texts.{built_of, deep_of, full_of, linear_of, needs_of}
 use Rattle.vg_text_image.proofs.making.image_of.Goals as goal
 
 pub returns-clause-full : goal.returns-clause-full
@@ -12,3 +12,6 @@ returns-clause-calls c = needs_of c.args.fitted.now c.compiled.result c.compiled
 
 pub returns-clause-linear : goal.returns-clause-linear
 returns-clause-linear c = linear_of c.args.fitted.now c.compiled.result c.compiled.ensures.linear
+
+pub returns-clause-built : goal.returns-clause-built
+returns-clause-built c = built_of c.args.fitted.now c.compiled.result c.compiled.ensures.built

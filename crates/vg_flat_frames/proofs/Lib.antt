@@ -1,0 +1,6 @@
+pub mod Expanding
+pub mod Keeping
+pub mod Openings
+pub mod Widths
+pub mod Frames
+pub mod Methods

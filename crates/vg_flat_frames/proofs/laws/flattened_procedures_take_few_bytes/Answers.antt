@@ -1,0 +1,8 @@
+use Rattle.vg_flat_frames.proofs.Frames.{homes_few, fewest_few}
+use Rattle.vg_flat_frames.proofs.laws.flattened_procedures_take_few_bytes.Goals as goal
+
+pub returns-clause-homes : goal.returns-clause-homes
+returns-clause-homes c = homes_few
+
+pub returns-clause-fewest : goal.returns-clause-fewest
+returns-clause-fewest c = fewest_few

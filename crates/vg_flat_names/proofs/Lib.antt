@@ -1,0 +1,5 @@
+pub mod Blocks
+pub mod Shapes
+pub mod Steps
+pub mod Flat
+pub mod Expanded

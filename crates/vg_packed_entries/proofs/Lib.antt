@@ -1,0 +1,4 @@
+pub mod Typed
+pub mod Moved
+pub mod Components
+pub mod Entries
