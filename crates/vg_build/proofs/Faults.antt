@@ -27,12 +27,15 @@ use Rattle.vg_faults.proofs.Room.{is_room_fault, no_room_fault, one_room_fault}
 use Rattle.vg_fits.specs.declared.fitting.Fitted.{Fitted}
 use Rattle.vg_fits.specs.Answer.{IsFittedOf, Fits}
 use Rattle.vg_layout.specs.declared.layout.Bound.TheVariants.{Bytes}
+use Rattle.vg_code_bound.specs.Nodes.{IsCodeBound}
+use Rattle.vg_long_texts.specs.Waiting.{ManyWait}
+use Rattle.vg_text_image.specs.Made.{LacksFrames, LacksHandlers, LacksLinear}
 use Rattle.vg_text_image.proofs.Texts.{deep_calls}
 use Rattle.vg_build.specs.Image.{IsBuiltOf, SaysOfCalls}
 use Rattle.vg_build.specs.declared.building.Built.{Built}
-use Rattle.vg_build.specs.Answer.{Answer, Answers, HasFault, IsCause, IsNoFirst, IsNotBuilt, IsOverStack, IsSettled, fault_in, first_place}
+use Rattle.vg_build.specs.Answer.{Answer, Answers, HasFault, IsCause, IsLarge, IsNoFirst, IsNotBuilt, IsOverStack, IsSettled, ManyWaitIn, fault_in, first_place}
 use Rattle.vg_flash.specs.Flashes.{Lays, WrittenBy}
-use Rattle.vg_build.specs.Mirrors.{CompiledBy, FlashBy}
+use Rattle.vg_build.specs.Mirrors.{CompiledBy, FlashBy, IsLeft}
 use Rattle.vg_flash.specs.Stated.{stated}
 use Rattle.vg_flash.specs.declared.flash.Flash.{Flash}
 use Rattle.vg_flash.specs.declared.room.Room.{Room}
@@ -247,6 +250,11 @@ pub first_of : (bytes : List ℕ) (asked : Option ℕ) (clock : ℕ) (r : Answer
     → fault_in r ≡ Some (NotBuilt place) → place ≡ first_place
 first_of bytes asked clock r h place e = (answered_of bytes asked clock r h (NotBuilt place) e).1
 
+-- and is large
+pub large_of : (bytes : List ℕ) (asked : Option ℕ) (clock : ℕ) (r : Answer) → Answers bytes asked clock r → (place : Place)
+    → fault_in r ≡ Some (NotBuilt place) → IsLarge bytes clock
+large_of bytes asked clock r h place e = (answered_of bytes asked clock r h (NotBuilt place) e).2
+
 -- a stack that has no room is refused, where memory suffices
 pub stack_full_of : (bytes : List ℕ) (asked : Option ℕ) (clock : ℕ) (r : Answer) → Answers bytes asked clock r → IsSettled r → (need left : ℕ)
     → StackFullIn bytes asked clock need left → fault_in r ≡ Some (StackFull need left)
@@ -273,6 +281,17 @@ complete_of bytes asked clock small (Err refusal.NoMemory) h some large writes f
 
 -- ---- what is answered to a text is answered by the command
 
+-- the laws of texts that are not built
+abbrev pub LinearIsLong : Type 0
+LinearIsLong =
+    (bytes : List ℕ) (clock : ℕ) (f : Fitted) → IsFittedOf bytes clock f → length bytes ≤ text_limit → LacksLinear f → (words : ℕ)
+    → IsCodeBound (text_of f) (heap_of f) words → 65536 < words
+
+pub record UnbuiltIsLarge : Type 0 where
+  pub handlers : (bytes : List ℕ) (clock : ℕ) (f : Fitted) → IsFittedOf bytes clock f → length bytes ≤ text_limit → LacksHandlers f → ⊥
+  pub frames : (bytes : List ℕ) (clock : ℕ) (f : Fitted) → IsFittedOf bytes clock f → length bytes ≤ text_limit → LacksFrames f → (words : ℕ)
+      → IsCodeBound (text_of f) (heap_of f) words → (65536 < words) ⊎ ManyWait f
+
 pub fits_by : (bytes : List ℕ) (asked : Option ℕ) (clock : ℕ) (why : Refusal Fault) → Fits bytes clock (Err why) → IsCause why bytes asked clock
 fits_by bytes asked clock (refusal.Fault why) h = has_fault why bytes asked clock (is_room_fault why bytes asked clock h)
 fits_by bytes asked clock refusal.NoMemory h = tt
@@ -297,42 +316,56 @@ module _ (bytes : List ℕ) (asked : Option ℕ) (clock : ℕ) (f : Fitted) (is 
       subst (λ z. SaysOfCalls (text_of f) (heap_of f) (Bytes z)) (sym four)
       (calls_of bytes clock writes (text_of f) (heap_of f) is.fitting.firm.legal is.fitting.firm.starts first)
 
-  pub flash_by : (why : Refusal Fault) → FlashBy bytes f stack (Err why) → IsCause why bytes asked clock
-  flash_by (refusal.Fault (NotBuilt place)) (inl (writes, first, h)) = absurd h
-  flash_by (refusal.Fault (NotBuilt place)) (inr (none, h)) = ((has_room, none), h)
-  flash_by (refusal.Fault (CodeFull words)) (inl (writes, first, h)) = absurd h
-  flash_by (refusal.Fault (CodeFull words)) (inr (none, h)) = ((has_room, none), h)
-  flash_by (refusal.Fault (StackFull need left)) (inl (writes, first, (four, same, more))) =
-      over need left same more (four_calls writes first need four) (λ ws fst. four)
-  flash_by (refusal.Fault (StackFull need left)) (inr (none, (same, more, needs))) =
-      over need left same more (deep_calls bytes clock f is short need needs) (λ ws fst. absurd (none ws fst))
-  flash_by refusal.NoMemory h = tt
-  flash_by (refusal.Fault (NoTree p)) (inl (writes, first, h)) = absurd h
-  flash_by (refusal.Fault (NoTree p)) (inr (none, h)) = absurd h
-  flash_by (refusal.Fault (TooDeep p)) (inl (writes, first, h)) = absurd h
-  flash_by (refusal.Fault (TooDeep p)) (inr (none, h)) = absurd h
-  flash_by (refusal.Fault (TooMany what limit p)) (inl (writes, first, h)) = absurd h
-  flash_by (refusal.Fault (TooMany what limit p)) (inr (none, h)) = absurd h
-  flash_by (refusal.Fault (Broken rule p)) (inl (writes, first, h)) = absurd h
-  flash_by (refusal.Fault (Broken rule p)) (inr (none, h)) = absurd h
-  flash_by (refusal.Fault (InitTrap code p)) (inl (writes, first, h)) = absurd h
-  flash_by (refusal.Fault (InitTrap code p)) (inr (none, h)) = absurd h
-  flash_by (refusal.Fault InitSteps) (inl (writes, first, h)) = absurd h
-  flash_by (refusal.Fault InitSteps) (inr (none, h)) = absurd h
-  flash_by (refusal.Fault InitDepth) (inl (writes, first, h)) = absurd h
-  flash_by (refusal.Fault InitDepth) (inr (none, h)) = absurd h
-  flash_by (refusal.Fault (InitTouches address)) (inl (writes, first, h)) = absurd h
-  flash_by (refusal.Fault (InitTouches address)) (inr (none, h)) = absurd h
-  flash_by (refusal.Fault InitTooBig) (inl (writes, first, h)) = absurd h
-  flash_by (refusal.Fault InitTooBig) (inr (none, h)) = absurd h
-  flash_by (refusal.Fault (Allocates p line)) (inl (writes, first, h)) = absurd h
-  flash_by (refusal.Fault (Allocates p line)) (inr (none, h)) = absurd h
-  flash_by (refusal.Fault (StaticFull need)) (inl (writes, first, h)) = absurd h
-  flash_by (refusal.Fault (StaticFull need)) (inr (none, h)) = absurd h
-  flash_by (refusal.Fault (TableFull need)) (inl (writes, first, h)) = absurd h
-  flash_by (refusal.Fault (TableFull need)) (inr (none, h)) = absurd h
-  flash_by (refusal.Fault NoMember) (inl (writes, first, h)) = absurd h
-  flash_by (refusal.Fault NoMember) (inr (none, h)) = absurd h
+  module _ (long : LinearIsLong) (unbuilt : UnbuiltIsLarge) where
+    -- what has no image is large
+    is_large : IsLeft f → IsLarge bytes clock
+    is_large left = record { tree = text_of f; heap = heap_of f; fitting = is.fitting; large = λ words bound. by_left left words bound }
+      where
+        by_left : IsLeft f → (words : ℕ) → IsCodeBound (text_of f) (heap_of f) words → (65536 < words) ⊎ ManyWaitIn bytes clock
+        by_left (inl linear) words bound = inl (long bytes clock f is short linear words bound)
+        by_left (inr (inr handlers)) words bound = absurd (unbuilt.handlers bytes clock f is short handlers)
+        by_left (inr (inl frames)) words bound = by_many (unbuilt.frames bytes clock f is short frames words bound)
+          where
+            by_many : (65536 < words) ⊎ ManyWait f → (65536 < words) ⊎ ManyWaitIn bytes clock
+            by_many (inl more) = inl more
+            by_many (inr many) = inr (f, is, many)
+
+    pub flash_by : (why : Refusal Fault) → FlashBy bytes f stack (Err why) → IsCause why bytes asked clock
+    flash_by (refusal.Fault (NotBuilt place)) (inl (writes, first, h)) = absurd h
+    flash_by (refusal.Fault (NotBuilt place)) (inr (none, (at, left))) = ((has_room, none), at, is_large left)
+    flash_by (refusal.Fault (CodeFull words)) (inl (writes, first, h)) = absurd h
+    flash_by (refusal.Fault (CodeFull words)) (inr (none, h)) = ((has_room, none), h)
+    flash_by (refusal.Fault (StackFull need left)) (inl (writes, first, (four, same, more))) =
+        over need left same more (four_calls writes first need four) (λ ws fst. four)
+    flash_by (refusal.Fault (StackFull need left)) (inr (none, (same, more, needs))) =
+        over need left same more (deep_calls bytes clock f is short need needs) (λ ws fst. absurd (none ws fst))
+    flash_by refusal.NoMemory h = tt
+    flash_by (refusal.Fault (NoTree p)) (inl (writes, first, h)) = absurd h
+    flash_by (refusal.Fault (NoTree p)) (inr (none, h)) = absurd h
+    flash_by (refusal.Fault (TooDeep p)) (inl (writes, first, h)) = absurd h
+    flash_by (refusal.Fault (TooDeep p)) (inr (none, h)) = absurd h
+    flash_by (refusal.Fault (TooMany what limit p)) (inl (writes, first, h)) = absurd h
+    flash_by (refusal.Fault (TooMany what limit p)) (inr (none, h)) = absurd h
+    flash_by (refusal.Fault (Broken rule p)) (inl (writes, first, h)) = absurd h
+    flash_by (refusal.Fault (Broken rule p)) (inr (none, h)) = absurd h
+    flash_by (refusal.Fault (InitTrap code p)) (inl (writes, first, h)) = absurd h
+    flash_by (refusal.Fault (InitTrap code p)) (inr (none, h)) = absurd h
+    flash_by (refusal.Fault InitSteps) (inl (writes, first, h)) = absurd h
+    flash_by (refusal.Fault InitSteps) (inr (none, h)) = absurd h
+    flash_by (refusal.Fault InitDepth) (inl (writes, first, h)) = absurd h
+    flash_by (refusal.Fault InitDepth) (inr (none, h)) = absurd h
+    flash_by (refusal.Fault (InitTouches address)) (inl (writes, first, h)) = absurd h
+    flash_by (refusal.Fault (InitTouches address)) (inr (none, h)) = absurd h
+    flash_by (refusal.Fault InitTooBig) (inl (writes, first, h)) = absurd h
+    flash_by (refusal.Fault InitTooBig) (inr (none, h)) = absurd h
+    flash_by (refusal.Fault (Allocates p line)) (inl (writes, first, h)) = absurd h
+    flash_by (refusal.Fault (Allocates p line)) (inr (none, h)) = absurd h
+    flash_by (refusal.Fault (StaticFull need)) (inl (writes, first, h)) = absurd h
+    flash_by (refusal.Fault (StaticFull need)) (inr (none, h)) = absurd h
+    flash_by (refusal.Fault (TableFull need)) (inl (writes, first, h)) = absurd h
+    flash_by (refusal.Fault (TableFull need)) (inr (none, h)) = absurd h
+    flash_by (refusal.Fault NoMember) (inl (writes, first, h)) = absurd h
+    flash_by (refusal.Fault NoMember) (inr (none, h)) = absurd h
 
 -- the flash of writes is that of a program of constants
 pub by_writes : (bytes : List ℕ) (f : Fitted) (stack : ℕ) (writes given : List DeviceWrite) → given ≡ writes → IsFirst bytes writes

@@ -12,6 +12,10 @@ use Rattle.vg_faults.specs.Room.{HasRoomFault, HasRoomIn, HasStack, StackFullIn}
 use Rattle.vg_syntax.specs.Tree.{Node}
 use Rattle.vg_source.specs.Values.{Heap}
 use Rattle.vg_static_source.specs.Sums.{IsStatic}
+use Rattle.vg_code_bound.specs.Nodes.{IsCodeBound}
+use Rattle.vg_fits.specs.declared.fitting.Fitted.{Fitted}
+use Rattle.vg_fits.specs.Answer.{IsFittedOf}
+use Rattle.vg_long_texts.specs.Waiting.{ManyWait}
 use Rattle.vg_flash.specs.Stated.{stated}
 use Rattle.vg_build.specs.declared.building.Built.{Built}
 use Rattle.vg_layout.specs.declared.layout.Bound.TheVariants.{Bytes}
@@ -42,6 +46,18 @@ IsNoFirst bytes = (writes : List DeviceWrite) → IsFirst bytes writes → ⊥
 abbrev pub IsNotBuilt : List ℕ → (asked : Option ℕ) → (clock : ℕ) → Type 0
 IsNotBuilt bytes asked clock = HasRoomIn bytes asked clock × IsNoFirst bytes
 
+-- in a method of what fits of the bytes, where initialisation has this clock, more values wait at one time than linear code has temporaries
+abbrev pub ManyWaitIn : List ℕ → (clock : ℕ) → Type 0
+ManyWaitIn bytes clock = (f : Fitted) × IsFittedOf bytes clock f × ManyWait f
+
+-- The bytes are a legal text that starts with this clock, whose live methods make nothing, and which fits. The bound on the words of its code, by the nodes of
+-- its live methods and by its tables, is above 65,536; or very many values wait at one time in one of its methods.
+pub record IsLarge (bytes : List ℕ) (clock : ℕ) : Type 0 where
+  pub tree : Node
+  pub heap : Heap
+  pub fitting : IsFitting bytes clock tree heap
+  pub large : (words : ℕ) → IsCodeBound tree heap words → (65536 < words) ⊎ ManyWaitIn bytes clock
+
 -- the first place of a text
 abbrev pub first_place : Place
 first_place = record { line = 1; col = 1 }
@@ -61,10 +77,10 @@ pub record IsOverStack (bytes : List ℕ) (asked : Option ℕ) (clock need left 
   pub calls : SaysOfCalls tree heap (Bytes need)
   pub few : (writes : List DeviceWrite) → IsFirst bytes writes → need ≡ 4
 
--- the bytes have this fault, where this stack is asked for, or none, and initialisation has this clock; what is not built stands at the first place, and code
--- that is too long has more words than 65,535
+-- the bytes have this fault, where this stack is asked for, or none, and initialisation has this clock; what is not built is large and stands at the first
+-- place, and code that is too long has more words than 65,535
 abbrev pub HasFault : Fault → List ℕ → (asked : Option ℕ) → (clock : ℕ) → Type 0
-HasFault (NotBuilt place) bytes asked clock = IsNotBuilt bytes asked clock × (place ≡ first_place)
+HasFault (NotBuilt place) bytes asked clock = IsNotBuilt bytes asked clock × (place ≡ first_place) × IsLarge bytes clock
 HasFault (CodeFull words) bytes asked clock = IsNotBuilt bytes asked clock × (65536 ≤ words)
 HasFault (StackFull need left) bytes asked clock = StackFullIn bytes asked clock need left ⊎ IsOverStack bytes asked clock need left
 HasFault why bytes asked clock = HasRoomFault why bytes asked clock

@@ -12,7 +12,7 @@ use Rattle.vg_layout.specs.Few.{IsFew}
 use Rattle.vg_layout.specs.Text.{layout_text}
 use Rattle.vg_fits.specs.declared.fitting.Fitted.{Fitted}
 use Rattle.vg_text_image.specs.declared.making.TextImage.{TextImage}
-use Rattle.vg_text_image.specs.Made.{IsCompiledOf, NeedsOf}
+use Rattle.vg_text_image.specs.Made.{IsCompiledOf, LacksFrames, LacksHandlers, LacksLinear, NeedsOf}
 use Rattle.vg_flash.specs.Flashes.{IsLayoutOf, WrittenBy}
 use Rattle.vg_flash.specs.declared.flash.Flash.{Flash}
 use Rattle.vg_flash.specs.declared.room.Room.{Room}
@@ -25,12 +25,16 @@ pub record IsFlashOf (i : TextImage) (flash : Flash) : Type 0 where
   pub bound : flash.bound ≡ i.bound
   pub idle : i.idle + 1 < 65536 → flash.idle ≡ i.idle + 1
 
+-- what was packed of what fits has no linear code; or, where no procedure is trimmed, frames that costs do not pay, or a handler that receives something
+abbrev pub IsLeft : Fitted → Type 0
+IsLeft f = LacksLinear f ⊎ (LacksFrames f ⊎ LacksHandlers f)
+
 -- the flash of what is compiled, whose bound is at most the stack; or it needs more, or is not built
 abbrev pub CompiledBy : Fitted → (stack : ℕ) → Result Flash (Refusal Fault) → Type 0
 CompiledBy f stack (Ok flash) = (i : TextImage) × IsCompiledOf f i × IsFlashOf i flash × IsFew stack i.bound
 CompiledBy f stack (Err (refusal.Fault (CodeFull words))) = 65536 ≤ words
 CompiledBy f stack (Err (refusal.Fault (StackFull need left))) = (left ≡ stack) × (left < need) × NeedsOf f need
-CompiledBy f stack (Err (refusal.Fault (NotBuilt place))) = place ≡ first_place
+CompiledBy f stack (Err (refusal.Fault (NotBuilt place))) = (place ≡ first_place) × IsLeft f
 CompiledBy f stack (Err (refusal.Fault why)) = ⊥
 CompiledBy f stack (Err refusal.NoMemory) = Unit {0}
 

@@ -12,7 +12,7 @@ ghost use Rattle.vg_faults.specs.Fitting.{StaticFullIn, TableFullIn};
 ghost use Rattle.vg_faults.specs.Room.{StackFullIn};
 ghost use Rattle.vg_faults.specs.Starting.{FailsIn};
 ghost use Rattle.vg_faults.specs.declared.fault.Fault as fault;
-ghost use Rattle.vg_build.specs.Answer.{Answers, IsCause, IsNotBuilt, IsOverStack, IsSettled, fault_in, first_place};
+ghost use Rattle.vg_build.specs.Answer.{Answers, IsCause, IsLarge, IsNotBuilt, IsOverStack, IsSettled, fault_in, first_place};
 ghost use Rattle.vg_build.specs.Image.{IsBuiltOf};
 ghost use Rattle.vg_rules.specs.declared.what.What.{What};
 ghost use Rattle.vg_build.specs.Mirrors.{IsPacked};
@@ -27,6 +27,9 @@ use vg_flash::{Flash, NoRoom, Room, known_of, layout_of, room_above};
 use vg_hex::write;
 use vg_inventory::{count_methods, count_objects};
 use vg_layout::{Layout, layout_text};
+use vg_long_texts::laws::{
+    texts_that_are_not_built_wait_or_are_long, texts_without_linear_code_are_long,
+};
 
 /// What is built of a source text.
 pub struct Built {
@@ -79,7 +82,8 @@ impl Built {
 ///
 /// A text of the language that starts, whose live methods make nothing, whose fields and arrays fit and whose stack has room is built, but for some: those
 /// whose calls do not go round and may need more bytes than the stack has, those whose image would take more than 65,535 words of flash, and those of which no
-/// image is made, which are refused as not built, at their first place. A program of constants with a stack of four bytes or more is none of them: one component
+/// image is made, which are refused as not built, at their first place: their bound on the words of code is above 65,536, or very many values wait at one time in
+/// one of their methods. A program of constants with a stack of four bytes or more is none of them: one component
 /// whose one method writes at most 100 bytes to device registers.
 pub fn build(
     alloc: Global,
@@ -112,6 +116,7 @@ pub fn build(
         → StackFullIn text.now asked init_steps need left ⊎ IsOverStack text.now asked init_steps need left }
     ensures code_full { (words : ℕ) → fault_in result ≡ Some (fault.Fault.CodeFull words) → IsNotBuilt text.now asked init_steps × (65536 ≤ words) }
     ensures not_built { (place : Place) → fault_in result ≡ Some (fault.Fault.NotBuilt place) → IsNotBuilt text.now asked init_steps }
+    ensures not_built_large { (place : Place) → fault_in result ≡ Some (fault.Fault.NotBuilt place) → IsLarge text.now init_steps }
     ensures not_built_first { (place : Place) → fault_in result ≡ Some (fault.Fault.NotBuilt place) → place ≡ first_place }
     ensures complete { 1 ≤ init_steps → IfSome asked (λ bytes. 4 ≤ bytes) → (writes : List Write) → IsFirst text.now writes
         → IsOk result ⊎ (result ≡ Err Refusal.NoMemory) }
@@ -129,6 +134,8 @@ fn answer_to(
     requires { length text.now ≤ text_limit }
     ensures { Answers text.now asked init_steps result }
 {
+    texts_without_linear_code_are_long();
+    texts_that_are_not_built_wait_or_are_long();
     let fitted = match fit(alloc, text, init_steps) {
         Ok(fitted) => fitted,
         Err(refusal) => return Err(refusal),

@@ -46,7 +46,10 @@ fn compiled(alloc: Global, fitted: &Fitted, stack: u16) -> Result<Flash, Refusal
                 left: u32::from(stack),
             }))
         }
-        Err(Refusal::Fault(Unmade::NotLinear | Unmade::NotBuilt)) => {
+        Err(Refusal::Fault(Unmade::NotLinear)) => {
+            Err(Refusal::Fault(Fault::NotBuilt(Place { line: 1, col: 1 })))
+        }
+        Err(Refusal::Fault(Unmade::NotBuilt)) => {
             Err(Refusal::Fault(Fault::NotBuilt(Place { line: 1, col: 1 })))
         }
         Err(Refusal::NoMemory) => Err(Refusal::NoMemory),

@@ -15,7 +15,7 @@ use Rattle.vg_first_text.specs.declared.device_write.DeviceWrite.{DeviceWrite}
 use Rattle.vg_first_text.specs.FirstText.{IsFirst}
 use Rattle.vg_hex.specs.HexText.{hex_text}
 use Rattle.vg_build.specs.Answer as of_bytes
-use Rattle.vg_build.specs.Answer.{Answer, Answers, HasFault, IsNotBuilt, IsOverStack, fault_in, first_place}
+use Rattle.vg_build.specs.Answer.{Answer, Answers, HasFault, IsLarge, IsNotBuilt, IsOverStack, fault_in, first_place}
 use Rattle.vg_build.specs.Image.{IsBuiltOf, IsImageOf}
 use Rattle.vg_layout.specs.Text.{layout_text}
 use Rattle.vg_build.specs.declared.building.Built.{Built}
@@ -215,6 +215,14 @@ pub not_built_by : (s : Status) (told : Option (List File)) (file : List ℕ) (a
 not_built_by s told file asked clock out note h =
     with_file told file _ (λ bytes. (place : Place) → s ≡ Refused (NotBuilt place) → IsNotBuilt bytes asked clock)
     (λ bytes f place e. (f (NotBuilt place) e).0) (named_by s told file asked clock out note h)
+
+-- which is large
+pub large_by : (s : Status) (told : Option (List File)) (file : List ℕ) (asked : Option ℕ) (clock : ℕ) (out note : Change)
+    → BuildBy s told file asked clock out note
+    → ForFile told file (λ bytes. (place : Place) → s ≡ Refused (NotBuilt place) → IsLarge bytes clock)
+large_by s told file asked clock out note h =
+    with_file told file _ (λ bytes. (place : Place) → s ≡ Refused (NotBuilt place) → IsLarge bytes clock)
+    (λ bytes f place e. (f (NotBuilt place) e).2) (named_by s told file asked clock out note h)
 
 pub first_by : (s : Status) (told : Option (List File)) (file : List ℕ) (asked : Option ℕ) (clock : ℕ) (out note : Change)
     → BuildBy s told file asked clock out note

@@ -24,7 +24,7 @@ ghost use Rattle.vg_faults.specs.Fitting.{StaticFullIn, TableFullIn};
 ghost use Rattle.vg_faults.specs.Room.{HasRoomFault, StackFullIn};
 ghost use Rattle.vg_faults.specs.Starting.{FailsIn, StartsIn, init_steps};
 ghost use Rattle.vg_faults.specs.declared.fault.Fault as fault;
-ghost use Rattle.vg_build.specs.Answer.{HasFault, IsNotBuilt, IsOverStack, first_place};
+ghost use Rattle.vg_build.specs.Answer.{HasFault, IsLarge, IsNotBuilt, IsOverStack, first_place};
 ghost use Rattle.vg_layout.specs.Text.{layout_text};
 ghost use Rattle.vg_gen.specs.Generated.{generated};
 ghost use Rattle.vg_hex.specs.HexText.{hex_text};
@@ -116,6 +116,8 @@ pub fn run<S: Shelf, O: Sink, N: Sink>(
         (count : ℕ) → result ≡ Status.Refused (fault.Fault.CodeFull count) → IsNotBuilt bytes asked clock × (65536 ≤ count))) }
     ensures not_built { OnBuild (command_of (words_in words.now)) (λ file asked clock. ForFile (S.told shelf.old) file (λ bytes.
         (place : Place) → result ≡ Status.Refused (fault.Fault.NotBuilt place) → IsNotBuilt bytes asked clock)) }
+    ensures not_built_large { OnBuild (command_of (words_in words.now)) (λ file asked clock. ForFile (S.told shelf.old) file (λ bytes.
+        (place : Place) → result ≡ Status.Refused (fault.Fault.NotBuilt place) → IsLarge bytes clock)) }
     ensures not_built_first { (place : Place) → result ≡ Status.Refused (fault.Fault.NotBuilt place) → place ≡ first_place }
     ensures complete { OnBuild (command_of (words_in words.now)) (λ file asked clock. ForFile (S.told shelf.old) file (λ bytes.
         IfSome asked (λ stack. 4 ≤ stack) → (writes : List DeviceWrite) → IsFirst bytes writes → length bytes ≤ text_limit → IsDoneOrNoMemory result

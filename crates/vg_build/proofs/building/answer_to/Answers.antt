@@ -18,7 +18,12 @@ pub returns-in-Err-room_above : goal.returns-in-Err-room_above
 returns-in-Err-room_above c = inl (full_of _ _ _ c.in-Ok.ensures _ _ _ c.in-Err-room_above.ensures)
 
 pub returns : goal.returns
-returns c = flash_by _ _ _ c.in-Ok.fitted c.in-Ok.ensures c.requires _ c.in-Ok-room_above.ensures _ c.in-Err-flash_of.ensures
+returns c =
+    flash_by _ _ _ c.in-Ok.fitted c.in-Ok.ensures c.requires _ c.in-Ok-room_above.ensures c.texts_without_linear_code_are_long.ensures
+    (record {
+      handlers = c.texts_that_are_not_built_wait_or_are_long.ensures.handlers;
+      frames = c.texts_that_are_not_built_wait_or_are_long.ensures.frames;
+    }) _ c.in-Err-flash_of.ensures
 
 pub returns-in-Ok-packed : goal.returns-in-Ok-packed
 returns-in-Ok-packed c =

@@ -1,5 +1,5 @@
 use Rattle.vg_faults.specs.declared.fault.Fault.TheVariants.{NoTree, TooDeep, TooMany, Broken, Allocates, StaticFull, TableFull, CodeFull}
-use Rattle.vg_build.proofs.Faults.{answered_of, complete_of, exactly, first_of, init_of, not_built_of, stack_full_of, stack_short_of}
+use Rattle.vg_build.proofs.Faults.{answered_of, complete_of, exactly, first_of, init_of, large_of, not_built_of, stack_full_of, stack_short_of}
 use Rattle.vg_build.proofs.building.build.Goals as goal
 
 pub returns-clause-no_tree : goal.returns-clause-no_tree
@@ -37,6 +37,9 @@ returns-clause-code_full c = λ words. answered_of _ _ _ _ c.answer_to.ensures (
 
 pub returns-clause-not_built : goal.returns-clause-not_built
 returns-clause-not_built c = not_built_of _ _ _ _ c.answer_to.ensures
+
+pub returns-clause-not_built_large : goal.returns-clause-not_built_large
+returns-clause-not_built_large c = large_of _ _ _ _ c.answer_to.ensures
 
 pub returns-clause-not_built_first : goal.returns-clause-not_built_first
 returns-clause-not_built_first c = first_of _ _ _ _ c.answer_to.ensures

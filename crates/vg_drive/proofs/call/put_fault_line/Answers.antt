@@ -1,7 +1,6 @@
 use Rattle.std.proofs.Common.{◌⊎◌, ◌∙◌, subst}
 use Rattle.vg_io.specs.Count.{Rose}
 use Rattle.vg_io.specs.Piece.{AppendsAll, AppendsFront}
-use Rattle.vg_status.specs.Lines.{fault_line}
 use Rattle.vg_drive.proofs.Notes.{shown_none}
 use Rattle.vg_drive.proofs.call.put_fault_line.Goals as goal
 

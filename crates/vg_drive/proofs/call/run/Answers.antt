@@ -79,6 +79,10 @@ pub returns-clause-not_built : goal.returns-clause-not_built
 returns-clause-not_built g c =
     on_build _ _ _ _ _ _ c.answer-status.ensures.holds (λ file asked clock h. builds.not_built_by _ _ file asked clock _ _ h)
 
+pub returns-clause-not_built_large : goal.returns-clause-not_built_large
+returns-clause-not_built_large g c =
+    on_build _ _ _ _ _ _ c.answer-status.ensures.holds (λ file asked clock h. builds.large_by _ _ file asked clock _ _ h)
+
 pub returns-clause-not_built_first : goal.returns-clause-not_built_first
 returns-clause-not_built_first g c = first_of _ _ _ _ _ c.answer-status.ensures.holds
 
