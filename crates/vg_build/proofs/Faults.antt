@@ -28,12 +28,11 @@ use Rattle.vg_fits.specs.declared.fitting.Fitted.{Fitted}
 use Rattle.vg_fits.specs.Answer.{IsFittedOf, Fits}
 use Rattle.vg_layout.specs.declared.layout.Bound.TheVariants.{Bytes}
 use Rattle.vg_code_bound.specs.Nodes.{IsCodeBound}
-use Rattle.vg_long_texts.specs.Waiting.{ManyWait}
 use Rattle.vg_text_image.specs.Made.{LacksFrames, LacksHandlers, LacksLinear}
 use Rattle.vg_text_image.proofs.Texts.{deep_calls}
 use Rattle.vg_build.specs.Image.{IsBuiltOf, SaysOfCalls}
 use Rattle.vg_build.specs.declared.building.Built.{Built}
-use Rattle.vg_build.specs.Answer.{Answer, Answers, HasFault, IsCause, IsLarge, IsNoFirst, IsNotBuilt, IsOverStack, IsSettled, ManyWaitIn, fault_in, first_place}
+use Rattle.vg_build.specs.Answer.{Answer, Answers, HasFault, IsCause, IsLarge, IsNoFirst, IsNotBuilt, IsOverStack, IsSettled, fault_in, first_place}
 use Rattle.vg_flash.specs.Flashes.{Lays, WrittenBy}
 use Rattle.vg_build.specs.Mirrors.{CompiledBy, FlashBy, IsLeft}
 use Rattle.vg_flash.specs.Stated.{stated}
@@ -290,7 +289,7 @@ LinearIsLong =
 pub record UnbuiltIsLarge : Type 0 where
   pub handlers : (bytes : List ℕ) (clock : ℕ) (f : Fitted) → IsFittedOf bytes clock f → length bytes ≤ text_limit → LacksHandlers f → ⊥
   pub frames : (bytes : List ℕ) (clock : ℕ) (f : Fitted) → IsFittedOf bytes clock f → length bytes ≤ text_limit → LacksFrames f → (words : ℕ)
-      → IsCodeBound (text_of f) (heap_of f) words → (65536 < words) ⊎ ManyWait f
+      → IsCodeBound (text_of f) (heap_of f) words → 65536 < words
 
 pub fits_by : (bytes : List ℕ) (asked : Option ℕ) (clock : ℕ) (why : Refusal Fault) → Fits bytes clock (Err why) → IsCause why bytes asked clock
 fits_by bytes asked clock (refusal.Fault why) h = has_fault why bytes asked clock (is_room_fault why bytes asked clock h)
@@ -321,14 +320,10 @@ module _ (bytes : List ℕ) (asked : Option ℕ) (clock : ℕ) (f : Fitted) (is 
     is_large : IsLeft f → IsLarge bytes clock
     is_large left = record { tree = text_of f; heap = heap_of f; fitting = is.fitting; large = λ words bound. by_left left words bound }
       where
-        by_left : IsLeft f → (words : ℕ) → IsCodeBound (text_of f) (heap_of f) words → (65536 < words) ⊎ ManyWaitIn bytes clock
-        by_left (inl linear) words bound = inl (long bytes clock f is short linear words bound)
+        by_left : IsLeft f → (words : ℕ) → IsCodeBound (text_of f) (heap_of f) words → 65536 < words
+        by_left (inl linear) words bound = long bytes clock f is short linear words bound
         by_left (inr (inr handlers)) words bound = absurd (unbuilt.handlers bytes clock f is short handlers)
-        by_left (inr (inl frames)) words bound = by_many (unbuilt.frames bytes clock f is short frames words bound)
-          where
-            by_many : (65536 < words) ⊎ ManyWait f → (65536 < words) ⊎ ManyWaitIn bytes clock
-            by_many (inl more) = inl more
-            by_many (inr many) = inr (f, is, many)
+        by_left (inr (inl frames)) words bound = unbuilt.frames bytes clock f is short frames words bound
 
     pub flash_by : (why : Refusal Fault) → FlashBy bytes f stack (Err why) → IsCause why bytes asked clock
     flash_by (refusal.Fault (NotBuilt place)) (inl (writes, first, h)) = absurd h

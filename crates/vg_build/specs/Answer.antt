@@ -13,9 +13,6 @@ use Rattle.vg_syntax.specs.Tree.{Node}
 use Rattle.vg_source.specs.Values.{Heap}
 use Rattle.vg_static_source.specs.Sums.{IsStatic}
 use Rattle.vg_code_bound.specs.Nodes.{IsCodeBound}
-use Rattle.vg_fits.specs.declared.fitting.Fitted.{Fitted}
-use Rattle.vg_fits.specs.Answer.{IsFittedOf}
-use Rattle.vg_long_texts.specs.Waiting.{ManyWait}
 use Rattle.vg_flash.specs.Stated.{stated}
 use Rattle.vg_build.specs.declared.building.Built.{Built}
 use Rattle.vg_layout.specs.declared.layout.Bound.TheVariants.{Bytes}
@@ -46,17 +43,13 @@ IsNoFirst bytes = (writes : List DeviceWrite) → IsFirst bytes writes → ⊥
 abbrev pub IsNotBuilt : List ℕ → (asked : Option ℕ) → (clock : ℕ) → Type 0
 IsNotBuilt bytes asked clock = HasRoomIn bytes asked clock × IsNoFirst bytes
 
--- in a method of what fits of the bytes, where initialisation has this clock, more values wait at one time than linear code has temporaries
-abbrev pub ManyWaitIn : List ℕ → (clock : ℕ) → Type 0
-ManyWaitIn bytes clock = (f : Fitted) × IsFittedOf bytes clock f × ManyWait f
-
 -- The bytes are a legal text that starts with this clock, whose live methods make nothing, and which fits. The bound on the words of its code, by the nodes of
--- its live methods and by its tables, is above 65,536; or very many values wait at one time in one of its methods.
+-- its live methods and by its tables, is above 65,536.
 pub record IsLarge (bytes : List ℕ) (clock : ℕ) : Type 0 where
   pub tree : Node
   pub heap : Heap
   pub fitting : IsFitting bytes clock tree heap
-  pub large : (words : ℕ) → IsCodeBound tree heap words → (65536 < words) ⊎ ManyWaitIn bytes clock
+  pub large : (words : ℕ) → IsCodeBound tree heap words → 65536 < words
 
 -- the first place of a text
 abbrev pub first_place : Place

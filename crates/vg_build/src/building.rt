@@ -27,9 +27,7 @@ use vg_flash::{Flash, NoRoom, Room, known_of, layout_of, room_above};
 use vg_hex::write;
 use vg_inventory::{count_methods, count_objects};
 use vg_layout::{Layout, layout_text};
-use vg_long_texts::laws::{
-    texts_that_are_not_built_wait_or_are_long, texts_without_linear_code_are_long,
-};
+use vg_long_texts::laws::{texts_that_are_not_built_are_long, texts_without_linear_code_are_long};
 
 /// What is built of a source text.
 pub struct Built {
@@ -82,9 +80,8 @@ impl Built {
 ///
 /// A text of the language that starts, whose live methods make nothing, whose fields and arrays fit and whose stack has room is built, but for some: those
 /// whose calls do not go round and may need more bytes than the stack has, those whose image would take more than 65,535 words of flash, and those of which no
-/// image is made, which are refused as not built, at their first place: their bound on the words of code is above 65,536, or very many values wait at one time in
-/// one of their methods. A program of constants with a stack of four bytes or more is none of them: one component
-/// whose one method writes at most 100 bytes to device registers.
+/// image is made, which are refused as not built, at their first place: their bound on the words of code is above 65,536. A program of constants with a stack
+/// of four bytes or more is none of them: one component whose one method writes at most 100 bytes to device registers.
 pub fn build(
     alloc: Global,
     text: &[u8],
@@ -135,7 +132,7 @@ fn answer_to(
     ensures { Answers text.now asked init_steps result }
 {
     texts_without_linear_code_are_long();
-    texts_that_are_not_built_wait_or_are_long();
+    texts_that_are_not_built_are_long();
     let fitted = match fit(alloc, text, init_steps) {
         Ok(fitted) => fitted,
         Err(refusal) => return Err(refusal),

@@ -29,8 +29,8 @@ fn put_one(row: &mut Row<u16>, found: Option<u16>) -> Result<(), NoMemory>
     }
 }
 
-// The procedure of the handler of an interrupt.
-fn handler_of(handlers: &[Entrance], vector: u8) -> Option<u16>
+/// The procedure of the handler of an interrupt, by the number of its vector: of two handlers for one vector that of the first, and none where there is no handler.
+pub fn handler_of(handlers: &[Entrance], vector: u8) -> Option<u16>
     ensures { result ≡ handler_in handlers.now vector }
 {
     match handlers {

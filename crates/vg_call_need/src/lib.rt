@@ -10,6 +10,7 @@ pub mod telling;
 pub mod within;
 
 pub use bounding::stack_need;
+pub use entries::handler_of;
 pub use need::Need;
 pub use telling::bound_of;
 pub use within::is_spent;

@@ -15,7 +15,8 @@ use Rattle.vg_linear.specs.declared.whole.Linear.{Linear}
 use Rattle.vg_compile.specs.Unlinked.{IsUnlinked}
 use Rattle.vg_compile.specs.Compile.{handler_of}
 
-same_handler : (es : List Entrance) (v : ℕ) → linking.handler_in (map handler_of es) v ≡ packed.handler_in es v
+-- the first handler of a vector is the same where it is packed and where it is linked
+pub same_handler : (es : List Entrance) (v : ℕ) → linking.handler_in (map handler_of es) v ≡ packed.handler_in es v
 same_handler [] v = refl
 same_handler (e ∷ es) v = ap (λ z. if e.vector == v then Some e.procedure else z) (same_handler es v)
 

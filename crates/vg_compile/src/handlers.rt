@@ -1,11 +1,12 @@
 // Whether handlers receive nothing.
-ghost use Rattle.std.specs.Prelude.{◌≡◌, ◌↔◌, map, IfOk, IsTrue};
-ghost use Rattle.vg_link.specs.Linking.{CanHandle, handler_in};
+ghost use Rattle.std.specs.Prelude.{◌↔◌, map, IfOk, IsTrue};
+ghost use Rattle.vg_link.specs.Linking.{CanHandle};
 ghost use Rattle.vg_compile.specs.Compile.{handler_of};
 ghost use Rattle.vg_compile.specs.Handlers.{AllCanHandle, CanAnswer};
 
 use std::alloc::Global;
 use vg_base::NoMemory;
+use vg_call_need::handler_of;
 use vg_covered::receives_nothing;
 use vg_lin::LinProc;
 use vg_packed::Entrance;
@@ -28,6 +29,7 @@ pub fn all_can_handle(
 }
 
 // Whether the procedure for a vector, if there is one, is one that an interrupt can call.
+#[tactic(auto, using(crate::proofs::Unlinked::same_handler))]
 fn can_answer(
     alloc: Global,
     procedures: &[LinProc],
@@ -36,25 +38,9 @@ fn can_answer(
 ) -> Result<bool, NoMemory>
     ensures { IfOk result (λ can. IsTrue can ↔ CanAnswer procedures.now (map handler_of handlers.now) vector) }
 {
-    match procedure_for(handlers, vector) {
+    match handler_of(handlers, vector) {
         Some(number) => can_handle(alloc, procedures, number),
         None => Ok(true),
-    }
-}
-
-// The procedure that these handlers have for a vector.
-fn procedure_for(handlers: &[Entrance], vector: u8) -> Option<u16>
-    ensures { result ≡ handler_in (map handler_of handlers.now) vector }
-{
-    match handlers {
-        [] => None,
-        [handler, more @ ..] => {
-            if handler.vector == vector {
-                Some(handler.procedure)
-            } else {
-                procedure_for(more, vector)
-            }
-        }
     }
 }
 

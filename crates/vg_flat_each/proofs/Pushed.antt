@@ -1,6 +1,5 @@
--- What holds of each instruction that code becomes, in either way: each waiting value has a home of its own, or each is pushed.
-use Rattle.std.specs.Prelude.{ℕ, zero, suc, ◌+◌, ◌-◌, Bool, true, false, ◌==◌, nat_lt, nat_le, List, [], ◌∷◌}
-use Rattle.std.specs.Prelude.{length, reverse, take, drop, Option, Some, None, if◌then◌else◌}
+-- What holds of each instruction that code becomes, in either way: each waiting value has a home of its own, or the oldest of them are pushed.
+use Rattle.std.specs.Prelude.{ℕ, zero, suc, ◌+◌, ◌-◌, ◌==◌, ◌&&◌, nat_lt, nat_le, List, [], ◌∷◌, length, reverse, drop, Option, Some, None}
 use Rattle.std.specs.List.{AllByRecursion}
 use Rattle.std.proofs.Common.{◌≡◌, ◌⊎◌, inl, inr, sym, subst}
 use Rattle.vg_meaning.specs.Code.{Code, Nothing, Then, Do, If, Loop, Break, Continue, Return}
@@ -21,10 +20,10 @@ use Rattle.vg_flatten_shapes.specs.Made.{Made, Gives, Refused, after, settled, T
 use Rattle.vg_flatten_steps.specs.Steps.{stepped}
 use Rattle.vg_flatten_control.specs.Flat.{landed_as, landed, joined, chosen, where_empty, repeated, repeated_test}
 use Rattle.vg_flatten_control.specs.Flat.{repeated_body, repeated_next, given_back, flat}
-use Rattle.vg_flatten_pushed.specs.Pushed.{pops, popped, pushed_on, put_back, worked, drawn, step_on, done, topped}
-use Rattle.vg_flatten_pushed.specs.Pushed.{with_newest, lowered, level, raised, pushed_again}
-use Rattle.vg_flatten_pushed.specs.Stacked.{levelled, ways, stacked}
-use Rattle.vg_flatten.specs.Flattened.{zeroes, own_params, whole, IsFlat}
+use Rattle.vg_flatten_pushed.specs.Pushed.{newer, older, all_pushed, onto, pops, popped, lifts, pushed_on, put_back, worked, drawn}
+use Rattle.vg_flatten_pushed.specs.Pushed.{step_on, crossed, is_above, done, topped, with_newest, lowered, level_as, level, raised, pushed_again}
+use Rattle.vg_flatten_pushed.specs.Stacked.{is_calm, levelled, ways, by_pushed, by_newer, stacked}
+use Rattle.vg_flatten.specs.Flattened.{zeroes, own_params, whole, IsPushed, IsFlat}
 use Rattle.vg_flat_each.specs.Each.{Carries, StepHas, EachStep}
 use Rattle.vg_flat_each.proofs.Blocks.{EachIn, all_set, in_block}
 use Rattle.vg_flat_each.proofs.Steps.{HasEach, each_behind, each_after, each_temp, each_if, each_settled, each_step}
@@ -91,7 +90,15 @@ module _ (Has : Instr → Type 0) (k : Carries Has) (lay : Layout) (r : Room) wh
   each_flat Continue s h = each_where s (Gives GoOn empty) tt
   each_flat Return s h = each_after Has (settled r s) _ (each_settled Has k r s) (λ s1. each_given s1.homes)
 
-  -- ---- each is pushed
+  -- ---- the oldest values are pushed
+
+  each_onto : (os : List Operand) (made : Made) → HasEach Has made → HasEach Has (onto os made)
+  each_onto os (Gives b s) h = h
+  each_onto os (Refused why) h = tt
+
+  each_lifted : (first : ℕ) (hs : List Operand) → EachIn Has (lifts first hs)
+  each_lifted first [] = tt
+  each_lifted first (h ∷ hs) = (k.copies (first + length hs) h, each_lifted first hs)
 
   each_popped : (first n : ℕ) → EachIn Has (pops first n)
   each_popped first zero = tt
@@ -102,32 +109,44 @@ module _ (Has : Instr → Type 0) (k : Carries Has) (lay : Layout) (r : Room) wh
   each_pushed rest (h ∷ []) = k.pushes 4 h
   each_pushed rest (h ∷ i ∷ hs) = tt
 
-  each_done : (p : Step) (s : Shape) → StepHas Has p → HasEach Has (done lay r p s)
-  each_done p s h = by_taken (nat_le (takes p) (length s.homes))
+  each_worked : (p : Step) (rest : List Operand) → StepHas Has p → HasEach Has (worked lay r p rest)
+  each_worked p rest h =
+      each_after Has (stepped lay r p (popped r.locals (takes p))) (put_back r rest) (each_step Has k lay r p (popped r.locals (takes p)) h)
+      (λ s. each_after Has (settled r s) (λ s1. pushed_on rest s1.homes) (each_settled Has k r s) (λ s1. each_pushed rest s1.homes))
+
+  each_step_on : (p : Step) (news os : List Operand) → StepHas Has p → HasEach Has (step_on lay r p news os)
+  each_step_on p news os h =
+      each_if Has (nat_le (takes p) (length news + length os)) _ (Refused NotTaken) (each_if Has (nat_le (takes p + 2) r.temps) _ (Refused TooHigh) does tt) tt
     where
-      rest : List Operand
-      rest = drop (takes p) s.homes
+      missing : ℕ
+      missing = takes p - length news
 
-      does : HasEach Has (after (drawn r p rest) (λ s1. worked lay r p s1.homes))
+      does : HasEach Has (after (drawn r missing news os) (λ s. worked lay r p s.homes))
       does =
-          each_behind Has (pops r.locals (takes p)) (worked lay r p rest) (each_popped r.locals (takes p))
-          (each_after Has (stepped lay r p (popped r.locals (takes p))) (put_back r rest) (each_step Has k lay r p (popped r.locals (takes p)) h)
-          (λ s1. each_after Has (settled r s1) (λ s2. pushed_on rest s2.homes) (each_settled Has k r s1) (λ s2. each_pushed rest s2.homes)))
+          each_behind Has _ (worked lay r p (drop missing os)) (each_lifted (r.locals + missing) news, each_popped r.locals missing)
+          (each_worked p (drop missing os) h)
 
-      by_taken : (b : Bool) → HasEach Has (step_on lay r p (if b then Some (record { args = reverse (take (takes p) s.homes); rest = rest }) else None))
-      by_taken true = each_if Has (nat_le (takes p + 2) r.temps) _ (Refused TooHigh) does tt
-      by_taken false = tt
+  each_done : (most : ℕ) (p : Step) (s : Shape) → StepHas Has p → HasEach Has (done lay r most p s)
+  each_done most p s h =
+      each_if Has (is_above most p s) (onto (older most s) (flat lay r (Do p) (newer most s))) (crossed lay r most p s)
+      (each_onto (older most s) (flat lay r (Do p) (newer most s)) (each_flat (Do p) (newer most s) h))
+      (each_after Has (settled r (newer most s)) _ (each_settled Has k r (newer most s)) (λ s1. each_step_on p s1.homes (older most s) h))
 
   each_topped : (hs : List Operand) → HasEach Has (topped r hs)
   each_topped [] = tt
   each_topped (h ∷ hs) = each_temp Has (temp r []) _ (λ to. k.pops 4 to)
 
+  each_newest : (most : ℕ) (s : Shape) → HasEach Has (with_newest r most s)
+  each_newest most s = each_if Has (all_pushed most s) (topped r s.homes) (Refused NotTaken) (each_topped s.homes) tt
+
   each_lowered : (n : ℕ) (hs : List Operand) → HasEach Has (lowered r n hs)
   each_lowered n [] = tt
   each_lowered n (h ∷ hs) = each_if Has (length hs == n) _ (Refused NotTaken) (each_temp Has (temp r []) _ (λ to. k.pops 4 to)) tt
 
-  each_level : (n : ℕ) (s : Shape) → HasEach Has (level r n s)
-  each_level n s = each_if Has (length s.homes == n) (Gives Skip (only s.homes)) (lowered r n s.homes) tt (each_lowered n s.homes)
+  each_level : (most n : ℕ) (s : Shape) → HasEach Has (level r most n s)
+  each_level most n s =
+      each_if Has (all_pushed most s) (level_as r n s) (Refused NotTaken)
+      (each_if Has (length s.homes == n) (Gives Skip (only s.homes)) (lowered r n s.homes) tt (each_lowered n s.homes)) tt
 
   each_again : (hs : List Operand) → HasEach Has (pushed_again hs)
   each_again [] = tt
@@ -136,29 +155,42 @@ module _ (Has : Instr → Type 0) (k : Carries Has) (lay : Layout) (r : Room) wh
   each_raised : (n : ℕ) (s : Shape) → HasEach Has (raised n s)
   each_raised n s = each_if Has (nat_lt (length s.homes) n) (Gives Skip (only s.homes)) (pushed_again s.homes) tt (each_again s.homes)
 
-  each_ways : (o : Option Tested) (f g : Shape → Made) → ((s : Shape) → HasEach Has (f s)) → ((s : Shape) → HasEach Has (g s)) → HasEach Has (ways r o f g)
-  each_ways None f g hf hg = tt
-  each_ways (Some t) f g hf hg =
-      each_joined t.truth (levelled r (length t.homes) (f (only t.homes))) (levelled r (length t.homes) (g (only t.homes)))
-      (each_after Has (f (only t.homes)) (level r (length t.homes)) (hf (only t.homes)) (each_level (length t.homes)))
-      (each_after Has (g (only t.homes)) (level r (length t.homes)) (hg (only t.homes)) (each_level (length t.homes)))
+  each_ways : (most : ℕ) (o : Option Tested) (f g : Shape → Made) → ((s : Shape) → HasEach Has (f s)) → ((s : Shape) → HasEach Has (g s))
+      → HasEach Has (ways r most o f g)
+  each_ways most None f g hf hg = tt
+  each_ways most (Some t) f g hf hg =
+      each_joined t.truth (levelled r most (length t.homes) (f (only t.homes))) (levelled r most (length t.homes) (g (only t.homes)))
+      (each_after Has (f (only t.homes)) (level r most (length t.homes)) (hf (only t.homes)) (each_level most (length t.homes)))
+      (each_after Has (g (only t.homes)) (level r most (length t.homes)) (hg (only t.homes)) (each_level most (length t.homes)))
 
-  each_stacked : (c : Code Step) (s : Shape) → EachStep (StepHas Has) c → HasEach Has (stacked lay r c s)
-  each_stacked Nothing s h = tt
-  each_stacked (Then a b) s (h, g) = each_after Has (stacked lay r a s) (stacked lay r b) (each_stacked a s h) (λ s1. each_stacked b s1 g)
-  each_stacked (Do p) s h = each_done p s h
-  each_stacked (If a b) s (h, g) =
-      each_after Has (with_newest r s) _ (each_topped s.homes)
-      (λ s1. each_after Has (ways r (tested s1) (stacked lay r a) (stacked lay r b)) (raised (length s1.homes))
-      (each_ways (tested s1) (stacked lay r a) (stacked lay r b) (λ s2. each_stacked a s2 h) (λ s2. each_stacked b s2 g)) (each_raised (length s1.homes)))
-  each_stacked (Loop c body next) s (h, g, i) =
+  each_by_pushed : (most : ℕ) (f g : Shape → Made) (s : Shape) → ((s : Shape) → HasEach Has (f s)) → ((s : Shape) → HasEach Has (g s))
+      → HasEach Has (by_pushed r most f g s)
+  each_by_pushed most f g s hf hg =
+      each_after Has (with_newest r most s) _ (each_newest most s) (λ s1. each_after Has (ways r most (tested s1) f g) (raised (length s1.homes))
+      (each_ways most (tested s1) f g hf hg) (each_raised (length s1.homes)))
+
+  each_by_newer : (most : ℕ) (a b : Code Step) (s : Shape) → EachStep (StepHas Has) (If a b) → HasEach Has (by_newer lay r most a b s)
+  each_by_newer most a b s h =
+      each_if Has (is_calm a && is_calm b) (onto (older most s) (flat lay r (If a b) (newer most s))) (Refused NotTaken)
+      (each_onto (older most s) (flat lay r (If a b) (newer most s)) (each_flat (If a b) (newer most s) h)) tt
+
+  each_stacked : (most : ℕ) (c : Code Step) (s : Shape) → EachStep (StepHas Has) c → HasEach Has (stacked lay r most c s)
+  each_stacked most Nothing s h = tt
+  each_stacked most (Then a b) s (h, g) =
+      each_after Has (stacked lay r most a s) (stacked lay r most b) (each_stacked most a s h) (λ s1. each_stacked most b s1 g)
+  each_stacked most (Do p) s h = each_done most p s h
+  each_stacked most (If a b) s (h, g) =
+      each_if Has (all_pushed most s) (by_pushed r most (stacked lay r most a) (stacked lay r most b) s) (by_newer lay r most a b s)
+      (each_by_pushed most (stacked lay r most a) (stacked lay r most b) s (λ s1. each_stacked most a s1 h) (λ s1. each_stacked most b s1 g))
+      (each_by_newer most a b s (h, g))
+  each_stacked most (Loop c body next) s (h, g, i) =
       each_where s _
-      (each_repeated (after (stacked lay r c empty) (with_newest r)) (stacked lay r body empty) (stacked lay r next empty)
-      (each_after Has (stacked lay r c empty) (with_newest r) (each_stacked c empty h) (λ s1. each_topped s1.homes)) (each_stacked body empty g)
-      (each_stacked next empty i))
-  each_stacked Break s h = each_where s (Gives BreakOut empty) tt
-  each_stacked Continue s h = each_where s (Gives GoOn empty) tt
-  each_stacked Return s h = each_after Has (with_newest r s) _ (each_topped s.homes) (λ s1. each_given s1.homes)
+      (each_repeated (after (stacked lay r most c empty) (with_newest r most)) (stacked lay r most body empty) (stacked lay r most next empty)
+      (each_after Has (stacked lay r most c empty) (with_newest r most) (each_stacked most c empty h) (each_newest most)) (each_stacked most body empty g)
+      (each_stacked most next empty i))
+  each_stacked most Break s h = each_where s (Gives BreakOut empty) tt
+  each_stacked most Continue s h = each_where s (Gives GoOn empty) tt
+  each_stacked most Return s h = each_after Has (with_newest r most s) _ (each_newest most s) (λ s1. each_given s1.homes)
 
   -- ---- whole procedures
 
@@ -175,6 +207,6 @@ each_flattened Has k lay m p f h =
     subst (AllByRecursion Has) (sym f.code)
     (all_set Has k 0 0 (open_code (whole m f.block) 0) (in_block Has k (whole m f.block) 0 (each_whole Has k lay f.room m f.block (by_way f.made))))
   where
-    by_way : (flat lay f.room m.body empty ≡ Gives f.block f.shape) ⊎ (stacked lay f.room m.body empty ≡ Gives f.block f.shape) → EachIn Has f.block
+    by_way : (flat lay f.room m.body empty ≡ Gives f.block f.shape) ⊎ IsPushed lay m f.room f.block f.shape → EachIn Has f.block
     by_way (inl e) = subst (HasEach Has) e (each_flat Has k lay f.room m.body empty h)
-    by_way (inr e) = subst (HasEach Has) e (each_stacked Has k lay f.room m.body empty h)
+    by_way (inr x) = subst (HasEach Has) x.made (each_stacked Has k lay f.room x.pushes m.body empty h)

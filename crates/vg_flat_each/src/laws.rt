@@ -10,7 +10,7 @@ ghost use Rattle.vg_flat_each.specs.Each.{Carries, StepHas, EachStep};
 
 /// A law of flattened code. A test that holds of all instructions which name no device and no dispatch and do not idle, of those that use the devices and the
 /// dispatches which the steps of a packed procedure name, and of idling where a step idles, holds of each instruction that the procedure becomes, whether its
-/// waiting values have homes of their own or are pushed. The body is empty: its contract is a law of the definitions.
+/// waiting values have homes of their own or the oldest of them are pushed. The body is empty: its contract is a law of the definitions.
 pub fn flattened_code_keeps()
     ensures { (has : Instr → Bool) → Carries (λ i. has i ≡ true) → (lay : Layout) (m : FirmProcedure) (p : Procedure) → IsFlat lay m p
         → EachStep (StepHas (λ i. has i ≡ true)) m.body → AllByRecursion (λ i. has i ≡ true) p.code }

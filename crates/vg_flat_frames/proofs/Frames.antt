@@ -1,6 +1,6 @@
--- How much of the stack a flattened procedure takes whose waiting values have homes of their own.
-use Rattle.std.specs.Prelude.{ℕ, ◌+◌, ◌*◌, ◌≤◌, Bool, true, false, [], length}
-use Rattle.std.proofs.Common.{◌≡◌, refl, sym, ap, subst, arith}
+-- How much of the stack a flattened procedure takes, where its waiting values have homes of their own, and where the oldest of them are pushed.
+use Rattle.std.specs.Prelude.{ℕ, ◌+◌, ◌-◌, ◌*◌, ◌≤◌, ◌<◌, Bool, true, false, [], length}
+use Rattle.std.proofs.Common.{◌≡◌, ◌⊎◌, inl, inr, refl, sym, ap, subst, arith}
 use Rattle.vg_firm.specs.Program.{Procedure as FirmProcedure}
 use Rattle.vg_lin.specs.Program.{Procedure}
 use Rattle.vg_expand.specs.Code.{base_of, place_in, expanded}
@@ -9,33 +9,45 @@ use Rattle.vg_flatten_shapes.specs.Shapes.{empty}
 use Rattle.vg_flatten_shapes.specs.Blocks.{open_code}
 use Rattle.vg_flatten_shapes.specs.Made.{Gives}
 use Rattle.vg_flatten_control.specs.Flat.{flat}
-use Rattle.vg_flatten.specs.Flattened.{whole, start_of, IsFlat, IsFlatFrom}
+use Rattle.vg_flatten.specs.Flattened.{own_widths, temps_for, whole, start_of, IsFlat, IsFlatFrom, IsPushed, IsPushedFrom}
 use Rattle.vg_flatten.proofs.Sound.{BlockIn, MadeIn, in_flat}
 use Rattle.vg_frame_costs.specs.Bytes.{bytes_of, most_kept, procedure_bytes}
-use Rattle.vg_flat_frames.proofs.Keeping.{KeepsNone, none_is_most, expanded_none, set_none, whole_none}
+use Rattle.vg_flat_frames.proofs.Keeping.{KeepsFew, few_is_most, expanded_few, set_few, Pushes, block_pushes, whole_few}
 use Rattle.vg_flat_frames.proofs.Openings.{opening_few}
+use Rattle.vg_flat_frames.proofs.Pushing.{body_made}
 use Rattle.vg_flat_frames.proofs.Widths.{AreFew, local_bytes}
 
-module _ (first : ℕ) (lay : Layout) (m : FirmProcedure) (p : Procedure) (f : IsFlat lay m p)
-    (homes : flat lay f.room m.body empty ≡ Gives f.block f.shape) where
-  block_in : BlockIn (Unit {0}) f.room.result (f.room.locals + f.room.temps) f.block
-  block_in =
-      (subst (MadeIn (Unit {0}) f.room.result (f.room.locals + f.room.temps)) homes (in_flat (Unit {0}) lay f.room m.body empty (λ l. tt) (tt, tt))).0
+module _ (first : ℕ) (lay : Layout) (m : FirmProcedure) (p : Procedure) (f : IsFlat lay m p) where
+  kept : (most : ℕ) → Pushes most 0 0 f.block → most_kept [] (expanded first p).code ≤ 4 * most
+  kept most h =
+      few_is_most (4 * most) [] (expanded first p).code
+      (expanded_few (4 * most) (base_of first p) (place_in (base_of first p) p.code) [] p.code
+      (subst (KeepsFew (4 * most) []) (sym f.code) (set_few (4 * most) 0 0 [] [] (open_code (whole m f.block) 0) (whole_few most m f.block h))))
 
-  code_none : KeepsNone [] p.code
-  code_none =
-      subst (KeepsNone []) (sym f.code)
-      (set_none 0 0 [] (open_code (whole m f.block) 0) (whole_none (Unit {0}) f.room.result (f.room.locals + f.room.temps) m f.block block_in))
-
-  pub nothing_kept : most_kept [] (expanded first p).code ≡ 0
-  nothing_kept =
-      none_is_most [] (expanded first p).code (expanded_none (base_of first p) (place_in (base_of first p) p.code) [] p.code code_none)
-
-  pub homes_few : AreFew m.widths → procedure_bytes (expanded first p) ≤ 6 + 4 * (length m.widths + f.room.temps)
-  homes_few narrow =
+  few : (n : ℕ) → most_kept [] (expanded first p).code ≤ n → AreFew m.widths
+      → procedure_bytes (expanded first p) ≤ 6 + 4 * (length m.widths + f.room.temps) + n
+  few n le narrow =
       let opening = opening_few (expanded first p) in
-      let kept = nothing_kept in
-      let widths = ap bytes_of f.widths in let few = local_bytes m f.room.temps narrow in omega (arith, opening, kept, widths, few)
+      let widths = ap bytes_of f.widths in let locals = local_bytes m f.room.temps narrow in omega (arith, opening, le, widths, locals)
+
+  pub nothing_kept : flat lay f.room m.body empty ≡ Gives f.block f.shape → most_kept [] (expanded first p).code ≡ 0
+  nothing_kept homes =
+      let none = kept 0 (block_pushes (Unit {0}) f.room.result (f.room.locals + f.room.temps) 0 0 f.block block_in) in omega (arith, none)
+    where
+      block_in : BlockIn (Unit {0}) f.room.result (f.room.locals + f.room.temps) f.block
+      block_in =
+          (subst (MadeIn (Unit {0}) f.room.result (f.room.locals + f.room.temps)) homes (in_flat (Unit {0}) lay f.room m.body empty (λ l. tt) (tt, tt))).0
+
+  pub pushed_kept : (u : IsPushed lay m f.room f.block f.shape) → most_kept [] (expanded first p).code ≤ 4 * u.pushes
+  pushed_kept u = kept u.pushes (body_made lay f.room u.pushes m.body f.block f.shape u.made f.done)
+
+  pub homes_few : flat lay f.room m.body empty ≡ Gives f.block f.shape → AreFew m.widths
+      → procedure_bytes (expanded first p) ≤ 6 + 4 * (length m.widths + f.room.temps)
+  homes_few homes narrow = let none = nothing_kept homes in let bytes = few 0 (omega (arith, none)) narrow in omega (arith, bytes)
+
+  pub pushed_few : (u : IsPushed lay m f.room f.block f.shape) → AreFew m.widths
+      → procedure_bytes (expanded first p) ≤ 6 + 4 * (length m.widths + f.room.temps + u.pushes)
+  pushed_few u narrow = let bytes = few (4 * u.pushes) (pushed_kept u) narrow in omega (arith, bytes)
 
 -- where homes do from some number of temporaries on
 pub fewest_few : (first : ℕ) (lay : Layout) (m : FirmProcedure) (p : Procedure) (most : ℕ) → IsFlat lay m p → IsFlatFrom lay m most → AreFew m.widths
@@ -43,6 +55,21 @@ pub fewest_few : (first : ℕ) (lay : Layout) (m : FirmProcedure) (p : Procedure
 fewest_few first lay m p most f from narrow =
     let found = f.fewest most from in
     let temps = found.0 in let bytes = homes_few first lay m p f found.1 narrow in omega (arith, temps, bytes)
+
+-- where pushes do from some number on, with all temporaries
+pub least_few : (first : ℕ) (lay : Layout) (m : FirmProcedure) (p : Procedure) (most : ℕ) → IsFlat lay m p → temps_for (length (own_widths m)) < most
+    → IsPushedFrom lay m (most - temps_for (length (own_widths m))) → AreFew m.widths → procedure_bytes (expanded first p) ≤ 6 + 4 * (length m.widths + most)
+least_few first lay m p most f more from narrow = by_way f.made
+  where
+    all : ℕ
+    all = temps_for (length (own_widths m))
+
+    by_way : (flat lay f.room m.body empty ≡ Gives f.block f.shape) ⊎ IsPushed lay m f.room f.block f.shape
+        → procedure_bytes (expanded first p) ≤ 6 + 4 * (length m.widths + most)
+    by_way (inl homes) = let bytes = homes_few first lay m p f homes narrow in let fits = f.fits in omega (arith, bytes, fits, more)
+    by_way (inr u) =
+        let bytes = pushed_few first lay m p f u narrow in
+        let temps = u.all in let pushes = u.least (most - all) from in omega (arith, bytes, temps, pushes, more)
 
 -- the procedure with which a run begins
 pub start_none : (first main : ℕ) (receives : Bool) → most_kept [] (expanded first (start_of main receives)).code ≡ 0

@@ -1,6 +1,7 @@
 pub mod Expanding
 pub mod Keeping
 pub mod Openings
+pub mod Pushing
 pub mod Widths
 pub mod Frames
 pub mod Methods

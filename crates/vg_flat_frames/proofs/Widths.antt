@@ -21,7 +21,7 @@ receiver_bytes : (b : Bool) (ws : List ℕ) → bytes_of (with_receiver_width b 
 receiver_bytes true ws = omega arith
 receiver_bytes false ws = omega arith
 
-fours : (t : ℕ) → bytes_of (replicate t 4) ≡ 4 * t
+pub fours : (t : ℕ) → bytes_of (replicate t 4) ≡ 4 * t
 fours zero = omega arith
 fours (suc t) = let rest = fours t in omega (arith, rest)
 

@@ -1,10 +1,10 @@
 // The laws of what flattened procedures take of the stack, and of what they call.
-ghost use Rattle.std.specs.Prelude.{ℕ, suc, ◌≡◌, ◌≤◌, ◌+◌, ◌*◌, Bool, [], ◌++◌, length, replicate, Some, slice_get};
+ghost use Rattle.std.specs.Prelude.{ℕ, suc, ◌≡◌, ◌≤◌, ◌<◌, ◌+◌, ◌-◌, ◌*◌, Bool, [], ◌++◌, length, replicate, Some, slice_get};
 ghost use Rattle.std.specs.List.{AllByRecursion};
 ghost use Rattle.vg_expand.specs.Code.{expanded};
 ghost use Rattle.vg_firm.specs.Program.{Procedure as FirmProcedure};
 ghost use Rattle.vg_flat_frames.specs.Methods.{CallsBefore};
-ghost use Rattle.vg_flatten.specs.Flattened.{all_widths, start_of, IsFlat, IsFlatFrom};
+ghost use Rattle.vg_flatten.specs.Flattened.{all_widths, own_widths, start_of, temps_for, IsFlat, IsFlatFrom, IsPushed, IsPushedFrom};
 ghost use Rattle.vg_flatten_control.specs.Flat.{flat};
 ghost use Rattle.vg_flatten_shapes.specs.Made.{Gives};
 ghost use Rattle.vg_flatten_shapes.specs.Shapes.{empty};
@@ -27,23 +27,32 @@ pub fn flattened_locals_take_few_bytes()
         → bytes_of (all_widths m ++ replicate temps 4) ≤ 2 + 4 * (length m.widths + temps) }
 {}
 
-/// Laws of flattened code where each value that waits has a home of its own. Nothing is kept at any instruction of it, once its arithmetic is expanded, since
-/// values are pushed in a row before the call that takes them all. So it is in the procedure with which a run begins. The body is empty: its contract is a law
-/// of the definitions.
+/// Laws of flattened code, its arithmetic expanded. Where each value that waits has a home of its own, nothing is kept at any instruction of it, since
+/// arguments are pushed in a row before the call that takes them all. Where the oldest values that wait are pushed, so many of them at most, no more than four
+/// bytes of each are kept. In the procedure with which a run begins nothing is kept. The body is empty: its contract is a law of the definitions.
 pub fn flattened_code_keeps_nothing()
     ensures homes { (first : ℕ) (lay : Layout) (m : FirmProcedure) (p : Procedure) (f : IsFlat lay m p)
         → flat lay f.room m.body empty ≡ Gives f.block f.shape → most_kept [] (expanded first p).code ≡ 0 }
+    ensures pushed { (first : ℕ) (lay : Layout) (m : FirmProcedure) (p : Procedure) (f : IsFlat lay m p) (u : IsPushed lay m f.room f.block f.shape)
+        → most_kept [] (expanded first p).code ≤ 4 * u.pushes }
     ensures start { (first main : ℕ) (receives : Bool) → most_kept [] (expanded first (start_of main receives)).code ≡ 0 }
 {}
 
-/// Laws of flattened procedures, their arithmetic expanded. Where each value that waits has a home of its own, one takes at most four bytes of the stack for
-/// each of its locals and temporaries, and six more. Where homes do from some number of temporaries on, it takes no more than with that number. The body is
-/// empty: its contract is a law of the definitions.
+/// Laws of flattened procedures, their arithmetic expanded. One takes at most four bytes of the stack for each of its locals and temporaries, and six more;
+/// where the oldest values that wait are pushed, four bytes besides for each that may be pushed at one time. Where homes do from some number of temporaries
+/// on, it takes no more than with that number. Where some number of values is above the room for temporaries, and it does to push as many as are above that
+/// room, or more, it takes no more than with that number of temporaries. The body is empty: its contract is a law of the definitions.
 pub fn flattened_procedures_take_few_bytes()
     ensures homes { (first : ℕ) (lay : Layout) (m : FirmProcedure) (p : Procedure) (f : IsFlat lay m p)
         → flat lay f.room m.body empty ≡ Gives f.block f.shape → ((i w : ℕ) → slice_get m.widths i ≡ Some w → w ≤ 4)
         → procedure_bytes (expanded first p) ≤ 6 + 4 * (length m.widths + f.room.temps) }
+    ensures pushed { (first : ℕ) (lay : Layout) (m : FirmProcedure) (p : Procedure) (f : IsFlat lay m p) (u : IsPushed lay m f.room f.block f.shape)
+        → ((i w : ℕ) → slice_get m.widths i ≡ Some w → w ≤ 4)
+        → procedure_bytes (expanded first p) ≤ 6 + 4 * (length m.widths + f.room.temps + u.pushes) }
     ensures fewest { (first : ℕ) (lay : Layout) (m : FirmProcedure) (p : Procedure) (most : ℕ) → IsFlat lay m p → IsFlatFrom lay m most
+        → ((i w : ℕ) → slice_get m.widths i ≡ Some w → w ≤ 4) → procedure_bytes (expanded first p) ≤ 6 + 4 * (length m.widths + most) }
+    ensures least { (first : ℕ) (lay : Layout) (m : FirmProcedure) (p : Procedure) (most : ℕ) → IsFlat lay m p
+        → temps_for (length (own_widths m)) < most → IsPushedFrom lay m (most - temps_for (length (own_widths m)))
         → ((i w : ℕ) → slice_get m.widths i ≡ Some w → w ≤ 4) → procedure_bytes (expanded first p) ≤ 6 + 4 * (length m.widths + most) }
 {}
 

@@ -1,5 +1,5 @@
--- What the instructions name that code becomes, in either way: each waiting value has a home of its own, or each is pushed.
-use Rattle.std.specs.Prelude.{ℕ, zero, suc, ◌+◌, ◌-◌, Bool, true, false, ◌==◌, nat_lt, nat_le, List, [], ◌∷◌, length, reverse}
+-- What the instructions name that code becomes, in either way: each waiting value has a home of its own, or the oldest of them are pushed.
+use Rattle.std.specs.Prelude.{ℕ, zero, suc, ◌+◌, ◌-◌, Bool, true, false, ◌==◌, ◌&&◌, nat_lt, nat_le, List, [], ◌∷◌, length, reverse, take, drop, if◌then◌else◌}
 use Rattle.std.specs.List.{AllByRecursion}
 use Rattle.std.proofs.Common.{◌≡◌, ◌⊎◌, inl, inr, sym, ◌∙◌, subst, arith}
 use Rattle.vg_meaning.specs.Code.{Code, Nothing, Then, Do, If, Loop, Break, Continue, Return}
@@ -20,14 +20,15 @@ use Rattle.vg_lin.specs.declared.instr.Plain.TheVariants.{Copy}
 use Rattle.vg_flatten_steps.specs.Steps.{stepped}
 use Rattle.vg_flatten_control.specs.Flat.{landed_as, landed, joined, chosen, where_empty, repeated, repeated_test}
 use Rattle.vg_flatten_control.specs.Flat.{repeated_body, repeated_next, given_back, flat}
-use Rattle.vg_flatten_pushed.specs.Pushed.{pops, popped, pushed_on, put_back, worked, drawn, step_on, done, topped}
-use Rattle.vg_flatten_pushed.specs.Pushed.{with_newest, lowered, level, raised, pushed_again}
-use Rattle.vg_flatten_pushed.specs.Stacked.{levelled, ways, stacked}
-use Rattle.vg_flatten.specs.Flattened.{zeroes, receivers, with_receiver_width, whole, IsFlat}
+use Rattle.vg_flatten_pushed.specs.Pushed.{is_high, newer, older, all_pushed, onto, pops, popped, lifts, pushed_on, put_back, worked, drawn}
+use Rattle.vg_flatten_pushed.specs.Pushed.{step_on, crossed, is_above, done, topped, with_newest, lowered, level_as, level, raised, pushed_again}
+use Rattle.vg_flatten_pushed.specs.Stacked.{is_calm, levelled, ways, by_pushed, by_newer, stacked}
+use Rattle.vg_flatten.specs.Flattened.{zeroes, receivers, with_receiver_width, whole, IsPushed, IsFlat}
 use Rattle.vg_flat_each.specs.Each.{EachStep}
 use Rattle.vg_flat_names.specs.Names.{Names, NoReceiver}
 use Rattle.vg_flat_names.proofs.Blocks.{TruthNames, BlockNames, all_set, in_block}
-use Rattle.vg_flat_names.proofs.Shapes.{AllOk, ShapeNames, MadeNames, by_taken, names_behind, names_after, names_if, names_temp, names_settled, names_tested}
+use Rattle.vg_flat_names.proofs.Shapes.{AllOk, ShapeNames, MadeNames, take_ok, drop_ok, both_ok}
+use Rattle.vg_flat_names.proofs.Shapes.{names_behind, names_after, names_if, names_temp, names_settled, names_tested}
 use Rattle.vg_flat_names.proofs.Steps.{names_step}
 
 module _ (Ok : Operand → Type 0) (known : (n : ℕ) → Ok (Known n)) (lay : Layout) (r : Room) (own : (i : ℕ) → Ok (Local (r.receiver + i)))
@@ -97,7 +98,28 @@ module _ (Ok : Operand → Type 0) (known : (n : ℕ) → Ok (Known n)) (lay : L
   names_flat Continue s n h = names_where s (Gives GoOn empty) (tt, (tt, tt))
   names_flat Return s n h = names_after Ok (settled r s) _ (settles s h) (λ s1 h1. names_given s1.homes h1.0)
 
-  -- ---- each is pushed
+  -- ---- the oldest values are pushed
+
+  names_newer : (most : ℕ) (s : Shape) → ShapeNames Ok s → ShapeNames Ok (newer most s)
+  names_newer most s h = by_height (is_high most s)
+    where
+      by_height : (b : Bool) → ShapeNames Ok (if b then record { truth = s.truth; homes = take (length s.homes - most) s.homes } else empty)
+      by_height true = (take_ok Ok (length s.homes - most) s.homes h.0, h.1)
+      by_height false = (tt, tt)
+
+  older_ok : (most : ℕ) (s : Shape) → ShapeNames Ok s → AllOk Ok (older most s)
+  older_ok most s h = drop_ok Ok (length s.homes - most) s.homes h.0
+
+  names_onto : (os : List Operand) (made : Made) → AllOk Ok os → MadeNames Ok made → MadeNames Ok (onto os made)
+  names_onto os (Gives b s) ho h = (h.0, (both_ok Ok s.homes os h.1.0 ho, h.1.1))
+  names_onto os (Refused why) ho h = tt
+
+  names_lifts : (k : ℕ) (hs : List Operand) → AllOk Ok hs → BlockNames Ok (lifts (r.locals + k) hs)
+  names_lifts k [] h = tt
+  names_lifts k (a ∷ hs) h = ((lifted, h.0), names_lifts k hs h.1)
+    where
+      lifted : Ok (Local (r.locals + k + length hs))
+      lifted = let at : r.locals + (k + length hs) ≡ r.locals + k + length hs = omega arith in subst (λ i. Ok (Local i)) at (temps (k + length hs))
 
   names_pops : (n : ℕ) → BlockNames Ok (pops r.locals n)
   names_pops zero = tt
@@ -112,28 +134,48 @@ module _ (Ok : Operand → Type 0) (known : (n : ℕ) → Ok (Known n)) (lay : L
   names_pushed rest (a ∷ []) hr h = (h.0, ((known 0, hr), tt))
   names_pushed rest (a ∷ b ∷ hs) hr h = tt
 
-  names_done : (p : Step) (s : Shape) → NoReceiver p → ShapeNames Ok s → MadeNames Ok (done lay r p s)
-  names_done p s n h = by_taken Ok (λ o. MadeNames Ok (step_on lay r p o)) (takes p) s.homes h.0 tt (λ args rest ha hr.
-      names_if Ok (nat_le (takes p + 2) r.temps) _ (Refused TooHigh) (does rest hr) tt)
+  names_worked : (p : Step) (rest : List Operand) → NoReceiver p → AllOk Ok rest → MadeNames Ok (worked lay r p rest)
+  names_worked p rest n hr =
+      names_after Ok (stepped lay r p (popped r.locals (takes p))) (put_back r rest)
+      (names_step Ok known lay r own temps p (popped r.locals (takes p)) n (names_popped (takes p)))
+      (λ s h. names_after Ok (settled r s) (λ s1. pushed_on rest s1.homes) (settles s h) (λ s1 h1. names_pushed rest s1.homes hr h1.0))
+
+  names_step_on : (p : Step) (news os : List Operand) → NoReceiver p → AllOk Ok news → AllOk Ok os → MadeNames Ok (step_on lay r p news os)
+  names_step_on p news os n hn ho =
+      names_if Ok (nat_le (takes p) (length news + length os)) _ (Refused NotTaken)
+      (names_if Ok (nat_le (takes p + 2) r.temps) _ (Refused TooHigh) does tt) tt
     where
-      does : (rest : List Operand) → AllOk Ok rest → MadeNames Ok (after (drawn r p rest) (λ s1. worked lay r p s1.homes))
-      does rest hr =
-          names_behind Ok (pops r.locals (takes p)) (worked lay r p rest) (names_pops (takes p))
-          (names_after Ok (stepped lay r p (popped r.locals (takes p))) (put_back r rest)
-          (names_step Ok known lay r own temps p (popped r.locals (takes p)) n (names_popped (takes p)))
-          (λ s1 h1. names_after Ok (settled r s1) (λ s2. pushed_on rest s2.homes) (settles s1 h1) (λ s2 h2. names_pushed rest s2.homes hr h2.0)))
+      missing : ℕ
+      missing = takes p - length news
+
+      does : MadeNames Ok (after (drawn r missing news os) (λ s. worked lay r p s.homes))
+      does =
+          names_behind Ok _ (worked lay r p (drop missing os)) (names_lifts missing news hn, names_pops missing)
+          (names_worked p (drop missing os) n (drop_ok Ok missing os ho))
+
+  names_done : (most : ℕ) (p : Step) (s : Shape) → NoReceiver p → ShapeNames Ok s → MadeNames Ok (done lay r most p s)
+  names_done most p s n h =
+      names_if Ok (is_above most p s) (onto (older most s) (flat lay r (Do p) (newer most s))) (crossed lay r most p s)
+      (names_onto (older most s) (flat lay r (Do p) (newer most s)) (older_ok most s h) (names_flat (Do p) (newer most s) n (names_newer most s h)))
+      (names_after Ok (settled r (newer most s)) _ (settles (newer most s) (names_newer most s h))
+      (λ s1 h1. names_step_on p s1.homes (older most s) n h1.0 (older_ok most s h)))
 
   names_topped : (hs : List Operand) → AllOk Ok hs → MadeNames Ok (topped r hs)
   names_topped [] h = tt
   names_topped (a ∷ hs) h = names_temp Ok known r temps [] _ (λ to lt. (lt, ((lt, h.1), tt)))
+
+  names_newest : (most : ℕ) (s : Shape) → ShapeNames Ok s → MadeNames Ok (with_newest r most s)
+  names_newest most s h = names_if Ok (all_pushed most s) (topped r s.homes) (Refused NotTaken) (names_topped s.homes h.0) tt
 
   names_lowered : (n : ℕ) (hs : List Operand) → AllOk Ok hs → MadeNames Ok (lowered r n hs)
   names_lowered n [] h = tt
   names_lowered n (a ∷ hs) h =
       names_if Ok (length hs == n) _ (Refused NotTaken) (names_temp Ok known r temps [] _ (λ to lt. (lt, ((lt, h.1), tt)))) tt
 
-  names_level : (n : ℕ) (s : Shape) → ShapeNames Ok s → MadeNames Ok (level r n s)
-  names_level n s h = names_if Ok (length s.homes == n) (Gives Skip (only s.homes)) (lowered r n s.homes) (tt, (h.0, tt)) (names_lowered n s.homes h.0)
+  names_level : (most n : ℕ) (s : Shape) → ShapeNames Ok s → MadeNames Ok (level r most n s)
+  names_level most n s h =
+      names_if Ok (all_pushed most s) (level_as r n s) (Refused NotTaken)
+      (names_if Ok (length s.homes == n) (Gives Skip (only s.homes)) (lowered r n s.homes) (tt, (h.0, tt)) (names_lowered n s.homes h.0)) tt
 
   names_again : (hs : List Operand) → AllOk Ok hs → MadeNames Ok (pushed_again hs)
   names_again [] h = tt
@@ -142,32 +184,42 @@ module _ (Ok : Operand → Type 0) (known : (n : ℕ) → Ok (Known n)) (lay : L
   names_raised : (n : ℕ) (s : Shape) → ShapeNames Ok s → MadeNames Ok (raised n s)
   names_raised n s h = names_if Ok (nat_lt (length s.homes) n) (Gives Skip (only s.homes)) (pushed_again s.homes) (tt, (h.0, tt)) (names_again s.homes h.0)
 
-  names_ways : (s : Shape) (x y : Shape → Made) → ShapeNames Ok s → ((z : Shape) → ShapeNames Ok z → MadeNames Ok (x z))
-      → ((z : Shape) → ShapeNames Ok z → MadeNames Ok (y z)) → MadeNames Ok (ways r (tested s) x y)
-  names_ways s x y h hx hy =
-      names_tested Ok known r temps (λ o. MadeNames Ok (ways r o x y)) s h tt (λ t hs ht hh.
-      names_joined t (levelled r (length hs) (x (only hs))) (levelled r (length hs) (y (only hs))) ht
-      (names_after Ok (x (only hs)) (level r (length hs)) (hx (only hs) (hh, tt)) (names_level (length hs)))
-      (names_after Ok (y (only hs)) (level r (length hs)) (hy (only hs) (hh, tt)) (names_level (length hs))))
+  names_ways : (most : ℕ) (s : Shape) (x y : Shape → Made) → ShapeNames Ok s → ((z : Shape) → ShapeNames Ok z → MadeNames Ok (x z))
+      → ((z : Shape) → ShapeNames Ok z → MadeNames Ok (y z)) → MadeNames Ok (ways r most (tested s) x y)
+  names_ways most s x y h hx hy =
+      names_tested Ok known r temps (λ o. MadeNames Ok (ways r most o x y)) s h tt (λ t hs ht hh.
+      names_joined t (levelled r most (length hs) (x (only hs))) (levelled r most (length hs) (y (only hs))) ht
+      (names_after Ok (x (only hs)) (level r most (length hs)) (hx (only hs) (hh, tt)) (names_level most (length hs)))
+      (names_after Ok (y (only hs)) (level r most (length hs)) (hy (only hs) (hh, tt)) (names_level most (length hs))))
 
-  names_stacked : (c : Code Step) (s : Shape) → EachStep NoReceiver c → ShapeNames Ok s → MadeNames Ok (stacked lay r c s)
-  names_stacked Nothing s n h = (tt, h)
-  names_stacked (Then a b) s (n, m) h =
-      names_after Ok (stacked lay r a s) (stacked lay r b) (names_stacked a s n h) (λ s1 h1. names_stacked b s1 m h1)
-  names_stacked (Do p) s n h = names_done p s n h
-  names_stacked (If a b) s (n, m) h =
-      names_after Ok (with_newest r s) _ (names_topped s.homes h.0)
-      (λ s1 h1. names_after Ok (ways r (tested s1) (stacked lay r a) (stacked lay r b)) (raised (length s1.homes))
-      (names_ways s1 (stacked lay r a) (stacked lay r b) h1 (λ z hz. names_stacked a z n hz) (λ z hz. names_stacked b z m hz))
-      (names_raised (length s1.homes)))
-  names_stacked (Loop c body next) s (n, m, k) h =
+  names_by_pushed : (most : ℕ) (x y : Shape → Made) (s : Shape) → ShapeNames Ok s → ((z : Shape) → ShapeNames Ok z → MadeNames Ok (x z))
+      → ((z : Shape) → ShapeNames Ok z → MadeNames Ok (y z)) → MadeNames Ok (by_pushed r most x y s)
+  names_by_pushed most x y s h hx hy =
+      names_after Ok (with_newest r most s) _ (names_newest most s h)
+      (λ s1 h1. names_after Ok (ways r most (tested s1) x y) (raised (length s1.homes)) (names_ways most s1 x y h1 hx hy) (names_raised (length s1.homes)))
+
+  names_by_newer : (most : ℕ) (a b : Code Step) (s : Shape) → EachStep NoReceiver (If a b) → ShapeNames Ok s → MadeNames Ok (by_newer lay r most a b s)
+  names_by_newer most a b s n h =
+      names_if Ok (is_calm a && is_calm b) (onto (older most s) (flat lay r (If a b) (newer most s))) (Refused NotTaken)
+      (names_onto (older most s) (flat lay r (If a b) (newer most s)) (older_ok most s h) (names_flat (If a b) (newer most s) n (names_newer most s h))) tt
+
+  names_stacked : (most : ℕ) (c : Code Step) (s : Shape) → EachStep NoReceiver c → ShapeNames Ok s → MadeNames Ok (stacked lay r most c s)
+  names_stacked most Nothing s n h = (tt, h)
+  names_stacked most (Then a b) s (n, m) h =
+      names_after Ok (stacked lay r most a s) (stacked lay r most b) (names_stacked most a s n h) (λ s1 h1. names_stacked most b s1 m h1)
+  names_stacked most (Do p) s n h = names_done most p s n h
+  names_stacked most (If a b) s (n, m) h =
+      names_if Ok (all_pushed most s) (by_pushed r most (stacked lay r most a) (stacked lay r most b) s) (by_newer lay r most a b s)
+      (names_by_pushed most (stacked lay r most a) (stacked lay r most b) s h (λ z hz. names_stacked most a z n hz) (λ z hz. names_stacked most b z m hz))
+      (names_by_newer most a b s (n, m) h)
+  names_stacked most (Loop c body next) s (n, m, k) h =
       names_where s _
-      (names_repeated (after (stacked lay r c empty) (with_newest r)) (stacked lay r body empty) (stacked lay r next empty)
-      (names_after Ok (stacked lay r c empty) (with_newest r) (names_stacked c empty n (tt, tt)) (λ s1 h1. names_topped s1.homes h1.0))
-      (names_stacked body empty m (tt, tt)) (names_stacked next empty k (tt, tt)))
-  names_stacked Break s n h = names_where s (Gives BreakOut empty) (tt, (tt, tt))
-  names_stacked Continue s n h = names_where s (Gives GoOn empty) (tt, (tt, tt))
-  names_stacked Return s n h = names_after Ok (with_newest r s) _ (names_topped s.homes h.0) (λ s1 h1. names_given s1.homes h1.0)
+      (names_repeated (after (stacked lay r most c empty) (with_newest r most)) (stacked lay r most body empty) (stacked lay r most next empty)
+      (names_after Ok (stacked lay r most c empty) (with_newest r most) (names_stacked most c empty n (tt, tt)) (names_newest most))
+      (names_stacked most body empty m (tt, tt)) (names_stacked most next empty k (tt, tt)))
+  names_stacked most Break s n h = names_where s (Gives BreakOut empty) (tt, (tt, tt))
+  names_stacked most Continue s n h = names_where s (Gives GoOn empty) (tt, (tt, tt))
+  names_stacked most Return s n h = names_after Ok (with_newest r most s) _ (names_newest most s h) (λ s1 h1. names_given s1.homes h1.0)
 
 -- ---- whole procedures
 
@@ -199,6 +251,6 @@ module _ (Ok : Operand → Type 0) (known : (n : ℕ) → Ok (Known n)) (m : Fir
           let at : f.room.locals + i ≡ receivers m.receives + (length m.widths + i) = omega (arith, count) in
           subst (λ k. Ok (Local k)) (sym at) (own (length m.widths + i))
 
-      by_way : (flat lay f.room m.body empty ≡ Gives f.block f.shape) ⊎ (stacked lay f.room m.body empty ≡ Gives f.block f.shape) → BlockNames Ok f.block
+      by_way : (flat lay f.room m.body empty ≡ Gives f.block f.shape) ⊎ IsPushed lay m f.room f.block f.shape → BlockNames Ok f.block
       by_way (inl e) = (subst (MadeNames Ok) e (names_flat Ok known lay f.room owned above m.body empty n (tt, tt))).0
-      by_way (inr e) = (subst (MadeNames Ok) e (names_stacked Ok known lay f.room owned above m.body empty n (tt, tt))).0
+      by_way (inr x) = (subst (MadeNames Ok) x.made (names_stacked Ok known lay f.room owned above x.pushes m.body empty n (tt, tt))).0

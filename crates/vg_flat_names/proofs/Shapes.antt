@@ -34,7 +34,7 @@ MadeNames Ok (Refused why) = Unit {0}
 module _ (Ok : Operand → Type 0) where
   -- ---- homes
 
-  take_ok : (n : ℕ) (hs : List Operand) → AllOk Ok hs → AllOk Ok (take n hs)
+  pub take_ok : (n : ℕ) (hs : List Operand) → AllOk Ok hs → AllOk Ok (take n hs)
   take_ok zero hs h = tt
   take_ok (suc n) [] h = tt
   take_ok (suc n) (a ∷ hs) h = (h.0, take_ok n hs h.1)
@@ -44,7 +44,7 @@ module _ (Ok : Operand → Type 0) where
   drop_ok (suc n) [] h = tt
   drop_ok (suc n) (a ∷ hs) h = drop_ok n hs h.1
 
-  both_ok : (xs ys : List Operand) → AllOk Ok xs → AllOk Ok ys → AllOk Ok (xs ++ ys)
+  pub both_ok : (xs ys : List Operand) → AllOk Ok xs → AllOk Ok ys → AllOk Ok (xs ++ ys)
   both_ok [] ys h g = g
   both_ok (x ∷ xs) ys h g = (h.0, both_ok xs ys h.1 g)
 

@@ -12,8 +12,8 @@ ghost use Rattle.vg_flat_each.specs.Each.{EachStep};
 ghost use Rattle.vg_flat_names.specs.Names.{Names, NoReceiver};
 
 /// A law of flattened code. What holds of all known values, and of each local behind the receiver, holds of all operands and set locals of the
-/// instructions that a packed procedure becomes, whether its waiting values have homes of their own or are pushed, where no step of it names the receiver.
-/// The body is empty: its contract is a law of the definitions, as that below.
+/// instructions that a packed procedure becomes, whether its waiting values have homes of their own or the oldest of them are pushed, where no step of it
+/// names the receiver. The body is empty: its contract is a law of the definitions, as that below.
 pub fn flattened_code_names()
     ensures { (is_ok : Operand → Bool) → ((n : ℕ) → is_ok (Known n) ≡ true) → (m : FirmProcedure)
         → ((i : ℕ) → is_ok (Local (receivers m.receives + i)) ≡ true) → (lay : Layout) (p : Procedure) → IsFlat lay m p → EachStep NoReceiver m.body

@@ -60,6 +60,11 @@ module _ (k : Knows) (none : k.most ≡ 0) where
 
 -- ---- whole procedures
 
+pub short_as : (m : Procedure) (made : Made) → length m.widths - m.params + flat_weight m.body + 1 ≤ 65519 → IsClosed m made
+    → ((b : Block) (s : Shape) → made ≡ Gives b s → block_size b ≤ flat_weight m.body) → IsShortAs m made
+short_as m (Refused why) room h short = absurd h
+short_as m (Gives b s) room h short = let w = whole_short m b (short b s refl) in (h.0, h.1, omega (arith, w, room))
+
 module _ (lay : Layout) (m : Procedure) (most : ℕ) (few : length m.widths ≤ 60)
     (typed : Typed (record { layout = lay; locals = length m.widths; most = most }) false 0 m.body 0 0) where
   abbrev known : Knows
@@ -75,15 +80,11 @@ module _ (lay : Layout) (m : Procedure) (most : ℕ) (few : length m.widths ≤ 
       (nothing [] 0 refl)
 
   module _ (within : most ≤ temps_for (length (own_widths m))) (room : length m.widths - m.params + flat_weight m.body + 1 ≤ 65519) where
-    short_as : (made : Made) → IsClosed m made → ((b : Block) (s : Shape) → made ≡ Gives b s → block_size b ≤ flat_weight m.body) → IsShortAs m made
-    short_as (Refused why) h short = absurd h
-    short_as (Gives b s) h short = let w = whole_short m b (short b s refl) in (h.0, h.1, omega (arith, w, room))
-
     pub flat_from : IsFlatFrom lay m most
     flat_from =
         record {
           few = within;
           each = λ temps least there.
-              short_as (flat lay (room_with temps m) m.body empty) (closed_fine m _ (fine_with temps least))
-              (λ b s e. code_short lay (room_with temps m) m.body empty s b (inl e));
+              short_as m (flat lay (room_with temps m) m.body empty) room (closed_fine m _ (fine_with temps least))
+              (λ b s e. code_short lay (room_with temps m) 0 m.body empty s b (inl e));
         }

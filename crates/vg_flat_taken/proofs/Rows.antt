@@ -1,8 +1,7 @@
 -- Rows of values that are pushed, and of the temporaries into which a step's own are popped; and what each step leaves.
-use Rattle.std.specs.Prelude.{ℕ, zero, suc, ◌+◌, ◌≤◌, Bool, List, [], ◌∷◌, ◌++◌, length, reverse, take, drop, Option, Some, None, if◌then◌else◌}
-use Rattle.std.proofs.Common.{◌≡◌, refl, sym, ap, ◌∙◌, subst, arith}
-use Rattle.std.proofs.lemmas.List.{length-append}
-use Rattle.std.proofs.Math.Seq.{take-append_seam, drop-append_seam}
+use Rattle.std.specs.Prelude.{ℕ, zero, suc, ◌+◌, ◌≤◌, Bool, List, [], ◌∷◌, ◌++◌, length, drop}
+use Rattle.std.proofs.Common.{◌≡◌, refl, sym, ap, ◌∙◌, arith}
+use Rattle.std.proofs.Math.Seq.{drop-append_seam}
 use Rattle.vg_firm.specs.declared.step.Step.{Step}
 use Rattle.vg_firm.specs.declared.step.Step.TheVariants.{Number, This, Local as GetLocal, SetLocal, Forget, Operate, Apply, ReadDevice, WriteDevice}
 use Rattle.vg_firm.specs.declared.step.Step.TheVariants.{Load, Store}
@@ -10,11 +9,10 @@ use Rattle.vg_firm.specs.declared.step.Step.TheVariants.{LoadAt, StoreAt, LoadNo
 use Rattle.vg_firm.specs.declared.step.Step.TheVariants.{StopUnlessWithin, Bind, BindFor, Call, CallFor, CallValue, Idle}
 use Rattle.vg_lin.specs.declared.instr.Operand.{Operand}
 use Rattle.vg_lin.specs.declared.instr.Operand.TheVariants.{Known}
-use Rattle.vg_flatten_shapes.specs.Shapes.{Taken, taken}
-use Rattle.vg_flatten_pushed.specs.Pushed.{pops, popped}
+use Rattle.vg_flatten_pushed.specs.Pushed.{pops, popped, lifts}
 use Rattle.vg_firm_typed.specs.Steps.{takes, leaves}
 use Rattle.vg_firm_typed.specs.Typed.{IsAlone}
-use Rattle.vg_flatten.proofs.Typed.{Stays, le_true}
+use Rattle.vg_flatten.proofs.Typed.{Stays}
 
 -- The homes of so many values that are pushed.
 abbrev pub row : ℕ → List Operand
@@ -29,19 +27,9 @@ row_both : (c k : ℕ) → row (c + k) ≡ row c ++ row k
 row_both zero k = ap row (let e : zero + k ≡ k = omega arith in e)
 row_both (suc c) k = ap row (let e : suc c + k ≡ suc (c + k) = omega arith in e) ∙ ap (λ z. Known 0 ∷ z) (row_both c k)
 
-taken_front : (xs ys : List Operand) (n : ℕ) → length xs ≡ n → taken n (xs ++ ys) ≡ Some (record { args = reverse xs; rest = ys })
-taken_front xs ys n e = ap (λ z. taken z (xs ++ ys)) (sym e) ∙ front
-  where
-    front : taken (length xs) (xs ++ ys) ≡ Some (record { args = reverse xs; rest = ys })
-    front =
-        ap (λ b. if b then Some (record { args = reverse (take (length xs) (xs ++ ys)); rest = drop (length xs) (xs ++ ys) }) else None)
-        (le_true (length xs) (length (xs ++ ys)) (let l = length-append xs ys in omega (arith, l)))
-        ∙ ap (λ z. Some (record { args = reverse z; rest = drop (length xs) (xs ++ ys) })) (take-append_seam xs ys)
-        ∙ ap (λ z. Some (record { args = reverse xs; rest = z })) (drop-append_seam xs ys)
-
--- so many of a row are taken
-pub with_row : (Q : Option Taken → Type 0) (c k : ℕ) → ((args : List Operand) → Q (Some (record { args = args; rest = row k }))) → Q (taken c (row (c + k)))
-with_row Q c k h = subst Q (sym (ap (taken c) (row_both c k) ∙ taken_front (row c) (row k) c (length_row c))) (h (reverse (row c)))
+-- behind so many of a row the rest of it waits
+pub drop_row : (c k : ℕ) → drop c (row (c + k)) ≡ row k
+drop_row c k = ap (drop c) (row_both c k) ∙ ap (λ z. drop z (row c ++ row k)) (sym (length_row c)) ∙ drop-append_seam (row c) (row k)
 
 pub length_popped : (first n : ℕ) → length (popped first n) ≡ n
 length_popped first zero = refl
@@ -50,6 +38,10 @@ length_popped first (suc n) = let h = length_popped first n in omega (arith, h)
 pub stays_pops : (looped : Bool) (first n : ℕ) → Stays looped (pops first n)
 stays_pops looped first zero = tt
 stays_pops looped first (suc n) = (tt, stays_pops looped first n)
+
+pub stays_lifts : (looped : Bool) (first : ℕ) (hs : List Operand) → Stays looped (lifts first hs)
+stays_lifts looped first [] = tt
+stays_lifts looped first (h ∷ hs) = (tt, stays_lifts looped first hs)
 
 -- a step leaves one value at most
 pub leaves_one : (p : Step) → leaves p ≤ 1
@@ -108,3 +100,32 @@ own_alone (Call q count) = tt
 own_alone (CallFor d count) = tt
 own_alone (CallValue count) = tt
 own_alone Idle = tt
+
+-- above pushed values no local is set
+pub alone_above : (p : Step) (n m : ℕ) → takes p + 1 ≤ n → IsAlone p n → IsAlone p m
+alone_above (Number v) n m le alone = tt
+alone_above This n m le alone = tt
+alone_above (GetLocal i) n m le alone = tt
+alone_above (SetLocal i) n m le alone = absurd (omega (arith, le, alone))
+alone_above Forget n m le alone = tt
+alone_above (Operate op) n m le alone = tt
+alone_above (Apply op) n m le alone = tt
+alone_above (ReadDevice address) n m le alone = tt
+alone_above (WriteDevice address) n m le alone = tt
+alone_above (Load home c) n m le alone = tt
+alone_above (Store c width) n m le alone = tt
+alone_above (LoadAt home c first) n m le alone = tt
+alone_above (StoreAt c first width) n m le alone = tt
+alone_above LoadNothing n m le alone = tt
+alone_above StoreNothing n m le alone = tt
+alone_above (LoadItem e) n m le alone = tt
+alone_above (StoreItem e) n m le alone = tt
+alone_above (Length t) n m le alone = tt
+alone_above (IsWithin first count) n m le alone = tt
+alone_above (StopUnlessWithin first count) n m le alone = tt
+alone_above (Bind q) n m le alone = tt
+alone_above (BindFor d) n m le alone = tt
+alone_above (Call q count) n m le alone = tt
+alone_above (CallFor d count) n m le alone = tt
+alone_above (CallValue count) n m le alone = tt
+alone_above Idle n m le alone = tt

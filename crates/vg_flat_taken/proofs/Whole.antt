@@ -1,4 +1,4 @@
--- That whole typed procedures are flattened, however many values wait.
+-- That whole typed procedures are flattened, though more values wait than there are temporaries.
 use Rattle.std.specs.Prelude.{ℕ, ◌+◌, ◌-◌, ◌<◌, ◌≤◌, Bool, true, false, ◌==◌, List, [], length}
 use Rattle.std.proofs.Common.{◌≡◌, ◌⊎◌, inl, inr, refl, sym, ap, ◌∙◌, subst, arith}
 use Rattle.vg_base.specs.declared.refusal.Refusal.{Refusal}
@@ -11,17 +11,21 @@ use Rattle.vg_flatten_shapes.specs.Shapes.{empty, is_empty}
 use Rattle.vg_flatten_shapes.specs.Blocks.{Block, open_code}
 use Rattle.vg_flatten_shapes.specs.Made.{Made, Gives, Refused}
 use Rattle.vg_flatten_control.specs.Flat.{flat}
-use Rattle.vg_firm_typed.specs.Typed.{Known as Knows}
-use Rattle.vg_firm_typed_any.specs.TypedFor.{IsTypedFor}
+use Rattle.vg_flatten_pushed.specs.Stacked.{stacked}
+use Rattle.vg_firm_typed.specs.Typed.{Known as Knows, Typed}
+use Rattle.vg_firm_typed_any.specs.TypedFor.{IsTypedFor, TakesFew}
+use Rattle.vg_code_counts.specs.Each.{EachStep}
 use Rattle.vg_flatten.specs.Closing.{AllSet}
 use Rattle.vg_flatten.specs.Flattened.{receivers, with_receiver_width, own_widths, own_params, whole, temps_for}
 use Rattle.vg_flatten.specs.Refusals.{room_for, made_of, stacked_of, IsNotTakenAs, IsTooHigh, IsTooLong, IsCauseIn, IsCause}
 use Rattle.vg_flatten.specs.Taking.{IsMadeTooLong}
 use Rattle.vg_flatten.proofs.Typed.{Stays, Fine, Lands, fine_flat, nothing, empty_is, not_true, stays_set, stays_zeroes}
-use Rattle.vg_flat_taken.specs.Taken.{IsClosed, IsMade, IsLeftFor}
+use Rattle.vg_flat_taken.specs.Taken.{IsClosed, IsMade, IsLeftFor, step_count}
 use Rattle.vg_flat_taken.proofs.Fewer.{Near, with_temps}
 use Rattle.vg_flat_taken.proofs.FewerCode.{near_flat}
+use Rattle.vg_flat_taken.proofs.Above.{low_held, stands_low}
 use Rattle.vg_flat_taken.proofs.Pushed.{pushed_code}
+use Rattle.vg_flat_taken.proofs.Lowered.{lowered}
 
 -- ---- what is closed
 
@@ -83,41 +87,47 @@ pub itself : (b : Bool) (ws : List ℕ) → ((receivers b == 0) ≡ true) ⊎ (0
 itself true ws = inr (omega arith)
 itself false ws = inl refl
 
-module _ (lay : Layout) (m : Procedure) (typed : IsTypedFor lay m) where
-  few : length (own_widths m) ≤ 61
-  few = own_few m typed.few
+module _ (lay : Layout) (m : Procedure) (few : length m.widths ≤ 60) where
+  own_less : length (own_widths m) ≤ 61
+  own_less = own_few m few
 
   temps : 191 ≤ temps_for (length (own_widths m))
-  temps = let le = few in omega (arith, le)
+  temps = let le = own_less in omega (arith, le)
 
-  abbrev known : Knows
-  known = record { layout = lay; locals = length m.widths; most = typed.most }
+  abbrev known : ℕ → Knows
+  known most = record { layout = lay; locals = length m.widths; most = most }
 
   inside : (i : ℕ) → i < length m.widths → receivers m.receives + i < length (own_widths m)
   inside i lt = let l = receiver_few m.receives m.widths in omega (arith, l, lt)
 
-  -- as many temporaries as are never too few
+  -- where so many are pushed that the temporaries are enough for the newer ones
+  pub pushed_closed : (most pushes : ℕ) → Typed (known most) false 0 m.body 0 0 → EachStep (TakesFew 189) m.body → 1 ≤ pushes
+      → most ≤ pushes + temps_for (length (own_widths m)) → IsClosed m (stacked lay (room_for m) pushes m.body empty)
+  pushed_closed most pushes code few_taken one le =
+      closed_lands m _ (stands_low false pushes 0 _ (omega arith)
+      (pushed_code lay (room_for m) (known most) refl inside (itself m.receives m.widths) 189 (omega (arith, temps)) pushes one le m.body false 0 0 0 empty code
+      few_taken (low_held pushes 0 (omega arith))))
+
+  -- with temporaries that are never too few
+  ample_fine : (most : ℕ) → Typed (known most) false 0 m.body 0 0
+      → Fine false [] 0 (flat lay (with_temps (room_for m) (temps_for (length (own_widths m)) + most)) m.body empty)
+  ample_fine most code =
+      fine_flat lay (with_temps (room_for m) (temps_for (length (own_widths m)) + most)) (known most) refl inside (itself m.receives m.widths) (omega arith)
+      (omega (arith, temps)) m.body false [] empty 0 0 code (nothing [] 0 refl)
+
+module _ (lay : Layout) (m : Procedure) (typed : IsTypedFor lay m) (short : typed.most ≤ 65535 + temps_for (length (own_widths m))) where
   abbrev many : ℕ
   many = temps_for (length (own_widths m)) + typed.most
-
-  ample_fine : Fine false [] 0 (flat lay (with_temps (room_for m) many) m.body empty)
-  ample_fine =
-      fine_flat lay (with_temps (room_for m) many) known refl inside (itself m.receives m.widths) (omega arith) (omega (arith, temps))
-      m.body false [] empty 0 0 typed.code (nothing [] 0 refl)
-
-  body_pushed : Lands false [] (stacked_of lay m)
-  body_pushed =
-      pushed_code lay (room_for m) known refl inside (itself m.receives m.widths) 189 (omega (arith, temps)) m.body false 0 0 0 typed.code typed.takes
 
   pub is_made : IsMade lay m
   is_made = by_near (near_flat lay (room_for m) many (omega arith) m.body empty)
     where
       by_near : Near (made_of lay m) (flat lay (with_temps (room_for m) many) m.body empty) → IsMade lay m
-      by_near (inl e) = inl (closed_fine m (made_of lay m) (subst (Fine false [] 0) (sym e) ample_fine))
-      by_near (inr e) = inr (e, closed_lands m (stacked_of lay m) body_pushed)
+      by_near (inl e) = inl (closed_fine m (made_of lay m) (subst (Fine false [] 0) (sym e) (ample_fine lay m typed.few typed.most typed.code)))
+      by_near (inr e) = inr (e, pushed_closed lay m typed.few typed.most 65535 typed.code typed.takes (omega arith) short)
 
   not_high : IsMade lay m → IsTooHigh lay m → ⊥
-  not_high made (inl lt) = let f = few in omega (arith, lt, f)
+  not_high made (inl lt) = let f = own_few m typed.few in omega (arith, lt, f)
   not_high (inl h) (inr e) = not_refused m (made_of lay m) TooHigh h e.0
   not_high (inr h) (inr e) = not_refused m (stacked_of lay m) TooHigh h.1 e.1
 
@@ -135,3 +145,22 @@ module _ (lay : Layout) (m : Procedure) (typed : IsTypedFor lay m) where
 
   pub is_left : (e : Refusal Fault) → IsCause e lay m → IsLeftFor e lay m
   is_left = left_by is_made
+
+-- ---- how many may wait
+
+module _ (lay : Layout) (m : Procedure) (typed : IsTypedFor lay m) where
+  pub as_steps : (t : IsTypedFor lay m) × (t.most ≡ step_count m.body + 2)
+  as_steps = (
+    record {
+      few = typed.few;
+      most = step_count m.body + 2;
+      code =
+          lowered (record { layout = lay; locals = length m.widths; most = typed.most }) m.body false 0 0 0 (step_count m.body + 2) typed.code (omega arith);
+      takes = typed.takes;
+    },
+    refl,
+  )
+
+  -- so few steps leave few enough
+  pub few_wait : step_count m.body ≤ 65535 → (t : IsTypedFor lay m) × (t.most ≤ 65535 + temps_for (length (own_widths m)))
+  few_wait le = (as_steps.0, let e = as_steps.1 in let more = temps lay m typed.few in omega (arith, e, le, more))

@@ -1,5 +1,6 @@
 -- That a procedure is flattened, in one of the two ways; and what may be left of the causes of a refusal.
-use Rattle.std.specs.Prelude.{◌≡◌, ◌⊎◌, true}
+use Rattle.std.specs.Prelude.{◌≡◌, ◌⊎◌, ℕ, ◌+◌, true}
+use Rattle.vg_meaning.specs.Code.{Code, Then, Do, If, Loop}
 use Rattle.vg_base.specs.declared.refusal.Refusal.{Refusal}
 use Rattle.vg_base.specs.declared.refusal.Refusal.TheVariants.{Fault as Faulty, NoMemory as Memory}
 use Rattle.vg_firm.specs.Program.{Procedure}
@@ -19,7 +20,7 @@ abbrev pub IsClosed : Procedure → Made → Type 0
 IsClosed m (Gives b s) = (is_empty s ≡ true) × AllSet (open_code (whole m b) 0)
 IsClosed m (Refused why) = ⊥
 
--- It is made with a home for each waiting value; or, where more wait than there are temporaries, with each pushed.
+-- It is made with a home for each waiting value; or, where more wait than there are temporaries, with up to 65,535 of the oldest pushed.
 abbrev pub IsMade : Layout → Procedure → Type 0
 IsMade lay m = IsClosed m (made_of lay m) ⊎ ((made_of lay m ≡ Refused TooHigh) × IsClosed m (stacked_of lay m))
 
@@ -29,3 +30,11 @@ IsLeftFor Memory lay m = Unit {0}
 IsLeftFor (Faulty TooLong) lay m = IsMadeTooLong m (made_of lay m) ⊎ ((made_of lay m ≡ Refused TooHigh) × IsMadeTooLong m (stacked_of lay m))
 IsLeftFor (Faulty TooHigh) lay m = ⊥
 IsLeftFor (Faulty NotTaken) lay m = ⊥
+
+-- So many steps stand in code.
+abbrev pub step_count : {P : Type 0} → Code P → ℕ
+step_count (Then a b) = step_count a + step_count b
+step_count (Do p) = 1
+step_count (If a b) = step_count a + step_count b
+step_count (Loop c body next) = step_count c + step_count body + step_count next
+step_count _ = 0

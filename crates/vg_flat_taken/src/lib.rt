@@ -1,4 +1,4 @@
-//! That typed procedures are flattened, however many values wait.
+//! That typed procedures are flattened, though more values wait than there are temporaries.
 #![tactic(auto)]
 
 pub mod laws;

@@ -1,3 +1,4 @@
+mod Untested
 mod Light
 mod Ways
 pub mod Whole

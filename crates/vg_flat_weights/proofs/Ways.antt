@@ -1,5 +1,5 @@
 -- What code becomes, in both ways.
-use Rattle.std.specs.Prelude.{ℕ, ◌+◌, ◌==◌, nat_lt, List, [], ◌∷◌, length, Option, Some, None}
+use Rattle.std.specs.Prelude.{ℕ, ◌+◌, ◌==◌, ◌&&◌, nat_lt, List, [], ◌∷◌, length, Option, Some, None}
 use Rattle.std.proofs.Common.{arith}
 use Rattle.vg_meaning.specs.Code.{Code, Nothing, Then, Do, If, Loop, Break, Continue, Return}
 use Rattle.vg_firm.specs.declared.step.Step.{Step}
@@ -12,11 +12,11 @@ use Rattle.vg_flatten_shapes.specs.Shapes.{Shape, only, empty, same_operand, tem
 use Rattle.vg_flatten_shapes.specs.Blocks.{Skip, BreakOut, GoOn}
 use Rattle.vg_flatten_shapes.specs.Made.{Made, Gives, Refused, after, settled, Tested, tested}
 use Rattle.vg_flatten_control.specs.Flat.{landed_as, landed, chosen, flat}
-use Rattle.vg_flatten_pushed.specs.Pushed.{topped, with_newest, lowered, level, raised, pushed_again}
-use Rattle.vg_flatten_pushed.specs.Stacked.{levelled, ways, stacked}
+use Rattle.vg_flatten_pushed.specs.Pushed.{newer, older, all_pushed, onto, topped, with_newest, lowered, level_as, level, raised, pushed_again}
+use Rattle.vg_flatten_pushed.specs.Stacked.{is_calm, levelled, ways, by_pushed, by_newer, stacked}
 use Rattle.vg_flatten.proofs.Sizes.{Small, fewer, small_after, small_temp, small_if, small_settled, small_joined, small_where, small_repeated, small_given}
 use Rattle.vg_flat_sizes.specs.Weights.{flat_weight}
-use Rattle.vg_flat_weights.proofs.Light.{flat_step, pushed_step}
+use Rattle.vg_flat_weights.proofs.Light.{small_onto, flat_step, pushed_step}
 
 module _ (lay : Layout) (r : Room) where
   -- ---- where values have homes
@@ -56,12 +56,17 @@ module _ (lay : Layout) (r : Room) where
   small_topped [] = tt
   small_topped (h ∷ hs) = small_temp 1 (temp r []) _ (λ to. omega arith)
 
+  small_newest : (most : ℕ) (s : Shape) → Small 1 (with_newest r most s)
+  small_newest most s = small_if 1 (all_pushed most s) (topped r s.homes) (Refused NotTaken) (small_topped s.homes) tt
+
   small_lowered : (n : ℕ) (hs : List Operand) → Small 1 (lowered r n hs)
   small_lowered n [] = tt
   small_lowered n (h ∷ hs) = small_if 1 (length hs == n) _ (Refused NotTaken) (small_temp 1 (temp r []) _ (λ to. omega arith)) tt
 
-  small_level : (n : ℕ) (s : Shape) → Small 1 (level r n s)
-  small_level n s = small_if 1 (length s.homes == n) (Gives Skip (only s.homes)) (lowered r n s.homes) (omega arith) (small_lowered n s.homes)
+  small_level : (most n : ℕ) (s : Shape) → Small 1 (level r most n s)
+  small_level most n s =
+      small_if 1 (all_pushed most s) (level_as r n s) (Refused NotTaken)
+      (small_if 1 (length s.homes == n) (Gives Skip (only s.homes)) (lowered r n s.homes) (omega arith) (small_lowered n s.homes)) tt
 
   small_again : (hs : List Operand) → Small 1 (pushed_again hs)
   small_again [] = tt
@@ -70,32 +75,44 @@ module _ (lay : Layout) (r : Room) where
   small_raised : (n : ℕ) (s : Shape) → Small 1 (raised n s)
   small_raised n s = small_if 1 (nat_lt (length s.homes) n) (Gives Skip (only s.homes)) (pushed_again s.homes) (omega arith) (small_again s.homes)
 
-  small_ways : (n m : ℕ) (o : Option Tested) (f g : Shape → Made) → ((s : Shape) → Small n (f s)) → ((s : Shape) → Small m (g s))
-      → Small (2 + (n + 1) + (m + 1)) (ways r o f g)
-  small_ways n m None f g hf hg = tt
-  small_ways n m (Some t) f g hf hg =
-      small_joined lay r (n + 1) (m + 1) t.truth (levelled r (length t.homes) (f (only t.homes))) (levelled r (length t.homes) (g (only t.homes)))
-      (small_after n 1 (f (only t.homes)) (level r (length t.homes)) (hf (only t.homes)) (small_level (length t.homes)))
-      (small_after m 1 (g (only t.homes)) (level r (length t.homes)) (hg (only t.homes)) (small_level (length t.homes)))
+  small_ways : (n m most : ℕ) (o : Option Tested) (f g : Shape → Made) → ((s : Shape) → Small n (f s)) → ((s : Shape) → Small m (g s))
+      → Small (2 + (n + 1) + (m + 1)) (ways r most o f g)
+  small_ways n m most None f g hf hg = tt
+  small_ways n m most (Some t) f g hf hg =
+      small_joined lay r (n + 1) (m + 1) t.truth (levelled r most (length t.homes) (f (only t.homes))) (levelled r most (length t.homes) (g (only t.homes)))
+      (small_after n 1 (f (only t.homes)) (level r most (length t.homes)) (hf (only t.homes)) (small_level most (length t.homes)))
+      (small_after m 1 (g (only t.homes)) (level r most (length t.homes)) (hg (only t.homes)) (small_level most (length t.homes)))
 
-  pub small_stacked : (c : Code Step) (s : Shape) → Small (flat_weight c) (stacked lay r c s)
-  small_stacked Nothing s = omega arith
-  small_stacked (Then a b) s = small_after (flat_weight a) (flat_weight b) (stacked lay r a s) (stacked lay r b) (small_stacked a s) (small_stacked b)
-  small_stacked (Do p) s = pushed_step lay r p s
-  small_stacked (If a b) s =
-      fewer (1 + ((2 + (flat_weight a + 1) + (flat_weight b + 1)) + 1)) (flat_weight (If a b)) _ (omega arith)
-      (small_after 1 ((2 + (flat_weight a + 1) + (flat_weight b + 1)) + 1) (with_newest r s) _ (small_topped s.homes) (λ s1.
-      small_after (2 + (flat_weight a + 1) + (flat_weight b + 1)) 1 (ways r (tested s1) (stacked lay r a) (stacked lay r b)) (raised (length s1.homes))
-      (small_ways (flat_weight a) (flat_weight b) (tested s1) (stacked lay r a) (stacked lay r b) (small_stacked a) (small_stacked b))
+  small_by_pushed : (n m most : ℕ) (f g : Shape → Made) (s : Shape) → ((s : Shape) → Small n (f s)) → ((s : Shape) → Small m (g s))
+      → Small (12 + n + m) (by_pushed r most f g s)
+  small_by_pushed n m most f g s hf hg =
+      fewer (1 + ((2 + (n + 1) + (m + 1)) + 1)) (12 + n + m) (by_pushed r most f g s) (omega arith)
+      (small_after 1 ((2 + (n + 1) + (m + 1)) + 1) (with_newest r most s) _ (small_newest most s) (λ s1.
+      small_after (2 + (n + 1) + (m + 1)) 1 (ways r most (tested s1) f g) (raised (length s1.homes)) (small_ways n m most (tested s1) f g hf hg)
       (small_raised (length s1.homes))))
-  small_stacked (Loop c body next) s =
+
+  small_by_newer : (most : ℕ) (a b : Code Step) (s : Shape) → Small (flat_weight (If a b)) (by_newer lay r most a b s)
+  small_by_newer most a b s =
+      small_if (flat_weight (If a b)) (is_calm a && is_calm b) (onto (older most s) (flat lay r (If a b) (newer most s))) (Refused NotTaken)
+      (small_onto (flat_weight (If a b)) (older most s) (flat lay r (If a b) (newer most s)) (small_flat (If a b) (newer most s))) tt
+
+  pub small_stacked : (most : ℕ) (c : Code Step) (s : Shape) → Small (flat_weight c) (stacked lay r most c s)
+  small_stacked most Nothing s = omega arith
+  small_stacked most (Then a b) s =
+      small_after (flat_weight a) (flat_weight b) (stacked lay r most a s) (stacked lay r most b) (small_stacked most a s) (small_stacked most b)
+  small_stacked most (Do p) s = pushed_step lay r most p s
+  small_stacked most (If a b) s =
+      small_if (flat_weight (If a b)) (all_pushed most s) (by_pushed r most (stacked lay r most a) (stacked lay r most b) s) (by_newer lay r most a b s)
+      (small_by_pushed (flat_weight a) (flat_weight b) most (stacked lay r most a) (stacked lay r most b) s (small_stacked most a) (small_stacked most b))
+      (small_by_newer most a b s)
+  small_stacked most (Loop c body next) s =
       small_where lay r (flat_weight (Loop c body next)) s _
       (fewer (2 + (flat_weight c + 1) + flat_weight body + flat_weight next) (flat_weight (Loop c body next)) _ (omega arith)
-      (small_repeated lay r (flat_weight c + 1) (flat_weight body) (flat_weight next) (after (stacked lay r c empty) (with_newest r)) (stacked lay r body empty)
-      (stacked lay r next empty)
-      (small_after (flat_weight c) 1 (stacked lay r c empty) (with_newest r) (small_stacked c empty) (λ s1. small_topped s1.homes)) (small_stacked body empty)
-      (small_stacked next empty)))
-  small_stacked Break s = small_where lay r 1 s (Gives BreakOut empty) (omega arith)
-  small_stacked Continue s = small_where lay r 1 s (Gives GoOn empty) (omega arith)
-  small_stacked Return s =
-      fewer (1 + 1) 5 _ (omega arith) (small_after 1 1 (with_newest r s) _ (small_topped s.homes) (λ s1. small_given lay r s1.homes))
+      (small_repeated lay r (flat_weight c + 1) (flat_weight body) (flat_weight next) (after (stacked lay r most c empty) (with_newest r most))
+      (stacked lay r most body empty) (stacked lay r most next empty)
+      (small_after (flat_weight c) 1 (stacked lay r most c empty) (with_newest r most) (small_stacked most c empty) (small_newest most))
+      (small_stacked most body empty) (small_stacked most next empty)))
+  small_stacked most Break s = small_where lay r 1 s (Gives BreakOut empty) (omega arith)
+  small_stacked most Continue s = small_where lay r 1 s (Gives GoOn empty) (omega arith)
+  small_stacked most Return s =
+      fewer (1 + 1) 5 _ (omega arith) (small_after 1 1 (with_newest r most s) _ (small_newest most s) (λ s1. small_given lay r s1.homes))

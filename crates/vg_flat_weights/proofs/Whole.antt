@@ -14,15 +14,15 @@ use Rattle.vg_flatten_shapes.specs.Made.{Gives}
 use Rattle.vg_flatten_shapes.proofs.Sizes.{block_long}
 use Rattle.vg_flatten_control.specs.Flat.{flat}
 use Rattle.vg_flatten_pushed.specs.Stacked.{stacked}
-use Rattle.vg_flatten.specs.Flattened.{IsFlat, zeroes, own_params, whole}
+use Rattle.vg_flatten.specs.Flattened.{IsPushed, IsFlat, zeroes, own_params, whole}
 use Rattle.vg_flatten.proofs.Sizes.{Small}
 use Rattle.vg_flat_sizes.specs.Weights.{flat_weight}
 use Rattle.vg_flat_weights.proofs.Ways.{small_flat, small_stacked}
 
-pub code_short : (lay : Layout) (r : Room) (c : Code Step) (s t : Shape) (b : Block)
-    → (flat lay r c s ≡ Gives b t) ⊎ (stacked lay r c s ≡ Gives b t) → block_size b ≤ flat_weight c
-code_short lay r c s t b (inl e) = subst (Small (flat_weight c)) e (small_flat lay r c s)
-code_short lay r c s t b (inr e) = subst (Small (flat_weight c)) e (small_stacked lay r c s)
+pub code_short : (lay : Layout) (r : Room) (most : ℕ) (c : Code Step) (s t : Shape) (b : Block)
+    → (flat lay r c s ≡ Gives b t) ⊎ (stacked lay r most c s ≡ Gives b t) → block_size b ≤ flat_weight c
+code_short lay r most c s t b (inl e) = subst (Small (flat_weight c)) e (small_flat lay r c s)
+code_short lay r most c s t b (inr e) = subst (Small (flat_weight c)) e (small_stacked lay r most c s)
 
 zeroes_size : (c i : ℕ) → block_size (zeroes c i) ≤ c
 zeroes_size zero i = omega arith
@@ -37,5 +37,9 @@ pub procedure_short : (lay : Layout) (m : FirmProcedure) (p : Procedure) → IsF
 procedure_short lay m p f =
     let l : length p.code ≡ length (open_code (whole m f.block) 0) = ap length f.code ∙ length-map (open_code (whole m f.block) 0) (set_in 0 0) in
     let h = block_long (whole m f.block) 0 in
-    let w = whole_short m f.block (code_short lay f.room m.body empty f.shape f.block f.made) in
+    let w = whole_short m f.block (by_way f.made) in
     omega (arith, l, h, w)
+  where
+    by_way : (flat lay f.room m.body empty ≡ Gives f.block f.shape) ⊎ IsPushed lay m f.room f.block f.shape → block_size f.block ≤ flat_weight m.body
+    by_way (inl e) = code_short lay f.room 0 m.body empty f.shape f.block (inl e)
+    by_way (inr x) = code_short lay f.room x.pushes m.body empty f.shape f.block (inr x.made)

@@ -166,6 +166,7 @@ module _ (lay : Layout) (m : FirmProcedure) (r : Room) (receiver : r.receiver â‰
         on_objects = on;
         locals = locals;
         given = given;
+        fits = omega (arith, few, locals);
         method = refl;
         parameters = refl;
         result = refl;

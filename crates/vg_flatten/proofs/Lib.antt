@@ -6,10 +6,12 @@ pub mod Jumps
 pub mod Whole
 pub mod Starting
 pub mod Finished
-pub mod Causes
+pub mod Rooms
 pub mod Searching
 pub mod Onward
 pub mod Steady
+pub mod Calm
+pub mod PushedShapes
 pub mod PushedBlocks
 pub mod StackedBlocks
 pub mod PushedWaits

@@ -2,11 +2,13 @@
 use Rattle.std.specs.Prelude.{ℕ, suc, ◌<◌, Bool, true, false, ◌&&◌, length}
 use Rattle.std.proofs.Common.{◌≡◌, refl, arith}
 use Rattle.vg_lin.specs.declared.instr.Plain.{Plain as PlainInstr}
-use Rattle.vg_lin.specs.declared.instr.Plain.TheVariants.{Copy, Compute, Product, DivideSteps, Load, Store, ReadDevice, WriteDevice, Push, Pop, Find, CodeOf, Stop}
+use Rattle.vg_lin.specs.declared.instr.Plain.TheVariants.{Copy, Compute, Product, DivideSteps, Load, Store, ReadDevice, WriteDevice, Push, Pop, Find}
+use Rattle.vg_lin.specs.declared.instr.Plain.TheVariants.{CodeOf, Stop}
 use Rattle.vg_lin.specs.Meaning.{operands}
 use Rattle.vg_flatten_shapes.specs.Blocks.{Block, Skip, One, CallTo, TakeInterrupt, GiveBack, BreakOut, GoOn, Both, Choice, Repeat}
 use Rattle.vg_flatten_shapes.specs.Made.{Made, Gives, Refused}
-use Rattle.vg_flatten.proofs.Sound.{IsIn, ArePassedIn, IsTruthIn, IsPlainIn, IsToIn, IsCalleeIn, BlockIn}
+use Rattle.vg_flatten_pushed.specs.Pushed.{newer, older}
+use Rattle.vg_flatten.proofs.Sound.{IsIn, ArePassedIn, IsTruthIn, IsPlainIn, IsToIn, IsCalleeIn, BlockIn, ShapeIn}
 use Rattle.vg_flatten.proofs.Steady.{steady}
 
 abbrev pub PlainOn : (size n m : ℕ) → PlainInstr → Type 0
@@ -14,7 +16,8 @@ PlainOn size n m (Push w a) = (w ≡ 4) × IsIn size a × (m ≡ suc n)
 PlainOn size n m (Pop w to) = (w ≡ 4) × (to < size) × (n ≡ suc m)
 PlainOn size n m p = IsPlainIn size p × (n ≡ m)
 
--- L is what must hold where there is a loop. Behind each way of a choice as many wait as before it. Nothing waits where code leaves a loop or the procedure, nor around a loop.
+-- L is what must hold where there is a loop. Behind each way of a choice as many wait as before it. Nothing waits where code leaves a loop or
+-- the procedure, nor around a loop.
 abbrev pub BlockOn : (L : Type 0) → (given size n m : ℕ) → Block → Type 0
 BlockOn L given size n m Skip = n ≡ m
 BlockOn L given size n m (One p) = PlainOn size n m p
@@ -29,9 +32,10 @@ BlockOn L given size n m (Choice t a b) = IsTruthIn size t × (n ≡ m) × Block
 BlockOn L given size n m (Repeat p t a b) =
     IsTruthIn size t × ((n ≡ 0) × (m ≡ 0)) × BlockOn L given size 0 0 p × BlockOn L given size 0 0 a × BlockOn L given size 0 0 b × L
 
-abbrev pub MadeOn : (L : Type 0) → (given size n : ℕ) → Made → Type 0
-MadeOn L given size n (Gives b s) = BlockOn L given size n (length s.homes) b
-MadeOn L given size n (Refused why) = Unit {0}
+-- As many wait behind what was made as are pushed of its shape, and what waits above these is in range.
+abbrev pub MadeOn : (L : Type 0) → (given size most n : ℕ) → Made → Type 0
+MadeOn L given size most n (Gives b s) = BlockOn L given size n (length (older most s)) b × ShapeIn size (newer most s)
+MadeOn L given size most n (Refused why) = Unit {0}
 
 -- A block that pops nothing, and pushes for its calls alone, may stand above any number of values.
 plain_on : (size n : ℕ) (p : PlainInstr) → IsPlainIn size p → PlainOn size n n p

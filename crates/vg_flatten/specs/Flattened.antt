@@ -96,18 +96,35 @@ pub record IsFlatFrom (lay : Layout) (m : FirmProcedure) (most : ℕ) : Type 0 w
   pub few : most ≤ temps_for (length (own_widths m))
   pub each : (temps : ℕ) → most ≤ temps → temps ≤ temps_for (length (own_widths m)) → IsShortAs m (flat lay (room_with temps m) m.body empty)
 
--- The procedure of linear code is the flattened one: each waiting value has a home of its own, or each is pushed. Where homes do from some
+-- Where at least so many values may be pushed, up to 65,535, a procedure is flattened with a home for each newer one, and is short; its temporaries are
+-- all that there is room for.
+pub record IsPushedFrom (lay : Layout) (m : FirmProcedure) (most : ℕ) : Type 0 where
+  pub one : 1 ≤ most
+  pub few : most ≤ 65535
+  pub each : (pushes : ℕ) → most ≤ pushes → pushes ≤ 65535
+      → IsShortAs m (stacked lay (room_with (temps_for (length (own_widths m))) m) pushes m.body empty)
+
+-- The oldest values that wait are pushed, and no more of them than there must be where there is no room for all.
+pub record IsPushed (lay : Layout) (m : FirmProcedure) (r : Room) (b : Block) (s : Shape) : Type 0 where
+  pub pushes : ℕ
+  pub one : 1 ≤ pushes
+  pub made : stacked lay r pushes m.body empty ≡ Gives b s
+  pub all : r.temps ≡ temps_for (length (own_widths m))
+  pub least : (most : ℕ) → IsPushedFrom lay m most → pushes ≤ most
+
+-- The procedure of linear code is the flattened one: each waiting value has a home of its own, or the oldest of them are pushed. Where homes do from some
 -- number of temporaries on, each has one, and there are no more temporaries than that.
 pub record IsFlat (lay : Layout) (m : FirmProcedure) (p : Procedure) : Type 0 where
   pub room : Room
   pub block : Block
   pub shape : Shape
-  pub made : (flat lay room m.body empty ≡ Gives block shape) ⊎ (stacked lay room m.body empty ≡ Gives block shape)
+  pub made : (flat lay room m.body empty ≡ Gives block shape) ⊎ IsPushed lay m room block shape
   pub done : is_empty shape ≡ true
   pub receiver : room.receiver ≡ receivers m.receives
   pub on_objects : room.on_objects ≡ m.on_objects
   pub locals : room.locals ≡ length (own_widths m)
   pub given : room.result ≡ result_width m
+  pub fits : room.temps ≤ temps_for (length (own_widths m))
   pub method : p.method ≡ Some m.method
   pub parameters : p.params ≡ own_params m
   pub result : p.result ≡ result_width m

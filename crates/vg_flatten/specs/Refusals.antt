@@ -24,9 +24,9 @@ room_for m = room_with (temps_for (length (own_widths m))) m
 abbrev pub made_of : Layout → Procedure → Made
 made_of lay m = flat lay (room_for m) m.body empty
 
--- The same where each value that waits is pushed.
+-- The same where each value that waits is pushed, up to 65,535 of them.
 abbrev pub stacked_of : Layout → Procedure → Made
-stacked_of lay m = stacked lay (room_for m) m.body empty
+stacked_of lay m = stacked lay (room_for m) 65535 m.body empty
 
 -- A step or a form of code is not taken, values wait at the end of the body, or a jump stands in no loop.
 abbrev pub IsNotTakenAs : Procedure → Made → Type 0

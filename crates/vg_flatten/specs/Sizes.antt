@@ -23,15 +23,16 @@ code_size Break = 1
 code_size Continue = 1
 code_size Return = 5
 
--- The same where each value that waits is pushed: one more for each value that a step takes, and one for the push of what it leaves.
+-- The same where the oldest values that wait are pushed: one more for each value that a step takes, which is popped or copied up, and five for
+-- the value that it leaves, which is made a number and pushed. A choice by a value that is not pushed is as large as where none is pushed.
 abbrev pub step_pushed : Step → ℕ
-step_pushed p = takes p + (step_size p - 4) + 5
+step_pushed p = takes p + step_size p + 5
 
 abbrev pub code_pushed : Code Step → ℕ
 code_pushed Nothing = 0
 code_pushed (Then a b) = code_pushed a + code_pushed b
 code_pushed (Do p) = step_pushed p
-code_pushed (If a b) = 6 + code_pushed a + code_pushed b
+code_pushed (If a b) = 12 + code_pushed a + code_pushed b
 code_pushed (Loop c body next) = 3 + code_pushed c + code_pushed body + code_pushed next
 code_pushed Break = 1
 code_pushed Continue = 1

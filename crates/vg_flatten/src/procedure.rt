@@ -7,6 +7,7 @@ ghost use Rattle.vg_flatten_shapes.specs.Blocks.{Block, open_code};
 ghost use Rattle.vg_flatten.specs.Flattened.{IsFlat, zero_list, receivers, own_widths, own_params, with_receiver_width, widened, wide_params, all_widths, result_width};
 ghost use Rattle.vg_flatten.specs.Flattened.{main_args, whole, start_of, temps_for};
 ghost use Rattle.vg_flatten.specs.Searching.{made_with, NeedsAsMany, HomesNeverDo, IsBest, IsFound};
+ghost use Rattle.vg_flatten.specs.Searching.{pushed_as, NeedsAsManyPushed, IsBestPushed, IsFoundPushed};
 ghost use Rattle.vg_flatten_shapes.specs.Blocks.{set_in};
 ghost use Rattle.vg_flatten.specs.Sealing.{Seals, Wholes};
 ghost use Rattle.vg_lin.specs.Onward.{all_lead_on};
@@ -113,11 +114,12 @@ fn whole_code(
     Ok(append(first, rest.as_slice())?)
 }
 
-/// The same where each waiting value is pushed.
+/// The same where the oldest values that wait are pushed, so many of them at most.
 fn pushed_code(
     alloc: Global,
     layout: &Layout,
     room: Room,
+    most: u16,
     procedure: &Procedure,
 ) -> Result<Row<Open>, Refusal<Fault>>
     requires room { room.locals + room.temps ≤ 252 }
@@ -126,12 +128,20 @@ fn pushed_code(
     requires locals { room.locals ≡ length (own_widths (procedure_of procedure.now)) }
     requires given { room.result ≡ result_width (procedure_of procedure.now) }
     requires params { procedure.now.params ≤ length procedure.now.widths }
-    ensures { Wholes result (stacked layout.now room (code_of procedure.now.body) empty) (procedure_of procedure.now) }
+    ensures { Wholes result (stacked layout.now room most (code_of procedure.now.body) empty) (procedure_of procedure.now) }
 {
     let params = room.receiver + procedure.params;
     let first = zeroes(alloc, room.locals - params, params)?;
     let at = place_behind(0, first.len())?;
-    let body = stacked(alloc, layout, room, at, &procedure.body, Homes::new(alloc))?;
+    let body = stacked(
+        alloc,
+        layout,
+        room,
+        most,
+        at,
+        &procedure.body,
+        Homes::new(alloc),
+    )?;
     if !body.homes.is_empty() {
         return Err(Refusal::Fault(Fault::NotTaken));
     }
@@ -224,11 +234,12 @@ fn temps_beside(locals: u8) -> u8
 /// A procedure as linear code, in a program whose columns stand so and of whose procedures these get a receiver.
 ///
 /// It refuses what it does not take. Where more values wait at one time than there are temporaries, which are 252 less the locals, or where it
-/// would be too long, each value that waits is pushed: `TooHigh` is left for more than 252 locals, or for a step that then takes more values
-/// than there are temporaries less two; `TooLong` for what there would be more than 65,519 instructions of in either way. Where it does with
-/// so many temporaries and with each larger number, there are no more than that. Of a typed procedure it takes each step, and each value finds
-/// a temporary: then the only cause but want of memory is its length. The calls of the procedure stand in its code, each once and in their
-/// order, and no other; it has at most 252 locals, and a jump back only where its body has a loop.
+/// would be too long, the oldest values that wait are pushed, and no more of them than there must be, up to 65,535: `TooHigh` is left for more
+/// than 252 locals, for a step that takes more values than there are temporaries less two, or where more values wait than so many and the
+/// temporaries; `TooLong` for what there would be more than 65,519 instructions of in either way. Where it does with so many temporaries and
+/// with each larger number, there are no more than that. Of a typed procedure it takes each step, and each value finds a temporary: then the
+/// only cause but want of memory is its length. The calls of the procedure stand in its code, each once and in their order, and no other; it
+/// has at most 252 locals, and a jump back only where its body has a loop.
 pub fn flatten(
     alloc: Global,
     layout: &Layout,
@@ -316,7 +327,7 @@ fn with_fewest(
     }
 }
 
-/// The procedure with all temporaries that there is room for; where more values wait, or where it is too long, each is pushed.
+/// The procedure with all temporaries that there is room for; where more values wait, or where it is too long, the oldest are pushed.
 fn with_most(
     alloc: Global,
     layout: &Layout,
@@ -369,7 +380,7 @@ fn pushed_where_long(
     ensures few { IfOk result (λ p. length p.widths ≤ 252) }
     ensures refusal { IsRefusedFor result layout.now (procedure_of procedure.now) }
 {
-    match pushed_with(alloc, layout, procedure, own, temps) {
+    match pushed_with_fewest(alloc, layout, procedure, own, temps) {
         Ok(made) => Ok(made),
         Err(Refusal::NoMemory) => Err(Refusal::NoMemory),
         Err(Refusal::Fault(_why)) => Err(Refusal::Fault(Fault::TooLong)),
@@ -396,7 +407,90 @@ fn pushed_with_most(
     ensures few { IfOk result (λ p. length p.widths ≤ 252) }
     ensures refusal { IsRefusedFor result layout.now (procedure_of procedure.now) }
 {
-    pushed_with(alloc, layout, procedure, own, temps)
+    pushed_with_fewest(alloc, layout, procedure, own, temps)
+}
+
+/// The procedure where the oldest values that wait are pushed, and no more of them than there must be.
+fn pushed_with_fewest(
+    alloc: Global,
+    layout: &Layout,
+    procedure: &Procedure,
+    own: &[u8],
+    temps: u8,
+) -> Result<LinProc, Refusal<Fault>>
+    requires params { procedure.now.params ≤ length procedure.now.widths }
+    requires widths { AllByRecursion IsWidth procedure.now.widths }
+    requires given { procedure.now.result ≤ 4 }
+    requires own { own.now ≡ own_widths (procedure_of procedure.now) }
+    requires room { length own.now + temps ≤ 252 }
+    requires all { temps ≡ temps_for (length own.now) }
+    requires homes { HomesNeverDo layout.now (procedure_of procedure.now) }
+    ensures flat { IfOk result (λ p. IsFlat layout.now (procedure_of procedure.now) p) }
+    ensures onward { IfOk result (λ p. has_loop (code_of procedure.now.body) ≡ false → all_lead_on 0 p.code ≡ true) }
+    ensures few { IfOk result (λ p. length p.widths ≤ 252) }
+    ensures cause { IsRefusedIn result (procedure_of procedure.now) (stacked_of layout.now (procedure_of procedure.now)) }
+{
+    match with_fewest_pushed(alloc, layout, procedure, own, temps, 1, 65535, None)? {
+        Some(made) => Ok(made),
+        None => pushed_with(alloc, layout, procedure, own, temps, 65535),
+    }
+}
+
+/// The procedure with as few pushed values as it can do with, from so many on and fewer than so many; or the best so far. The number is found
+/// by halves: it is the least where pushing does from some number of values on.
+fn with_fewest_pushed(
+    alloc: Global,
+    layout: &Layout,
+    procedure: &Procedure,
+    own: &[u8],
+    temps: u8,
+    low: u16,
+    high: u16,
+    best: Option<LinProc>,
+) -> Result<Option<LinProc>, NoMemory>
+    requires params { procedure.now.params ≤ length procedure.now.widths }
+    requires widths { AllByRecursion IsWidth procedure.now.widths }
+    requires given { procedure.now.result ≤ 4 }
+    requires own { own.now ≡ own_widths (procedure_of procedure.now) }
+    requires room { length own.now + temps ≤ 252 }
+    requires all { temps ≡ temps_for (length own.now) }
+    requires homes { HomesNeverDo layout.now (procedure_of procedure.now) }
+    requires one { 1 ≤ low }
+    requires low { NeedsAsManyPushed layout.now (procedure_of procedure.now) low }
+    requires best { IsBestPushed layout.now (procedure_of procedure.now) 65535 high best }
+    requires onward { IfSome best (λ p. has_loop (code_of procedure.now.body) ≡ false → all_lead_on 0 p.code ≡ true) }
+    requires few { IfSome best (λ p. length p.widths ≤ 252) }
+    ensures flat { IfOk result (λ found. IsFoundPushed layout.now (procedure_of procedure.now) 65535 found) }
+    ensures onward { IfOk result (λ found. IfSome found (λ p. has_loop (code_of procedure.now.body) ≡ false → all_lead_on 0 p.code ≡ true)) }
+    ensures few { IfOk result (λ found. IfSome found (λ p. length p.widths ≤ 252)) }
+{
+    if low >= high {
+        return Ok(best);
+    }
+    let middle = low + (high - low) / 2;
+    match pushed_with(alloc, layout, procedure, own, temps, middle) {
+        Ok(made) => with_fewest_pushed(
+            alloc,
+            layout,
+            procedure,
+            own,
+            temps,
+            low,
+            middle,
+            Some(made),
+        ),
+        Err(Refusal::NoMemory) => Err(NoMemory),
+        Err(Refusal::Fault(_why)) => with_fewest_pushed(
+            alloc,
+            layout,
+            procedure,
+            own,
+            temps,
+            middle + 1,
+            high,
+            best,
+        ),
+    }
 }
 
 /// The procedure with so many temporaries behind its own locals.
@@ -438,23 +532,27 @@ fn flattened_with(
     Ok(made)
 }
 
-/// The same where each waiting value is pushed.
+/// The same where the oldest values that wait are pushed, so many of them at most.
 fn pushed_with(
     alloc: Global,
     layout: &Layout,
     procedure: &Procedure,
     own: &[u8],
     temps: u8,
+    pushes: u16,
 ) -> Result<LinProc, Refusal<Fault>>
     requires params { procedure.now.params ≤ length procedure.now.widths }
     requires widths { AllByRecursion IsWidth procedure.now.widths }
     requires given { procedure.now.result ≤ 4 }
     requires own { own.now ≡ own_widths (procedure_of procedure.now) }
     requires room { length own.now + temps ≤ 252 }
-    ensures flat { IfOk result (λ p. HomesNeverDo layout.now (procedure_of procedure.now) → IsFlat layout.now (procedure_of procedure.now) p) }
+    requires all { temps ≡ temps_for (length own.now) }
+    requires homes { HomesNeverDo layout.now (procedure_of procedure.now) }
+    requires one { 1 ≤ pushes }
+    ensures flat { IfOk result (λ p. NeedsAsManyPushed layout.now (procedure_of procedure.now) pushes → IsFlat layout.now (procedure_of procedure.now) p) }
     ensures onward { IfOk result (λ p. has_loop (code_of procedure.now.body) ≡ false → all_lead_on 0 p.code ≡ true) }
     ensures few { IfOk result (λ p. length p.widths ≤ 252) }
-    ensures refusal { temps ≡ temps_for (length own.now) → IsRefusedIn result (procedure_of procedure.now) (stacked_of layout.now (procedure_of procedure.now)) }
+    ensures cause { IsRefusedIn result (procedure_of procedure.now) (pushed_as pushes layout.now (procedure_of procedure.now)) }
 {
     let receiver = receivers(procedure.receives);
     let count = own.len();
@@ -467,7 +565,7 @@ fn pushed_with(
         temps,
         result: given,
     };
-    let code = pushed_code(alloc, layout, room, procedure)?;
+    let code = pushed_code(alloc, layout, room, pushes, procedure)?;
     let instrs = sealed(alloc, code.as_slice())?;
     let params = receiver + procedure.params;
     let widths = with_temps(all_widths(alloc, procedure)?, temps)?;

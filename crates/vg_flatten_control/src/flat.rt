@@ -280,9 +280,9 @@ fn landed(
     Ok(behind(first.code, rest)?)
 }
 
-// A choice by the truth value that waits.
+/// A choice by the truth value that waits, as `flat` of an `if`.
 #[cycle(flat)]
-fn chosen(
+pub fn chosen(
     alloc: Global,
     layout: &Layout,
     room: Room,
@@ -505,9 +505,9 @@ fn landed_arms(
     Ok(behind(first.code, rest)?)
 }
 
-// An arm's block, or the other arms.
+/// An arm's block, or the other arms, by the truth value that waits.
 #[cycle(flat)]
-fn arm_or(
+pub fn arm_or(
     alloc: Global,
     layout: &Layout,
     room: Room,
@@ -553,9 +553,9 @@ fn arm(
     Ok(behind(first.code, rest)?)
 }
 
-// An arm's block, or nothing.
+/// An arm's block, or nothing, by the truth value that waits.
 #[cycle(flat)]
-fn arm_or_nothing(
+pub fn arm_or_nothing(
     alloc: Global,
     layout: &Layout,
     room: Room,

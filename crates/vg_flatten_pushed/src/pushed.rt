@@ -1,18 +1,22 @@
-// Steps between pops and a push.
-ghost use Rattle.std.specs.Prelude.{◌≡◌, ◌+◌, ◌≤◌, ◌++◌, None, IfOk, OnOk};
-ghost use Rattle.vg_flatten_shapes.specs.Shapes.{only};
-ghost use Rattle.vg_flatten_shapes.specs.Made.{after};
+// Steps on the homes of the newer values, or between pops and a push.
+ghost use Rattle.std.specs.Prelude.{◌≡◌, ◌+◌, ◌≤◌, ◌++◌, nat_le, length, drop, false, None, IfOk, OnOk, if◌then◌else◌};
+ghost use Rattle.vg_meaning.specs.Code.{Do};
+ghost use Rattle.vg_flatten_shapes.specs.Shapes.{only, is_none};
+ghost use Rattle.vg_flatten_shapes.specs.Made.{after, settled};
 ghost use Rattle.vg_flatten_steps.specs.Steps.{stepped};
 ghost use Rattle.vg_flatten_shapes.specs.Laying.{Lays, IsPiece};
 ghost use Rattle.vg_firm_typed.specs.Steps.{takes};
-ghost use Rattle.vg_flatten_pushed.specs.Pushed.{pop_list, popped, pushed_on, put_back, worked, drawn, done, with_newest, level, raised};
+ghost use Rattle.vg_flatten_control.specs.Flat.{flat};
+ghost use Rattle.vg_flatten_pushed.specs.Pushed.{newer, older, count_of, onto, pop_list, popped, lift_list, pushed_on, put_back, worked, drawn, step_on};
+ghost use Rattle.vg_flatten_pushed.specs.Pushed.{is_above, crossed, done, topped, with_newest, level_as, level, raised};
 
+use crate::parts::{all_pushed, onto, part};
 use std::alloc::Global;
 use vg_base::{NoMemory, Refusal, Row};
-use vg_firm::Step;
-use vg_flatten_control::flat::settle;
+use vg_firm::{Code, Step};
+use vg_flatten_control::flat::{flat, settle};
 use vg_flatten_shapes::{
-    Fault, Homes, Layout, Open, Piece, Room, behind, nothing, one, place_behind,
+    Fault, Homes, Layout, Open, Piece, Room, Truth, behind, nothing, one, place_behind,
 };
 use vg_flatten_steps::stepped;
 use vg_flatten_values::temp;
@@ -58,6 +62,34 @@ fn push_pops(code: &mut Row<Open>, first: u8, count: u8) -> Result<(), NoMemory>
     push_pops(code, first, count - 1)
 }
 
+/// The copies of values behind other code: the oldest of them goes into the local `first`, each newer one into the next.
+fn push_lifts(code: &mut Row<Open>, first: u8, news: Homes) -> Result<(), NoMemory>
+    requires room { first + length news.homes ≤ 252 }
+    requires settled { news.truth ≡ None }
+    ensures { OnOk result (code.new ≡ code.old ++ lift_list first news.homes) }
+{
+    let mut news = news;
+    match news.pop() {
+        None => Ok(()),
+        Some(home) => {
+            let to = first + news.len() as u8;
+            code.push(Open::Set(Instr::Plain(Plain::Copy(to, home))))?;
+            push_lifts(code, first, news)
+        }
+    }
+}
+
+/// So many of the newest values are forgotten.
+fn forget_newest(homes: &mut Homes, count: u8)
+    requires { homes.old.truth ≡ None }
+    ensures { homes.new ≡ only (drop count homes.old.homes) }
+{
+    if count > 0 {
+        homes.pop();
+        forget_newest(homes, count - 1);
+    }
+}
+
 /// Where so many values are behind their pops.
 fn popped(alloc: Global, first: u8, count: u8) -> Result<Homes, NoMemory>
     requires { first + count ≤ 252 }
@@ -71,15 +103,25 @@ fn popped(alloc: Global, first: u8, count: u8) -> Result<Homes, NoMemory>
     Ok(homes)
 }
 
-/// A step's values are popped.
-fn draw(alloc: Global, room: Room, at: u16, step: Step, homes: Homes) -> Result<Piece, NoMemory>
-    requires room { room.locals + room.temps ≤ 252 }
-    requires few { takes step ≤ room.temps }
-    requires settled { homes.truth ≡ None }
-    ensures { IfOk result (λ p. IsPiece p at (drawn room step homes.homes)) }
+/// The newer values make room for so many that are missing, and these are popped.
+fn draw(
+    alloc: Global,
+    room: Room,
+    at: u16,
+    missing: u8,
+    news: Homes,
+    pushed: Homes,
+) -> Result<Piece, NoMemory>
+    requires room { room.locals + missing + length news.homes ≤ 252 }
+    requires settled { news.truth ≡ None }
+    requires pushed { pushed.truth ≡ None }
+    ensures { IfOk result (λ p. IsPiece p at (drawn room missing news.homes pushed.homes)) }
 {
     let mut code = Row::new(alloc);
-    push_pops(&mut code, room.locals, takes(step) as u8)?;
+    push_lifts(&mut code, room.locals + missing, news)?;
+    push_pops(&mut code, room.locals, missing)?;
+    let mut homes = pushed;
+    forget_newest(&mut homes, missing);
     Ok(Piece { code, homes })
 }
 
@@ -160,57 +202,163 @@ fn work(
     step_and_push(alloc, layout, room, at, step, own, rest)
 }
 
-/// The pops of a step's values, and then the step.
+/// A step's values are brought to the first temporaries, and then the step.
 fn draw_and_work(
     alloc: Global,
     layout: &Layout,
     room: Room,
     at: u16,
     step: Step,
-    rest: Homes,
+    missing: u8,
+    news: Homes,
+    pushed: Homes,
 ) -> Result<Piece, Refusal<Fault>>
     requires room { room.locals + room.temps ≤ 252 }
     requires few { takes step ≤ room.temps }
-    requires pushed { rest.truth ≡ None }
-    ensures { Lays result at (after (drawn room step rest.homes) (λ s. worked layout.now room step s.homes)) }
+    requires missing { missing + length news.homes ≤ room.temps }
+    requires settled { news.truth ≡ None }
+    requires pushed { pushed.truth ≡ None }
+    ensures { Lays result at (after (drawn room missing news.homes pushed.homes) (λ s. worked layout.now room step s.homes)) }
 {
-    let first = draw(alloc, room, at, step, rest)?;
+    let first = draw(alloc, room, at, missing, news, pushed)?;
     let work_at = place_behind(at, first.code.len())?;
     let last = work(alloc, layout, room, work_at, step, first.homes)?;
     Ok(behind(first.code, last)?)
 }
 
-/// What a step becomes, from a place on, where so many values are pushed as there are homes. `NotTaken` where it takes more than there
-/// are, and `TooHigh` where it takes more than there are temporaries but two.
-pub fn done(
+/// A step which takes the newer values, and pushed ones.
+fn step_on(
     alloc: Global,
     layout: &Layout,
     room: Room,
     at: u16,
     step: Step,
+    news: Homes,
+    pushed: Homes,
+) -> Result<Piece, Refusal<Fault>>
+    requires room { room.locals + room.temps ≤ 252 }
+    requires few { length news.homes ≤ takes step }
+    requires settled { news.truth ≡ None }
+    requires pushed { pushed.truth ≡ None }
+    ensures { Lays result at (step_on layout.now room step news.homes pushed.homes) }
+{
+    let count = takes(step);
+    let missing = count - news.len();
+    if missing > pushed.len() {
+        return Err(Refusal::Fault(Fault::NotTaken));
+    }
+    if count + 2 > room.temps as usize {
+        return Err(Refusal::Fault(Fault::TooHigh));
+    }
+    draw_and_work(alloc, layout, room, at, step, missing as u8, news, pushed)
+}
+
+/// The same, also where the newest of the newer values is a test.
+fn cross(
+    alloc: Global,
+    layout: &Layout,
+    room: Room,
+    at: u16,
+    step: Step,
+    above: Homes,
+    below: Homes,
+) -> Result<Piece, Refusal<Fault>>
+    requires room { room.locals + room.temps ≤ 252 }
+    requires few { count_of above ≤ takes step }
+    requires pushed { below.truth ≡ None }
+    ensures { Lays result at (after (settled room above) (λ s. step_on layout.now room step s.homes below.homes)) }
+{
+    let first = settle(alloc, room, at, above)?;
+    let step_at = place_behind(at, first.code.len())?;
+    let last = step_on(alloc, layout, room, step_at, step, first.homes, below)?;
+    Ok(behind(first.code, last)?)
+}
+
+/// A step that takes pushed values, or leaves a value that is to be pushed.
+#[tactic(auto, using(crate::proofs::Parting::few_newer))]
+fn crossed(
+    alloc: Global,
+    layout: &Layout,
+    room: Room,
+    most: u16,
+    at: u16,
+    step: Step,
+    homes: Homes,
+) -> Result<Piece, Refusal<Fault>>
+    requires room { room.locals + room.temps ≤ 252 }
+    requires crosses { is_above most step homes ≡ false }
+    ensures { Lays result at (crossed layout.now room most step homes) }
+{
+    let parts = part(alloc, most, homes)?;
+    cross(alloc, layout, room, at, step, parts.above, parts.below)
+}
+
+/// A step on the newer values alone, above the pushed ones.
+fn above(
+    alloc: Global,
+    layout: &Layout,
+    room: Room,
+    most: u16,
+    at: u16,
+    step: Step,
     homes: Homes,
 ) -> Result<Piece, Refusal<Fault>>
     requires { room.locals + room.temps ≤ 252 }
-    ensures { Lays result at (done layout.now room step homes) }
+    ensures { Lays result at (onto (older most homes) (flat layout.now room (Do step) (newer most homes))) }
 {
-    let count = takes(step);
-    let mut rest = homes;
-    rest.forget_truth();
-    match rest.take_newest(alloc, count)? {
-        None => Err(Refusal::Fault(Fault::NotTaken)),
-        Some(_) => {
-            if count + 2 > room.temps as usize {
-                return Err(Refusal::Fault(Fault::TooHigh));
-            }
-            draw_and_work(alloc, layout, room, at, step, rest)
-        }
+    let parts = part(alloc, most, homes)?;
+    let made = flat(alloc, layout, room, at, &Code::Do(step), parts.above);
+    onto(alloc, made, parts.below)
+}
+
+/// Whether a step takes no more values than these, with the one that is a test.
+fn takes_these(step: Step, truth: Option<Truth>, count: usize) -> bool
+    ensures { result ≡ nat_le (takes step) (count + (if is_none truth then 0 else 1)) }
+{
+    let taken = takes(step);
+    match truth {
+        None => taken <= count,
+        Some(_) => taken == 0 || taken - 1 <= count,
     }
 }
 
-/// The newest value is popped into the first temporary. `NotTaken` where none is pushed, and `TooHigh` where there is no temporary.
-pub fn newest(alloc: Global, room: Room, at: u16, homes: Homes) -> Result<Piece, Refusal<Fault>>
+/// Whether a step takes newer values alone, and what it leaves is not to be pushed.
+#[tactic(auto, using(crate::proofs::Parting::above_is, crate::proofs::Parting::not_above))]
+fn is_above(most: u16, step: Step, homes: &Homes) -> bool
+    ensures { result ≡ is_above most step homes.now }
+{
+    let count = homes.len();
+    if count < most as usize {
+        return false;
+    }
+    takes_these(step, homes.truth(), count - most as usize)
+}
+
+/// What a step becomes, from a place on, where the oldest values that wait are pushed, `most` of them at most. `NotTaken` where it takes
+/// more than there are, and `TooHigh` where a newer value has no temporary, or a step that takes a pushed value takes more than there are
+/// temporaries but two.
+pub fn done(
+    alloc: Global,
+    layout: &Layout,
+    room: Room,
+    most: u16,
+    at: u16,
+    step: Step,
+    homes: Homes,
+) -> Result<Piece, Refusal<Fault>>
     requires { room.locals + room.temps ≤ 252 }
-    ensures { Lays result at (with_newest room homes) }
+    ensures { Lays result at (done layout.now room most step homes) }
+{
+    if is_above(most, step, &homes) {
+        return above(alloc, layout, room, most, at, step, homes);
+    }
+    crossed(alloc, layout, room, most, at, step, homes)
+}
+
+/// The newest value is popped into the first temporary.
+fn top(alloc: Global, room: Room, at: u16, homes: Homes) -> Result<Piece, Refusal<Fault>>
+    requires { room.locals + room.temps ≤ 252 }
+    ensures { Lays result at (topped room homes.homes) }
 {
     let mut homes = homes;
     homes.forget_truth();
@@ -225,9 +373,26 @@ pub fn newest(alloc: Global, room: Room, at: u16, homes: Homes) -> Result<Piece,
     }
 }
 
-/// Where as many values are pushed as there are homes, the newest one above so many is popped into the first temporary, if there is one
-/// more; `NotTaken` where there are more than that, or fewer, and `TooHigh` where there is no temporary.
-pub fn level(
+/// The newest value is popped into the first temporary. `NotTaken` where none waits, or it is not pushed, and `TooHigh` where there is no
+/// temporary.
+pub fn newest(
+    alloc: Global,
+    room: Room,
+    most: u16,
+    at: u16,
+    homes: Homes,
+) -> Result<Piece, Refusal<Fault>>
+    requires { room.locals + room.temps ≤ 252 }
+    ensures { Lays result at (with_newest room most homes) }
+{
+    if all_pushed(most, &homes) {
+        return top(alloc, room, at, homes);
+    }
+    Err(Refusal::Fault(Fault::NotTaken))
+}
+
+/// Where each value is pushed, the newest one above so many is popped into the first temporary, if there is one more.
+fn level_as(
     alloc: Global,
     room: Room,
     at: u16,
@@ -235,7 +400,7 @@ pub fn level(
     homes: Homes,
 ) -> Result<Piece, Refusal<Fault>>
     requires { room.locals + room.temps ≤ 252 }
-    ensures { Lays result at (level room below homes) }
+    ensures { Lays result at (level_as room below homes) }
 {
     let mut homes = homes;
     homes.forget_truth();
@@ -254,6 +419,25 @@ pub fn level(
             Err(Refusal::Fault(Fault::NotTaken))
         }
     }
+}
+
+/// The newest value above so many is popped into the first temporary, if there is one more; `NotTaken` where there are more than that, or
+/// fewer, or one is not pushed, and `TooHigh` where there is no temporary.
+pub fn level(
+    alloc: Global,
+    room: Room,
+    most: u16,
+    at: u16,
+    below: usize,
+    homes: Homes,
+) -> Result<Piece, Refusal<Fault>>
+    requires { room.locals + room.temps ≤ 252 }
+    ensures { Lays result at (level room most below homes) }
+{
+    if all_pushed(most, &homes) {
+        return level_as(alloc, room, at, below, homes);
+    }
+    Err(Refusal::Fault(Fault::NotTaken))
 }
 
 /// The newest value is pushed, where as many wait as before, or more.

@@ -70,13 +70,16 @@ fn many_values_wait(rt: HostRuntime) {
     assert!(rt; highest == Ok(696));
 }
 
-// One value more than there are temporaries: each is pushed. 60 zeroes, two instructions for each of 193 reads, four for each of 192 sums, the
-// pop of the last value, and the end; and 252 locals.
+// One value more than there are temporaries: the oldest is pushed. 60 zeroes, two instructions for the read that is pushed, one for each of 192 others and
+// of 191 sums of these, four for the sum with what was pushed, a copy, a pop, the sum and a push; the pop of the last value, and the end; and 252 locals. With
+// 63 values more it is so with 63 reads, and with 63 sums.
 #[test]
 fn more_values_wait(rt: HostRuntime) {
     let alloc = rt.alloc();
     let higher = flattened(alloc, 60, 193).map(|p| p.code().len() + p.widths().len());
-    assert!(rt; higher == Ok(1468));
+    assert!(rt; higher == Ok(703));
+    let highest = flattened(alloc, 60, 255).map(|p| p.code().len() + p.widths().len());
+    assert!(rt; highest == Ok(1075));
     assert!(rt; flattened(alloc, 253, 1).err() == Some(Refusal::Fault(Fault::TooHigh)));
 }
 

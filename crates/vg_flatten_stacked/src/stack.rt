@@ -1,4 +1,4 @@
-// Code to pieces, where each value that waits is pushed.
+// Code to pieces, where the oldest values that wait are pushed.
 ghost use Rattle.std.specs.Prelude.{◌≡◌, ◌+◌, ◌≤◌, length};
 ghost use Rattle.vg_meaning.specs.Code.{Nothing, Then, If};
 ghost use Rattle.vg_firm.specs.Held.{code_of, list_of};
@@ -9,41 +9,44 @@ ghost use Rattle.vg_flatten_shapes.specs.Made.{after, tested};
 ghost use Rattle.vg_flatten_control.specs.Weights.{arms_list, arm_then};
 ghost use Rattle.vg_flatten_shapes.specs.Laying.{Lays};
 ghost use Rattle.vg_flatten_pushed.specs.Pushed.{with_newest, level, raised};
-ghost use Rattle.vg_flatten_pushed.specs.Stacked.{stacked, ways};
+ghost use Rattle.vg_flatten_pushed.specs.Stacked.{stacked, ways, by_pushed};
 
+use crate::above::{arm_or_above, arm_or_nothing_above, chosen_above};
 use std::alloc::Global;
 use vg_base::{Refusal, Row};
 use vg_firm::Code;
 use vg_flatten_control::flat::{give_back, join, repetition, rest_place, take_truth};
-use vg_flatten_pushed::{done, level, newest, raise};
+use vg_flatten_pushed::{all_pushed, done, level, newest, raise};
 use vg_flatten_shapes::{
     Fault, Homes, Layout, Open, Piece, Room, Truth, append, behind, one, place_behind,
 };
 
-/// What code becomes, from a place on, where so many values are pushed as there are homes. `NotTaken` where it takes more than there
-/// are, or nothing waits where something must, or something where nothing may; `TooHigh` where a step takes more than there are
-/// temporaries but two; `TooLong` where an instruction would have one of the last places.
+/// What code becomes, from a place on, where the oldest values that wait are pushed, `most` of them at most. `NotTaken` where it takes more
+/// than there are, or nothing waits where something must, or something where nothing may, or where a choice by a newer value has ways that
+/// loop, leave or take a pushed value; `TooHigh` where a newer value has no temporary, or a step that takes a pushed value takes more than
+/// there are temporaries but two; `TooLong` where an instruction would have one of the last places.
 #[cycle(stacked)]
 pub fn stacked(
     alloc: Global,
     layout: &Layout,
     room: Room,
+    most: u16,
     at: u16,
     code: &Code,
     homes: Homes,
 ) -> Result<Piece, Refusal<Fault>>
     requires { room.locals + room.temps ≤ 252 }
-    ensures { Lays result at (stacked layout.now room (code_of code.now) homes) }
+    ensures { Lays result at (stacked layout.now room most (code_of code.now) homes) }
 {
     match code {
-        Code::Row(codes) => row(alloc, layout, room, at, codes.as_slice(), homes),
-        Code::Do(step) => done(alloc, layout, room, at, *step, homes),
-        Code::If(first, rest) => chosen(alloc, layout, room, at, first, rest, homes),
-        Code::Arms(all, last) => arms(alloc, layout, room, at, all.as_slice(), last, homes),
-        Code::Arm(condition, block) => arm(alloc, layout, room, at, condition, block, homes),
+        Code::Row(codes) => row(alloc, layout, room, most, at, codes.as_slice(), homes),
+        Code::Do(step) => done(alloc, layout, room, most, at, *step, homes),
+        Code::If(first, rest) => chosen(alloc, layout, room, most, at, first, rest, homes),
+        Code::Arms(all, last) => arms(alloc, layout, room, most, at, all.as_slice(), last, homes),
+        Code::Arm(condition, block) => arm(alloc, layout, room, most, at, condition, block, homes),
         Code::Loop(condition, body, next) => {
             if homes.is_empty() {
-                return repeated(alloc, layout, room, at, condition, body, next);
+                return repeated(alloc, layout, room, most, at, condition, body, next);
             }
             Err(Refusal::Fault(Fault::NotTaken))
         }
@@ -60,7 +63,7 @@ pub fn stacked(
             Err(Refusal::Fault(Fault::NotTaken))
         }
         Code::Return => {
-            let first = newest(alloc, room, at, homes)?;
+            let first = newest(alloc, room, most, at, homes)?;
             let rest_at = place_behind(at, first.code.len())?;
             let rest = give_back(alloc, room, rest_at, first.homes)?;
             Ok(behind(first.code, rest)?)
@@ -74,17 +77,39 @@ fn chosen(
     alloc: Global,
     layout: &Layout,
     room: Room,
+    most: u16,
     at: u16,
     first: &Code,
     rest: &Code,
     homes: Homes,
 ) -> Result<Piece, Refusal<Fault>>
     requires { room.locals + room.temps ≤ 252 }
-    ensures { Lays result at (stacked layout.now room (If (code_of first.now) (code_of rest.now)) homes) }
+    ensures { Lays result at (stacked layout.now room most (If (code_of first.now) (code_of rest.now)) homes) }
 {
-    let top = newest(alloc, room, at, homes)?;
+    if all_pushed(most, &homes) {
+        return chosen_pushed(alloc, layout, room, most, at, first, rest, homes);
+    }
+    chosen_above(alloc, layout, room, most, at, first, rest, homes)
+}
+
+// A choice by a pushed value.
+#[cycle(stacked)]
+fn chosen_pushed(
+    alloc: Global,
+    layout: &Layout,
+    room: Room,
+    most: u16,
+    at: u16,
+    first: &Code,
+    rest: &Code,
+    homes: Homes,
+) -> Result<Piece, Refusal<Fault>>
+    requires { room.locals + room.temps ≤ 252 }
+    ensures { Lays result at (by_pushed room most (stacked layout.now room most (code_of first.now)) (stacked layout.now room most (code_of rest.now)) homes) }
+{
+    let top = newest(alloc, room, most, at, homes)?;
     let ways_at = place_behind(at, top.code.len())?;
-    let ways = raised_way(alloc, layout, room, ways_at, first, rest, top.homes)?;
+    let ways = raised_way(alloc, layout, room, most, ways_at, first, rest, top.homes)?;
     Ok(behind(top.code, ways)?)
 }
 
@@ -94,13 +119,15 @@ fn by_way(
     alloc: Global,
     layout: &Layout,
     room: Room,
+    most: u16,
     at: u16,
     first: &Code,
     rest: &Code,
     homes: Homes,
 ) -> Result<Piece, Refusal<Fault>>
     requires { room.locals + room.temps ≤ 252 }
-    ensures { Lays result at (ways room (tested homes) (stacked layout.now room (code_of first.now)) (stacked layout.now room (code_of rest.now))) }
+    ensures { Lays result at (ways room most (tested homes) (stacked layout.now room most (code_of first.now))
+        (stacked layout.now room most (code_of rest.now))) }
 {
     let mut homes = homes;
     match take_truth(&mut homes) {
@@ -112,13 +139,14 @@ fn by_way(
                 alloc,
                 layout,
                 room,
+                most,
                 first_at,
                 first,
                 below,
                 homes.copy(alloc)?,
             )?;
             let rest_at = rest_place(at, first.code.len())?;
-            let rest = levelled(alloc, layout, room, rest_at, rest, below, homes)?;
+            let rest = levelled(alloc, layout, room, most, rest_at, rest, below, homes)?;
             join(alloc, at, truth, first, rest)
         }
     }
@@ -130,15 +158,16 @@ fn condition_of(
     alloc: Global,
     layout: &Layout,
     room: Room,
+    most: u16,
     at: u16,
     code: &Code,
 ) -> Result<Piece, Refusal<Fault>>
     requires { room.locals + room.temps ≤ 252 }
-    ensures { Lays result at (after (stacked layout.now room (code_of code.now) empty) (with_newest room)) }
+    ensures { Lays result at (after (stacked layout.now room most (code_of code.now) empty) (with_newest room most)) }
 {
-    let first = stacked(alloc, layout, room, at, code, Homes::new(alloc))?;
+    let first = stacked(alloc, layout, room, most, at, code, Homes::new(alloc))?;
     let rest_at = place_behind(at, first.code.len())?;
-    let rest = newest(alloc, room, rest_at, first.homes)?;
+    let rest = newest(alloc, room, most, rest_at, first.homes)?;
     Ok(behind(first.code, rest)?)
 }
 
@@ -148,16 +177,18 @@ fn repeated(
     alloc: Global,
     layout: &Layout,
     room: Room,
+    most: u16,
     at: u16,
     condition: &Code,
     body: &Code,
     next: &Code,
 ) -> Result<Piece, Refusal<Fault>>
     requires { room.locals + room.temps ≤ 252 }
-    ensures { Lays result at (repeated (after (stacked layout.now room (code_of condition.now) empty) (with_newest room)) (stacked layout.now room (code_of body.now) empty)
-        (stacked layout.now room (code_of next.now) empty)) }
+    ensures { Lays result at (repeated (after (stacked layout.now room most (code_of condition.now) empty) (with_newest room most))
+        (stacked layout.now room most (code_of body.now) empty)
+        (stacked layout.now room most (code_of next.now) empty)) }
 {
-    let before = condition_of(alloc, layout, room, at, condition)?;
+    let before = condition_of(alloc, layout, room, most, at, condition)?;
     let mut homes = before.homes;
     match take_truth(&mut homes) {
         None => Err(Refusal::Fault(Fault::NotTaken)),
@@ -165,7 +196,17 @@ fn repeated(
             if !homes.is_empty() {
                 return Err(Refusal::Fault(Fault::NotTaken));
             }
-            repeated_parts(alloc, layout, room, at, before.code, truth, body, next)
+            repeated_parts(
+                alloc,
+                layout,
+                room,
+                most,
+                at,
+                before.code,
+                truth,
+                body,
+                next,
+            )
         }
     }
 }
@@ -176,6 +217,7 @@ fn repeated_parts(
     alloc: Global,
     layout: &Layout,
     room: Room,
+    most: u16,
     at: u16,
     before: Row<Open>,
     truth: Truth,
@@ -183,17 +225,17 @@ fn repeated_parts(
     next: &Code,
 ) -> Result<Piece, Refusal<Fault>>
     requires { room.locals + room.temps ≤ 252 }
-    ensures { (b : Block) → before ≡ open_code b at → Lays result at (repeated_body b truth (stacked layout.now room (code_of body.now) empty)
-        (stacked layout.now room (code_of next.now) empty)) }
+    ensures { (b : Block) → before ≡ open_code b at → Lays result at (repeated_body b truth (stacked layout.now room most (code_of body.now) empty)
+        (stacked layout.now room most (code_of next.now) empty)) }
 {
     let test_at = place_behind(at, before.len())?;
     let body_at = place_behind(test_at, 1)?;
-    let body = stacked(alloc, layout, room, body_at, body, Homes::new(alloc))?;
+    let body = stacked(alloc, layout, room, most, body_at, body, Homes::new(alloc))?;
     if !body.homes.is_empty() {
         return Err(Refusal::Fault(Fault::NotTaken));
     }
     let next_at = place_behind(body_at, body.code.len())?;
-    let next = stacked(alloc, layout, room, next_at, next, Homes::new(alloc))?;
+    let next = stacked(alloc, layout, room, most, next_at, next, Homes::new(alloc))?;
     if !next.homes.is_empty() {
         return Err(Refusal::Fault(Fault::NotTaken));
     }
@@ -216,18 +258,19 @@ fn row(
     alloc: Global,
     layout: &Layout,
     room: Room,
+    most: u16,
     at: u16,
     codes: &[Code],
     homes: Homes,
 ) -> Result<Piece, Refusal<Fault>>
     requires { room.locals + room.temps ≤ 252 }
-    ensures { Lays result at (stacked layout.now room (list_of codes.now) homes) }
+    ensures { Lays result at (stacked layout.now room most (list_of codes.now) homes) }
 {
     let mut code = Row::new(alloc);
     let mut homes = homes;
     'parts: for part in codes {
         let part_at = place_behind(at, code.len())?;
-        let piece = stacked(alloc, layout, room, part_at, part, homes)?;
+        let piece = stacked(alloc, layout, room, most, part_at, part, homes)?;
         code = append(code, piece.code.as_slice())?;
         homes = piece.homes;
     }
@@ -240,17 +283,18 @@ fn arms(
     alloc: Global,
     layout: &Layout,
     room: Room,
+    most: u16,
     at: u16,
     all: &[Code],
     last: &Code,
     homes: Homes,
 ) -> Result<Piece, Refusal<Fault>>
     requires { room.locals + room.temps ≤ 252 }
-    ensures { Lays result at (stacked layout.now room (arms_list all.now (code_of last.now)) homes) }
+    ensures { Lays result at (stacked layout.now room most (arms_list all.now (code_of last.now)) homes) }
 {
     match all {
-        [] => stacked(alloc, layout, room, at, last, homes),
-        [code, more @ ..] => arm_first(alloc, layout, room, at, code, more, last, homes),
+        [] => stacked(alloc, layout, room, most, at, last, homes),
+        [code, more @ ..] => arm_first(alloc, layout, room, most, at, code, more, last, homes),
     }
 }
 
@@ -260,6 +304,7 @@ fn arm_first(
     alloc: Global,
     layout: &Layout,
     room: Room,
+    most: u16,
     at: u16,
     code: &Code,
     more: &[Code],
@@ -267,13 +312,15 @@ fn arm_first(
     homes: Homes,
 ) -> Result<Piece, Refusal<Fault>>
     requires { room.locals + room.temps ≤ 252 }
-    ensures { Lays result at (stacked layout.now room (arm_then code.now (arms_list more.now (code_of last.now))) homes) }
+    ensures { Lays result at (stacked layout.now room most (arm_then code.now (arms_list more.now (code_of last.now))) homes) }
 {
     match code {
         Code::Arm(condition, block) => {
-            arm_more(alloc, layout, room, at, condition, block, more, last, homes)
+            arm_more(
+                alloc, layout, room, most, at, condition, block, more, last, homes,
+            )
         }
-        _ => code_and_arms(alloc, layout, room, at, code, more, last, homes),
+        _ => code_and_arms(alloc, layout, room, most, at, code, more, last, homes),
     }
 }
 
@@ -283,6 +330,7 @@ fn arm_more(
     alloc: Global,
     layout: &Layout,
     room: Room,
+    most: u16,
     at: u16,
     condition: &Code,
     block: &Code,
@@ -291,11 +339,22 @@ fn arm_more(
     homes: Homes,
 ) -> Result<Piece, Refusal<Fault>>
     requires { room.locals + room.temps ≤ 252 }
-    ensures { Lays result at (stacked layout.now room (Then (code_of condition.now) (If (code_of block.now) (arms_list more.now (code_of last.now)))) homes) }
+    ensures { Lays result at (stacked layout.now room most (Then (code_of condition.now) (If (code_of block.now) (arms_list more.now (code_of last.now))))
+        homes) }
 {
-    let first = stacked(alloc, layout, room, at, condition, homes)?;
+    let first = stacked(alloc, layout, room, most, at, condition, homes)?;
     let rest_at = place_behind(at, first.code.len())?;
-    let rest = arm_or(alloc, layout, room, rest_at, block, more, last, first.homes)?;
+    let rest = arm_or(
+        alloc,
+        layout,
+        room,
+        most,
+        rest_at,
+        block,
+        more,
+        last,
+        first.homes,
+    )?;
     Ok(behind(first.code, rest)?)
 }
 
@@ -305,6 +364,7 @@ fn code_and_arms(
     alloc: Global,
     layout: &Layout,
     room: Room,
+    most: u16,
     at: u16,
     code: &Code,
     more: &[Code],
@@ -312,11 +372,11 @@ fn code_and_arms(
     homes: Homes,
 ) -> Result<Piece, Refusal<Fault>>
     requires { room.locals + room.temps ≤ 252 }
-    ensures { Lays result at (stacked layout.now room (Then (code_of code.now) (arms_list more.now (code_of last.now))) homes) }
+    ensures { Lays result at (stacked layout.now room most (Then (code_of code.now) (arms_list more.now (code_of last.now))) homes) }
 {
-    let first = stacked(alloc, layout, room, at, code, homes)?;
+    let first = stacked(alloc, layout, room, most, at, code, homes)?;
     let rest_at = place_behind(at, first.code.len())?;
-    let rest = arms(alloc, layout, room, rest_at, more, last, first.homes)?;
+    let rest = arms(alloc, layout, room, most, rest_at, more, last, first.homes)?;
     Ok(behind(first.code, rest)?)
 }
 
@@ -326,17 +386,18 @@ fn arm(
     alloc: Global,
     layout: &Layout,
     room: Room,
+    most: u16,
     at: u16,
     condition: &Code,
     block: &Code,
     homes: Homes,
 ) -> Result<Piece, Refusal<Fault>>
     requires { room.locals + room.temps ≤ 252 }
-    ensures { Lays result at (stacked layout.now room (Then (code_of condition.now) (If (code_of block.now) Nothing)) homes) }
+    ensures { Lays result at (stacked layout.now room most (Then (code_of condition.now) (If (code_of block.now) Nothing)) homes) }
 {
-    let first = stacked(alloc, layout, room, at, condition, homes)?;
+    let first = stacked(alloc, layout, room, most, at, condition, homes)?;
     let rest_at = place_behind(at, first.code.len())?;
-    let rest = arm_or_nothing(alloc, layout, room, rest_at, block, first.homes)?;
+    let rest = arm_or_nothing(alloc, layout, room, most, rest_at, block, first.homes)?;
     Ok(behind(first.code, rest)?)
 }
 
@@ -346,6 +407,7 @@ fn arm_or(
     alloc: Global,
     layout: &Layout,
     room: Room,
+    most: u16,
     at: u16,
     block: &Code,
     more: &[Code],
@@ -353,11 +415,44 @@ fn arm_or(
     homes: Homes,
 ) -> Result<Piece, Refusal<Fault>>
     requires { room.locals + room.temps ≤ 252 }
-    ensures { Lays result at (stacked layout.now room (If (code_of block.now) (arms_list more.now (code_of last.now))) homes) }
+    ensures { Lays result at (stacked layout.now room most (If (code_of block.now) (arms_list more.now (code_of last.now))) homes) }
 {
-    let first = newest(alloc, room, at, homes)?;
+    if all_pushed(most, &homes) {
+        return arm_or_pushed(alloc, layout, room, most, at, block, more, last, homes);
+    }
+    arm_or_above(alloc, layout, room, most, at, block, more, last, homes)
+}
+
+// The same by a pushed value.
+#[cycle(stacked)]
+fn arm_or_pushed(
+    alloc: Global,
+    layout: &Layout,
+    room: Room,
+    most: u16,
+    at: u16,
+    block: &Code,
+    more: &[Code],
+    last: &Code,
+    homes: Homes,
+) -> Result<Piece, Refusal<Fault>>
+    requires { room.locals + room.temps ≤ 252 }
+    ensures { Lays result at (by_pushed room most (stacked layout.now room most (code_of block.now))
+        (stacked layout.now room most (arms_list more.now (code_of last.now))) homes) }
+{
+    let first = newest(alloc, room, most, at, homes)?;
     let rest_at = place_behind(at, first.code.len())?;
-    let rest = arm_raised_way(alloc, layout, room, rest_at, block, more, last, first.homes)?;
+    let rest = arm_raised_way(
+        alloc,
+        layout,
+        room,
+        most,
+        rest_at,
+        block,
+        more,
+        last,
+        first.homes,
+    )?;
     Ok(behind(first.code, rest)?)
 }
 
@@ -367,6 +462,7 @@ fn arm_by_way(
     alloc: Global,
     layout: &Layout,
     room: Room,
+    most: u16,
     at: u16,
     block: &Code,
     more: &[Code],
@@ -374,7 +470,8 @@ fn arm_by_way(
     homes: Homes,
 ) -> Result<Piece, Refusal<Fault>>
     requires { room.locals + room.temps ≤ 252 }
-    ensures { Lays result at (ways room (tested homes) (stacked layout.now room (code_of block.now)) (stacked layout.now room (arms_list more.now (code_of last.now)))) }
+    ensures { Lays result at (ways room most (tested homes) (stacked layout.now room most (code_of block.now))
+        (stacked layout.now room most (arms_list more.now (code_of last.now)))) }
 {
     let mut homes = homes;
     match take_truth(&mut homes) {
@@ -386,13 +483,14 @@ fn arm_by_way(
                 alloc,
                 layout,
                 room,
+                most,
                 first_at,
                 block,
                 below,
                 homes.copy(alloc)?,
             )?;
             let rest_at = rest_place(at, first.code.len())?;
-            let rest = levelled_arms(alloc, layout, room, rest_at, more, last, below, homes)?;
+            let rest = levelled_arms(alloc, layout, room, most, rest_at, more, last, below, homes)?;
             join(alloc, at, truth, first, rest)
         }
     }
@@ -404,16 +502,37 @@ fn arm_or_nothing(
     alloc: Global,
     layout: &Layout,
     room: Room,
+    most: u16,
     at: u16,
     block: &Code,
     homes: Homes,
 ) -> Result<Piece, Refusal<Fault>>
     requires { room.locals + room.temps ≤ 252 }
-    ensures { Lays result at (stacked layout.now room (If (code_of block.now) Nothing) homes) }
+    ensures { Lays result at (stacked layout.now room most (If (code_of block.now) Nothing) homes) }
 {
-    let first = newest(alloc, room, at, homes)?;
+    if all_pushed(most, &homes) {
+        return arm_or_nothing_pushed(alloc, layout, room, most, at, block, homes);
+    }
+    arm_or_nothing_above(alloc, layout, room, most, at, block, homes)
+}
+
+// The same by a pushed value.
+#[cycle(stacked)]
+fn arm_or_nothing_pushed(
+    alloc: Global,
+    layout: &Layout,
+    room: Room,
+    most: u16,
+    at: u16,
+    block: &Code,
+    homes: Homes,
+) -> Result<Piece, Refusal<Fault>>
+    requires { room.locals + room.temps ≤ 252 }
+    ensures { Lays result at (by_pushed room most (stacked layout.now room most (code_of block.now)) (stacked layout.now room most Nothing) homes) }
+{
+    let first = newest(alloc, room, most, at, homes)?;
     let rest_at = place_behind(at, first.code.len())?;
-    let rest = nothing_raised_way(alloc, layout, room, rest_at, block, first.homes)?;
+    let rest = nothing_raised_way(alloc, layout, room, most, rest_at, block, first.homes)?;
     Ok(behind(first.code, rest)?)
 }
 
@@ -423,12 +542,13 @@ fn nothing_by_way(
     alloc: Global,
     layout: &Layout,
     room: Room,
+    most: u16,
     at: u16,
     block: &Code,
     homes: Homes,
 ) -> Result<Piece, Refusal<Fault>>
     requires { room.locals + room.temps ≤ 252 }
-    ensures { Lays result at (ways room (tested homes) (stacked layout.now room (code_of block.now)) (stacked layout.now room (Nothing))) }
+    ensures { Lays result at (ways room most (tested homes) (stacked layout.now room most (code_of block.now)) (stacked layout.now room most Nothing)) }
 {
     let mut homes = homes;
     match take_truth(&mut homes) {
@@ -440,13 +560,14 @@ fn nothing_by_way(
                 alloc,
                 layout,
                 room,
+                most,
                 first_at,
                 block,
                 below,
                 homes.copy(alloc)?,
             )?;
             let rest_at = rest_place(at, first.code.len())?;
-            let rest = levelled_nothing(alloc, layout, room, rest_at, below, homes)?;
+            let rest = levelled_nothing(alloc, layout, room, most, rest_at, below, homes)?;
             join(alloc, at, truth, first, rest)
         }
     }
@@ -458,16 +579,18 @@ fn raised_way(
     alloc: Global,
     layout: &Layout,
     room: Room,
+    most: u16,
     at: u16,
     first: &Code,
     rest: &Code,
     homes: Homes,
 ) -> Result<Piece, Refusal<Fault>>
     requires { room.locals + room.temps ≤ 252 }
-    ensures { Lays result at (after (ways room (tested homes) (stacked layout.now room (code_of first.now)) (stacked layout.now room (code_of rest.now))) (raised (length homes.homes))) }
+    ensures { Lays result at (after (ways room most (tested homes) (stacked layout.now room most (code_of first.now))
+        (stacked layout.now room most (code_of rest.now))) (raised (length homes.homes))) }
 {
     let before = homes.len();
-    let ways = by_way(alloc, layout, room, at, first, rest, homes)?;
+    let ways = by_way(alloc, layout, room, most, at, first, rest, homes)?;
     let push_at = place_behind(at, ways.code.len())?;
     let push = raise(alloc, push_at, before, ways.homes)?;
     Ok(behind(ways.code, push)?)
@@ -479,6 +602,7 @@ fn arm_raised_way(
     alloc: Global,
     layout: &Layout,
     room: Room,
+    most: u16,
     at: u16,
     block: &Code,
     more: &[Code],
@@ -486,10 +610,11 @@ fn arm_raised_way(
     homes: Homes,
 ) -> Result<Piece, Refusal<Fault>>
     requires { room.locals + room.temps ≤ 252 }
-    ensures { Lays result at (after (ways room (tested homes) (stacked layout.now room (code_of block.now)) (stacked layout.now room (arms_list more.now (code_of last.now)))) (raised (length homes.homes))) }
+    ensures { Lays result at (after (ways room most (tested homes) (stacked layout.now room most (code_of block.now))
+        (stacked layout.now room most (arms_list more.now (code_of last.now)))) (raised (length homes.homes))) }
 {
     let before = homes.len();
-    let first = arm_by_way(alloc, layout, room, at, block, more, last, homes)?;
+    let first = arm_by_way(alloc, layout, room, most, at, block, more, last, homes)?;
     let rest_at = place_behind(at, first.code.len())?;
     let rest = raise(alloc, rest_at, before, first.homes)?;
     Ok(behind(first.code, rest)?)
@@ -501,15 +626,17 @@ fn nothing_raised_way(
     alloc: Global,
     layout: &Layout,
     room: Room,
+    most: u16,
     at: u16,
     block: &Code,
     homes: Homes,
 ) -> Result<Piece, Refusal<Fault>>
     requires { room.locals + room.temps ≤ 252 }
-    ensures { Lays result at (after (ways room (tested homes) (stacked layout.now room (code_of block.now)) (stacked layout.now room (Nothing))) (raised (length homes.homes))) }
+    ensures { Lays result at (after (ways room most (tested homes) (stacked layout.now room most (code_of block.now)) (stacked layout.now room most Nothing))
+        (raised (length homes.homes))) }
 {
     let before = homes.len();
-    let first = nothing_by_way(alloc, layout, room, at, block, homes)?;
+    let first = nothing_by_way(alloc, layout, room, most, at, block, homes)?;
     let rest_at = place_behind(at, first.code.len())?;
     let rest = raise(alloc, rest_at, before, first.homes)?;
     Ok(behind(first.code, rest)?)
@@ -521,17 +648,18 @@ fn levelled(
     alloc: Global,
     layout: &Layout,
     room: Room,
+    most: u16,
     at: u16,
     code: &Code,
     below: usize,
     homes: Homes,
 ) -> Result<Piece, Refusal<Fault>>
     requires { room.locals + room.temps ≤ 252 }
-    ensures { Lays result at (after (stacked layout.now room (code_of code.now) homes) (level room below)) }
+    ensures { Lays result at (after (stacked layout.now room most (code_of code.now) homes) (level room most below)) }
 {
-    let first = stacked(alloc, layout, room, at, code, homes)?;
+    let first = stacked(alloc, layout, room, most, at, code, homes)?;
     let rest_at = place_behind(at, first.code.len())?;
-    let rest = level(alloc, room, rest_at, below, first.homes)?;
+    let rest = level(alloc, room, most, rest_at, below, first.homes)?;
     Ok(behind(first.code, rest)?)
 }
 
@@ -541,6 +669,7 @@ fn levelled_arms(
     alloc: Global,
     layout: &Layout,
     room: Room,
+    most: u16,
     at: u16,
     all: &[Code],
     last: &Code,
@@ -548,11 +677,11 @@ fn levelled_arms(
     homes: Homes,
 ) -> Result<Piece, Refusal<Fault>>
     requires { room.locals + room.temps ≤ 252 }
-    ensures { Lays result at (after (stacked layout.now room (arms_list all.now (code_of last.now)) homes) (level room below)) }
+    ensures { Lays result at (after (stacked layout.now room most (arms_list all.now (code_of last.now)) homes) (level room most below)) }
 {
-    let first = arms(alloc, layout, room, at, all, last, homes)?;
+    let first = arms(alloc, layout, room, most, at, all, last, homes)?;
     let rest_at = place_behind(at, first.code.len())?;
-    let rest = level(alloc, room, rest_at, below, first.homes)?;
+    let rest = level(alloc, room, most, rest_at, below, first.homes)?;
     Ok(behind(first.code, rest)?)
 }
 
@@ -561,12 +690,13 @@ fn levelled_nothing(
     alloc: Global,
     layout: &Layout,
     room: Room,
+    most: u16,
     at: u16,
     below: usize,
     homes: Homes,
 ) -> Result<Piece, Refusal<Fault>>
     requires { room.locals + room.temps ≤ 252 }
-    ensures { Lays result at (after (stacked layout.now room Nothing homes) (level room below)) }
+    ensures { Lays result at (after (stacked layout.now room most Nothing homes) (level room most below)) }
 {
-    level(alloc, room, at, below, homes)
+    level(alloc, room, most, at, below, homes)
 }

@@ -28,6 +28,13 @@ pub alike_unless : {S T : Type 0} {G J : S → T → Type 0} {L : Signal → S �
 alike_unless true why f g k s t w i p = overs
 alike_unless false why f g k s t w i p = k s t w i p
 
+pub alike_map : {S T : Type 0} {G J : S → T → Type 0} {L : Signal → S → T → Type 0} {a : Answer S History} {b : Answer T History}
+    → ((s : S) (t : T) → G s t → J s t) → Alike G L a b → Alike J L a b
+alike_map h (gives i q) = gives i (h _ _ q)
+alike_map h (leaves i q) = leaves i q
+alike_map h overs = overs
+alike_map h wrong = wrong
+
 -- ---- calls
 
 pub alike_opened : {S T : Type 0} {G J : S → T → Type 0} {L : Signal → S → T → Type 0} (call : Active) (f : Piece S History) (g : Piece T History)

@@ -30,11 +30,10 @@ use Rattle.vg_flattened.proofs.Right.{Right, packed}
 use Rattle.vg_flattened.proofs.CallRight.{Never, Returned, begins, alike_behind_both, ArePassed, Enters, AlikeCalls, AlikeHandling}
 use Rattle.vg_flattened.proofs.CodeRight.{right_code, empty_is}
 use Rattle.vg_flattened.proofs.StackedRight.{stacked_body}
-use Rattle.vg_flatten_pushed.specs.Stacked.{stacked}
 use Rattle.vg_firm.specs.declared.step.Step.{Step as FirmStep}
 use Rattle.vg_firm_typed.specs.Steps.{takes}
 use Rattle.vg_firm_frames.specs.Frames.{over as over_values, Above as AboveValues}
-use Rattle.vg_flatten.specs.Flattened.{zeroes, own_params, all_widths, result_width, whole, IsFlat, IsFit, AreFlat}
+use Rattle.vg_flatten.specs.Flattened.{zeroes, own_params, all_widths, result_width, whole, IsPushed, IsFlat, IsFit, AreFlat}
 use Rattle.vg_flattened.proofs.Numbers.{low_same, low_within}
 use Rattle.vg_flattened.proofs.Begun.{low_zero, widths_are, zeroed, kept_at_entry}
 
@@ -234,14 +233,15 @@ module _ (k : Codes) (lay : Layout) (f : FirmProgram) (p : LinProgram) (flat_all
           (performed full (firm_step k f m (guarded m.calls call) handle) firm_truth m.body (firm_entered m count self s) w) (linear' is.block begun_d w))
           (empty_is is.shape is.done) (h1.1 (firm_entered m count self s) begun_d w i begin)
 
-      by_way : (flat lay r m.body empty ≡ Makes is.block is.shape) ⊎ (stacked lay r m.body empty ≡ Makes is.block is.shape)
+      by_way : (flat lay r m.body empty ≡ Makes is.block is.shape) ⊎ IsPushed lay m r is.block is.shape
           → Alike (Held lay r ws empty) (Leaves lay r ws)
           (performed full (firm_step k f m (guarded m.calls call) handle) firm_truth m.body (firm_entered m count self s) w) (linear' is.block begun_d w)
       by_way (inl made) =
           does made (right_code k f m (guarded m.calls call) handle p go lay r ws wide
           (alike_guarded lay f p m.calls call go calls) flat_all.passing flat_all.codes flat_all.numbers flat_all.dispatches
           (alike_handling lay p f call go calls flat_all.handler r ws) flat_all.flash m.body empty tt)
-      by_way (inr made) =
+      by_way (inr pushed) =
           stacked_body k f m (guarded m.calls call) handle p go lay r ws wide
           (alike_guarded lay f p m.calls call go calls) flat_all.passing flat_all.codes flat_all.numbers flat_all.dispatches
-          (alike_handling lay p f call go calls flat_all.handler r ws) flat_all.flash frames is.block is.shape made is.done (firm_entered m count self s) begun_d w i begin
+          (alike_handling lay p f call go calls flat_all.handler r ws) flat_all.flash frames pushed.pushes is.block is.shape pushed.made is.done
+          (firm_entered m count self s) begun_d w i begin

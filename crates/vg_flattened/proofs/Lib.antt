@@ -31,7 +31,10 @@ pub mod BodyRight
 pub mod RunRight
 pub mod Begun
 pub mod Straight
+pub mod Newer
+pub mod Enough
 pub mod StackHeld
 pub mod Popping
+pub mod Above
 pub mod PushedRight
 pub mod StackedRight

@@ -35,5 +35,5 @@ fit_costs ps start f costs h paid = record {
   above = h.above;
   within = h.within;
   paid = subst (λ z. ArePaid z 4 f.by_method costs) h.beside paid;
-  begins = h.few;
+  begins = let few = h.few in omega (arith, few);
 }

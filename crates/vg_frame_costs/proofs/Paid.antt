@@ -75,7 +75,7 @@ some_cost (p ∷ ps) (suc at) start above costs less there methods = (methods.0.
 
 start_calls : (ps : List Procedure) (at start : ℕ) → IsStartThere start (slice_get ps at) → 0 < start
 start_calls [] at start there = absurd there
-start_calls (p ∷ ps) zero start there = calls_before start p.code there.first there.code
+start_calls (p ∷ ps) zero start there = calls_before start p.code there.within.first there.within.code
 start_calls (p ∷ ps) (suc at) start there = start_calls ps at start there
 
 pub above_small : (ps : List Procedure) (start : ℕ) (costs : List ℕ) (can : CanBePaid ps start costs) → can.above < 2 ^ 31
@@ -122,7 +122,7 @@ holds_all ps start (Some f) frames below above made methods first routines few =
         subst (λ n. AllByRecursion (IsRoutineWithin above) (drop n ps)) (let one : start + 1 ≡ suc start = omega arith in one) routines;
   };
   beside = made.1;
-  few = omega (arith, few);
+  few = few;
 }
 holds_all ps start None frames below above made methods first routines few = tt
 

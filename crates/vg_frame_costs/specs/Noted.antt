@@ -19,10 +19,10 @@ pub record Pays (above : ℕ) (costs frames : List ℕ) : Type 0 where
   pub small : (m : ℕ) → cost_of costs m < 2 ^ 31
   pub paid : ArePaid (6 + above) 4 frames costs
 
--- All procedures are within these frames and the bytes beside them, of which at most eight lie below.
+-- All procedures are within these frames and the bytes beside them, of which at most six lie below.
 pub record HoldsAll (ps : List Procedure) (start : ℕ) (f : Frames) : Type 0 where
   pub below : ℕ
   pub above : ℕ
   pub within : FramesWithin ps start f.by_method below above
   pub beside : f.beside ≡ below + above
-  pub few : below ≤ 8
+  pub few : below ≤ 6

@@ -5,7 +5,7 @@ use Rattle.vg_lin.specs.Program.{Procedure}
 use Rattle.vg_source.specs.Peak.{cost_of}
 use Rattle.vg_frame_costs.specs.declared.frames.Frames.{Frames}
 use Rattle.vg_frame_costs.specs.Bytes.{procedure_bytes}
-use Rattle.vg_frame_costs.specs.Fitting.{IsOfMethod, IsOfStart, BeginsWithCall, IsRoutineWithin, ArePaid}
+use Rattle.vg_frame_costs.specs.Fitting.{IsOfMethod, IsRoutineWithin, IsStartWithin, ArePaid}
 
 -- A method has a cost, which pays what it takes, and with four bytes more also the six that may lie below it and what a routine takes above it.
 pub record IsMethodPaid (start above : ℕ) (costs : List ℕ) (p : Procedure) : Type 0 where
@@ -22,13 +22,9 @@ pub record IsRoutineShort (above : ℕ) (p : Procedure) : Type 0 where
   pub routine : IsRoutineWithin above p
   pub short : length p.code ≤ 65535
 
--- The procedure with which a run begins is no method, and first calls one by its number; it takes at most six bytes with the four of its idling, and its code
--- has at most 65,535 instructions.
+-- The procedure with which a run begins takes at most six bytes with the four of its idling, and its code has at most 65,535 instructions.
 pub record IsStartShort (start : ℕ) (p : Procedure) : Type 0 where
-  pub unnamed : p.method ≡ None
-  pub bytes : procedure_bytes p + 4 ≤ 6
-  pub first : BeginsWithCall p.code
-  pub code : AllByRecursion (IsOfStart start) p.code
+  pub within : IsStartWithin start 6 p
   pub short : length p.code ≤ 65535
 
 -- There is such a procedure, with which a run begins.

@@ -1,12 +1,13 @@
 -- From what fits of a text, and is not built, to the laws of its typed program.
-use Rattle.std.specs.Prelude.{ℕ, ◌≡◌, ◌⊎◌, ◌<◌, ◌≤◌, ◌==◌, Bool, true, false, nat_le, List, [], ◌∷◌, length, map, Some, if◌then◌else◌}
-use Rattle.std.proofs.Common.{inl, inr, refl, sym, ap, ◌∙◌, arith}
+use Rattle.std.specs.Prelude.{ℕ, ◌≡◌, ◌<◌, ◌≤◌, Bool, true, false, nat_le, List, [], ◌∷◌, length, map, Some}
+use Rattle.std.proofs.Common.{refl, sym, ◌∙◌, arith}
 use Rattle.vg_base.specs.Limits.{text_limit}
 use Rattle.vg_tree_walks.specs.Whole.{tree_at}
 use Rattle.vg_core.specs.HeldProgram.{program_at}
 use Rattle.vg_code_bound.specs.Nodes.{IsCodeBound}
 use Rattle.vg_compile.specs.Compile.{HasNoFrames, handler_of}
 use Rattle.vg_compile.specs.Handlers.{AllCanAnswer}
+use Rattle.vg_compile.proofs.Unlinked.{same_handler}
 use Rattle.vg_costs.proofs.Bounded.{small_named}
 use Rattle.vg_costs.proofs.Limited.{not_too_many}
 use Rattle.vg_fits_given.specs.Fitted.{Fitted, IsFittedOf, named_start_heap}
@@ -14,24 +15,14 @@ use Rattle.vg_fits_given.proofs.Given.{given, ready}
 use Rattle.vg_frame_costs.specs.Payable.{CanBePaid}
 use Rattle.vg_lin.specs.Program.{Procedure}
 use Rattle.vg_link.specs.Linking.{CanHandle}
-use Rattle.vg_link.specs.Linking as linking
-use Rattle.vg_linear.specs.Laying.{layout_of}
-use Rattle.vg_linear.specs.Whole.{packed_of}
 use Rattle.vg_packed.specs.declared.program.Entrance.{Entrance}
 use Rattle.vg_packed.specs.Programs.{handler_in}
 use Rattle.vg_plain_handlers.proofs.Handling.{can_handle}
-use Rattle.vg_plain_paid.specs.Paid.{IsOnePushed}
 use Rattle.vg_source.specs.Peak.{costs}
 use Rattle.vg_text_image.specs.Made.{LacksFrames, LacksHandlers}
 use Rattle.vg_text_paid.specs.Paid.{PaidTexts}
-use Rattle.vg_long_texts.specs.Waiting.{ManyWait}
 
 -- ---- handlers
-
--- the first handler of a vector is the same where it is packed and where it is linked
-same_handler : (es : List Entrance) (v : ℕ) → linking.handler_in (map handler_of es) v ≡ handler_in es v
-same_handler [] v = refl
-same_handler (e ∷ es) v = ap (λ rest. if e.vector == v then Some e.procedure else rest) (same_handler es v)
 
 all_answer : (ms : List Procedure) (all : List Entrance) → ((v q : ℕ) → handler_in all v ≡ Some q → CanHandle ms q) → (es : List Entrance)
     → AllCanAnswer ms (map handler_of all) (map handler_of es)
@@ -55,22 +46,19 @@ module _ (paid : PaidTexts) (bytes : List ℕ) (clock : ℕ) (f : Fitted) (is : 
       (costs (tree_at f.alive.start.names f.alive.start.tree))
   lacks = lacks_for f.alive.start.names
 
-  by_paid : CanBePaid lacks.linear.procedures lacks.linear.start (costs (tree_at f.alive.start.names f.alive.start.tree))
-      ⊎ IsOnePushed (layout_of f.placed.columns.list lacks.firm) (packed_of lacks.firm) → (65536 < words) ⊎ ManyWait f
-  by_paid (inl can) = absurd (lacks.unpaid can)
-  by_paid (inr one) = inr (record { firm = lacks.firm; packed = lacks.packed; pushed = one })
-
-  by_words : (b : Bool) → nat_le words 65536 ≡ b → (65536 < words) ⊎ ManyWait f
-  by_words false e = inl (grind (arith, e))
-  by_words true e =
+  paid_by : words ≤ 65536 → CanBePaid lacks.linear.procedures lacks.linear.start (costs (tree_at f.alive.start.names f.alive.start.tree))
+  paid_by few =
       let s = f.alive.start in
       let start = is.alive.start in
-      by_paid
-      (paid bytes s.names (tree_at s.names s.tree) (program_at s.program) start.program start.legal.reads start.legal.legal
+      paid bytes s.names (tree_at s.names s.tree) (program_at s.program) start.program start.legal.reads start.legal.legal
       (let a = short in omega (arith, a)) start.locals
       (small_named bytes s.names s.tree short start.legal.reads (not_too_many (tree_at s.names s.tree) start.legal.legal)) s.heap f.alive.live
       f.placed.numbers f.placed.columns (given bytes clock f is short) (ready bytes clock f is short) lacks.firm lacks.packed lacks.typed lacks.linear
-      lacks.plain words bound (grind (arith, e)))
+      lacks.plain words bound few
 
-  pub framed : (65536 < words) ⊎ ManyWait f
+  by_words : (b : Bool) → nat_le words 65536 ≡ b → 65536 < words
+  by_words false e = grind (arith, e)
+  by_words true e = absurd (lacks.unpaid (paid_by (grind (arith, e))))
+
+  pub framed : 65536 < words
   framed = by_words (nat_le words 65536) refl

@@ -1,7 +1,7 @@
 -- Costs pay for all procedures of a plain linear program.
 use Rattle.std.specs.Prelude.{ℕ, suc, ◌<◌, ◌≤◌, ◌^◌, Bool, List, ◌++◌, take, drop, length, Some, slice_get}
 use Rattle.std.specs.List.{AllByRecursion, AllZip}
-use Rattle.std.proofs.Common.{◌≡◌, ◌⊎◌, inl, inr, sym, ap, subst, ◌∙◌, arith}
+use Rattle.std.proofs.Common.{◌≡◌, sym, ap, subst, ◌∙◌, arith}
 use Rattle.std.proofs.lemmas.List.{length-map}
 use Rattle.vg_source.specs.Peak.{cost_of}
 use Rattle.vg_core.specs.Program.{Program}
@@ -19,8 +19,8 @@ use Rattle.vg_packed.specs.declared.program.FirmProgram.{FirmProgram}
 use Rattle.vg_placement.specs.declared.column.Column.{Column}
 use Rattle.vg_routine_frames.proofs.Routines.{standing_within, standing_short}
 use Rattle.vg_routine_frames.proofs.Starts.{start_within, start_short}
-use Rattle.vg_plain_paid.specs.Paid.{CostsByNodes, IsOnePushed}
-use Rattle.vg_plain_paid.proofs.Methods.{all_paid}
+use Rattle.vg_plain_paid.specs.Paid.{CostsByNodes}
+use Rattle.vg_plain_paid.proofs.Methods.{PushFew, all_paid}
 use Rattle.vg_plain_paid.proofs.Rows.{Ends, ends, split_at, as_long, within}
 
 -- ---- the start and the routines
@@ -33,12 +33,11 @@ four first ps = (routine first ps 0, (routine first ps 1, (routine first ps 2, (
 
 start : (first start main : ℕ) (receives : Bool) → main < start → IsStartShort start (expanded first (start_of main receives))
 start first at main receives less =
-    let within = start_within first at main 6 receives less (omega arith) in
-    record { unnamed = within.unnamed; bytes = within.bytes; first = within.first; code = within.code; short = start_short first main receives }
+    record { within = start_within first at main 6 receives less (omega arith); short = start_short first main receives }
 
 -- ---- programs
 
-module _ (p : Program) (cs : List Column) (f : FirmProgram) (l : Linear) (costs : List ℕ) (plain : IsPlain cs f l)
+module _ (push : PushFew) (p : Program) (cs : List Column) (f : FirmProgram) (l : Linear) (costs : List ℕ) (plain : IsPlain cs f l)
     (each : AllByRecursion (CostsByNodes p (layout_of cs f) (length f.procedures) costs) (packed_of f))
     (least : (m : ℕ) → m < length costs → 32 ≤ cost_of costs m) (small : (m : ℕ) → cost_of costs m < 2 ^ 31) where
   abbrev count : ℕ
@@ -91,14 +90,10 @@ module _ (p : Program) (cs : List Column) (f : FirmProgram) (l : Linear) (costs 
         routines = subst (AllByRecursion (IsRoutineShort 16)) (sym rows.2) (four first plain.expanded);
       }
 
-  pub can_be_paid : CanBePaid l.procedures l.start costs ⊎ IsOnePushed (layout_of cs f) (packed_of f)
+  pub can_be_paid : CanBePaid l.procedures l.start costs
   can_be_paid =
-      by_methods
-      (all_paid p (layout_of cs f) count costs (packed_of f) plain.flats by_ends.front each
+      subst (λ n. CanBePaid l.procedures n costs) (sym plain.start)
+      (with_methods
+      (all_paid push p (layout_of cs f) count costs (packed_of f) plain.flats by_ends.front each
       (subst (λ lay. AllZip (IsFlat lay) (packed_of f) plain.flats) plain.layout plain.are_flat)
-      (subst (λ n. AllZip (IsExpandedTo n) plain.flats by_ends.front) next by_ends.fronts))
-    where
-      by_methods : AllByRecursion (IsMethodPaid count 16 costs) by_ends.front ⊎ IsOnePushed (layout_of cs f) (packed_of f)
-          → CanBePaid l.procedures l.start costs ⊎ IsOnePushed (layout_of cs f) (packed_of f)
-      by_methods (inr one) = inr one
-      by_methods (inl methods) = inl (subst (λ n. CanBePaid l.procedures n costs) (sym plain.start) (with_methods methods))
+      (subst (λ n. AllZip (IsExpandedTo n) plain.flats by_ends.front) next by_ends.fronts)))

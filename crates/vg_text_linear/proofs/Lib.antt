@@ -1,4 +1,4 @@
-mod Few
+pub mod Few
 pub mod Light
 mod Whole
 pub mod Widths

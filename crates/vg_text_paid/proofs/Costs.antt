@@ -17,6 +17,7 @@ use Rattle.vg_packed_suits.specs.Bodies.{IsTypedOf}
 use Rattle.vg_plain_paid.specs.Paid.{CostsByNodes}
 use Rattle.vg_plain_paid.proofs.Rows.{within}
 use Rattle.vg_text_linear.proofs.Light.{IsLight}
+use Rattle.vg_text_paid.proofs.Few.{HasFewNodes}
 
 -- each method costs 32 and more
 pub least : (ss : List Size) (m : ℕ) → m < length (map cost ss) → 32 ≤ cost_of (map cost ss) m
@@ -41,19 +42,21 @@ pub record AreCostsOf (p : Program) (costs : List ℕ) : Type 0 where
       → cost_of costs m ≡ 32 + 4 * (length y.params + length b.others + y.nodes)
 
 module _ (p : Program) (lay : Layout) (start : ℕ) (costs : List ℕ) (are : AreCostsOf p costs) where
-  pub all_cost : (ms : List HeldProcedure) → AllByRecursion (IsTypedOf p lay) (map procedure_of ms) → AllByRecursion IsLight (map procedure_of ms)
-      → AllHaveWidths ms → AllCallBefore start (map procedure_of ms) → AllByRecursion (CostsByNodes p lay start costs) (map procedure_of ms)
-  all_cost [] t l w b = tt
-  all_cost (m ∷ ms) (t, ts) (l, ls) (w, ws) (b, bs) = (
+  pub all_cost : (ms : List HeldProcedure) → AllByRecursion (IsTypedOf p lay) (map procedure_of ms) → AllByRecursion (HasFewNodes p) (map procedure_of ms)
+      → AllByRecursion IsLight (map procedure_of ms) → AllHaveWidths ms → AllCallBefore start (map procedure_of ms)
+      → AllByRecursion (CostsByNodes p lay start costs) (map procedure_of ms)
+  all_cost [] t n l w b = tt
+  all_cost (m ∷ ms) (t, ts) (n, ns) (l, ls) (w, ws) (b, bs) = (
     record {
       typed = t;
+      waiting = let within = t.within in let nodes = n t.method t.there in omega (arith, within, nodes);
       light = let few = t.typed.few in omega (arith, few, l);
       narrow = narrow m.widths w.widths;
       calls = b;
-      known = subst (λ n. m.method < n) (sym are.many) (within p.tables.methods m.method t.method t.there);
+      known = subst (λ k. m.method < k) (sym are.many) (within p.tables.methods m.method t.method t.there);
       cost =
           are.each m.method t.method t.body t.there t.has_body
-          ∙ ap (λ n. 32 + 4 * (n + t.method.nodes)) (sym t.locals);
+          ∙ ap (λ k. 32 + 4 * (k + t.method.nodes)) (sym t.locals);
     },
-    all_cost ms ts ls ws bs,
+    all_cost ms ts ns ls ws bs,
   )

@@ -1,5 +1,5 @@
 -- That costs of texts pay for what is packed of them.
-use Rattle.std.specs.Prelude.{◌≡◌, ◌⊎◌, ◌<◌, ◌≤◌, ◌^◌, ℕ, List, length, None}
+use Rattle.std.specs.Prelude.{◌≡◌, ◌<◌, ◌≤◌, ◌^◌, ℕ, List, length, None}
 use Rattle.vg_syntax.specs.Tree.{Node}
 use Rattle.vg_syntax.specs.Reads.{Reads}
 use Rattle.vg_source.specs.Peak.{costs}
@@ -19,18 +19,16 @@ use Rattle.vg_packed.specs.Packed.{IsPackedFrom}
 use Rattle.vg_packed.specs.Ready.{IsReady}
 use Rattle.vg_packed_suits.specs.Bodies.{AreTypedWhereCounted}
 use Rattle.vg_linear.specs.declared.whole.Linear.{Linear}
-use Rattle.vg_linear.specs.Laying.{layout_of}
-use Rattle.vg_linear.specs.Whole.{IsPlain, packed_of}
-use Rattle.vg_plain_paid.specs.Paid.{IsOnePushed}
+use Rattle.vg_linear.specs.Whole.{IsPlain}
 use Rattle.vg_types_named.specs.Programs.{IsProgramOf}
 use Rattle.vg_code_bound.specs.Nodes.{IsCodeBound}
 
 -- Where 65,536 words are enough by the nodes of a text's live methods and by its tables, the text's costs can pay for a linear program of what is packed of its
--- typed program in which no procedure is trimmed; or more values wait at one time in one of the packed procedures than there are temporaries.
+-- typed program in which no procedure is trimmed.
 abbrev pub PaidTexts : Type 0
 PaidTexts =
     (bytes : List ℕ) (texts : List (List ℕ)) (tree : Node) (p : Program) → IsProgramOf texts tree p → Reads bytes tree → refusal_of tree ≡ None
     → length bytes < 2 ^ 31 → HaveLocals texts tree p → AreSmall (costs tree) → (h : Heap) (s : LiveSet) (n : Numbers) (c : Columns) → IsGiven p h s n c
     → IsReady p h → (f : FirmProgram) → IsPackedFrom p h s n c f → AreTypedWhereCounted p h c f → (l : Linear) → IsPlain c.list f l → (words : ℕ)
     → IsCodeBound tree (named_heap (naming_of texts p.tables) p.tables h) words → words ≤ 65536
-    → CanBePaid l.procedures l.start (costs tree) ⊎ IsOnePushed (layout_of c.list f) (packed_of f)
+    → CanBePaid l.procedures l.start (costs tree)

@@ -21,8 +21,8 @@ pub returns : goal.returns
 returns c =
     flash_by _ _ _ c.in-Ok.fitted c.in-Ok.ensures c.requires _ c.in-Ok-room_above.ensures c.texts_without_linear_code_are_long.ensures
     (record {
-      handlers = c.texts_that_are_not_built_wait_or_are_long.ensures.handlers;
-      frames = c.texts_that_are_not_built_wait_or_are_long.ensures.frames;
+      handlers = c.texts_that_are_not_built_are_long.ensures.handlers;
+      frames = c.texts_that_are_not_built_are_long.ensures.frames;
     }) _ c.in-Err-flash_of.ensures
 
 pub returns-in-Ok-packed : goal.returns-in-Ok-packed

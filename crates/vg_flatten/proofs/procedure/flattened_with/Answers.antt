@@ -7,7 +7,7 @@ use Rattle.vg_flatten_shapes.specs.Blocks.{set_in}
 use Rattle.vg_flatten.specs.Closing.{AllSet}
 use Rattle.vg_flatten.specs.Flattened.{IsFlat, own_params, result_width}
 use Rattle.vg_flatten.specs.Loops.{has_loop}
-use Rattle.vg_flatten.proofs.Causes.{room_of}
+use Rattle.vg_flatten.proofs.Rooms.{room_of}
 use Rattle.vg_flatten.proofs.Finished.{procedure_sound, procedure_flat, procedure_onward}
 use Rattle.vg_flatten.proofs.procedure.flattened_with.Goals as goal
 

@@ -17,13 +17,13 @@ returns c =
     let receiver = c.requires.receiver in
     let locals = c.requires.locals in
     whole_laid (procedure_of c.args.procedure.now)
-    (stacked c.args.layout.now c.args.room (code_of c.args.procedure.now.body) empty) c.in_ok-body.body c.in_ok-first.first
+    (stacked c.args.layout.now c.args.room c.args.most (code_of c.args.procedure.now.body) empty) c.in_ok-body.body c.in_ok-first.first
     c.push.new.self c.in_ok-append.field-0 c.in_ok-at.at
     (c.in_ok-first.ensures
     ∙ ap (λ z. zero_list (c.args.room.locals - z) z) (ap (λ z. z + c.args.procedure.now.params) receiver)
     ∙ ap (λ z. zero_list z (receivers c.args.procedure.now.receives + c.args.procedure.now.params)) (omega (arith, own, receiver, locals)))
     (c.in_ok-at.ensures ∙ ap (λ z. 0 + z) c.len.ensures)
-    (subst (λ z. IsPiece c.in_ok-body.body c.in_ok-at.at (stacked c.args.layout.now c.args.room
+    (subst (λ z. IsPiece c.in_ok-body.body c.in_ok-at.at (stacked c.args.layout.now c.args.room c.args.most
     (code_of c.args.procedure.now.body) z)) c.new.ensures c.in_ok-body.ensures)
     (sym c.is_empty.ensures ∙ c.if-not-is_empty.false)
     (c.in_ok-push.ensures.ok ∙ ap (λ w. c.in_ok-body.body.code ++ Set (Return w (Known 0)) ∷ []) c.requires.given)
@@ -34,7 +34,8 @@ returns-in_err-at c =
     let own = own_long c.args.procedure.now.receives c.args.procedure.now.widths in
     let receiver = c.requires.receiver in
     let locals = c.requires.locals in
-    late_lays (procedure_of c.args.procedure.now) (stacked c.args.layout.now c.args.room (code_of c.args.procedure.now.body) empty) c.in_ok-first.first
+    late_lays (procedure_of c.args.procedure.now)
+    (stacked c.args.layout.now c.args.room c.args.most (code_of c.args.procedure.now.body) empty) c.in_ok-first.first
     c.from_residual-in_err-at.result _ c.len.result c.from_residual-in_err-at.ensures.1
     (c.in_ok-first.ensures
     ∙ ap (λ z. zero_list (c.args.room.locals - z) z) (ap (λ z. z + c.args.procedure.now.params) receiver)
@@ -46,7 +47,8 @@ returns-in_err-body c =
     let own = own_long c.args.procedure.now.receives c.args.procedure.now.widths in
     let receiver = c.requires.receiver in
     let locals = c.requires.locals in
-    fails_lays (procedure_of c.args.procedure.now) (stacked c.args.layout.now c.args.room (code_of c.args.procedure.now.body)) c.new.result c.in_ok-first.first
+    fails_lays (procedure_of c.args.procedure.now)
+    (stacked c.args.layout.now c.args.room c.args.most (code_of c.args.procedure.now.body)) c.new.result c.in_ok-first.first
     c.in_ok-at.at c.from_residual-in_err-body.result _ c.from_residual-in_err-body.ensures.1 c.new.ensures
     (c.in_ok-first.ensures
     ∙ ap (λ z. zero_list (c.args.room.locals - z) z) (ap (λ z. z + c.args.procedure.now.params) receiver)

@@ -5,9 +5,9 @@ use Rattle.vg_lin.specs.Sound.{IsSound}
 use Rattle.vg_lin.specs.Program.{Procedure}
 use Rattle.vg_flatten_shapes.specs.Blocks.{set_in}
 use Rattle.vg_flatten.specs.Closing.{AllSet}
-use Rattle.vg_flatten.specs.Flattened.{IsFlat, own_params, result_width}
+use Rattle.vg_flatten.specs.Flattened.{IsFlat, own_params, result_width, temps_for}
 use Rattle.vg_flatten.specs.Loops.{has_loop}
-use Rattle.vg_flatten.proofs.Causes.{room_of}
+use Rattle.vg_flatten.proofs.Rooms.{room_of}
 use Rattle.vg_flatten.proofs.PushedFinished.{pushed_sound, pushed_flat, pushed_onward}
 use Rattle.vg_flatten.proofs.procedure.pushed_with.Goals as goal
 
@@ -29,7 +29,7 @@ new-made-requires c =
       code = c.in_ok-instrs.instrs;
     })) (sym c.receivers-receiver.ensures)
     (pushed_sound c.args.layout.now (procedure_of c.args.procedure.now)
-    (room_of c.receivers-receiver.result c.args.procedure.now.on_objects (length c.args.own.now) c.args.temps c.result_width-given.result)
+    (room_of c.receivers-receiver.result c.args.procedure.now.on_objects (length c.args.own.now) c.args.temps c.result_width-given.result) c.args.pushes
     c.receivers-receiver.ensures refl
     (ap length own_is) c.result_width-given.ensures c.requires.room c.requires.params c.requires.widths c.requires.given c.in_ok-code.code c.in_ok-instrs.instrs
     c.in_ok-widths.widths c.in_ok-code.ensures (c.in_ok-instrs.ensures.0 ∙ ap (map (set_in 0 0)) c.as_slice.ensures)
@@ -60,24 +60,25 @@ returns c =
       code = c.in_ok-instrs.instrs;
     }) c.result_width-given.ensures in
     record {
-      flat = λ never.
+      flat = λ needs.
           subst (IsFlat c.args.layout.now (procedure_of c.args.procedure.now)) (sym made_is)
           (pushed_flat c.args.layout.now (procedure_of c.args.procedure.now)
-          (room_of c.receivers-receiver.result c.args.procedure.now.on_objects (length c.args.own.now) c.args.temps c.result_width-given.result)
+          (room_of c.receivers-receiver.result c.args.procedure.now.on_objects (length c.args.own.now) c.args.temps c.result_width-given.result) c.args.pushes
           c.receivers-receiver.ensures refl
           (ap length own_is) c.result_width-given.ensures c.requires.room c.requires.params c.requires.widths c.requires.given c.in_ok-code.code c.in_ok-instrs.instrs
           c.in_ok-widths.widths c.in_ok-code.ensures (c.in_ok-instrs.ensures.0 ∙ ap (map (set_in 0 0)) c.as_slice.ensures)
           (subst AllSet c.as_slice.ensures c.in_ok-instrs.ensures.1)
-          (c.in_ok-widths.ensures ∙ ap (λ z. z ++ replicate c.args.temps 4) c.in_ok-all_widths.ensures) never);
+          (c.in_ok-widths.ensures ∙ ap (λ z. z ++ replicate c.args.temps 4) c.in_ok-all_widths.ensures)
+          c.requires.one (c.requires.all ∙ ap (λ z. temps_for (length z)) own_is) c.requires.homes needs);
       onward =
           subst (λ z. has_loop (code_of c.args.procedure.now.body) ≡ false → all_lead_on 0 z.code ≡ true) (sym made_is)
           (pushed_onward c.args.layout.now (procedure_of c.args.procedure.now)
-          (room_of c.receivers-receiver.result c.args.procedure.now.on_objects (length c.args.own.now) c.args.temps c.result_width-given.result)
+          (room_of c.receivers-receiver.result c.args.procedure.now.on_objects (length c.args.own.now) c.args.temps c.result_width-given.result) c.args.pushes
           c.receivers-receiver.ensures refl
           (ap length own_is) c.result_width-given.ensures c.requires.room c.requires.params c.requires.widths c.requires.given c.in_ok-code.code c.in_ok-instrs.instrs
           c.in_ok-widths.widths c.in_ok-code.ensures (c.in_ok-instrs.ensures.0 ∙ ap (map (set_in 0 0)) c.as_slice.ensures)
           (subst AllSet c.as_slice.ensures c.in_ok-instrs.ensures.1)
           (c.in_ok-widths.ensures ∙ ap (λ z. z ++ replicate c.args.temps 4) c.in_ok-all_widths.ensures));
       few = c.keeps.ensures.few;
-      refusal = λ e. tt;
+      cause = tt;
     }

@@ -1,4 +1,3 @@
-use Rattle.std.proofs.Common.{ℕ}
 use Rattle.vg_flatten_pushed.proofs.pushed.+popped.Given as goal
 
 abbrev pub decreases-popped : goal.decreases-popped

@@ -1,14 +1,8 @@
-use Rattle.std.proofs.Common.{◌≡◌, sym, arith}
-use Rattle.vg_firm_typed.specs.Steps.{takes}
-use Rattle.vg_flatten_control.proofs.Failing.{only_is}
 use Rattle.vg_flatten_pushed.proofs.Pops.{drawn_code}
 use Rattle.vg_flatten_pushed.proofs.pushed.draw.Goals as goal
 
 pub returns : goal.returns
-returns c =
-    let e = c.takes.ensures in
-    let few = c.requires.few in
-    let room = c.requires.room in (
-      drawn_code c.args.room.locals (takes c.args.step) c.args.at _ _ _ c.new-code.ensures (omega (arith, e, few, room)) c.in_ok-push_pops.ensures,
-      sym (only_is c.args.homes c.requires.settled),
-    )
+returns c = (
+  drawn_code c.args.room.locals c.args.missing c.args.at c.args.news.homes _ _ _ c.new-code.ensures c.in_ok-push_lifts.ensures c.in_ok-push_pops.ensures,
+  c.forget_newest.ensures,
+)

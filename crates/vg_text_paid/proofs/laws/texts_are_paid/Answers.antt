@@ -7,7 +7,7 @@ pub returns : goal.returns
 returns c = λ bytes texts tree p is reads legal short locals small h s n cs given ready f from typed l plain words bound few.
     let ranges = c.programs_of_texts_have_ranges.ensures bytes texts tree p is reads legal short in
     let take = text_takes_bytes bytes texts tree p is reads legal ranges locals in
-    text_paid texts tree p is (c.packed_texts_are_light.ensures bytes texts tree p is reads)
+    text_paid c.plain_programs_are_paid.ensures texts tree p is (c.packed_texts_are_light.ensures bytes texts tree p is reads)
     (c.methods_of_texts_take_in_order.ensures bytes texts tree p is reads legal) ranges.fields
     (record { many = c.methods_of_texts_cost.ensures.many texts tree p is; each = c.methods_of_texts_cost.ensures.each bytes texts tree p is reads })
     (c.costs_by_size.ensures tree) small h s n cs given ready f from typed

@@ -1,5 +1,5 @@
 use Rattle.vg_long_texts.proofs.Unbuilt.{framed, handled}
-use Rattle.vg_long_texts.proofs.laws.texts_that_are_not_built_wait_or_are_long.Goals as goal
+use Rattle.vg_long_texts.proofs.laws.texts_that_are_not_built_are_long.Goals as goal
 
 pub returns : goal.returns
 returns c = record {

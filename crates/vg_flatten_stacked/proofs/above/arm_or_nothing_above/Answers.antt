@@ -1,0 +1,16 @@
+use Rattle.std.proofs.Common.{sym, ◌∙◌, subst}
+use Rattle.vg_meaning.specs.Code.{Nothing, If}
+use Rattle.vg_firm.specs.Held.{code_of}
+use Rattle.vg_flatten_shapes.specs.Laying.{Lays}
+use Rattle.vg_flatten_control.specs.Flat.{flat}
+use Rattle.vg_flatten_pushed.proofs.Parting.{above_lays}
+use Rattle.vg_flatten_stacked.proofs.CalmCode.{alone_calm}
+use Rattle.vg_flatten_stacked.proofs.above.arm_or_nothing_above.Goals as goal
+
+pub returns-then-is_calm : goal.returns-then-is_calm
+returns-then-is_calm c =
+    subst (Lays c.onto.result c.args.at)
+    (sym (alone_calm c.args.layout.now c.args.room c.args.most (code_of c.args.block.now) c.args.homes (sym c.is_calm.ensures ∙ c.if-is_calm.true)))
+    (above_lays c.onto.result c.arm_or_nothing-made.result c.args.at (flat c.args.layout.now c.args.room (If (code_of c.args.block.now) Nothing))
+    c.args.most c.args.homes c.in_ok-parts.parts.above c.in_ok-parts.parts.below c.in_ok-parts.ensures.above c.in_ok-parts.ensures.below
+    c.onto.ensures c.arm_or_nothing-made.ensures)
