@@ -1,14 +1,11 @@
 // Branches that always lead to one place.
-use crate::filling::is_filled_test;
-use crate::flow::{Next, counts, reads_of};
-use crate::grid::Grid;
-use crate::joining::{Ways, is_at, next_in};
-use crate::leading::Led;
-use crate::living::Life;
-use crate::ranges::{Ranges, decided};
 use std::alloc::Global;
 use vg_base::NoMemory;
 use vg_lin::{Instr, Operand};
+use vg_trim_flow::{Grid, Next, Ways, counts, is_at, next_in, reads_of};
+use vg_trim_living::{Life, is_filled_test};
+use vg_trim_ranges::{Ranges, decided};
+use vg_trim_ways::Led;
 
 /// What is known of the values of the locals of code.
 #[derive(Drop)]

@@ -1,27 +1,20 @@
 // A guess at a trimmed procedure.
 use crate::deciding::{Values, are_needed, sure_ways, take_back};
-use crate::filling::{filled, is_stop};
-use crate::flow::{Next, at, is_known};
-use crate::grid::Grid;
-use crate::guess::{Given, Plan};
-use crate::homes::{Homes, NoRoom};
-use crate::joining::{Ways, is_at, nexts_of};
-use crate::leading::{Led, lead, may_lead, unled};
-use crate::living::{Life, find_life, find_live};
-use crate::making::{Older, is_filled, is_live, made, note_bytes, settle};
-use crate::mapping::{filler, stand_in};
-use crate::ordering::{Priced, ordered};
-use crate::placing::{Placed, close_up, in_place};
-use crate::ranges::{Ranges, find_ranges};
-use crate::returning::{Shape, shared};
-use crate::seating::by_registers;
-use crate::sizes::{full, sum_of, width_of};
-use crate::uniting::{Unions, united};
-use crate::ways::ways_of;
-use crate::working::{Seen, Works, spared_ways, useful_works, works_of};
 use std::alloc::Global;
 use vg_base::{NoMemory, Refusal, Row};
 use vg_lin::{Computation, Instr, LinProc, Operand, Operator, Plain};
+use vg_trim_flow::{
+    Given, Grid, Next, Ways, at, full, is_at, is_known, nexts_of, sum_of, width_of,
+};
+use vg_trim_homes::{Homes, NoRoom, filler, stand_in};
+use vg_trim_living::{Life, filled, find_life, find_live, is_stop};
+use vg_trim_making::{Older, is_filled, is_live, made, note_bytes, settle};
+use vg_trim_orders::{Priced, ordered};
+use vg_trim_placing::{Placed, Shape, close_up, in_place, shared};
+use vg_trim_prices::{Plan, by_registers};
+use vg_trim_ranges::{Ranges, find_ranges};
+use vg_trim_sharing::{Seen, Unions, Works, spared_ways, united, useful_works, works_of};
+use vg_trim_ways::{Led, lead, may_lead, unled, ways_of};
 use vg_trimming::{Bound, Facts, Twin, Worked};
 
 // Where the code has fewer pairs of a place and a local, guesses are made in many ways.
