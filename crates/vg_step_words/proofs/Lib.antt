@@ -1,0 +1,11 @@
+mod Operands
+mod Expanding
+mod Blocks
+mod Made
+mod Values
+mod Places
+mod Calling
+mod Steps
+mod Receiver
+mod Whole
+mod Procedures
