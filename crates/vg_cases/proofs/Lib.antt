@@ -1,0 +1,4 @@
+pub mod Covered
+pub mod Few
+pub mod Joined
+pub mod Placed
