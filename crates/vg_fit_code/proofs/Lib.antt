@@ -1,3 +1,4 @@
 pub mod Making
 pub mod Expanding
 pub mod Apt
+pub mod Found

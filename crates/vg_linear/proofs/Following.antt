@@ -1,9 +1,11 @@
 -- The linear program does what the flattened one does.
-use Rattle.std.proofs.Common.{◌≡◌, refl, sym, ap, subst, ◌∙◌, arith, ℕ, ◌≤◌, List, [], ◌∷◌, length, option_map, Option, Some, slice_get}
+use Rattle.std.proofs.Common.{◌≡◌, refl, sym, ap, subst, ◌∙◌, arith, ℕ, ◌≤◌, List, [], ◌∷◌, length, map, option_map, Option, Some, slice_get}
 use Rattle.std.proofs.lemmas.Option.{none-some, slice_get-map}
 use Rattle.std.proofs.lemmas.Slice.Zip.{AllZip-long}
 use Rattle.std.proofs.lemmas.List.{length-map, length-append}
 use Rattle.vg_codes.specs.Codes.{Codes, AreCodes}
+use Rattle.vg_finding.specs.Finders.{finder, with_finders}
+use Rattle.vg_finding.proofs.Running as finding
 use Rattle.vg_firm.specs.declared.procedure.Procedure.{Procedure as HeldProcedure}
 use Rattle.vg_firm.specs.Held.{procedure_of}
 use Rattle.vg_firm.specs.Program.{Procedure as FirmProcedure}
@@ -44,6 +46,9 @@ is_fit m has = record {
 -- the program has more procedures than the packed one
 pub all_long : (cs : List Column) (f : FirmProgram) (l : Linear) → IsLinear cs f l → length f.procedures ≤ length l.procedures
 all_long cs f l is =
+    let h = ap length is.made.found.procedures in
+    let i = length-append (map (with_finders is.made.found.numbers) is.made.routined) (map finder is.made.found.finders) in
+    let j = length-map is.made.routined (with_finders is.made.found.numbers) in
     let a = ap length is.made.routines in
     let b = length-append is.made.expanded (four_for (first_routine f) is.made.expanded) in
     let c = AllZip-long (IsExpandedTo (first_routine f)) is.made.trimmed is.made.expanded is.made.are_expanded in
@@ -51,14 +56,14 @@ all_long cs f l is =
     let s = ap length is.made.with_start.behind in
     let d = length-append is.made.flats (start_of f.main is.made.with_start.main.receives ∷ []) in
     let e = AllZip-long (IsFlat l.layout) (packed_of f) is.made.flats is.made.are_flat in
-    let g = length-map f.procedures procedure_of in omega (arith, a, b, c, t, s, d, e, g)
+    let g = length-map f.procedures procedure_of in omega (arith, h, i, j, a, b, c, t, s, d, e, g)
 
 module _ (k : Codes) (cs : List Column) (f : FirmProgram) (l : Linear) (tables ram : List ℕ) (handler : ℕ → Option ℕ)
     (codes : AreCodes (length f.procedures) k) (stand : StandIn k l.layout f tables ram handler) (whole : IsLinear cs f l) where
   abbrev lay : Layout
   lay = l.layout
 
-  abbrev is : AreAllMade l.layout f l.procedures
+  abbrev is : AreAllMade l.layout f l.dispatches l.procedures
   is = whole.made
 
   have : AllHaveWidths f.procedures
@@ -141,17 +146,27 @@ module _ (k : Codes) (cs : List Column) (f : FirmProgram) (l : Linear) (tables r
   trimmed_long : length is.trimmed ≡ first_routine f
   trimmed_long = AllZip-long IsTrimmedTo is.begun is.trimmed is.are_trimmed ∙ begun_long
 
-  all_expand : AllExpand (first_routine f) is.trimmed l.procedures
+  expanded_long : length is.expanded ≡ first_routine f
+  expanded_long = AllZip-long (IsExpandedTo (first_routine f)) is.trimmed is.expanded is.are_expanded ∙ trimmed_long
+
+  all_expand : AllExpand (first_routine f) is.trimmed is.routined
   all_expand q m e =
       let r = zip_at (IsExpandedTo (first_routine f)) is.trimmed is.expanded is.are_expanded q m e in (
         r.2.sound,
         (r.0, ap (λ z. slice_get z q) is.routines ∙ get_left is.expanded (four_for (first_routine f) is.expanded) q r.0 r.1, r.2.expands),
       )
 
-  has_routines : HasRoutines (first_routine f) (with_procedures middle l.procedures)
-  has_routines =
-      let n = AllZip-long (IsExpandedTo (first_routine f)) is.trimmed is.expanded is.are_expanded in
-      let o = trimmed_long in routine_there (first_routine f) is.expanded l.procedures is.routines (omega (arith, n, o))
+  -- the same with expanded ones and routines
+  abbrev routined : Program
+  routined = with_procedures middle is.routined
+
+  routined_long : first_routine f ≤ length is.routined
+  routined_long =
+      let s = ap length is.routines in
+      let a = length-append is.expanded (four_for (first_routine f) is.expanded) in let n = expanded_long in omega (arith, s, a, n)
+
+  has_routines : HasRoutines (first_routine f) routined
+  has_routines = routine_there (first_routine f) is.expanded is.routined is.routines (sym expanded_long)
 
   closed : IsClosed old
   closed = record {
@@ -165,14 +180,25 @@ module _ (k : Codes) (cs : List Column) (f : FirmProgram) (l : Linear) (tables r
     handlers = λ v q e. let h = stand.closed v q e in let o = trimmed_long in omega (arith, h, o);
   }
 
-  expanded_runs : RunsAs middle (linear_program k f l tables ram handler)
-  expanded_runs = runs_same (first_routine f) middle l.procedures all_expand has_routines closed_too
+  closed_routined : IsClosed routined
+  closed_routined = record {
+    start = let s = whole.start in let o = routined_long in omega (arith, s, o);
+    handlers = λ v q e. let h = stand.closed v q e in let o = routined_long in omega (arith, h, o);
+  }
+
+  expanded_runs : RunsAs middle routined
+  expanded_runs = runs_same (first_routine f) middle is.routined all_expand has_routines closed_too
+
+  found_runs : RunsAs routined (linear_program k f l tables ram handler)
+  found_runs = finding.runs_same routined (length f.procedures) l.procedures l.dispatches is.found codes closed_routined
 
   trimmed_runs : RunsAsRead old middle
   trimmed_runs = trimming.runs_same old is.trimmed is.are_trimmed closed stand.ram_bytes stand.table_bytes
 
   pub runs_as : RunsAsRead old (linear_program k f l tables ram handler)
-  runs_as = trimming.runs_then old middle (linear_program k f l tables ram handler) trimmed_runs expanded_runs
+  runs_as =
+      trimming.runs_then old routined (linear_program k f l tables ram handler)
+      (trimming.runs_then old middle routined trimmed_runs expanded_runs) found_runs
 
   pub follows : (p : Program) × AreFlat k lay (program_of k f) p × RunsAsRead p (linear_program k f l tables ram handler)
   follows = (old, are_flat, runs_as)

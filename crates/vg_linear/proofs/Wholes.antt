@@ -3,6 +3,8 @@ use Rattle.std.proofs.Common.{◌≡◌, sym, ap, subst, ◌∙◌, arith, inl, 
 use Rattle.std.proofs.lemmas.Option.{slice_get-map}
 use Rattle.vg_base.specs.declared.refusal.Refusal.{Refusal}
 use Rattle.vg_base.specs.declared.refusal.Refusal.TheVariants.{Fault as Faulty, NoMemory as Memory}
+use Rattle.vg_codes.specs.declared.case.Case.{Case}
+use Rattle.vg_finding.specs.Found.{AreFound}
 use Rattle.vg_firm.specs.declared.procedure.Procedure.{Procedure as HeldProcedure}
 use Rattle.vg_firm.specs.Held.{procedure_of}
 use Rattle.vg_lin.specs.Program.{Procedure}
@@ -38,6 +40,15 @@ started f ms q m s old new procedures main within is is_start behind = record {
     there : (xs : List HeldProcedure) → ms ≡ xs → (i : ℕ) → q ≡ i → i < length xs → slice_get xs i ≡ Some m
     there xs e i g lt = get_at xs i m lt (is ∙ (ap (λ z. get_or z q m) e ∙ ap (λ z. get_or xs z m) g))
 
+-- ---- finders
+
+-- what is found in parts that are equal
+found_in : (count n : ℕ) (olds os news : List (List Case)) (old ps new : List Procedure) → n ≡ count → os ≡ olds → ps ≡ old → AreFound n os news ps new
+    → AreFound count olds news old new
+found_in count n olds os news old ps new en eo ep h =
+    subst (λ z. AreFound z olds news old new) en
+    (subst (λ z. AreFound n z news old new) eo (subst (λ z. AreFound n os news z new) ep h))
+
 -- ---- procedures
 
 module _ (lay : Layout) (f : FirmProgram) where
@@ -69,34 +80,43 @@ module _ (lay : Layout) (f : FirmProgram) where
       expanded_left Memory h t = tt
       expanded_left (Faulty why) h t = (h.0, inr (record { flats = flats; are_flat = are_flat; long = long h.1 }))
 
-      pub all_made : AllKeepApt bs trimmed → (expanded all : List Procedure) → first ≡ first_routine f → AreAllExpanded first ms expanded
-          → WithRoutines first expanded all → AreAllMade lay f all
-      all_made keep expanded all is are_expanded routines = record {
-        flats = flats;
-        are_flat = are_flat;
-        begun = begun;
-        with_start = with_start;
-        trimmed = trimmed;
-        are_trimmed = subst (λ z. AreAllTrimmed z trimmed) same are_trimmed;
-        keep_apt = subst (λ z. AllKeepApt z trimmed) same keep;
-        expanded = expanded;
-        are_expanded = subst (λ z. AreAllExpanded z trimmed expanded) is (subst (λ z. AreAllExpanded first z expanded) e are_expanded);
-        routines = subst (λ z. WithRoutines z expanded all) is routines;
-      }
+      module _ (expanded routined : List Procedure) (is : first ≡ first_routine f) (are_expanded : AreAllExpanded first ms expanded)
+          (routines : WithRoutines first expanded routined) (count : ℕ) (os news : List (List Case)) (ps all : List Procedure)
+          (counted : count ≡ length f.procedures) (dispatches : os ≡ f.dispatches) (procedures : ps ≡ routined) (are_found : AreFound count os news ps all) where
+        found : AreFound (length f.procedures) f.dispatches news routined all
+        found = found_in (length f.procedures) count f.dispatches os news routined ps all counted dispatches procedures are_found
 
-      pub all_plain : trimmed ≡ bs → (expanded all : List Procedure) → first ≡ first_routine f → AreAllExpanded first ms expanded
-          → WithRoutines first expanded all → ArePlain lay f all
-      all_plain kept expanded all is are_expanded routines = λ cs l laid stands has start. record {
-        layout = stands ∙ laid;
-        flats = flats;
-        are_flat = subst (λ z. AreAllFlat z (packed_of f) flats) (sym stands) are_flat;
-        begun = begun;
-        with_start = with_start;
-        expanded = expanded;
-        are_expanded = subst (λ z. AreAllExpanded z begun expanded) is (subst (λ z. AreAllExpanded first z expanded) (e ∙ (kept ∙ same)) are_expanded);
-        routines = subst (λ z. WithRoutines (first_routine f) expanded z) (sym has) (subst (λ z. WithRoutines z expanded all) is routines);
-        start = start;
-      }
+        pub all_made : AllKeepApt bs trimmed → AreAllMade lay f news all
+        all_made keep = record {
+          flats = flats;
+          are_flat = are_flat;
+          begun = begun;
+          with_start = with_start;
+          trimmed = trimmed;
+          are_trimmed = subst (λ z. AreAllTrimmed z trimmed) same are_trimmed;
+          keep_apt = subst (λ z. AllKeepApt z trimmed) same keep;
+          expanded = expanded;
+          are_expanded = subst (λ z. AreAllExpanded z trimmed expanded) is (subst (λ z. AreAllExpanded first z expanded) e are_expanded);
+          routined = routined;
+          routines = subst (λ z. WithRoutines z expanded routined) is routines;
+          found = found;
+        }
+
+        pub all_plain : trimmed ≡ bs → ArePlain lay f news all
+        all_plain kept = λ cs l laid stands dispatched has start. record {
+          layout = stands ∙ laid;
+          flats = flats;
+          are_flat = subst (λ z. AreAllFlat z (packed_of f) flats) (sym stands) are_flat;
+          begun = begun;
+          with_start = with_start;
+          expanded = expanded;
+          are_expanded = subst (λ z. AreAllExpanded z begun expanded) is (subst (λ z. AreAllExpanded first z expanded) (e ∙ (kept ∙ same)) are_expanded);
+          routined = routined;
+          routines = subst (λ z. WithRoutines z expanded routined) is routines;
+          found = subst (λ z. AreFound (length f.procedures) f.dispatches l.dispatches routined z) (sym has)
+              (subst (λ z. AreFound (length f.procedures) f.dispatches z routined all) (sym dispatched) found);
+          start = start;
+        }
 
 -- ---- programs
 

@@ -2,6 +2,7 @@
 use Rattle.std.specs.Prelude.{◌≡◌, ◌⊎◌, ℕ, ◌<◌, List, length, Result, Ok, Err}
 use Rattle.vg_base.specs.declared.refusal.Refusal.{Refusal}
 use Rattle.vg_base.specs.declared.refusal.Refusal.TheVariants.{Fault as Faulty, NoMemory as Memory}
+use Rattle.vg_finders.specs.declared.finding.Found.{Found}
 use Rattle.vg_lin.specs.Program.{Procedure}
 use Rattle.vg_flatten_shapes.specs.declared.fault.Fault.{Fault}
 use Rattle.vg_flatten_shapes.specs.declared.fault.Fault.TheVariants.{NotTaken, TooLong}
@@ -36,7 +37,7 @@ IsCauseOf why cs f =
     ((why ≡ NotTaken) × (AllHaveWidths f.procedures → ⊥))
     ⊎ (((why ≡ TooLong) × TooMany f) ⊎ IsCauseIn why (layout_of cs f) f)
 
-abbrev pub AreRefused : Result (List Procedure) (Refusal Fault) → Layout → FirmProgram → Type 0
+abbrev pub AreRefused : Result Found (Refusal Fault) → Layout → FirmProgram → Type 0
 AreRefused (Ok all) lay f = Unit {0}
 AreRefused (Err Memory) lay f = Unit {0}
 AreRefused (Err (Faulty why)) lay f = IsCauseIn why lay f
@@ -60,7 +61,7 @@ IsLeftIn why lay f = (why ≡ TooLong) × (IsOneMadeTooLong lay (packed_of f) �
 abbrev pub IsLeftOf : Fault → List Column → FirmProgram → Type 0
 IsLeftOf why cs f = ((why ≡ TooLong) × TooMany f) ⊎ IsLeftIn why (layout_of cs f) f
 
-abbrev pub AreTakenIn : Result (List Procedure) (Refusal Fault) → Layout → FirmProgram → Type 0
+abbrev pub AreTakenIn : Result Found (Refusal Fault) → Layout → FirmProgram → Type 0
 AreTakenIn (Ok all) lay f = Unit {0}
 AreTakenIn (Err Memory) lay f = Unit {0}
 AreTakenIn (Err (Faulty why)) lay f = IsLeftIn why lay f

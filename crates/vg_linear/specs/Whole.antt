@@ -1,6 +1,8 @@
 -- The linear program of a packed one.
 use Rattle.std.specs.Prelude.{◌≡◌, ℕ, ◌+◌, List, [], ◌∷◌, ◌++◌, length, map, Option, Some, slice_get}
+use Rattle.vg_codes.specs.declared.case.Case.{Case}
 use Rattle.vg_codes.specs.Codes.{Codes}
+use Rattle.vg_finding.specs.Found.{AreFound}
 use Rattle.vg_firm.specs.Held.{procedure_of}
 use Rattle.vg_firm.specs.Program.{Procedure as FirmProcedure}
 use Rattle.vg_lin.specs.Program.{Procedure, Program}
@@ -33,7 +35,7 @@ pub record IsWithStart (f : FirmProgram) (old new : List Procedure) : Type 0 whe
   pub is_main : slice_get (packed_of f) f.main ≡ Some main
   pub behind : new ≡ old ++ start_of f.main main.receives ∷ []
 
-pub record AreAllMade (lay : Layout) (f : FirmProgram) (all : List Procedure) : Type 0 where
+pub record AreAllMade (lay : Layout) (f : FirmProgram) (dispatches : List (List Case)) (all : List Procedure) : Type 0 where
   -- the procedures of the packed program, flattened
   pub flats : List Procedure
   pub are_flat : AreAllFlat lay (packed_of f) flats
@@ -47,12 +49,15 @@ pub record AreAllMade (lay : Layout) (f : FirmProgram) (all : List Procedure) : 
   -- all expanded, with the routines that they call behind these
   pub expanded : List Procedure
   pub are_expanded : AreAllExpanded (first_routine f) trimmed expanded
-  pub routines : WithRoutines (first_routine f) expanded all
+  pub routined : List Procedure
+  pub routines : WithRoutines (first_routine f) expanded routined
+  -- with finders, where look-ups are calls of these, and with fewer cases in dispatches
+  pub found : AreFound (length f.procedures) f.dispatches dispatches routined all
 
 pub record IsLinear (cs : List Column) (f : FirmProgram) (l : Linear) : Type 0 where
   pub widths : AllHaveWidths f.procedures
   pub layout : l.layout ≡ layout_of cs f
-  pub made : AreAllMade l.layout f l.procedures
+  pub made : AreAllMade l.layout f l.dispatches l.procedures
   pub start : l.start ≡ length f.procedures
 
 -- The procedures of a linear program are flattened and expanded, and none of them is trimmed.
@@ -67,14 +72,17 @@ pub record IsPlain (cs : List Column) (f : FirmProgram) (l : Linear) : Type 0 wh
   -- all expanded, with the routines that they call behind these
   pub expanded : List Procedure
   pub are_expanded : AreAllExpanded (first_routine f) begun expanded
-  pub routines : WithRoutines (first_routine f) expanded l.procedures
+  pub routined : List Procedure
+  pub routines : WithRoutines (first_routine f) expanded routined
+  -- with finders, where look-ups are calls of these, and with fewer cases in dispatches
+  pub found : AreFound (length f.procedures) f.dispatches l.dispatches routined l.procedures
   pub start : l.start ≡ length f.procedures
 
 -- The program of these procedures, by the code numbers of the packed ones, the bytes of both memories at the start, and the handlers.
 abbrev pub linear_program : Codes → FirmProgram → Linear → (tables ram : List ℕ) → (handler : ℕ → Option ℕ) → Program
 linear_program k f l tables ram handler = record {
   procedures = l.procedures;
-  dispatches = f.dispatches;
+  dispatches = l.dispatches;
   codes = k;
   tables = tables;
   ram = ram;
@@ -84,7 +92,8 @@ linear_program k f l tables ram handler = record {
 
 -- ---- the answer of a function of this crate (a mirror)
 
--- A linear program with these procedures is plain.
-abbrev pub ArePlain : Layout → FirmProgram → List Procedure → Type 0
-ArePlain lay f all =
-    (cs : List Column) (l : Linear) → lay ≡ layout_of cs f → l.layout ≡ lay → l.procedures ≡ all → l.start ≡ length f.procedures → IsPlain cs f l
+-- A linear program with these dispatches and procedures is plain.
+abbrev pub ArePlain : Layout → FirmProgram → List (List Case) → List Procedure → Type 0
+ArePlain lay f ds all =
+    (cs : List Column) (l : Linear) → lay ≡ layout_of cs f → l.layout ≡ lay → l.dispatches ≡ ds → l.procedures ≡ all → l.start ≡ length f.procedures
+    → IsPlain cs f l

@@ -17,6 +17,8 @@ use crate::routines::with_routines;
 use crate::widths::all_have_widths;
 use std::alloc::Global;
 use vg_base::{NoMemory, Refusal, Row};
+use vg_codes::Case;
+use vg_finders::{Found, Lookups, find_by};
 use vg_flatten::start;
 use vg_flatten_shapes::{Fault, Layout};
 use vg_lin::LinProc;
@@ -29,8 +31,11 @@ pub struct Linear {
     /// Where columns and tables stand, and how procedures are called.
     pub layout: Layout,
     /// Those of the packed program, in their order, and the start, each expanded, and trimmed before that, unless the program is plain; and behind them, in
-    /// the place of each of the four routines, the routine where one of these procedures calls it, and else a procedure that returns at once.
+    /// the place of each of the four routines, the routine where one of these procedures calls it, and else a procedure that returns at once; and behind
+    /// these the finders of dispatches, where look-ups are calls of them.
     pub procedures: Row<LinProc>,
+    /// The dispatches of the packed program, each with fewer cases where neighbours have one procedure.
+    pub dispatches: Row<Row<Case>>,
     /// The place of the start: behind those of the packed program.
     pub start: u16,
 }
@@ -41,36 +46,42 @@ impl Drop for Linear {
         let Linear {
             layout: _,
             procedures: _,
+            dispatches: _,
             start: _,
         } = self;
     }
 }
 
 impl Linear {
-    /// The procedures alone.
-    pub fn into_procedures(self) -> Row<LinProc>
-        ensures { result ≡ self.procedures }
+    /// The procedures and the dispatches.
+    pub fn into_parts(self) -> (Row<LinProc>, Row<Row<Case>>)
+        ensures procedures { result.0 ≡ self.procedures }
+        ensures dispatches { result.1 ≡ self.dispatches }
     {
         let Linear {
             layout: _,
             procedures,
+            dispatches,
             start: _,
         } = self;
-        procedures
+        (procedures, dispatches)
     }
 }
 
-// Whether the procedures of a linear program are trimmed before they are expanded.
+// Whether the procedures of a linear program are trimmed before they are expanded, and how they look up what dispatches have.
 #[derive(Clone, Copy)]
 enum Making {
-    // Each has less to do.
+    // Each has less to do, and looks up by itself.
     Trimmed,
-    // Each is as it was flattened.
+    // Each has less to do, and looks up by finders.
+    Shared,
+    // Each is as it was flattened, and looks up by finders.
     Plain,
 }
 
 /// The linear program of a packed one with these columns. All its procedures are expanded: none of them has a product, a division, a remainder or a shift
-/// by an amount that is not known.
+/// by an amount that is not known. All are trimmed before that, and each looks up by itself what a dispatch has for the number of an object. Neighbours in a
+/// dispatch that have one procedure are one case.
 ///
 /// It refuses a procedure that `flatten` refuses, for its cause; as not taken one with a local of no byte or of more than four, with more parameters than
 /// locals or with a result of more than four bytes; and as too long one that has more than 32,767 instructions of linear code, and more than 65,531
@@ -88,7 +99,23 @@ pub fn make_linear(
     make(alloc, columns, firm, Making::Trimmed)
 }
 
-/// A linear program of a packed one with these columns in which no procedure is trimmed: what `make_linear` makes, with more to do, of which more is known.
+/// The linear program that `make_linear` makes, with finders: one for each dispatch that is looked up and that no larger one covers, behind the routines. Its
+/// procedures call them where they would look up by themselves. That takes more steps, and less code where dispatches are large or are looked up often. It
+/// refuses what that refuses.
+pub fn make_shared(
+    alloc: Global,
+    columns: &[Column],
+    firm: &FirmProgram,
+) -> Result<Linear, Refusal<Fault>>
+    requires { firm.now.main < length firm.now.procedures }
+    ensures linear { IfOk result (IsLinear columns.now firm.now) }
+    ensures refusal { IsRefused result columns.now firm.now }
+    ensures typed { IsTypedIn (layout_of columns.now firm.now) firm.now → IsTakenFor result columns.now firm.now }
+{
+    make(alloc, columns, firm, Making::Shared)
+}
+
+/// The linear program of a packed one with these columns in which no procedure is trimmed: what `make_shared` makes, with more to do, of which more is known.
 /// It refuses what that refuses.
 pub fn make_plain(
     alloc: Global,
@@ -125,29 +152,31 @@ fn make(
         return Err(Refusal::Fault(Fault::TooLong));
     }
     let layout = layout(alloc, columns, firm)?;
-    let all = match all_procedures(alloc, &layout, firm, making) {
-        Ok(all) => all,
+    let found = match all_procedures(alloc, &layout, firm, making) {
+        Ok(found) => found,
         Err(why) => return Err(why),
     };
+    let (all, dispatches) = found.into_parts();
     Ok(Linear {
         layout,
         procedures: all,
+        dispatches,
         start: procedures.len() as u16,
     })
 }
 
-// Those of the program, flattened, and the start, all of them made so and expanded, and the routines that they call.
+// Those of the program, flattened, and the start, all of them made so and expanded, the routines that they call, and the finders; and the dispatches.
 fn all_procedures(
     alloc: Global,
     layout: &Layout,
     firm: &FirmProgram,
     making: Making,
-) -> Result<Row<LinProc>, Refusal<Fault>>
+) -> Result<Found, Refusal<Fault>>
     requires widths { AllHaveWidths firm.now.procedures }
     requires few { length firm.now.procedures ≤ 65531 }
     requires main { firm.now.main < length firm.now.procedures }
-    ensures made { IfOk result (AreAllMade layout.now firm.now) }
-    ensures plain { making ≡ Plain → IfOk result (ArePlain layout.now firm.now) }
+    ensures made { IfOk result (λ all. AreAllMade layout.now firm.now all.dispatches all.procedures) }
+    ensures plain { making ≡ Plain → IfOk result (λ all. ArePlain layout.now firm.now all.dispatches all.procedures) }
     ensures refusal { AreRefused result layout.now firm.now }
     ensures typed { IsTypedIn layout.now firm.now → AreTakenIn result layout.now firm.now }
 {
@@ -158,19 +187,19 @@ fn all_procedures(
     made_of(alloc, layout, firm, flats, making)
 }
 
-// The flattened procedures and the start, made so and expanded, and the routines that they call.
+// The flattened procedures and the start, made so and expanded, the routines that they call, and the finders; and the dispatches.
 fn made_of(
     alloc: Global,
     layout: &Layout,
     firm: &FirmProgram,
     flats: Row<LinProc>,
     making: Making,
-) -> Result<Row<LinProc>, Refusal<Fault>>
+) -> Result<Found, Refusal<Fault>>
     requires few { length firm.now.procedures ≤ 65531 }
     requires main { firm.now.main < length firm.now.procedures }
     requires flat { AreAllFlat layout.now (packed_of firm.now) flats }
-    ensures made { IfOk result (AreAllMade layout.now firm.now) }
-    ensures plain { making ≡ Plain → IfOk result (ArePlain layout.now firm.now) }
+    ensures made { IfOk result (λ all. AreAllMade layout.now firm.now all.dispatches all.procedures) }
+    ensures plain { making ≡ Plain → IfOk result (λ all. ArePlain layout.now firm.now all.dispatches all.procedures) }
     ensures refusal { AreRefused result layout.now firm.now }
     ensures typed { IsTypedIn layout.now firm.now → AreTakenIn result layout.now firm.now }
 {
@@ -181,8 +210,15 @@ fn made_of(
         Ok(expanded) => expanded,
         Err(why) => return Err(why),
     };
-    let all = with_routines(alloc, expanded, first)?;
-    Ok(all)
+    let routined = with_routines(alloc, expanded, first)?;
+    let found = find_by(
+        alloc,
+        routined.as_slice(),
+        firm.dispatches.as_slice(),
+        firm.procedures.len(),
+        lookups(making),
+    )?;
+    Ok(found)
 }
 
 // The procedures, trimmed or as they are.
@@ -193,8 +229,16 @@ fn made(alloc: Global, procedures: &[LinProc], making: Making) -> Result<Row<Lin
     ensures same { making ≡ Plain → IfOk result (λ new. new ≡ procedures.now) }
 {
     match making {
-        Making::Trimmed => trim_all(alloc, procedures),
+        Making::Trimmed | Making::Shared => trim_all(alloc, procedures),
         Making::Plain => keep_all(alloc, procedures),
+    }
+}
+
+// How the procedures look up what dispatches have.
+fn lookups(making: Making) -> Lookups {
+    match making {
+        Making::Trimmed => Lookups::InPlace,
+        Making::Shared | Making::Plain => Lookups::ByFinders,
     }
 }
 

@@ -13,7 +13,7 @@ use vg_packed::FirmProgram;
 use vg_placement::{Column, Held};
 
 // A procedure that gets no receiver: one step behind another, and the end where it has a result.
-fn procedure(
+pub fn procedure(
     alloc: Global,
     params: u8,
     widths: &[u8],

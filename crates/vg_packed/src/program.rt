@@ -1,6 +1,4 @@
 // Packed programs.
-ghost use Rattle.std.specs.Prelude.{◌≡◌};
-
 use vg_base::Row;
 use vg_codes::Case;
 use vg_firm::{ArrayPlace, Procedure};
@@ -39,22 +37,5 @@ impl Drop for FirmProgram {
             main: _,
             handlers: _,
         } = self;
-    }
-}
-
-impl FirmProgram {
-    /// The dispatches alone.
-    pub fn into_dispatches(self) -> Row<Row<Case>>
-        ensures { result ≡ self.dispatches }
-    {
-        let FirmProgram {
-            columns: _,
-            tables: _,
-            procedures: _,
-            dispatches,
-            main: _,
-            handlers: _,
-        } = self;
-        dispatches
     }
 }

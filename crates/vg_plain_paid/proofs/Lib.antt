@@ -1,3 +1,4 @@
 pub mod Rows
+mod Same
 mod Methods
 pub mod Programs

@@ -1,12 +1,22 @@
 -- Rows of procedures: those before one, that one, and those behind it.
-use Rattle.std.specs.Prelude.{ℕ, zero, suc, ◌≡◌, ◌<◌, List, [], ◌∷◌, ◌++◌, take, drop, length, Some, slice_get}
-use Rattle.std.specs.List.{AllZip}
+use Rattle.std.specs.Prelude.{ℕ, zero, suc, ◌≡◌, ◌<◌, List, [], ◌∷◌, ◌++◌, take, drop, length, map, Some, slice_get}
+use Rattle.std.specs.List.{AllByRecursion, AllZip}
 use Rattle.std.proofs.Common.{refl, ap, arith}
 
 pub split_at : {A : Type 0} → (xs : List A) (y : A) (zs : List A) → (take (length xs) ((xs ++ y ∷ []) ++ zs) ≡ xs)
     × (slice_get ((xs ++ y ∷ []) ++ zs) (length xs) ≡ Some y) × (drop (suc (length xs)) ((xs ++ y ∷ []) ++ zs) ≡ zs)
 split_at [] y zs = (refl, refl, refl)
 split_at (x ∷ xs) y zs = let h = split_at xs y zs in (ap (λ ws. x ∷ ws) h.0, h.1, h.2)
+
+-- what stands for each of a row, and others behind it
+pub each_of_row : {A B : Type 0} → (f : A → B) (xs : List A) (y : A) (zs : List A) (ws : List B)
+    → map f ((xs ++ y ∷ []) ++ zs) ++ ws ≡ (map f xs ++ f y ∷ []) ++ (map f zs ++ ws)
+each_of_row f [] y zs ws = refl
+each_of_row f (x ∷ xs) y zs ws = ap (λ vs. f x ∷ vs) (each_of_row f xs y zs ws)
+
+pub all_of_both : {A : Type 0} → (P : A → Type 0) (xs ys : List A) → AllByRecursion P xs → AllByRecursion P ys → AllByRecursion P (xs ++ ys)
+all_of_both P [] ys h g = g
+all_of_both P (x ∷ xs) ys (e, h) g = (e, all_of_both P xs ys h g)
 
 -- what stands for a row that ends with one element is a row that ends with what stands for that
 pub record Ends {A B : Type 0} (R : A → B → Type 0) (xs : List A) (y : A) (zs : List B) : Type 0 where

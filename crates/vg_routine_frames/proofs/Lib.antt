@@ -1,2 +1,3 @@
 pub mod Routines
 pub mod Starts
+pub mod Finders

@@ -1,4 +1,4 @@
-//! What the routines, and the procedure with which a run begins, take of the stack.
+//! What the routines, the procedure with which a run begins, and the finders take of the stack.
 #![tactic(auto)]
 
 pub mod laws;

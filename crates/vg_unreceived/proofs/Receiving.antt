@@ -1,10 +1,12 @@
 -- Procedures that receive nothing.
-use Rattle.std.specs.Prelude.{ℕ, ◌+◌, Bool, true, false, ◌==◌, List, ◌∷◌, ◌++◌, take, replicate}
+use Rattle.std.specs.Prelude.{ℕ, ◌+◌, Bool, true, false, ◌==◌, List, ◌∷◌, ◌++◌, take, replicate, Option}
 use Rattle.std.specs.List.{AllByRecursion}
 use Rattle.std.proofs.Common.{◌≡◌, refl, sym, ap, ◌∙◌, subst, arith}
 use Rattle.vg_firm.specs.Program.{Procedure as FirmProcedure}
 use Rattle.vg_lin.specs.Program.{Procedure}
 use Rattle.vg_expand.specs.Code.{expanded}
+use Rattle.vg_finding.specs.Finders.{with_finders}
+use Rattle.vg_finding.proofs.Instructions.{each_found}
 use Rattle.vg_templates.specs.Calls.{sum_of}
 use Rattle.vg_templates.specs.Living.{is_live}
 use Rattle.vg_templates.specs.Framed.{on_stack, arriving, framed}
@@ -53,14 +55,27 @@ module _ (lay : Layout) (first : ℕ) (m : FirmProcedure) (p : Procedure) (is : 
   pub dead_receiver : m.receives ≡ true → is_live (expanded first p).code 0 0 ≡ false
   dead_receiver e = dead 0 (expanded first p).code 0 (unread e)
 
-  pub nothing : m.params ≡ 0 → ReceivesNothing (framed (expanded first p))
-  nothing alone = by m.receives refl
-    where
-      count : (b : Bool) → m.receives ≡ b → p.params ≡ receivers b + 0
-      count b e = is.parameters ∙ (ap (λ n. receivers m.receives + n) alone ∙ ap (λ c. receivers c + 0) e)
+  -- where a procedure has its parameters and locals, it receives nothing if the first local is dead where it begins
+  module _ (new : Procedure) (params : new.params ≡ p.params) (widths : new.widths ≡ p.widths)
+      (dies : m.receives ≡ true → is_live new.code 0 0 ≡ false) where
+    receives_nothing : m.params ≡ 0 → ReceivesNothing (framed new)
+    receives_nothing alone = by m.receives refl
+      where
+        count : (b : Bool) → m.receives ≡ b → new.params ≡ receivers b + 0
+        count b e = params ∙ (is.parameters ∙ (ap (λ n. receivers m.receives + n) alone ∙ ap (λ c. receivers c + 0) e))
 
-      by : (b : Bool) → m.receives ≡ b → ReceivesNothing (framed (expanded first p))
-      by false e = none (expanded first p) (count false e)
-      by true e =
-          one (expanded first p) (widened (wide_params m) m.widths ++ replicate is.room.temps 4) (count true e)
-          (is.widths ∙ ap (λ b. with_receiver_width b (widened (wide_params m) m.widths) ++ replicate is.room.temps 4) e) (dead_receiver e)
+        by : (b : Bool) → m.receives ≡ b → ReceivesNothing (framed new)
+        by false e = none new (count false e)
+        by true e =
+            one new (widened (wide_params m) m.widths ++ replicate is.room.temps 4) (count true e)
+            (widths ∙ (is.widths ∙ ap (λ b. with_receiver_width b (widened (wide_params m) m.widths) ++ replicate is.room.temps 4) e)) (dies e)
+
+  pub nothing : m.params ≡ 0 → ReceivesNothing (framed (expanded first p))
+  nothing = receives_nothing (expanded first p) refl refl dead_receiver
+
+  -- with calls of finders in place of look-ups: these name what the look-ups do
+  pub nothing_found : (numbers : List (Option ℕ)) → m.params ≡ 0 → ReceivesNothing (framed (with_finders numbers (expanded first p)))
+  nothing_found numbers =
+      receives_nothing (with_finders numbers (expanded first p)) refl refl
+      (λ e. dead 0 (with_finders numbers (expanded first p)).code 0
+      (each_found (Names (IsOther 0)) numbers (λ d q to a looks names. (tt, (names.1, tt), names.0)) (expanded first p).code (unread e)))

@@ -2,6 +2,7 @@ use Rattle.std.proofs.Common.{inl, refl}
 use Rattle.vg_fit_code.proofs.Making.{flattened_made, eased, each_of, all_fit}
 use Rattle.vg_fit_code.proofs.Expanding.{expanded_fit, routine_fit}
 use Rattle.vg_fit_code.proofs.Apt.{apt_made, flattened_apt}
+use Rattle.vg_fit_code.proofs.Found.{found_fit, finder_fit}
 use Rattle.vg_fit_code.proofs.laws.code_is_fit.Goals as goal
 
 pub returns-clause-flattened : goal.returns-clause-flattened
@@ -30,3 +31,9 @@ returns-clause-simple c = all_fit
 
 pub returns-clause-each : goal.returns-clause-each
 returns-clause-each c = each_of
+
+pub returns-clause-found : goal.returns-clause-found
+returns-clause-found c = found_fit
+
+pub returns-clause-finders : goal.returns-clause-finders
+returns-clause-finders c = finder_fit

@@ -6,5 +6,5 @@ returns c =
     can_be_paid
     (record {
       few = λ lay m t. c.typed_need_few_pushed.ensures lay m t.most t.few t.code t.takes;
-      bytes = c.flattened_procedures_take_few_bytes.ensures.least;
+      bytes = c.flattened_procedures_take_few_bytes.ensures.least_found;
     })
