@@ -22,41 +22,40 @@ use Rattle.vg_call_need.proofs.Calls.{bounds_bytes, bounds_calls}
 use Rattle.vg_call_need.specs.Within.{IsNeedWithin}
 use Rattle.vg_compile.specs.Bounds.{ArePaidFor, DoesFor, HoldsBound}
 use Rattle.vg_compile.specs.Compile.{CallsNeedAsSaid, IsImageOf, NeedsAsSaid}
-use Rattle.vg_compile.specs.Compile.{LacksFrames, LacksFramesOf, LacksHandlers, LacksHandlersOf, LacksLinear, LacksLinearOf}
+use Rattle.vg_compile.specs.Compile.{LacksFrames, LacksFramesOf, LacksHandlers, LacksHandlersOf, LacksLinear, LacksLinearOf, LacksRoom, LacksRoomOf, Linked}
 use Rattle.vg_packed_suits.specs.Bodies.{AreTypedWhereCounted}
 use Rattle.vg_compile.specs.declared.no_image.NoImage.TheVariants.{NotLinear, Received, Costly, Deep, Full}
 use Rattle.vg_compile.specs.declared.no_image.NoImage.{NoImage}
 use Rattle.vg_base.specs.declared.refusal.Refusal.{Refusal}
 use Rattle.vg_base.specs.declared.refusal.Refusal.TheVariants.{Fault as Faulty, NoMemory}
 use Rattle.vg_compile.specs.Runs.{DoesInImage}
-use Rattle.vg_compile.specs.declared.compiled.Compiled.{Compiled}
 use Rattle.vg_layout.specs.declared.stack_bound.StackBound.{StackBound}
 use Rattle.vg_layout.specs.declared.stack_bound.StackBound.TheVariants.{Bytes, Cycle}
 
 lower : (floor extra bytes enough : ℕ) → bytes ≡ extra + enough → floor + bytes ≤ 0x1100 → floor + (extra + enough) ≤ 0x1100
 lower floor extra bytes enough h k = omega (arith, h, k)
 
-module _ (p : Program) (h : Heap) (s : LiveSet) (n : Numbers) (c : Columns) (f : FirmProgram) (costs : List ℕ) (compiled : Compiled)
-    (given : IsGiven p h s n c) (from : IsPackedFrom p h s n c f) (rows : RowsFitIn p h c f) (image : IsImageOf c f costs compiled)
+module _ (p : Program) (h : Heap) (s : LiveSet) (n : Numbers) (c : Columns) (f : FirmProgram) (costs : List ℕ) (linked : Linked) (bound : StackBound)
+    (given : IsGiven p h s n c) (from : IsPackedFrom p h s n c f) (rows : RowsFitIn p h c f) (image : IsImageOf c f costs linked bound)
     (ready : IsReady p h) where
   packed : IsPackedRows p h s n c f
   packed = record { from = from; rows = rows }
 
   does_by : (extra : ℕ) (frames : List ℕ) → FramesFit image.linear.procedures image.linear.start extra frames
-      → DoesInImage compiled.linked c extra frames p h
+      → DoesInImage linked c extra frames p h
   does_by extra frames fit e flash static floor slept woken =
-      follows p h s n c f image.linear image.unlinked compiled.linked given ready packed image.is_linear image.is_unlinked image.can_be_linked image.is_linked
+      follows p h s n c f image.linear image.unlinked linked given ready packed image.is_linear image.is_unlinked image.can_be_linked image.is_linked
       extra frames fit e flash static floor slept woken
 
-  does_for : (need : Need) (bound : StackBound) → IsBoundOf f need bound → ArePaidFor image.frames costs need → DoesFor compiled.linked c costs p h bound
+  does_for : (need : Need) (bound : StackBound) → IsBoundOf f need bound → ArePaidFor image.frames costs need → DoesFor linked c costs p h bound
   does_for (need.Bytes bytes) (Bytes same) e paid = tt
   does_for (need.Bytes bytes) (Cycle methods) e paid = absurd e
   does_for (need.Cycle procedures) (Bytes bytes) e paid = tt
   does_for (need.Cycle procedures) (Cycle methods) e paid =
       does_by 4 costs (fit_costs image.linear.procedures image.linear.start image.frames costs image.are_frames paid)
 
-  pub does : DoesFor compiled.linked c costs p h compiled.bound
-  does = does_for image.need compiled.bound image.is_bound image.are_paid
+  pub does : DoesFor linked c costs p h bound
+  does = does_for image.need bound image.is_bound image.are_paid
 
   abbrev frames : List ℕ
   frames = image.frames.by_method
@@ -64,16 +63,16 @@ module _ (p : Program) (h : Heap) (s : LiveSet) (n : Numbers) (c : Columns) (f :
   abbrev extra : ℕ
   extra = image.frames.beside
 
-  bound_by : (need : Need) (bound : StackBound) → IsBoundOf f need bound → IsNeedWithin extra f frames costs need → HoldsBound compiled.linked c p h bound
+  bound_by : (need : Need) (bound : StackBound) → IsBoundOf f need bound → IsNeedWithin extra f frames costs need → HoldsBound linked c p h bound
   bound_by (need.Bytes bytes) (Bytes same) e has =
       let (none, (enough, exact, is_enough, spent)) = has.is_need in
-      subst (λ z. HoldsBound compiled.linked c p h (Bytes z)) (sym e) (
+      subst (λ z. HoldsBound linked c p h (Bytes z)) (sym e) (
         extra,
         (
           frames,
           does_by extra frames (fit_frames image.linear.procedures image.linear.start image.frames image.are_frames),
           λ floor fits.
-              peaks_hold p h s n c f image.linear image.unlinked compiled.linked given ready packed image.is_linear image.is_unlinked image.can_be_linked
+              peaks_hold p h s n c f image.linear image.unlinked linked given ready packed image.is_linear image.is_unlinked image.can_be_linked
               image.is_linked frames enough is_enough floor extra (lower floor extra bytes enough exact fits),
         ),
       )
@@ -81,11 +80,11 @@ module _ (p : Program) (h : Heap) (s : LiveSet) (n : Numbers) (c : Columns) (f :
   bound_by (need.Cycle procedures) (Bytes bytes) e has = absurd e
   bound_by (need.Cycle procedures) (Cycle methods) e has = tt
 
-  pub bound_holds : HoldsBound compiled.linked c p h compiled.bound
-  bound_holds = bound_by image.need compiled.bound image.is_bound image.is_need
+  pub bound_holds : HoldsBound linked c p h bound
+  bound_holds = bound_by image.need bound image.is_bound image.is_need
 
-  pub calls_bounded : BoundsCalls costs p h compiled.bound
-  calls_bounded = bounds_calls p h s n c f given ready from extra frames costs image.need compiled.bound image.is_need image.is_bound
+  pub calls_bounded : BoundsCalls costs p h bound
+  calls_bounded = bounds_calls p h s n c f given ready from extra frames costs image.need bound image.is_need image.is_bound
 
 -- what the calls of a packed program need that is refused is what those of its typed program need
 pub refused_calls : (p : Program) (h : Heap) (s : LiveSet) (n : Numbers) (c : Columns) (f : FirmProgram) (costs : List ℕ) → IsGiven p h s n c
@@ -129,3 +128,13 @@ refused_handlers p h s n c f from typed (Faulty (Deep need)) is = tt
 refused_handlers p h s n c f from typed (Faulty Costly) is = tt
 refused_handlers p h s n c f from typed (Faulty (Full full)) is = tt
 refused_handlers p h s n c f from typed NoMemory is = tt
+
+-- and room
+pub refused_room : (p : Program) (h : Heap) (s : LiveSet) (n : Numbers) (c : Columns) (f : FirmProgram) → IsPackedFrom p h s n c f
+    → AreTypedWhereCounted p h c f → (why : Refusal NoImage) → LacksRoom c f why → LacksRoomOf p h s n c why
+refused_room p h s n c f from typed (Faulty (Full full)) takes = record { firm = f; packed = from; typed = typed; takes = takes }
+refused_room p h s n c f from typed (Faulty (NotLinear fault)) is = tt
+refused_room p h s n c f from typed (Faulty Received) is = tt
+refused_room p h s n c f from typed (Faulty Costly) is = tt
+refused_room p h s n c f from typed (Faulty (Deep need)) is = tt
+refused_room p h s n c f from typed NoMemory is = tt

@@ -14,6 +14,7 @@ use Rattle.vg_firm.specs.Held.{procedure_of}
 use Rattle.vg_lin.specs.Program.{Procedure}
 use Rattle.vg_flatten.specs.Flattened.{start_of, IsFlat}
 use Rattle.vg_packed.specs.declared.program.FirmProgram.{FirmProgram}
+use Rattle.vg_finding.specs.Finders.{with_finders}
 use Rattle.vg_trimming.specs.declared.facts.Facts.{Facts}
 use Rattle.vg_trimming.specs.Trimmed.{IsTrimmedTo, Trims}
 use Rattle.vg_linear.specs.declared.whole.Linear.{Linear}
@@ -31,6 +32,7 @@ use Rattle.vg_text_chip.specs.Chip.{AreOfInterrupts}
 use Rattle.vg_compile.specs.Compile.{handler_of as linked_handler}
 use Rattle.vg_compile.specs.Handlers.{AllCanAnswer, AllCanHandle, CanAnswer}
 use Rattle.vg_compile.specs.Unlinked.{AlwaysLinks, IsUnlinked}
+use Rattle.vg_compile.proofs.Found.{found_there}
 
 -- ---- handlers of the typed program
 
@@ -96,8 +98,9 @@ module _ (cs : List Column) (f : FirmProgram) (l : Linear) (whole : IsLinear cs 
   from_begun q m e =
       let t = zip_at IsTrimmedTo whole.made.begun whole.made.trimmed whole.made.are_trimmed q m e in
       let x = zip_at (IsExpandedTo (first_routine f)) whole.made.trimmed whole.made.expanded whole.made.are_expanded q t.0 t.1 in (
-        x.0,
-        ap (λ z. slice_get z q) whole.made.routines ∙ get_left whole.made.expanded (four_for (first_routine f) whole.made.expanded) q x.0 x.1,
+        with_finders whole.made.found.numbers x.0,
+        found_there (length f.procedures) f.dispatches l.dispatches whole.made.routined l.procedures whole.made.found q x.0
+            (ap (λ z. slice_get z q) whole.made.routines ∙ get_left whole.made.expanded (four_for (first_routine f) whole.made.expanded) q x.0 x.1),
         x.2.expands.params ∙ trimmed_params m t.0 t.2,
       )
 

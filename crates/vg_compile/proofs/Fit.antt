@@ -1,6 +1,6 @@
 -- The code of a linear program is fit for the machine.
 use Rattle.std.proofs.Common.{refl, sym, subst, inl, ℕ, zero, suc, ◌+◌, ◌<◌, ◌==◌, Bool, true, false, if◌then◌else◌, List, [], ◌∷◌, ◌++◌}
-use Rattle.std.proofs.Common.{slice_get}
+use Rattle.std.proofs.Common.{map, Option, slice_get}
 use Rattle.std.specs.List.{AllByRecursion}
 use Rattle.vg_codes.specs.declared.case.Case.{Case}
 use Rattle.vg_codes.specs.Dispatch.{cases_of}
@@ -19,12 +19,16 @@ use Rattle.vg_followed.specs.Tables.{AreCases, IsCase}
 use Rattle.vg_covered.specs.Fitting.{IsFit}
 use Rattle.vg_fit_code.proofs.Apt.{apt_made, flattened_apt}
 use Rattle.vg_fit_code.proofs.Expanding.{expanded_fit, routine_fit}
+use Rattle.vg_fit_code.proofs.Found.{found_fit, finder_fit}
+use Rattle.vg_cases.specs.Fewer.{AreAllFewer, AreTwoBytes, IsTwoBytes}
+use Rattle.vg_finding.specs.Finders.{finder, with_finders}
+use Rattle.vg_finding.proofs.Sound.{found_sound, finder_sound}
 use Rattle.vg_apt.specs.Apt.{AreApt, AllKeepApt}
 use Rattle.vg_linear.specs.Expanded.{AreAllExpanded}
 use Rattle.vg_linear.specs.Flats.{AreAllFlat}
 use Rattle.vg_linear.specs.Routines.{four_for, routine_or_empty, standing}
 use Rattle.vg_linear.proofs.Routined.{empty_sound}
-use Rattle.vg_packed_small.specs.Small.{IsSmall, AreSmall, AreAllSmall}
+use Rattle.vg_packed_small.specs.Small.{AreSmall, AreAllSmall}
 use Rattle.vg_compile.proofs.Bodies.{BodiesApt}
 
 abbrev pub AllApt : List Procedure → Type 0
@@ -99,17 +103,41 @@ module _ (p : Program) (finds : (place : ℕ) → AreCases p.codes.code (cases_o
       sound_both p new (four_for first new) (expanded_in first old new e h)
       (standing_in first new 0, (standing_in first new 1, (standing_in first new 2, (standing_in first new 3, tt))))
 
+  -- the same with calls of finders, and of the finders behind them
+
+  found_in : (numbers : List (Option ℕ)) (ms : List Procedure) → AreSoundIn p ms → AreSoundIn p (map (with_finders numbers) ms)
+  found_in numbers [] h = tt
+  found_in numbers (m ∷ ms) (h, hs) =
+      (record { sound = found_sound numbers m h.sound; fit = found_fit p numbers m h.fit }, found_in numbers ms hs)
+
+  finders_in : (ds : List ℕ) → AreSoundIn p (map finder ds)
+  finders_in [] = tt
+  finders_in (d ∷ ds) = (record { sound = finder_sound d; fit = finder_fit p d (finds d) }, finders_in ds)
+
+  pub all_found : (numbers : List (Option ℕ)) (ds : List ℕ) (ms : List Procedure) → AreSoundIn p ms
+      → AreSoundIn p (map (with_finders numbers) ms ++ map finder ds)
+  all_found numbers ds ms h = sound_both p (map (with_finders numbers) ms) (map finder ds) (found_in numbers ms h) (finders_in ds)
+
 -- ---- dispatches
 
+two_bytes : (cs : List Case) → AreSmall cs → AreTwoBytes cs
+two_bytes [] h = tt
+two_bytes (c ∷ cs) (h, hs) = (record { first = h.first; count = h.count; last = h.last }, two_bytes cs hs)
+
+small_at : (ds : List (List Case)) → AreAllSmall ds → (place : ℕ) → AreTwoBytes (cases_of (slice_get ds place))
+small_at [] h place = tt
+small_at (d ∷ ds) (h, hs) zero = two_bytes d h
+small_at (d ∷ ds) (h, hs) (suc place) = small_at ds hs place
+
 module _ (codes : ℕ → ℕ) (two : (q : ℕ) → codes q < 65536) where
-  is_case : (c : Case) → IsSmall c → IsCase codes c
+  is_case : (c : Case) → IsTwoBytes c → IsCase codes c
   is_case c h = record { first = h.first; count = h.count; last = h.last; code = two c.procedure }
 
-  are_cases : (cs : List Case) → AreSmall cs → AreCases codes cs
+  are_cases : (cs : List Case) → AreTwoBytes cs → AreCases codes cs
   are_cases [] h = tt
   are_cases (c ∷ cs) (h, hs) = (is_case c h, are_cases cs hs)
 
-  pub dispatch_cases : (ds : List (List Case)) → AreAllSmall ds → (place : ℕ) → AreCases codes (cases_of (slice_get ds place))
-  dispatch_cases [] h place = tt
-  dispatch_cases (d ∷ ds) (h, hs) zero = are_cases d h
-  dispatch_cases (d ∷ ds) (h, hs) (suc place) = dispatch_cases ds hs place
+  -- with fewer cases they are as small
+  pub dispatch_cases : (olds news : List (List Case)) → AreAllFewer olds news → AreAllSmall olds → (place : ℕ)
+      → AreCases codes (cases_of (slice_get news place))
+  dispatch_cases olds news fewer small place = are_cases (cases_of (slice_get news place)) ((fewer.each place).small (small_at olds small place))

@@ -170,9 +170,9 @@ module _ (p : Program) (h : Heap) (s : LiveSet) (n : Numbers) (c : Columns) (f :
       ap (λ z. record (linking.program_of u linked.codes) { tables = z; ram = take u.static_bytes z }) (same_bytes (codes_by linked.codes) k refl u.tables)
       ∙ (ap (λ z. record with_tables { procedures = z }) made.procedures
       ∙ (ap (λ z. record with_tables { procedures = l.procedures; dispatches = z }) made.dispatches
-      ∙ (ap (λ z. record with_tables { procedures = l.procedures; dispatches = f.dispatches; tables = map (byte_of k) z }) made.tables
-      ∙ (ap (λ z. record with_tables { procedures = l.procedures; dispatches = f.dispatches; tables = tables; ram = z }) ram_is
-      ∙ ap (λ z. record with_tables { procedures = l.procedures; dispatches = f.dispatches; tables = tables; ram = ram; start = z })
+      ∙ (ap (λ z. record with_tables { procedures = l.procedures; dispatches = l.dispatches; tables = map (byte_of k) z }) made.tables
+      ∙ (ap (λ z. record with_tables { procedures = l.procedures; dispatches = l.dispatches; tables = tables; ram = z }) ram_is
+      ∙ ap (λ z. record with_tables { procedures = l.procedures; dispatches = l.dispatches; tables = tables; ram = ram; start = z })
       made.start))))
 
   -- its procedures are sound, each with its locals where its layout says; and handlers and what code numbers lead to are packed procedures, which stand before

@@ -1,6 +1,6 @@
 -- What was packed can be linked.
 use Rattle.std.proofs.Common.{◌≡◌, refl, sym, ap, subst, ◌∙◌, arith, ℕ, ◌+◌, ◌<◌, ◌≤◌, length}
-use Rattle.std.proofs.Common.{Option, Some, None}
+use Rattle.std.proofs.Common.{Option, Some, None, slice_get}
 use Rattle.std.proofs.lemmas.Option.{none-some}
 use Rattle.vg_meaning.specs.Outside.{IsVector}
 use Rattle.vg_core.specs.declared.heap.Heap.{Heap}
@@ -31,15 +31,17 @@ use Rattle.vg_link.specs.Linking.{with_codes}
 use Rattle.vg_link.specs.declared.unlinked.Unlinked.{Unlinked}
 use Rattle.vg_link.specs.Linking as linking
 use Rattle.vg_link.specs.Linking.{AreSound, CanBeLinked, CanHandle, IsAlone}
+use Rattle.vg_cases.specs.Fewer.{AreAllFewer}
+use Rattle.vg_codes.specs.Dispatch.{cases_of}
+use Rattle.vg_followed.specs.Tables.{AreCases}
 use Rattle.vg_fit_code.proofs.Making.{each_of}
 use Rattle.vg_text_chip.specs.Chip.{AreOfChip, NamesChip}
 use Rattle.vg_compile.specs.Handlers.{HandlersReceiveNothing}
-use Rattle.vg_packed_small.specs.Small.{AreAllSmall}
 use Rattle.vg_packed_small.proofs.Procedures.{codes, few_procedures, small, some_codes}
 use Rattle.vg_compile.specs.Unlinked.{AlwaysLinks, IsUnlinked}
 use Rattle.vg_compile.proofs.Bodies.{BodiesApt, methods_apt}
 use Rattle.vg_compile.proofs.Entries.{entered, received, start_alone}
-use Rattle.vg_compile.proofs.Fit.{AllApt, AreSoundIn, IsSoundIn, flats_apt, apt_behind, start_apt, trimmed_apt, all_in, dispatch_cases}
+use Rattle.vg_compile.proofs.Fit.{AllApt, AreSoundIn, IsSoundIn, flats_apt, apt_behind, start_apt, trimmed_apt, all_found, all_in, dispatch_cases}
 use Rattle.vg_compile.proofs.Tables.{static_few, tables_few, tables_length}
 
 -- a packed program has at most 65,536 procedures
@@ -62,16 +64,25 @@ module _ (p : Program) (h : Heap) (s : LiveSet) (n : Numbers) (c : Columns) (f :
         subst BodiesApt (sym whole.from.procedures)
         (methods_apt p.tables n whole.from.plan 0 p.tables.methods p.methods (λ j b e. subst (λ o. AreOfChip (steps_in o)) e (chip.registers j)))
 
-    sound_in : (codes' : ℕ → ℕ) → ((q : ℕ) → codes' q < 65536) → AreSoundIn (with_codes codes' u.dispatches) u.procedures
-    sound_in codes' two =
-        subst (AreSoundIn (with_codes codes' u.dispatches)) (sym (made.procedures ∙ linear.made.routines))
-        (all_in (with_codes codes' u.dispatches)
-        (dispatch_cases codes' two u.dispatches (subst AreAllSmall (sym made.dispatches) (small p h s n c f whole.from given)))
-        (first_routine f) linear.made.trimmed linear.made.expanded linear.made.are_expanded
+    finds : (codes' : ℕ → ℕ) → ((q : ℕ) → codes' q < 65536) → (place : ℕ) → AreCases codes' (cases_of (slice_get u.dispatches place))
+    finds codes' two =
+        dispatch_cases codes' two f.dispatches u.dispatches (subst (AreAllFewer f.dispatches) (sym made.dispatches) linear.made.found.fewer)
+        (small p h s n c f whole.from given)
+
+    routined_in : (codes' : ℕ → ℕ) → ((q : ℕ) → codes' q < 65536) → AreSoundIn (with_codes codes' u.dispatches) linear.made.routined
+    routined_in codes' two =
+        subst (AreSoundIn (with_codes codes' u.dispatches)) (sym linear.made.routines)
+        (all_in (with_codes codes' u.dispatches) (finds codes' two) (first_routine f) linear.made.trimmed linear.made.expanded linear.made.are_expanded
         (trimmed_apt linear.made.begun linear.made.trimmed linear.made.keep_apt
         (subst AllApt (sym linear.made.with_start.behind)
         (apt_behind linear.made.flats _ (flats_apt l.layout (packed_of f) linear.made.flats linear.made.are_flat bodies)
         (start_apt f.main linear.made.with_start.main.receives)))))
+
+    sound_in : (codes' : ℕ → ℕ) → ((q : ℕ) → codes' q < 65536) → AreSoundIn (with_codes codes' u.dispatches) u.procedures
+    sound_in codes' two =
+        subst (AreSoundIn (with_codes codes' u.dispatches)) (sym (made.procedures ∙ linear.made.found.procedures))
+        (all_found (with_codes codes' u.dispatches) (finds codes' two) linear.made.found.numbers linear.made.found.finders linear.made.routined
+        (routined_in codes' two))
 
     sound : AreSound u.procedures u.dispatches
     sound =

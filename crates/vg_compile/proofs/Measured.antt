@@ -1,9 +1,7 @@
 -- What is known of the frames of a linear program, and where costs pay for them.
-use Rattle.std.specs.Prelude.{◌≡◌, ◌⊎◌, ℕ, zero, suc, ◌+◌, ◌<◌, ◌≤◌, Bool, true, false, IsTrue, List, [], ◌∷◌, length, take, Option, Some, None, slice_get}
+use Rattle.std.specs.Prelude.{◌≡◌, ◌⊎◌, ℕ, zero, suc, ◌+◌, ◌<◌, ◌≤◌, List, [], ◌∷◌, length, take, Option, Some, None, slice_get}
 use Rattle.std.proofs.Common.{refl, sym, ap, subst, ◌∙◌, arith, inl, inr}
 use Rattle.std.proofs.lemmas.Option.{same_Some, none-some}
-use Rattle.vg_base.specs.declared.refusal.Refusal.{Refusal}
-use Rattle.vg_base.specs.declared.refusal.Refusal.TheVariants.{Fault as Faulty, NoMemory}
 use Rattle.vg_source.specs.Peak.{cost_of}
 use Rattle.vg_firm.specs.declared.procedure.Procedure.{Procedure as HeldProcedure}
 use Rattle.vg_firm.specs.Held.{procedure_of}
@@ -18,21 +16,19 @@ use Rattle.vg_flatten.specs.Flattened.{IsFlat, start_of}
 use Rattle.vg_frame_costs.specs.declared.frames.Frames.{Frames}
 use Rattle.vg_frame_costs.specs.Bytes.{opening_bytes, procedure_bytes}
 use Rattle.vg_frame_costs.specs.Fitting.{ArePaid, IsMethodWithin, IsStartIn}
-use Rattle.vg_frame_costs.specs.Payable.{CanBePaid}
 use Rattle.vg_linear.specs.declared.whole.Linear.{Linear}
 use Rattle.vg_linear.specs.Expanded.{IsExpandedTo}
 use Rattle.vg_linear.specs.Routines.{four_for}
-use Rattle.vg_linear.specs.Whole.{IsLinear, IsPlain, first_routine, packed_of}
+use Rattle.vg_linear.specs.Whole.{IsLinear, first_routine, packed_of}
 use Rattle.vg_linear.proofs.Lists.{from_map, get_left, one_of, zip_at}
 use Rattle.vg_packed.specs.declared.program.FirmProgram.{FirmProgram}
 use Rattle.vg_placement.specs.declared.column.Column.{Column}
+use Rattle.vg_finding.specs.Finders.{with_finders}
 use Rattle.vg_trimming.specs.declared.facts.Facts.{Facts}
 use Rattle.vg_trimming.specs.Trimmed.{IsTrimmedTo, Trims}
 use Rattle.vg_compile.specs.Bounds.{AreFramesOf, ArePaidFor}
-use Rattle.vg_compile.specs.Compile.{LacksFrames, LacksHandlers}
-use Rattle.vg_compile.specs.Measured.{AreAllPaid, AreUnpaidFor, IsMainFramed, IsOfTrimming, IsUnhandledFor, IsUnpaidFor}
-use Rattle.vg_compile.specs.declared.no_image.NoImage.{NoImage}
-use Rattle.vg_compile.specs.declared.no_image.NoImage.TheVariants.{NotLinear, Received, Costly, Deep, Full}
+use Rattle.vg_compile.specs.Measured.{IsMainFramed}
+use Rattle.vg_compile.proofs.Found.{found_there}
 
 -- ---- what lies beside frames
 
@@ -79,8 +75,9 @@ module _ (cs : List Column) (f : FirmProgram) (l : Linear) (whole : IsLinear cs 
       ∙ get_left whole.made.flats (start_of f.main whole.made.with_start.main.receives ∷ []) q s.0 s.1 in
       let t = zip_at IsTrimmedTo whole.made.begun whole.made.trimmed whole.made.are_trimmed q s.0 b in
       let x = zip_at (IsExpandedTo (first_routine f)) whole.made.trimmed whole.made.expanded whole.made.are_expanded q t.0 t.1 in (
-        x.0,
-        ap (λ z. slice_get z q) whole.made.routines ∙ get_left whole.made.expanded (four_for (first_routine f) whole.made.expanded) q x.0 x.1,
+        with_finders whole.made.found.numbers x.0,
+        found_there (length f.procedures) f.dispatches l.dispatches whole.made.routined l.procedures whole.made.found q x.0
+            (ap (λ z. slice_get z q) whole.made.routines ∙ get_left whole.made.expanded (four_for (first_routine f) whole.made.expanded) q x.0 x.1),
         x.2.expands.method ∙ (trimmed_method s.0 t.0 t.2 ∙ s.2.method),
       )
 
@@ -160,53 +157,3 @@ pub paid_for : (frames : Frames) (row costs : List ℕ) (need : Need) → row �
     → ArePaidFor frames costs need
 paid_for frames row costs (needs.Bytes need) same paid = tt
 paid_for frames row costs (needs.Cycle procedures) same paid = subst (λ z. ArePaid frames.beside 4 z costs) same paid
-
--- ---- refusals
-
-true_false : true ≡ false → ⊥
-true_false e = cc
-
--- costs cannot pay a linear program whose frames they do not pay
-pub unpaid_for : (l : Linear) (frames : Frames) (costs : List ℕ) (why : Refusal NoImage)
-    → (CanBePaid l.procedures l.start costs → AreAllPaid frames costs) → AreUnpaidFor frames costs why → IsUnpaidFor l costs why
-unpaid_for l frames costs (Faulty Costly) pays not_paid = λ can. not_paid (pays can)
-unpaid_for l frames costs (Faulty (NotLinear fault)) pays not_paid = tt
-unpaid_for l frames costs (Faulty Received) pays not_paid = tt
-unpaid_for l frames costs (Faulty (Deep need)) pays not_paid = tt
-unpaid_for l frames costs (Faulty (Full full)) pays not_paid = tt
-unpaid_for l frames costs NoMemory pays not_paid = tt
-
-module _ (cs : List Column) (f : FirmProgram) where
-  -- what a plain program lacks the packed one does
-  pub lacks_frames : (l : Linear) (costs : List ℕ) → IsPlain cs f l → (why : Refusal NoImage) → IsUnpaidFor l costs why → LacksFrames cs f costs why
-  lacks_frames l costs plain (Faulty Costly) is = (l, plain, is)
-  lacks_frames l costs plain (Faulty (NotLinear fault)) is = tt
-  lacks_frames l costs plain (Faulty Received) is = tt
-  lacks_frames l costs plain (Faulty (Deep need)) is = tt
-  lacks_frames l costs plain (Faulty (Full full)) is = tt
-  lacks_frames l costs plain NoMemory is = tt
-
-  pub lacks_handlers : (l : Linear) → IsPlain cs f l → (why : Refusal NoImage) → IsUnhandledFor l f why → LacksHandlers cs f why
-  lacks_handlers l plain (Faulty Received) is = (l, plain, is)
-  lacks_handlers l plain (Faulty (NotLinear fault)) is = tt
-  lacks_handlers l plain (Faulty Costly) is = tt
-  lacks_handlers l plain (Faulty (Deep need)) is = tt
-  lacks_handlers l plain (Faulty (Full full)) is = tt
-  lacks_handlers l plain NoMemory is = tt
-
-  -- of other causes than those of trimming nothing is said
-  pub other_frames : (costs : List ℕ) (why : Refusal NoImage) (b : Bool) → (IsOfTrimming why → IsTrue b) → b ≡ false → LacksFrames cs f costs why
-  other_frames costs (Faulty Costly) b finds no' = absurd (true_false (sym (finds tt) ∙ no'))
-  other_frames costs (Faulty (NotLinear fault)) b finds no' = tt
-  other_frames costs (Faulty Received) b finds no' = tt
-  other_frames costs (Faulty (Deep need)) b finds no' = tt
-  other_frames costs (Faulty (Full full)) b finds no' = tt
-  other_frames costs NoMemory b finds no' = tt
-
-  pub other_handlers : (why : Refusal NoImage) (b : Bool) → (IsOfTrimming why → IsTrue b) → b ≡ false → LacksHandlers cs f why
-  other_handlers (Faulty Received) b finds no' = absurd (true_false (sym (finds tt) ∙ no'))
-  other_handlers (Faulty (NotLinear fault)) b finds no' = tt
-  other_handlers (Faulty Costly) b finds no' = tt
-  other_handlers (Faulty (Deep need)) b finds no' = tt
-  other_handlers (Faulty (Full full)) b finds no' = tt
-  other_handlers NoMemory b finds no' = tt

@@ -24,7 +24,7 @@ pub same_handlers : (hs : List Handler) (es : List Entrance) → hs ≡ map hand
 same_handlers hs es e v = ap (λ z. linking.handler_in z v) e ∙ same_handler es v
 
 pub is_unlinked : (c : Columns) (f : FirmProgram) (l : Linear) (cs : List Column) (es : List Entrance) (ms : List Procedure) (ds : List (List Case))
-    (tables : List Datum) (handlers : List Handler) → cs ≡ c.list → es ≡ f.handlers → ms ≡ l.procedures → ds ≡ f.dispatches
+    (tables : List Datum) (handlers : List Handler) → cs ≡ c.list → es ≡ f.handlers → ms ≡ l.procedures → ds ≡ l.dispatches
     → tables ≡ table_bytes_of (ram_widths cs) f.columns f.tables → handlers ≡ map handler_of es
     → IsUnlinked c f l (record {
       procedures = ms;

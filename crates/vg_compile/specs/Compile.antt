@@ -1,5 +1,5 @@
 -- What it means that an image is that of a program.
-use Rattle.std.specs.Prelude.{ℕ, ◌<◌, ◌≤◌, List, map, Result, Ok, Err}
+use Rattle.std.specs.Prelude.{ℕ, ◌≡◌, ◌<◌, ◌≤◌, List, map, Result, Ok, Err}
 use Rattle.vg_base.specs.declared.refusal.Refusal.{Refusal}
 use Rattle.vg_base.specs.declared.refusal.Refusal.TheVariants.{Fault as Faulty, NoMemory}
 use Rattle.vg_frame_costs.specs.declared.frames.Frames.{Frames}
@@ -19,23 +19,23 @@ use Rattle.vg_linear.specs.Whole.{IsLinear, IsPlain}
 pub use Rattle.vg_link.specs.declared.linked.Linked.{Linked}
 use Rattle.vg_link.specs.declared.unlinked.Handler.{Handler}
 use Rattle.vg_link.specs.declared.unlinked.Unlinked.{Unlinked}
-use Rattle.vg_link.specs.Linking.{CanBeLinked, IsLinked}
+use Rattle.vg_link.specs.Linking.{CanBeLinked, IsLinked, words_laid}
 use Rattle.vg_compile.specs.Handlers.{AllCanHandle}
 use Rattle.vg_compile.specs.Unlinked.{IsUnlinked}
 use Rattle.vg_compile.specs.declared.no_image.NoImage.{NoImage}
 use Rattle.vg_compile.specs.declared.no_image.NoImage.TheVariants.{NotLinear, Received, Costly, Deep, Full}
-use Rattle.vg_compile.specs.declared.compiled.Compiled.{Compiled}
 use Rattle.vg_compile.specs.Bounds.{AreFramesOf, ArePaidFor, BoundsCalls, NeedsAtLeast}
 use Rattle.vg_call_need.specs.Within.{IsNeedWithin}
 use Rattle.vg_core.specs.declared.heap.Heap.{Heap}
 use Rattle.vg_core.specs.Program.{Program}
+use Rattle.vg_layout.specs.declared.stack_bound.StackBound.{StackBound}
 use Rattle.vg_layout.specs.declared.stack_bound.StackBound.TheVariants.{Bytes}
 use Rattle.vg_call_need.specs.Bounds.{IsBoundOf}
 use Rattle.vg_call_need.specs.declared.need.Need.{Need}
 
 -- The image of a packed program: it is made linear, what its calls need is known by the frames of methods, which their costs pay for where calls go round,
 -- and it is linked.
-pub record IsImageOf (c : Columns) (f : FirmProgram) (costs : List ℕ) (compiled : Compiled) : Type 0 where
+pub record IsImageOf (c : Columns) (f : FirmProgram) (costs : List ℕ) (linked : Linked) (bound : StackBound) : Type 0 where
   pub linear : Linear
   pub is_linear : IsLinear c.list f linear
   pub frames : Frames
@@ -43,11 +43,11 @@ pub record IsImageOf (c : Columns) (f : FirmProgram) (costs : List ℕ) (compile
   pub unlinked : Unlinked
   pub is_unlinked : IsUnlinked c f linear unlinked
   pub can_be_linked : CanBeLinked unlinked
-  pub is_linked : IsLinked unlinked compiled.linked
+  pub is_linked : IsLinked unlinked linked
   pub need : Need
   pub is_need : IsNeedWithin frames.beside f frames.by_method costs need
   pub are_paid : ArePaidFor frames costs need
-  pub is_bound : IsBoundOf f need compiled.bound
+  pub is_bound : IsBoundOf f need bound
 
 -- A handler of the packed program.
 abbrev pub handler_of : Entrance → Handler
@@ -95,6 +95,19 @@ abbrev pub LacksHandlers : List Column → FirmProgram → Refusal NoImage → T
 LacksHandlers cs f (Faulty Received) = (l : Linear) × IsPlain cs f l × IsUnhandled l f
 LacksHandlers cs f why = Unit {0}
 
+-- So many words or more the image of a packed program takes by a linear one in which no procedure is trimmed.
+pub record TakesWords (c : Columns) (f : FirmProgram) (words : ℕ) : Type 0 where
+  pub linear : Linear
+  pub plain : IsPlain c.list f linear
+  pub unlinked : Unlinked
+  pub is_unlinked : IsUnlinked c f linear unlinked
+  pub taken : words ≤ words_laid unlinked
+
+-- Where the cause is that the flash is full, such an image takes as many words as are said, or more.
+abbrev pub LacksRoom : Columns → FirmProgram → Refusal NoImage → Type 0
+LacksRoom c f (Faulty (Full full)) = TakesWords c f full.words
+LacksRoom c f why = Unit {0}
+
 -- What was packed of a program has such a cause; and all of it is typed, where the code of the program's methods takes and leaves its values in order.
 pub record HasNoLinear (p : Program) (h : Heap) (s : LiveSet) (n : Numbers) (c : Columns) (why : Fault) : Type 0 where
   pub firm : FirmProgram
@@ -136,6 +149,19 @@ pub record HasNoHandlers (p : Program) (h : Heap) (s : LiveSet) (n : Numbers) (c
 abbrev pub LacksHandlersOf : Program → Heap → LiveSet → Numbers → Columns → Refusal NoImage → Type 0
 LacksHandlersOf p h s n c (Faulty Received) = HasNoHandlers p h s n c
 LacksHandlersOf p h s n c why = Unit {0}
+
+-- What was packed of a program takes so many words or more by a linear program in which no procedure is trimmed; and all of it is typed, where the code of the program's
+-- methods takes and leaves its values in order.
+pub record HasNoRoom (p : Program) (h : Heap) (s : LiveSet) (n : Numbers) (c : Columns) (words : ℕ) : Type 0 where
+  pub firm : FirmProgram
+  pub packed : IsPackedFrom p h s n c firm
+  pub typed : AreTypedWhereCounted p h c firm
+  pub takes : TakesWords c firm words
+
+-- Where the cause is that the flash is full, so it is with the words that are said.
+abbrev pub LacksRoomOf : Program → Heap → LiveSet → Numbers → Columns → Refusal NoImage → Type 0
+LacksRoomOf p h s n c (Faulty (Full full)) = HasNoRoom p h s n c full.words
+LacksRoomOf p h s n c why = Unit {0}
 
 abbrev pub IsRefusedFor : {V : Type 0} → (stack : ℕ) → Result V (Refusal NoImage) → Type 0
 IsRefusedFor stack (Ok v) = Unit {0}

@@ -4,6 +4,7 @@ pub mod Handlers
 pub mod Unlinked
 pub mod Compile
 pub mod Measured
+pub mod Ways
 pub mod Memory
 pub mod Given
 pub mod Packed

@@ -1,5 +1,5 @@
 -- What is known of a linear program that is to be linked, beside that it is one.
-use Rattle.std.specs.Prelude.{ℕ, ◌<◌, List, map, Option, Some, None}
+use Rattle.std.specs.Prelude.{ℕ, ◌≡◌, ◌<◌, List, map, Option, Some, None}
 use Rattle.vg_base.specs.declared.refusal.Refusal.{Refusal}
 use Rattle.vg_base.specs.declared.refusal.Refusal.TheVariants.{Fault as Faulty}
 use Rattle.vg_calls_packed.specs.Ways.{cost_at}
@@ -9,6 +9,8 @@ use Rattle.vg_frame_costs.specs.declared.frames.Frames.{Frames}
 use Rattle.vg_frame_costs.specs.Fitting.{ArePaid}
 use Rattle.vg_linear.specs.declared.whole.Linear.{Linear}
 use Rattle.vg_linear.specs.Whole.{IsLinear}
+use Rattle.vg_link.specs.declared.unlinked.Unlinked.{Unlinked}
+use Rattle.vg_link.specs.Linking.{words_laid}
 use Rattle.vg_packed.specs.declared.program.FirmProgram.{FirmProgram}
 use Rattle.vg_placement.specs.declared.column.Column.{Column}
 use Rattle.vg_compile.specs.Bounds.{AreFramesOf, ArePaidFor}
@@ -16,7 +18,7 @@ use Rattle.vg_compile.specs.Compile.{IsUnhandled, IsUnpaid, handler_of}
 use Rattle.vg_compile.specs.Handlers.{AllCanHandle}
 use Rattle.vg_compile.specs.declared.measuring.Measured.{Measured}
 use Rattle.vg_compile.specs.declared.no_image.NoImage.{NoImage}
-use Rattle.vg_compile.specs.declared.no_image.NoImage.TheVariants.{Received, Costly}
+use Rattle.vg_compile.specs.declared.no_image.NoImage.TheVariants.{Received, Costly, Full}
 
 -- The linear program is one of the packed program, its frames are known and what calls need by them, for which methods pay, and its handlers receive nothing.
 pub record IsMeasured (cs : List Column) (f : FirmProgram) (costs : List ℕ) (m : Measured) : Type 0 where
@@ -64,8 +66,7 @@ abbrev pub IsUnhandledFor : Linear → FirmProgram → Refusal NoImage → Type 
 IsUnhandledFor l f (Faulty Received) = IsUnhandled l f
 IsUnhandledFor l f why = Unit {0}
 
--- The cause may be that procedures were trimmed.
-abbrev pub IsOfTrimming : Refusal NoImage → Type 0
-IsOfTrimming (Faulty Costly) = Unit {0}
-IsOfTrimming (Faulty Received) = Unit {0}
-IsOfTrimming why = ⊥
+-- Where the cause is that the flash is full, the words are those of what was to be linked.
+abbrev pub IsFullBy : Unlinked → Refusal NoImage → Type 0
+IsFullBy u (Faulty (Full full)) = full.words ≡ words_laid u
+IsFullBy u why = Unit {0}

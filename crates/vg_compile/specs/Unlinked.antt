@@ -11,11 +11,11 @@ use Rattle.vg_link.specs.Linking as linking
 use Rattle.vg_link.specs.Linking.{CanBeLinked}
 use Rattle.vg_compile.specs.Handlers.{HandlersReceiveNothing}
 
--- What is linked has the procedures of the linear program, and of the packed one the dispatches, the handlers and the bytes of the tables.
+-- What is linked has the procedures and the dispatches of the linear program, and of the packed one the handlers and the bytes of the tables.
 pub record IsUnlinked (c : Columns) (f : FirmProgram) (l : Linear) (u : Unlinked) : Type 0 where
   pub procedures : u.procedures ≡ l.procedures
   pub start : u.start ≡ l.start
-  pub dispatches : u.dispatches ≡ f.dispatches
+  pub dispatches : u.dispatches ≡ l.dispatches
   pub tables : u.tables ≡ table_bytes_of (ram_widths c.list) f.columns f.tables
   pub static_bytes : u.static_bytes ≡ c.static_bytes
   pub handlers : (v : ℕ) → linking.handler_in u.handlers v ≡ handler_in f.handlers v

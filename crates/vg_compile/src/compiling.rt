@@ -1,5 +1,5 @@
 // From a typed program and its heap to an image.
-ghost use Rattle.std.specs.Prelude.{ℕ, ◌≤◌, ◌<◌, List, length, IfErr, IfOk};
+ghost use Rattle.std.specs.Prelude.{ℕ, ◌≡◌, ◌≤◌, ◌<◌, List, length, IfErr, IfOk};
 ghost use Rattle.vg_base.specs.Limits.{flash_bytes};
 ghost use Rattle.vg_core.specs.HeldProgram.{program_at};
 ghost use Rattle.vg_placement.specs.declared.column.Column.{Column};
@@ -13,13 +13,16 @@ ghost use Rattle.vg_call_need.specs.Bounds.{BoundsCalls};
 ghost use Rattle.vg_compile.specs.Bounds.{DoesFor, HoldsBound};
 ghost use Rattle.vg_layout.specs.Few.{IsFew};
 ghost use Rattle.vg_compile.specs.Compile.{CallsNeedAsSaid, IsImageOf, IsRefusedFor, NeedsAsSaid};
-ghost use Rattle.vg_compile.specs.Compile.{LacksFrames, LacksFramesOf, LacksHandlers, LacksHandlersOf, LacksLinear, LacksLinearOf};
+ghost use Rattle.vg_compile.specs.Compile.{LacksFrames, LacksFramesOf, LacksHandlers, LacksHandlersOf, LacksLinear, LacksLinearOf, LacksRoom, LacksRoomOf};
+ghost use Rattle.vg_compile.specs.Measured.{IsFullBy};
+ghost use Rattle.vg_compile.specs.declared.ways.Way.TheVariants.{Plain};
 
-use crate::compiled::Compiled;
+use crate::compiled::{Compiled, Image};
 use crate::measuring::measured_of;
 use crate::no_image::NoImage;
 use crate::pieces::pieces_of;
 use crate::unlinking::unlinked;
+use crate::ways::{Way, lesser, next_way};
 use std::alloc::Global;
 use vg_base::Refusal;
 use vg_call_need::bound_of;
@@ -38,8 +41,9 @@ use vg_shape::Store;
 /// what the methods of some way of calls cost. Where they do, a cycle of them is said, and it reaches below the floor only where the active calls cost more
 /// than the stack. Costs are by the numbers of methods.
 ///
-/// Its procedures are trimmed, where that does no harm: a program that is refused for the costs of its methods or for what a handler receives is refused for
-/// that also where no procedure is trimmed.
+/// Its linear program is made in up to three ways. Its procedures are trimmed and look up in place what dispatches have. Where that image takes too many words,
+/// they look up by finders. And where that one takes too many words too, or frames of the one or the other are more than methods cost, or handlers receive
+/// something, no procedure is trimmed, and they look up by finders: a program that is refused for such a cause is refused for it in this last way.
 ///
 /// It refuses what has no linear code; what has a procedure whose frame is more than its method costs, and, where calls do not go round, needs more than four
 /// bytes beyond what each way of calls costs; what, where they do not, needs more than a stack of so many bytes (then what is said to be needed is at most
@@ -73,49 +77,95 @@ pub fn compile(
     ensures linear { IfErr result (LacksLinearOf (program_at program.now) heap.now live.now numbers.now columns.now) }
     ensures frames { IfErr result (LacksFramesOf (program_at program.now) heap.now live.now numbers.now columns.now costs.now) }
     ensures handlers { IfErr result (LacksHandlersOf (program_at program.now) heap.now live.now numbers.now columns.now) }
+    ensures room { IfErr result (LacksRoomOf (program_at program.now) heap.now live.now numbers.now columns.now) }
 {
     let firm = pack(alloc, program, heap, live, numbers, columns)?;
-    match image_of(alloc, columns, firm, costs, stack) {
-        Ok(compiled) => Ok(compiled),
-        Err(why) => Err(why),
-    }
-}
-
-// The image of a packed program.
-fn image_of(
-    alloc: Global,
-    columns: &Columns,
-    firm: FirmProgram,
-    costs: &[u32],
-    stack: u16,
-) -> Result<Compiled, Refusal<NoImage>>
-    requires few { length firm.procedures ≤ 65536 }
-    requires main { firm.main < length firm.procedures }
-    requires links { AlwaysLinks columns.now firm }
-    ensures image { IfOk result (IsImageOf columns.now firm costs.now) }
-    ensures deep { IfErr result (NeedsAsSaid firm costs.now) }
-    ensures linear { IfErr result (LacksLinear columns.now.list firm) }
-    ensures frames { IfErr result (LacksFrames columns.now.list firm costs.now) }
-    ensures handlers { IfErr result (LacksHandlers columns.now.list firm) }
-    ensures few { IfOk result (λ compiled. IsFew stack compiled.bound) }
-    ensures short { IfOk result (λ compiled. length compiled.linked.flash ≤ flash_bytes) }
-    ensures refused { IsRefusedFor stack result }
-{
-    let measured = match measured_of(alloc, columns, &firm, costs, stack) {
-        Ok(measured) => measured,
-        Err(why) => return Err(why),
-    };
-    let bound = bound_of(alloc, &firm, &measured.need, stack)?;
-    let unlinked = unlinked(alloc, columns, firm, measured.linear)?;
-    match linked_of(alloc, &unlinked, stack) {
-        Ok(linked) => {
-            let pieces = pieces_of(alloc, &unlinked, &linked)?;
+    match image_of(alloc, columns, &firm, costs, stack, Way::Trimmed) {
+        Ok(image) => {
+            let pieces = pieces_of(alloc, program, live, &image)?;
+            let Image {
+                unlinked: _,
+                linked,
+                bound,
+            } = image;
             Ok(Compiled {
                 linked,
                 bound,
                 pieces,
             })
         }
+        Err(why) => Err(why),
+    }
+}
+
+// The image of a packed program, made in this way; or in one behind it, where this way may be why there is none.
+fn image_of(
+    alloc: Global,
+    columns: &Columns,
+    firm: &FirmProgram,
+    costs: &[u32],
+    stack: u16,
+    way: Way,
+) -> Result<Image, Refusal<NoImage>>
+    requires few { length firm.now.procedures ≤ 65536 }
+    requires main { firm.now.main < length firm.now.procedures }
+    requires links { AlwaysLinks columns.now firm.now }
+    ensures image { IfOk result (λ image. IsImageOf columns.now firm.now costs.now image.linked image.bound) }
+    ensures few { IfOk result (λ image. IsFew stack image.bound) }
+    ensures short { IfOk result (λ image. length image.linked.flash ≤ flash_bytes) }
+    ensures refused { IsRefusedFor stack result }
+    ensures deep { IfErr result (NeedsAsSaid firm.now costs.now) }
+    ensures linear { IfErr result (LacksLinear columns.now.list firm.now) }
+    ensures frames { IfErr result (LacksFrames columns.now.list firm.now costs.now) }
+    ensures handlers { IfErr result (LacksHandlers columns.now.list firm.now) }
+    ensures room { IfErr result (LacksRoom columns.now firm.now) }
+{
+    match image_by(alloc, columns, firm, costs, stack, way) {
+        Ok(image) => Ok(image),
+        Err(why) => match next_way(way, &why) {
+            Some(next) => match image_of(alloc, columns, firm, costs, stack, next) {
+                Ok(image) => Ok(image),
+                Err(last) => Err(lesser(why, last)),
+            },
+            None => Err(why),
+        },
+    }
+}
+
+// The image of a packed program, made in this way.
+fn image_by(
+    alloc: Global,
+    columns: &Columns,
+    firm: &FirmProgram,
+    costs: &[u32],
+    stack: u16,
+    way: Way,
+) -> Result<Image, Refusal<NoImage>>
+    requires few { length firm.now.procedures ≤ 65536 }
+    requires main { firm.now.main < length firm.now.procedures }
+    requires links { AlwaysLinks columns.now firm.now }
+    ensures image { IfOk result (λ image. IsImageOf columns.now firm.now costs.now image.linked image.bound) }
+    ensures few { IfOk result (λ image. IsFew stack image.bound) }
+    ensures short { IfOk result (λ image. length image.linked.flash ≤ flash_bytes) }
+    ensures refused { IsRefusedFor stack result }
+    ensures deep { IfErr result (NeedsAsSaid firm.now costs.now) }
+    ensures linear { IfErr result (LacksLinear columns.now.list firm.now) }
+    ensures frames { way ≡ Plain → IfErr result (LacksFrames columns.now.list firm.now costs.now) }
+    ensures handlers { way ≡ Plain → IfErr result (LacksHandlers columns.now.list firm.now) }
+    ensures room { way ≡ Plain → IfErr result (LacksRoom columns.now firm.now) }
+{
+    let measured = match measured_of(alloc, columns, firm, costs, stack, way) {
+        Ok(measured) => measured,
+        Err(why) => return Err(why),
+    };
+    let bound = bound_of(alloc, firm, &measured.need, stack)?;
+    let unlinked = unlinked(alloc, columns, firm, measured.linear)?;
+    match linked_of(alloc, &unlinked, stack) {
+        Ok(linked) => Ok(Image {
+            unlinked,
+            linked,
+            bound,
+        }),
         Err(why) => Err(why),
     }
 }
@@ -130,6 +180,7 @@ fn linked_of(alloc: Global, unlinked: &Unlinked, stack: u16) -> Result<Linked, R
     ensures linear { (cs : List Column) (f : TheFirm) → IfErr result (LacksLinear cs f) }
     ensures frames { (cs : List Column) (f : TheFirm) (costs : List ℕ) → IfErr result (LacksFrames cs f costs) }
     ensures handlers { (cs : List Column) (f : TheFirm) → IfErr result (LacksHandlers cs f) }
+    ensures full { IfErr result (IsFullBy unlinked.now) }
 {
     match link(alloc, unlinked) {
         Ok(linked) => Ok(linked),

@@ -10,6 +10,7 @@ pub mod measuring;
 pub mod no_image;
 pub mod pieces;
 pub mod unlinking;
+pub mod ways;
 
 pub use compiled::Compiled;
 pub use compiling::compile;

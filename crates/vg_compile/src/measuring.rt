@@ -1,24 +1,29 @@
 // The linear program of a packed one, with what its procedures and their calls take of the stack.
-ghost use Rattle.std.specs.Prelude.{ℕ, ◌≤◌, ◌<◌, List, length, IfErr, IfOk, IfSome, IsTrue};
+ghost use Rattle.std.specs.Prelude.{◌≡◌, ◌≤◌, ◌<◌, List, length, IfErr, IfOk, IfSome, IsTrue};
+ghost use Rattle.vg_place.specs.declared.placing.Columns.{Columns as TheColumns};
 ghost use Rattle.vg_placement.specs.declared.column.Column.{Column};
 ghost use Rattle.vg_packed.specs.declared.program.FirmProgram.{FirmProgram as TheFirm};
 ghost use Rattle.vg_frame_costs.specs.Payable.{CanBePaid};
+ghost use Rattle.vg_linear.specs.Refusals.{IsRefused};
 ghost use Rattle.vg_linear.specs.Whole.{IsLinear, IsPlain};
 ghost use Rattle.vg_call_need.specs.Bounds.{IsFewOf};
 ghost use Rattle.vg_call_need.specs.Need.{IsNeed};
 ghost use Rattle.vg_call_need.specs.Within.{IsNeedWithin, IsSpentBy};
+ghost use Rattle.vg_compile.specs.declared.ways.Way.TheVariants.{Plain};
 ghost use Rattle.vg_compile.specs.Bounds.{AreFramesOf, ArePaidFor};
-ghost use Rattle.vg_compile.specs.Compile.{IsRefusedFor, LacksFrames, LacksHandlers, LacksLinear, NeedsAsSaid};
+ghost use Rattle.vg_compile.specs.Compile.{IsRefusedFor, LacksFrames, LacksHandlers, LacksLinear, LacksRoom, NeedsAsSaid};
 ghost use Rattle.vg_compile.specs.Measured.{AreAllPaid, AreUnpaidAt, AreUnpaidFor, IsLinearOf, IsMainFramed, IsMeasured, IsMeasuredOf};
-ghost use Rattle.vg_compile.specs.Measured.{IsOfTrimming, IsUnhandledFor, IsUnpaidFor};
+ghost use Rattle.vg_compile.specs.Measured.{IsUnhandledFor, IsUnpaidFor};
 
 use crate::handlers::all_can_handle;
 use crate::no_image::NoImage;
+use crate::ways::Way;
 use std::alloc::Global;
 use vg_base::{NoMemory, Refusal};
 use vg_call_need::{Need, is_spent, stack_need};
+use vg_flatten_shapes::Fault;
 use vg_frame_costs::{Frames, are_paid, method_frames};
-use vg_linear::{Linear, make_linear, make_plain};
+use vg_linear::{Linear, make_linear, make_plain, make_shared};
 use vg_packed::FirmProgram;
 use vg_place::Columns;
 
@@ -30,62 +35,28 @@ pub struct Measured {
     pub need: Need,
 }
 
-/// The linear program of a packed one: the trimmed one, or, where that takes more of the stack than is paid, or its handlers receive something, the plain one.
+/// The linear program of a packed one that is made in this way, with what is measured of it.
 pub fn measured_of(
     alloc: Global,
     columns: &Columns,
     firm: &FirmProgram,
     costs: &[u32],
     stack: u16,
+    way: Way,
 ) -> Result<Measured, Refusal<NoImage>>
     requires procedures { length firm.now.procedures ≤ 65536 }
     requires main { firm.now.main < length firm.now.procedures }
     ensures measured { IfOk result (IsMeasured columns.now.list firm.now costs.now) }
+    ensures plain { way ≡ Plain → IfOk result (λ measured. IsPlain columns.now.list firm.now measured.linear) }
     ensures few { IfOk result (λ measured. IsFewOf stack measured.need) }
     ensures refused { IsRefusedFor stack result }
     ensures deep { IfErr result (NeedsAsSaid firm.now costs.now) }
     ensures linear { IfErr result (LacksLinear columns.now.list firm.now) }
-    ensures frames { IfErr result (LacksFrames columns.now.list firm.now costs.now) }
-    ensures handlers { IfErr result (LacksHandlers columns.now.list firm.now) }
+    ensures frames { way ≡ Plain → IfErr result (LacksFrames columns.now.list firm.now costs.now) }
+    ensures handlers { way ≡ Plain → IfErr result (LacksHandlers columns.now.list firm.now) }
+    ensures room { IfErr result (LacksRoom columns.now firm.now) }
 {
-    match trimmed_of(alloc, columns, firm, costs, stack) {
-        Ok(measured) => Ok(measured),
-        Err(why) => {
-            if is_of_trimming(&why) {
-                return plain_of(alloc, columns, firm, costs, stack);
-            }
-            Err(why)
-        }
-    }
-}
-
-// Whether the cause may be that procedures were trimmed.
-fn is_of_trimming(why: &Refusal<NoImage>) -> bool
-    ensures { IsOfTrimming why.now → IsTrue result }
-{
-    match why {
-        Refusal::Fault(NoImage::Costly) | Refusal::Fault(NoImage::Received) => true,
-        Refusal::Fault(_) | Refusal::NoMemory => false,
-    }
-}
-
-// The trimmed linear program.
-fn trimmed_of(
-    alloc: Global,
-    columns: &Columns,
-    firm: &FirmProgram,
-    costs: &[u32],
-    stack: u16,
-) -> Result<Measured, Refusal<NoImage>>
-    requires procedures { length firm.now.procedures ≤ 65536 }
-    requires main { firm.now.main < length firm.now.procedures }
-    ensures measured { IfOk result (IsMeasured columns.now.list firm.now costs.now) }
-    ensures few { IfOk result (λ measured. IsFewOf stack measured.need) }
-    ensures refused { IsRefusedFor stack result }
-    ensures deep { IfErr result (NeedsAsSaid firm.now costs.now) }
-    ensures linear { IfErr result (LacksLinear columns.now.list firm.now) }
-{
-    let linear = match linear_of(alloc, columns, firm, costs, stack) {
+    let linear = match linear_of(alloc, columns, firm, costs, stack, way) {
         Ok(linear) => linear,
         Err(why) => return Err(why),
     };
@@ -95,76 +66,49 @@ fn trimmed_of(
     }
 }
 
-// The plain linear program.
-fn plain_of(
-    alloc: Global,
-    columns: &Columns,
-    firm: &FirmProgram,
-    costs: &[u32],
-    stack: u16,
-) -> Result<Measured, Refusal<NoImage>>
-    requires procedures { length firm.now.procedures ≤ 65536 }
-    requires main { firm.now.main < length firm.now.procedures }
-    ensures measured { IfOk result (IsMeasured columns.now.list firm.now costs.now) }
-    ensures few { IfOk result (λ measured. IsFewOf stack measured.need) }
-    ensures refused { IsRefusedFor stack result }
-    ensures deep { IfErr result (NeedsAsSaid firm.now costs.now) }
-    ensures linear { IfErr result (LacksLinear columns.now.list firm.now) }
-    ensures frames { IfErr result (LacksFrames columns.now.list firm.now costs.now) }
-    ensures handlers { IfErr result (LacksHandlers columns.now.list firm.now) }
-{
-    let linear = match plain_linear_of(alloc, columns, firm, costs, stack) {
-        Ok(linear) => linear,
-        Err(why) => return Err(why),
-    };
-    match measure(alloc, firm, linear, costs, stack) {
-        Ok(measured) => Ok(measured),
-        Err(why) => Err(why),
-    }
-}
-
-// The linear program of a packed one.
+// The linear program.
 fn linear_of(
     alloc: Global,
     columns: &Columns,
     firm: &FirmProgram,
     costs: &[u32],
     stack: u16,
+    way: Way,
 ) -> Result<Linear, Refusal<NoImage>>
     requires { firm.now.main < length firm.now.procedures }
-    ensures deep { IfErr result (NeedsAsSaid firm.now costs.now) }
     ensures linear { IfOk result (IsLinear columns.now.list firm.now) }
-    ensures lacks { IfErr result (LacksLinear columns.now.list firm.now) }
+    ensures plain { way ≡ Plain → IfOk result (IsPlain columns.now.list firm.now) }
     ensures refused { IsRefusedFor stack result }
+    ensures deep { IfErr result (NeedsAsSaid firm.now costs.now) }
+    ensures lacks { IfErr result (LacksLinear columns.now.list firm.now) }
+    ensures frames { IfErr result (LacksFrames columns.now.list firm.now costs.now) }
+    ensures handlers { IfErr result (LacksHandlers columns.now.list firm.now) }
+    ensures room { IfErr result (LacksRoom columns.now firm.now) }
 {
-    match make_linear(alloc, columns.list.as_slice(), firm) {
+    match made_by(alloc, columns, firm, way) {
         Ok(linear) => Ok(linear),
         Err(Refusal::Fault(fault)) => Err(Refusal::Fault(NoImage::NotLinear(fault))),
         Err(Refusal::NoMemory) => Err(Refusal::NoMemory),
     }
 }
 
-// The one in which no procedure is trimmed.
-fn plain_linear_of(
+// It, or the cause for which it is not made.
+fn made_by(
     alloc: Global,
     columns: &Columns,
     firm: &FirmProgram,
-    costs: &[u32],
-    stack: u16,
-) -> Result<Linear, Refusal<NoImage>>
+    way: Way,
+) -> Result<Linear, Refusal<Fault>>
     requires { firm.now.main < length firm.now.procedures }
-    ensures deep { IfErr result (NeedsAsSaid firm.now costs.now) }
     ensures linear { IfOk result (IsLinear columns.now.list firm.now) }
-    ensures plain { IfOk result (IsPlain columns.now.list firm.now) }
-    ensures lacks { IfErr result (LacksLinear columns.now.list firm.now) }
-    ensures frames { IfErr result (LacksFrames columns.now.list firm.now costs.now) }
-    ensures handlers { IfErr result (LacksHandlers columns.now.list firm.now) }
-    ensures refused { IsRefusedFor stack result }
+    ensures plain { way ≡ Plain → IfOk result (IsPlain columns.now.list firm.now) }
+    ensures refusal { IsRefused result columns.now.list firm.now }
 {
-    match make_plain(alloc, columns.list.as_slice(), firm) {
-        Ok(linear) => Ok(linear),
-        Err(Refusal::Fault(fault)) => Err(Refusal::Fault(NoImage::NotLinear(fault))),
-        Err(Refusal::NoMemory) => Err(Refusal::NoMemory),
+    let list = columns.list.as_slice();
+    match way {
+        Way::Trimmed => make_linear(alloc, list, firm),
+        Way::Shared => make_shared(alloc, list, firm),
+        Way::Plain => make_plain(alloc, list, firm),
     }
 }
 
@@ -180,10 +124,12 @@ fn measure(
     requires main { firm.now.main < length firm.now.procedures }
     requires linear { IsLinearOf firm.now linear }
     ensures measured { IfOk result (IsMeasuredOf firm.now costs.now linear) }
+    ensures same { IfOk result (λ measured. measured.linear ≡ linear) }
     ensures few { IfOk result (λ measured. IsFewOf stack measured.need) }
     ensures refused { IsRefusedFor stack result }
     ensures deep { IfErr result (NeedsAsSaid firm.now costs.now) }
     ensures linear { (cs : List Column) (f : TheFirm) → IfErr result (LacksLinear cs f) }
+    ensures room { (c : TheColumns) (f : TheFirm) → IfErr result (LacksRoom c f) }
     ensures frames { IfErr result (IsUnpaidFor linear costs.now) }
     ensures handlers { IfErr result (IsUnhandledFor linear firm.now) }
 {
@@ -223,6 +169,7 @@ fn frames_of(
     ensures refused { IsRefusedFor stack result }
     ensures deep { IfErr result (NeedsAsSaid firm.now costs.now) }
     ensures linear { (cs : List Column) (f : TheFirm) → IfErr result (LacksLinear cs f) }
+    ensures room { (c : TheColumns) (f : TheFirm) → IfErr result (LacksRoom c f) }
     ensures unpaid { IfErr result (IsUnpaidFor linear.now costs.now) }
     ensures handlers { IfErr result (IsUnhandledFor linear.now firm.now) }
 {
@@ -251,6 +198,7 @@ fn need_of(
     ensures refused { IsRefusedFor stack result }
     ensures deep { IfErr result (NeedsAsSaid firm.now costs.now) }
     ensures linear { (cs : List Column) (f : TheFirm) → IfErr result (LacksLinear cs f) }
+    ensures room { (c : TheColumns) (f : TheFirm) → IfErr result (LacksRoom c f) }
     ensures unpaid { IfErr result (AreUnpaidFor frames.now costs.now) }
     ensures handlers { (l : _) (f : TheFirm) → IfErr result (IsUnhandledFor l f) }
 {

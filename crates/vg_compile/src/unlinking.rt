@@ -11,23 +11,24 @@ use vg_packed::{Entrance, FirmProgram};
 use vg_place::Columns;
 use vg_table_bytes::tables;
 
-/// The procedures of the linear program, with the dispatches, the handlers and the bytes of the tables of the packed one.
+/// The procedures and the dispatches of the linear program, with the handlers and the bytes of the tables of the packed one.
 pub fn unlinked(
     alloc: Global,
     columns: &Columns,
-    firm: FirmProgram,
+    firm: &FirmProgram,
     linear: Linear,
 ) -> Result<Unlinked, NoMemory>
-    ensures unlinked { IfOk result (IsUnlinked columns.now firm linear) }
-    ensures handlers { IfOk result (λ unlinked. unlinked.handlers ≡ map handler_of firm.handlers) }
+    ensures unlinked { IfOk result (IsUnlinked columns.now firm.now linear) }
+    ensures handlers { IfOk result (λ unlinked. unlinked.handlers ≡ map handler_of firm.now.handlers) }
 {
-    let tables = tables(alloc, &firm, columns.list.as_slice())?;
+    let tables = tables(alloc, firm, columns.list.as_slice())?;
     let handlers = handlers_of(alloc, firm.handlers.as_slice())?;
     let start = linear.start;
+    let (procedures, dispatches) = linear.into_parts();
     Ok(Unlinked {
-        procedures: linear.into_procedures(),
+        procedures,
         start,
-        dispatches: firm.into_dispatches(),
+        dispatches,
         tables,
         static_bytes: columns.static_bytes,
         handlers,

@@ -1,6 +1,6 @@
 // The pieces of code by their names.
 use crate::known::Known;
-use crate::names::member_name;
+use crate::names::{member_name, put_class, put_name};
 use std::alloc::Global;
 use vg_base::{NoMemory, Row};
 use vg_core::Member;
@@ -32,9 +32,28 @@ fn piece_name(alloc: Global, known: Known<'_>, whose: Whose) -> Result<Row<u8>, 
     match whose {
         Whose::Start => Row::from_slice(alloc, b"start"),
         Whose::Routine(which) => Row::from_slice(alloc, routine_name(which)),
+        Whose::Dispatch { class, method } => call_name(alloc, known, class, method),
         Whose::Method(method) => member_name(alloc, known, Member::Method(method)),
         Whose::Idle => Row::from_slice(alloc, b"idle"),
     }
+}
+
+// What is called by dispatch: the name of a method behind that of the class on which it is called, which need not declare it.
+fn call_name(
+    alloc: Global,
+    known: Known<'_>,
+    class: u16,
+    method: u16,
+) -> Result<Row<u8>, NoMemory> {
+    let mut name = Row::from_slice(alloc, b"call ")?;
+    put_class(&mut name, known, class)?;
+    name.append(b".")?;
+    let methods = known.program.tables.methods.as_slice();
+    match methods.get(usize::from(method)) {
+        Some(found) => put_name(&mut name, known, found.name)?,
+        None => {}
+    }
+    Ok(name)
 }
 
 fn routine_name(which: u8) -> &'static [u8] {

@@ -75,6 +75,6 @@ pub struct Piece {
     /// The word address at which it begins.
     pub word: u16,
     pub words: u32,
-    /// The name of a method or of a routine, `start`, or `idle`.
+    /// The name of a method or of a routine; `call` and the names of a class and a method, for what calls by dispatch look up; `start`, or `idle`.
     pub name: Row<u8>,
 }

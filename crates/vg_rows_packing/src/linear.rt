@@ -100,7 +100,7 @@ fn program_of(alloc: Global, whole: &Whole, linear: &Linear) -> Result<LinProgra
     let in_ram = usize::from(whole.fitted.placed.columns.static_bytes);
     Ok(LinProgram {
         procedures: procedures_of(alloc, linear.procedures.as_slice())?,
-        dispatches: dispatches_of(alloc, &whole.program)?,
+        dispatches: dispatches_of(alloc, linear)?,
         codes: codes_of(alloc, linear.procedures.len())?,
         tables: first_bytes(alloc, bytes, bytes.len())?,
         ram: first_bytes(alloc, bytes, in_ram)?,
@@ -117,9 +117,9 @@ fn procedures_of(alloc: Global, procedures: &[LinProc]) -> Result<Row<AnyProc>, 
     Ok(all)
 }
 
-fn dispatches_of(alloc: Global, program: &FirmProgram) -> Result<Row<Row<Case>>, NoMemory> {
+fn dispatches_of(alloc: Global, linear: &Linear) -> Result<Row<Row<Case>>, NoMemory> {
     let mut all = Row::new(alloc);
-    for cases in program.dispatches.as_slice() {
+    for cases in linear.dispatches.as_slice() {
         all.push(Row::from_vec(Vec::from_slice(alloc, cases.as_slice())?))?;
     }
     Ok(all)

@@ -1,4 +1,5 @@
-use Rattle.vg_compile.proofs.Measured.{four_beside, main_framed, unpaid_for}
+use Rattle.vg_compile.proofs.Measured.{four_beside, main_framed}
+use Rattle.vg_compile.proofs.Refusals.{unpaid_for}
 use Rattle.vg_compile.proofs.measuring.measure.Goals as goal
 
 pub need_of-requires-clause-framed : goal.need_of-requires-clause-framed
